@@ -1,15 +1,20 @@
 #!/usr/bin/env python3
 """The gate's own test: steps that try nothing, too little, fail, crash, hang, or can't be read must make the gate fail, and
-so must an `rt ci` that does; a tool that no step runs must be found; and what a tool compares by must see a difference and
-tell it. The last line is 'N passed, M failed'."""
+so must an `rt ci` that does, and a gate that a signal ends; a tool that no step runs must be found; what a tool compares
+by must see a difference and tell it; and a program that is not built must be no success. The last line is 'N passed, M
+failed'."""
 import contextlib
 import importlib
 import inspect
 import io
+import os
+import signal
 import subprocess
 import sys
 import tempfile
+import time
 from pathlib import Path
+from types import SimpleNamespace
 
 import run
 
@@ -143,6 +148,103 @@ def ends_all_that_hangs(folder):
     return not place.exists()
 
 
+def ends_when_told(folder, number):
+    """A gate that a signal ends has not passed, and what its steps have started ends with it."""
+    begun, late, file = folder / f"begun-{number}", folder / f"late-{number}", folder / "long-steps"
+    file.write_text(f"1 1 touch {begun}; sleep 2; touch {late}; echo '1 passed, 0 failed'\n")
+    gate = subprocess.Popen([sys.executable, str(HERE / "run.py"), "steps", str(file)], stdout=subprocess.DEVNULL)
+    until = time.monotonic() + 30
+    while not begun.exists() and time.monotonic() < until:
+        time.sleep(0.05)
+    gate.send_signal(number)
+    status = gate.wait(30)
+    time.sleep(3)
+    return begun.exists() and not late.exists() and status == 128 + number
+
+
+def sees_what_is_not_built(folder):
+    """`build.py` ends well only where the libraries and each program are built."""
+    build = importlib.import_module("build")
+    crates = [SimpleNamespace(name=name, below=lambda: []) for name in ("a", "b")]
+    tools = SimpleNamespace(crates_below=lambda _: crates, lock=lambda _: [])
+    real = build.toolchain, build.build_libraries, build.build_program, sys.argv, Path.cwd()
+    found = []
+    try:
+        build.toolchain, sys.argv = lambda: SimpleNamespace(rtlib=tools), ["build.py", str(folder / "built"), "a", "b"]
+        for libraries, programs in ((True, "ab"), (False, "ab"), (True, "a"), (True, "b"), (True, ""), (False, "")):
+            build.build_libraries = lambda *_, good=libraries: good
+            build.build_program = lambda name, _, built=programs: name in built
+            with contextlib.redirect_stdout(io.StringIO()):
+                found.append(build.main())
+    finally:
+        build.toolchain, build.build_libraries, build.build_program, sys.argv = real[:4]
+        os.chdir(real[4])
+    return found == [0, 1, 1, 1, 1, 1]
+
+
+# What a program prints on each example, by the text that is expected, with its status; and whether the examples pass.
+OF_EXAMPLES = [("said", 0, True), ("''", 0, False), ("said[:-1]", 0, False), ("said[:len(said) // 2]", 0, False),
+               ("said + '\\n'", 0, False), ("'x' + said", 0, False), ("said", 1, False)]
+PRINTS = """#!{python}
+import sys
+from pathlib import Path
+given = sys.stdin.read()
+script = next(it for it in Path({examples!r}).glob("*.script") if it.read_text() == given)
+said = script.with_suffix(".expected").read_text()
+sys.stdout.write({text})
+sys.exit({status})
+"""
+
+
+def compares_examples(folder):
+    """`examples/run.py` passes where each example prints just what is expected, with status 0."""
+    program, examples, found = folder / "program", run.TOP / "examples", []
+    count = len(list(examples.glob("*.script")))
+    for text, status, _ in OF_EXAMPLES:
+        program.write_text(PRINTS.format(python=sys.executable, examples=str(examples), text=text, status=status))
+        program.chmod(0o755)
+        ran = subprocess.run([sys.executable, str(examples / "run.py"), str(program)], capture_output=True, text=True,
+                             timeout=120)
+        found.append((ran.returncode, run.last_line(ran.stdout)))
+    ends = {True: (0, f"{count} passed, 0 failed"), False: (1, f"0 passed, {count} failed")}
+    return count > 0 and found == [ends[good] for _, _, good in OF_EXAMPLES]
+
+
+def judges_lossy_runs():
+    """A run of lossy.py is as promised only where each of its numbers is right: each is made wrong alone."""
+    lossy = importlib.import_module("lossy")
+
+    def judged(copies=1, wrong=0, missing=0, status=0, **report):
+        made = object.__new__(lossy.Run)
+        made.report = {"executed": 5, "old": 1, **report}
+        made.network = SimpleNamespace(behind=SimpleNamespace(copies=copies))
+        made.wrong, made.missing, made.status = wrong, missing, status
+        return made.is_as_promised(5)
+
+    bad = [{"executed": 4}, {"executed": 6}, {"executed": None}, {"old": 2}, {"copies": 0}, {"wrong": 1},
+           {"missing": 1}, {"missing": -1}, {"status": 3}, {"status": -9}]
+    return judged() and judged(old=0) and not any(judged(**one) for one in bad)
+
+
+def counts_what_differs():
+    """What tools without a class `Checks` count by: what ends or prints otherwise, or is not so, has failed."""
+    runs, panel, unreliable = (importlib.import_module(name) for name in ("runs", "panel", "unreliable"))
+    checks, found = runs.Runs(None), []
+    ended = SimpleNamespace(returncode=1, stdout=b"a\n", stderr=b"note: more\nbad words\n")
+    checks.ran = lambda *_: ended
+    before, refused = list(panel.COUNTS), unreliable.Runs("", "")
+    with contextlib.redirect_stdout(io.StringIO()):
+        for status, output, fault in ((1, b"a\n", b"bad words\n"), (0, b"a\n", b"bad words\n"), (1, b"a\n", b""),
+                                      (1, b"a", b"bad words\n"), (1, b"a\nb", b"bad words\n"),
+                                      (1, b"a\n", b"note: more\nbad words\n")):
+            checks.gives(["a"], b"", status, output, fault)
+        found += [panel.check(True, "so") is True, panel.check(False, "not so") is False]
+        refused.expect(True, "so")
+        refused.expect(False, "not so")
+    found += [[a - b for a, b in zip(panel.COUNTS, before)] == [1, 1], refused.wrong == 1]
+    return all(found) and (checks.passed, checks.failed) == (1, 5)
+
+
 def sees_differences(tool):
     """Whether the tool's checks count what is the same as passed, and any difference as failed, which they tell."""
     checks = tool.Checks(*[None] * (len(inspect.signature(tool.Checks).parameters)))
@@ -168,9 +270,15 @@ def main():
         tried = [(what, is_as_wanted(Path(room), *case)) for what, *case in CASES]
         tried += [(what, is_counted(*case)) for what, *case in OF_CI]
         tried += [("a tool that no step runs is found", finds_what_is_left_out(Path(room))), ("the least of rt ci", knows_the_least(Path(room))),
-                  ("what hangs is ended", ends_all_that_hangs(Path(room)))]
+                  ("what hangs is ended", ends_all_that_hangs(Path(room))),
+                  ("what is not built is seen", sees_what_is_not_built(Path(room))),
+                  ("examples/run.py compares", compares_examples(Path(room)))]
+        tried += [(f"a gate that signal {number} ends", ends_when_told(Path(room), number))
+                  for number in (signal.SIGTERM, signal.SIGINT)]
     tried += [(f"{name}.py sees differences", sees_differences(tool)) for name, tool in tools_with_checks()]
-    tried += [("all that is tried counts", counts_all()), ("edits.py counts all", counts_edits()), ("network.py forgives no lateness", forgives_no_lateness())]
+    tried += [("all that is tried counts", counts_all()), ("edits.py counts all", counts_edits()),
+              ("network.py forgives no lateness", forgives_no_lateness()),
+              ("lossy.py judges runs", judges_lossy_runs()), ("tools count what differs", counts_what_differs())]
     for what, is_well in tried:
         passed, failed = passed + is_well, failed + (not is_well)
         if not is_well:

@@ -1,6 +1,6 @@
 /* An OCA (AES70) device and a controller's link to one, for C. Link liboca.a, which has both with the heap's calls, or
- * liboca_c.a and a heap of your own (examples/c/heap.c). Built by `make install-library` it runs on every x86-64, and on every AArch64,
- * with Linux; it needs 64 bits.
+ * liboca_c.a and a heap of your own: three functions, whose signatures and rules are in examples/c/malloc.c and heap.c.
+ * Built by `make install-library` it runs on every x86-64, and on every AArch64, with Linux; it needs 64 bits.
  *
  * A device is one struct oca_device, and a link one struct oca_link, zeroed before the first call: then it is closed. A call
  * answers OCA_DONE, or another number of enum oca_result; what it would have told is then not to be read (but how many there
@@ -54,7 +54,8 @@ enum oca_result {
     OCA_STARTED = 12,     /* it is, so its tree is fixed */
     OCA_NOTHING = 13,     /* there is no such packet, object, setting, lock, moment or answer */
     OCA_TOO_SMALL = 14,   /* there was not room for all where it was to go, or might not have been */
-    OCA_BAD_SIZE = 15,    /* a room outside 1 to 4,096, a window or a number of peers outside 1 to 64, a span outside 1 to 32, another struct */
+    OCA_BAD_SIZE = 15,    /* a room outside 1 to 4,096, a window or a number of peers outside 1 to 64, a room for packets outside 1 to 122, a span outside
+                             1 to 32, another struct */
     /* Of a setting at the front, the first that applies: no such object; a block; another kind of value; out of range. */
     OCA_NO_OBJECT = 16, OCA_NO_SETTING = 17, OCA_OTHER_KIND = 18, OCA_OUT_OF_RANGE = 19,
     /* Of a submission, the first that applies: the link is lost; no handle is left; the span is full; above 1,445 bytes. */
@@ -117,7 +118,8 @@ static inline const char *oca_status_text(uint32_t status) {
 }
 
 /* The methods that a device carries out: the level in the upper 16 bits, the index in the lower ones. State is a mute's and a polarity's,
- * position a switch's, setting a Boolean's and an integer's. */
+ * position a switch's, setting a Boolean's and an integer's. Their parameters, in this order, are big-endian: a position 2 bytes, a truth
+ * 1 byte (0 or 1), a text as oca_text_put encodes it; docs/PROTOCOL.md, section 3, has those of each method. */
 enum oca_method {
     OCA_GET_CLASS_IDENTIFICATION = 0x10001, OCA_GET_LOCKABLE = 0x10002, OCA_LOCK_TOTAL = 0x10003, OCA_UNLOCK = 0x10004, OCA_GET_ROLE = 0x10005,
     OCA_LOCK_READONLY = 0x10006, OCA_GET_ENABLED = 0x20001, OCA_SET_ENABLED = 0x20002, OCA_GET_LABEL = 0x20008, OCA_SET_LABEL = 0x20009,
@@ -275,8 +277,8 @@ struct oca_device { void *at; bool is_open; };
 /* Opens a device that has its root alone (the block 100), with room for so many objects, the root counted: 1 to 4,096. */
 enum oca_result oca_device_open(struct oca_device *device, uint16_t room) OCA_CHECKED;
 
-/* The same with what was stored of the root: its label, and whether it is enabled; all else of the struct is not looked at. The first
- * that applies: OCA_BAD_SIZE, OCA_BAD_TEXT for a label that is none, OCA_NO_MEMORY. */
+/* The same with what was stored of the root: its label, and whether it is enabled; all else of the struct but its size is not
+ * looked at. The first that applies: OCA_BAD_SIZE, OCA_BAD_TEXT for a label that is none, OCA_NO_MEMORY. */
 enum oca_result oca_device_open_with(struct oca_device *device, uint16_t room, const struct oca_spec *root) OCA_CHECKED;
 
 /* Closes a device and gives its memory back; a closed one stays closed, and at a null pointer nothing is done. */
@@ -308,7 +310,8 @@ enum oca_result oca_device_add_uint64(struct oca_device *device, uint32_t contai
 /* A switch with 1 to 16 positions, all enabled, and the one that it stands at, counted from 0. */
 enum oca_result oca_device_add_switch(struct oca_device *device, uint32_t container, uint32_t ono, const uint8_t *role, size_t role_len, bool lockable, const struct oca_name *names, size_t names_len, uint16_t position) OCA_CHECKED;
 
-/* Starts the device, with reply windows of this size (1 to 64; 32 is usual) and sessions of so many peers (1 to 64; 16 is usual).
+/* Starts the device, with reply windows of this size (1 to 64; 32 is usual; at least twice the panels' span less one) and sessions of so
+ * many peers (1 to 64; 16 is usual).
  * Where it is started already it is OCA_STARTED, whatever is asked for. OCA_NO_MEMORY loses the objects: close the struct, and begin
  * anew. */
 enum oca_result oca_device_start(struct oca_device *device, uint8_t window, uint8_t peers) OCA_CHECKED;
@@ -339,7 +342,9 @@ enum oca_result oca_device_packet(struct oca_device *device, size_t i, uint8_t *
 /* Whether packets that answer the last datagram were left out, since there was no room for them (oca_device_start_within). */
 enum oca_result oca_device_left_out(struct oca_device *device, bool *left_out) OCA_NONNULL;
 
-/* The numbers of the objects that the last datagram wrote to, in order, each as often as it was; none before the first datagram. Clock
+/* The numbers of the objects that the last datagram wrote to, in order, each as often as it was; none before the first datagram. Each
+ * command that writes and was executed with the status OCA_STATUS_OK counts: a value, also one that was there before, a label, whether the object is
+ * enabled, names and flags of positions. A lock, a refused command and a duplicate do not. Clock
  * readings and settings at the front leave them. `count` is how many there are; where `out` has room for fewer it gets the first of
  * them, and the answer is OCA_TOO_SMALL. */
 enum oca_result oca_device_written(struct oca_device *device, uint32_t *out, size_t out_len, size_t *count) OCA_NONNULL;
@@ -359,7 +364,7 @@ enum oca_result oca_device_set_signed(struct oca_device *device, uint32_t ono, i
 enum oca_result oca_device_set_unsigned(struct oca_device *device, uint32_t ono, uint64_t number) OCA_NONNULL;
 
 /* The same by a value: its class is not looked at, but for the kind: states of a mute and of a polarity are of one kind, and so are integers
- * of every type, as in the calls above. OCA_NO_VALUE, before all others, where the words are those of no value. */
+ * of every type, as in the calls above. OCA_NO_VALUE, before all others but OCA_CLOSED and OCA_NOT_STARTED, where the words are those of no value. */
 enum oca_result oca_device_set(struct oca_device *device, uint32_t ono, const struct oca_value *value) OCA_NONNULL;
 
 /* How an object is set: kind 1 a state, 2 a position, 3 a truth (0 or 1), 4 a number, `negative` (0 or 1) where it is below 0.
@@ -384,7 +389,7 @@ static inline enum oca_result oca_device_object(struct oca_device *device, size_
  * front; oca_device_object has the object's number and that of its block. */
 enum oca_result oca_device_spec(struct oca_device *device, size_t index, struct oca_spec *spec) OCA_NONNULL;
 
-/* The lock of an object: kind 1 keeps other peers from all access, 2 from all but reading; and the peer that holds it. OCA_NOTHING
+/* The lock of an object, which binds this object alone, also where it is a block: kind 1 keeps other peers from all access, 2 from all but reading; and the peer that holds it. OCA_NOTHING
  * where the object is not locked or not there. */
 enum oca_result oca_device_lock(struct oca_device *device, uint32_t ono, uint32_t *kind, uint32_t *ip, uint16_t *port) OCA_NONNULL;
 
@@ -471,7 +476,9 @@ struct oca_panel { struct oca_link link; struct oca_end end; uint32_t turns; };
  * OCA_ASKED_UNREADABLE: its answer is none to what was asked. OCA_ASKED_NO_VALUE: nothing of the object's class can be asked so, or there
  * is no such value; it was not sent. OCA_ASKED_NOT_SENT: the link did not take it, with a result of enum oca_result. OCA_ASKED_LOST and
  * OCA_ASKED_LATE: the link is lost, or stood still too long, and sends nothing any more: it may have been carried out, or not, and a new
- * panel is to be opened. OCA_ASKED_UNANSWERED: no answer came in the panel's turns; it stays in flight. */
+ * panel is to be opened. OCA_ASKED_UNANSWERED: no answer came in the panel's turns; it stays in flight, under the handle that `result`
+ * has. Wait for it again by oca_panel_finish: until its answer is taken, no command can be begun whose handle is the span or more above
+ * it (OCA_SPAN_FULL). With 210 turns, as long as a link retransmits, an answer comes or the link is lost. */
 enum oca_asked {
     OCA_ASKED_DONE = 0, OCA_ASKED_REFUSED = 1, OCA_ASKED_UNREADABLE = 2, OCA_ASKED_NO_VALUE = 3, OCA_ASKED_NOT_SENT = 4, OCA_ASKED_LOST = 5,
     OCA_ASKED_LATE = 6, OCA_ASKED_UNANSWERED = 7
@@ -491,8 +498,9 @@ static inline struct oca_outcome oca_outcome_of(uint32_t asked, uint32_t status,
 }
 
 /* Opens a panel for the device at this address, over a socket of the caller's, which is copied. Its first command gets this handle: on a
- * port that the device heard before, one above all that were used there in the last two minutes. The span is that of oca_link_open. A
- * command waits for its answer for so many turns, of at most 50 ms each; where a device is silent the link is lost after some 5 seconds.
+ * port that the device heard before, one above all that were used there since the last pause of more than two minutes in which nothing was
+ * sent from it. The span is that of oca_link_open. A command waits for its answer for so many turns, of at most 50 ms each: a turn ends sooner with each datagram that comes. 210 are as long
+ * as a link retransmits, 20 are a second at most; where a device is silent the link is lost after some 5 seconds.
  * OCA_OPEN where the panel is open; OCA_BAD_SIZE also for a struct of another size. */
 static inline enum oca_result oca_panel_open(struct oca_panel *panel, const struct oca_end *end, uint32_t ip, uint16_t port, uint32_t first_handle, uint8_t span, uint32_t turns) {
     if (panel->link.is_open) return OCA_OPEN;
@@ -533,7 +541,7 @@ static inline struct oca_outcome oca_panel_give_out(struct oca_panel *panel) {
     return state;
 }
 
-/* Takes one turn: receives once, for at most 50 ms and until something is due, and sends what is due, keep-alives too. Tells what
+/* Takes one turn: receives once, for at most 50 ms or until something is due, whichever is sooner, and sends what is due, keep-alives too. Tells what
  * oca_panel_state does. */
 static inline struct oca_outcome oca_panel_turn(struct oca_panel *panel) {
     uint8_t bytes[OCA_MOST_BYTES + 1] = {0};
@@ -584,7 +592,7 @@ static inline struct oca_outcome oca_panel_try_finish(struct oca_panel *panel, u
     const enum oca_result taken = oca_link_take(&panel->link, handle, &status, &answer->count, answer->params, sizeof answer->params, &answer->params_len);
     if (taken == OCA_DONE) return oca_outcome_of(status == OCA_STATUS_OK ? OCA_ASKED_DONE : OCA_ASKED_REFUSED, status, 0);
     const struct oca_outcome state = oca_panel_state(panel);
-    return state.asked == OCA_ASKED_DONE ? oca_outcome_of(OCA_ASKED_UNANSWERED, 0, 0) : state;
+    return state.asked == OCA_ASKED_DONE ? oca_outcome_of(OCA_ASKED_UNANSWERED, 0, handle) : state;
 }
 
 /* Waits for a command that was begun, and takes its answer. After OCA_ASKED_UNANSWERED it can be waited for again. */
@@ -597,16 +605,21 @@ static inline struct oca_outcome oca_panel_finish(struct oca_panel *panel, uint3
     return outcome;
 }
 
-/* Asks for a command by a method of enum oca_method, and waits for its answer. */
+/* The outcome of a command that the link did not take, by why. */
 static inline struct oca_outcome oca_panel_refused(enum oca_result result) {
     if (result == OCA_LOST) return oca_outcome_of(OCA_ASKED_LOST, 0, 0);
     return result == OCA_NO_VALUE ? oca_outcome_of(OCA_ASKED_NO_VALUE, 0, 0) : oca_outcome_of(OCA_ASKED_NOT_SENT, 0, result);
 }
+
+/* Asks for a command by a method of enum oca_method with its parameters (their layout is in docs/PROTOCOL.md, section 3), and waits for its
+ * answer. */
 static inline struct oca_outcome oca_panel_ask(struct oca_panel *panel, uint32_t ono, uint32_t method, uint8_t count, const uint8_t *params, size_t params_len, struct oca_answer *answer) {
     uint32_t handle = 0;
     const enum oca_result begun = oca_panel_begin(panel, ono, method, count, params, params_len, &handle);
     return begun == OCA_DONE ? oca_panel_finish(panel, handle, answer) : oca_panel_refused(begun);
 }
+
+/* The same of a method without parameters. */
 static inline struct oca_outcome oca_panel_read(struct oca_panel *panel, uint32_t ono, uint32_t method, struct oca_answer *answer) {
     static const uint8_t none[1] = {0};
     return oca_panel_ask(panel, ono, method, 0, none, 0, answer);
@@ -716,7 +729,8 @@ static inline struct oca_outcome oca_panel_members(struct oca_panel *panel, uint
 }
 
 /* What a walk finds of an object: its number, that of the block that lists it (0 of the root), what became of the question for its class
- * and its role, they where it is OCA_ASKED_DONE, and of a block what became of the question for its members. */
+ * and its role, they where it is OCA_ASKED_DONE, and of a block what became of the question for its members (as `described` where the
+ * class or the role is not known). */
 struct oca_visit { uint32_t ono, container; struct oca_outcome described; struct oca_class_id id; struct oca_name role; struct oca_outcome listed; };
 
 /* The place of a walk, of the caller's: the numbers of objects that were visited at the front, and those that wait at the back. */
@@ -737,30 +751,38 @@ static inline void oca_walk_put(struct oca_walk *walk, uint32_t ono, uint32_t co
     walk->places[first].container = container;
 }
 
-/* What a walk calls at each object, with what the caller gave for it: it goes on where this answers true. */
+/* What a walk calls at each object, with what the caller gave for it: it goes on where this answers true. It may ask the panel too. */
 typedef bool (*oca_visitor)(void *context, const struct oca_visit *visit);
 
 /* Visits the objects of the device from the root on, each block's members behind it in their order: each object once, at most 4,096, in the
- * place of a walk that the caller has for it. Each is asked for its class and its role, and a block for its members; nothing is set.
- * OCA_ASKED_DONE where all were visited, or the visitor ended it; else why it could not go on. */
+ * place of a walk that the caller has for it. Each is asked for its class and its role, and a block for its members; nothing is set. Each
+ * answer is waited for until it is there or the link is lost, whatever the panel's turns are. OCA_ASKED_DONE where all were visited, or the
+ * visitor ended it; else why it could not go on. */
 static inline struct oca_outcome oca_panel_walk(struct oca_panel *panel, struct oca_walk *walk, oca_visitor visit, void *context) {
     struct oca_members members = {0, {0}};
+    const uint32_t turns = panel->turns;
+    bool goes_on = true;
     walk->visited = walk->waiting = 0;
     oca_walk_put(walk, 100, 0);
-    while (walk->waiting > 0) {
+    while (goes_on && walk->waiting > 0) {
         const uint32_t next = 4096 - walk->waiting--;
         struct oca_visit found = {walk->places[next].ono, walk->places[next].container, {0, 0, 0}, {0, {0}, 0}, {0, {0}}, {0, 0, 0}};
         walk->places[walk->visited].ono = found.ono;
         walk->places[walk->visited++].container = found.container;
+        panel->turns = UINT32_MAX; /* until the answer is there, or the link is lost */
         found.described = oca_panel_class(panel, found.ono, &found.id);
         if (found.described.asked == OCA_ASKED_DONE) found.described = oca_panel_role(panel, found.ono, &found.role);
+        if (found.described.asked != OCA_ASKED_DONE) found.listed = found.described;
         if (found.described.asked == OCA_ASKED_DONE && found.id.class_number == OCA_CLASS_BLOCK) {
             found.listed = oca_panel_members(panel, found.ono, &members);
             for (uint32_t i = found.listed.asked == OCA_ASKED_DONE ? members.count : 0; i > 0; i--) oca_walk_put(walk, members.onos[i - 1], found.ono);
         }
+        panel->turns = turns;
         const struct oca_outcome state = oca_panel_state(panel);
         if (state.asked != OCA_ASKED_DONE) return state;
-        if (!visit(context, &found)) break;
+        if (found.described.asked == OCA_ASKED_NOT_SENT) return found.described;
+        if (found.listed.asked == OCA_ASKED_NOT_SENT) return found.listed;
+        goes_on = visit(context, &found);
     }
     return oca_outcome_of(OCA_ASKED_DONE, 0, 0);
 }

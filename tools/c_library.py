@@ -152,6 +152,25 @@ def full_datagram(checks, made):
     run.communicate(timeout=120)
 
 
+def oversize(checks, made):
+    """A datagram of 1,473 bytes, whose first 1,472 are 86 commands, is executed by neither device of the examples: the
+    next answer is that to the next command."""
+    kept = made / "kept of a large datagram"
+    for name, words in (("device", [made / "device-c11", 0, 3]), ("mixer", [made / "mixer-plain", kept, 0, 3])):
+        run, port = serving(words)
+        commands = b"".join(struct.pack(">IIIHHB", 17, handle, 4097, 4, 1, 0) for handle in range(1, 87))
+        large = b"\x3b" + struct.pack(">HIBH", 1, 9 + len(commands), 1, 86) + commands + b"\x3b"
+        one = b"\x3b" + struct.pack(">HIBH", 1, 26, 1, 1) + struct.pack(">IIIHHB", 17, 99, 4097, 4, 1, 0)
+        with socket.socket(socket.AF_INET, socket.SOCK_DGRAM) as end:
+            end.settimeout(30)
+            for data in (large, one):
+                end.sendto(data, ("127.0.0.1", int(port)))
+            got = end.recv(2000)
+        wanted = b"\x3b" + struct.pack(">HIBH", 1, 20, 3, 1) + struct.pack(">IIBB", 11, 99, 0, 1) + b"\1"
+        checks.same(f"the {name} behind a datagram that is too large", (len(large), got), (1473, wanted))
+        run.communicate(timeout=120)
+
+
 LATE = """#define main panel_main
 #include "%s"
 #undef main
@@ -437,6 +456,10 @@ def stays_below(checks, made, archive):
     checks.same("what `make install` puts there", files_below(room), sorted(f"opt/oca/{it}" for it in [*whole, "lib/another.a"]))
     there = [room / "opt/oca/bin" / name for name in PROGRAMS]
     checks.same("the programs as they were built", [it.exists() and it.read_bytes() == (TOP / "bin" / it.name).read_bytes() for it in there], [True] * 3)
+    runs = lambda it: it.parent.name == "bin" or ".so" in it.name
+    modes = {it.name: oct(it.stat().st_mode & 0o777) for it in room.rglob("*") if it.is_file() and it.name != "another.a"
+             and it.stat().st_mode & 0o777 != (0o755 if runs(it) else 0o644)}
+    checks.same("what is installed that may not be read or run as it is to be", modes, {})
     make("uninstall", "/opt/oca", archive, DESTDIR=room)
     checks.same("what `make uninstall` leaves of it", files_below(room), ["opt/oca/lib/another.a"])
 
@@ -478,8 +501,15 @@ def by_cmake(checks, made, prefix):
     for kind in ("oca", "static"):
         checks.same(f"the panel that CMake built with oca::{kind}", said_by([made / f"cmade/panel-{kind}", port])[1], 0)
     run.communicate(timeout=120)
-    (project / "CMakeLists.txt").write_text(PROJECT.replace("oca 1.1", "oca 2.0"))
-    checks.same("version 2", subprocess.run(["cmake", "-S", project, "-B", "none", f"-DCMAKE_PREFIX_PATH={prefix}"], **said).returncode, 1)
+    own = re.search(r"^Version: (\d+)\.(\d+)\.(\d+)$", (TOP / "include/oca.pc.in").read_text(), re.MULTILINE)
+    major, minor, patch = map(int, own.groups())
+    for version, is_kept in ((f"{major}.0", True), (f"{major}.{minor}", True), (f"{major}.{minor}.{patch}", True),
+                             (f"{major}.{minor}.{patch + 1}", False), (f"{major}.{minor + 1}", False),
+                             (f"{major + 1}.0", False), (f"{major - 1}.9", False)):
+        (project / "CMakeLists.txt").write_text(PROJECT.replace("oca 1.1", f"oca {version}"))
+        found = subprocess.run(["cmake", "-S", project, "-B", "none", f"-DCMAKE_PREFIX_PATH={prefix}"], **said)
+        is_refused = "oca-config.cmake, version:" in found.stderr
+        checks.same(f"version {version}", (found.returncode == 0, is_refused), (is_kept, not is_kept))
 
 
 def on_arm(checks, made):
@@ -493,6 +523,10 @@ def on_arm(checks, made):
     for name, source in (("device", "examples/c/device.c"), ("panel", "examples/c/panel.c"), ("calls", "tools/c_library.c")):
         subprocess.run(["aarch64-linux-gnu-gcc", "-std=c11", *STRICT, f"-I{prefix}/include", "-o", made / f"{name}-arm", TOP / source,
                         f"{prefix}/lib/aarch64-linux-gnu/liboca.a"], check=True)
+    cflags, libs = flags(prefix, "lib/aarch64-linux-gnu")
+    built = subprocess.run(["aarch64-linux-gnu-gcc", "-std=c11", *STRICT, *cflags, "-o", made / "panel-by-flags",
+                            TOP / "examples/c/panel.c", *libs], capture_output=True, text=True)
+    checks.same("the panel for AArch64 by its oca.pc", (built.returncode, built.stderr), (0, ""))
     emulated = ["qemu-aarch64", "-L", "/usr/aarch64-linux-gnu"]
     run, port = serving([*emulated, made / "device-arm", 0, 6])
     checks.same("the panel on AArch64", said_by([*emulated, made / "panel-arm", port]), (PANEL, 0))
@@ -554,6 +588,7 @@ def main():
         panels(checks, made, prefix, folder)
         full_datagram(checks, made)
         mixers(checks, made, prefix)
+        oversize(checks, made)
         refused_memory(checks, made)
         if shutil.which("valgrind"):
             careful = ["valgrind", "-q", "--error-exitcode=99", "--leak-check=full"]

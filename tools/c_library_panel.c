@@ -224,6 +224,14 @@ static void sets(struct oca_panel *panel) {
     same("label", oca_panel_set_label(panel, 4097, &name).asked, OCA_ASKED_DONE);
     name = oca_name_of("");
     same("read back", oca_panel_label(panel, 4097, &name).asked == OCA_ASKED_DONE && is_name(&name, "Ba\xc3\x9f"), 1);
+    for (uint32_t size = 0; size <= 64; size++) {
+        struct oca_name label = {(uint8_t)size, {0}}, got = {9, {9}};
+        for (uint32_t k = 0; k < size; k++) label.text[k] = (uint8_t)('a' + (size + k) % 26);
+        same("a label of each size", oca_panel_set_label(panel, 4097, &label).asked, OCA_ASKED_DONE);
+        same("is read back", oca_panel_label(panel, 4097, &got).asked, OCA_ASKED_DONE);
+        same("as it was set", got.size == size && memcmp(got.text, label.text, size) == 0, 1);
+    }
+    name = oca_name_of("Ba\xc3\x9f");
     name.text[1] = 0xff;
     same("a label that is no UTF-8", oca_panel_set_label(panel, 4097, &name).asked, OCA_ASKED_NO_VALUE);
     name = oca_name_of("01234567890123456789012345678901234567890123456789012345678901234");
@@ -331,6 +339,36 @@ static void walks_all(void) {
     }
     same("none twice", twice, 0);
     same("the last", seen.onos[4095] == 11264 && seen.containers[4095] == 11200 && seen.classes[4095] == OCA_CLASS_MUTE, 1);
+    oca_panel_close(&panel);
+    oca_device_close(&device);
+}
+
+/* A panel whose calls wait for one turn alone walks all objects, over a network that loses datagrams: it waits for each answer. */
+static void walks_in_single_turns(uint32_t seed) {
+    static struct network network;
+    struct oca_device device = OCA_DEVICE_INIT;
+    struct oca_panel panel = OCA_PANEL_INIT;
+    const struct oca_spec leaf = oca_spec_of("leaf", oca_alone(oca_mute(true)));
+    uint32_t unknown = 0;
+    same("open", oca_device_open(&device, 65), OCA_DONE);
+    for (uint32_t k = 0; k < 64; k++)
+        if (oca_device_add(&device, 100, 5000 + k, &leaf) != OCA_DONE) failed++;
+    same("start", oca_device_start(&device, 32, 1), OCA_DONE);
+    memset(&network, 0, sizeof network);
+    network.device = &device;
+    network.port = 40000;
+    network.random = seed;
+    network.lost = 20;
+    network.doubled = 20;
+    opens(&panel, &network, 1);
+    panel.turns = 1;
+    seen.len = 0;
+    seen.at_most = 4100;
+    same("a walk in single turns", oca_panel_walk(&panel, &walk, visits, &seen).asked, OCA_ASKED_DONE);
+    same("of all objects", seen.len, 65);
+    for (uint32_t i = 0; i < seen.len && i < 4100; i++) unknown += seen.classes[i] == 99;
+    same("each is described", unknown, 0);
+    same("the turns are the panel's own again", panel.turns, 1);
     oca_panel_close(&panel);
     oca_device_close(&device);
 }
@@ -493,6 +531,23 @@ static void classes(void) {
     oca_panel_close(&panel);
 }
 
+/* Of a struct of another size, as a program has it that was compiled with an earlier header, nothing but its size is
+ * read, and the panel stays as it was. */
+static void refuses_a_smaller_end(void) {
+    const size_t size = sizeof size;
+    volatile size_t room = size; /* the compiler is not to see that the struct is cut */
+    struct oca_end *small = (struct oca_end *)malloc(room);
+    struct oca_panel panel, before;
+    if (!small) exit(2);
+    memset(&panel, 0, sizeof panel);
+    memset(&before, 0, sizeof before);
+    memcpy(small, &size, sizeof size);
+    panel.turns = before.turns = 7;
+    same("a smaller struct", oca_panel_open(&panel, small, 1, 2, 3, 4, 5), OCA_BAD_SIZE);
+    same("the panel is as it was", memcmp(&panel, &before, sizeof panel) == 0, 1);
+    free(small);
+}
+
 /* No answer in time, and one that comes after all; a program that stood still; a socket of another size. */
 static void waits(void) {
     static struct network network;
@@ -500,6 +555,7 @@ static void waits(void) {
     struct oca_end end = {sizeof end - 1, &network, now_of, send_to, receive};
     uint32_t handle = 0;
     same("a struct of another size", oca_panel_open(&panel, &end, 1, 2, 3, 4, 5), OCA_BAD_SIZE);
+    refuses_a_smaller_end();
     begins_network(&network, &panel);
     panel.turns = 3;
     network.silent = true;
@@ -511,6 +567,16 @@ static void waits(void) {
     network.silent = false;
     panel.turns = 20;
     same("an answer after all", oca_panel_finish_set(&panel, handle).asked, OCA_ASKED_DONE);
+    panel.turns = 0;
+    network.silent = true;
+    struct oca_outcome given_up = oca_panel_set(&panel, 4097, oca_mute(true));
+    same("a call that gives up", given_up.asked, OCA_ASKED_UNANSWERED);
+    network.silent = false;
+    panel.turns = 20;
+    for (int k = 0; k < 15; k++) same("behind it", oca_panel_set(&panel, 4097, oca_mute(true)).asked, OCA_ASKED_DONE);
+    same("the span is full of it", oca_panel_set(&panel, 4097, oca_mute(true)).result, OCA_SPAN_FULL);
+    same("its handle is told", oca_panel_finish_set(&panel, given_up.result).asked, OCA_ASKED_DONE);
+    same("and the span is free", oca_panel_set(&panel, 4097, oca_mute(true)).asked, OCA_ASKED_DONE);
     same("begin", oca_panel_begin_set(&panel, 4097, oca_mute(true), &handle), OCA_DONE);
     network.queued = 0;
     network.now += 100001;
@@ -602,6 +668,7 @@ int main(int count, char **words) {
     at_device(1, 0, 0, 0);
     for (uint32_t seed = 0; seed < 20; seed++) at_device(seed, 20, 20, 30);
     walks_all();
+    for (uint32_t seed = 0; seed < 5; seed++) walks_in_single_turns(seed);
     hostile();
     classes();
     waits();

@@ -1,9 +1,10 @@
 #!/usr/bin/env python3
-"""The two example programs over loopback: the panel sets the amplifier, also where another peer holds a lock; each of the
-amplifier's own knobs is turned and read back by a peer, each object is set by a peer and shown by the amplifier, with an
-input that stays open; and the amplifier serves where its standard streams are closed.
+"""The two example programs over loopback: the panel sets the amplifier, also where another peer holds a lock, and lists
+its objects and those of `ocadev`; each of the amplifier's own knobs is turned and read back by a peer, each object is
+set by a peer and shown by the amplifier, with an input that stays open; and the amplifier serves where its standard
+streams are closed.
 
-Usage: embedded.py BIN     BIN is the folder with `amplifier` and `panel`"""
+Usage: embedded.py BIN     BIN is the folder with `amplifier`, `panel` and `ocadev`"""
 import itertools
 import os
 import re
@@ -80,8 +81,9 @@ def shown(levels):
     return f"1: {first} {low} dB/10, 2: {second} {high} dB/10\n"
 
 
-def panel(folder, port, **settings):
-    return subprocess.run([f"{folder}/panel", str(port)], capture_output=True, text=True, timeout=60, **settings).stdout
+def panel(folder, *words, **settings):
+    done = subprocess.run([f"{folder}/panel", *map(str, words)], capture_output=True, text=True, timeout=60, **settings)
+    return done.stdout
 
 
 def panel_sets(checks, folder):
@@ -98,6 +100,53 @@ def panel_sets(checks, folder):
             checks.same("the gain is shown", amplifier.run.stdout.readline(), shown((("open", -60), ("muted", 0))))
         checks.same(f"what is read, lock {lock}", peer.levels(), shown((("open", after or 0), ("muted", 0))))
         amplifier.stop()
+
+
+FOLLOW = "its members follow"
+DESK = ('100 OcaBlock "root": its members follow', '4096 OcaBlock "desk": its members follow',
+        '4097 OcaMute "mute": muted', '4098 OcaPolarity "polarity": non-inverted', '4099 OcaSwitch "input": 0',
+        '4100 OcaInt16Actuator "trim": 0', '4101 OcaBooleanActuator "lamp": off', '4102 OcaUint8Actuator "dim": 10')
+
+
+def channel(number, mute, gain):
+    """The lines of a channel's objects; where a mute or a gain is Locked, it does not say what it is."""
+    block = 3096 + 1000 * number
+    rows = ((block + 1, 'OcaMute "mute"', mute), (block + 2, 'OcaInt16Actuator "gain"', gain))
+    lines = [f"{ono}: Locked" if value == "Locked" else f"{ono} {found}: {value}" for ono, found, value in rows]
+    return [f'{block} OcaBlock "channel {number}": {FOLLOW}', *lines]
+
+
+def listing(checks, folder):
+    """The panel lists objects by their classes, roles and values, in the order of their blocks; where one is locked by
+    another peer, a block has too many members, or nobody answers, it says so."""
+    amplifier = Amplifier(folder)
+    peer = Peer(amplifier.port)
+    root = [f'100 OcaBlock "root": {FOLLOW}']
+    rows = (((), [*channel(1, "muted", 0), *channel(2, "muted", 0)]),
+            ((MUTES[1], 4, 2, b"\2"), [*channel(1, "muted", 0), *channel(2, "unmuted", 0)]),
+            ((GAINS[0], 5, 2, b"\xff\xc4"), [*channel(1, "muted", -60), *channel(2, "unmuted", 0)]),
+            ((GAINS[0], 1, LOCK_READONLY), [*channel(1, "muted", -60), *channel(2, "unmuted", 0)]),
+            ((MUTES[1], 1, LOCK_TOTAL), [*channel(1, "muted", -60), *channel(2, "Locked", 0)]),
+            ((MUTES[0] - 1, 1, LOCK_TOTAL), ["4096: Locked", *channel(2, "Locked", 0)]))
+    for command, lines in rows:
+        if command:
+            checks.same(f"before a listing, {command}", peer.ask(*command)[0], 0)
+        checks.same(f"a listing behind {command}", panel(folder, amplifier.port, "objects").splitlines(), root + lines)
+    amplifier.stop()
+    # 104 members of 14 bytes each and the two bytes of their count are more than the 1,452 of an answer.
+    for words, lines in (((), DESK), (("--channels", "103"), ('100 OcaBlock "root": BufferOverflow',))):
+        device = subprocess.Popen([f"{folder}/ocadev", "serve", "--port", "0", *words], stdout=subprocess.DEVNULL,
+                                  stderr=subprocess.PIPE, text=True)
+        port = int(re.search(r"listening 127\.0\.0\.1:(\d+)", device.stderr.readline())[1])
+        checks.same(f"a listing of ocadev {words}", tuple(panel(folder, port, "objects").splitlines()), lines)
+        device.kill()
+        device.communicate(timeout=60)
+    with socket.socket(socket.AF_INET, socket.SOCK_DGRAM) as silent:
+        silent.bind(("127.0.0.1", 0))
+        port = silent.getsockname()[1]
+        checks.same("a listing where nobody answers", panel(folder, port, "objects"), "100: lost\n")
+    for words in ((9, "object"), (9, "objects", "all"), ("objects", 9)):
+        checks.same(f"the words {words}", panel(folder, *words), "usage: panel [PORT [objects]]\n")
 
 
 def knobs(checks, folder):
@@ -157,10 +206,19 @@ def bound_at(port):
 
 
 def at_this_machine(checks, folder):
-    """The amplifier listens where it says, and nowhere else; the panel says what is no port, and sends nothing."""
+    """The amplifier listens where it says, and nowhere else, and the panel's socket is there too; the panel says what
+    is no port, and sends nothing."""
     amplifier = Amplifier(folder)
     checks.same("where the amplifier listens", bound_at(amplifier.port), ["127.0.0.1"])
     amplifier.stop()
+    with socket.socket(socket.AF_INET, socket.SOCK_DGRAM) as silent:
+        silent.bind(("127.0.0.1", 0))
+        silent.settimeout(30)
+        run = subprocess.Popen([f"{folder}/panel", str(silent.getsockname()[1])], stdout=subprocess.DEVNULL)
+        own = silent.recvfrom(2000)[1][1]
+        checks.same("where the panel's socket is", bound_at(own), ["127.0.0.1"])
+        run.kill()
+        run.wait()
     for port in ("x", "65536", "-1", ""):
         checks.same(f"the panel at port {port!r}", panel(folder, port).splitlines()[0][:7] in ("", "invalid", "number ", "cannot "), True)
 
@@ -180,7 +238,7 @@ def closed(checks, folder):
 
 def main():
     checks = Checks()
-    for part in (panel_sets, knobs, objects, at_this_machine, closed):
+    for part in (panel_sets, listing, knobs, objects, at_this_machine, closed):
         part(checks, sys.argv[1])
     print(f"embedded: the samples, each from both sides\n{checks.passed} passed, {checks.failed} failed")
     return 1 if checks.failed else 0

@@ -257,7 +257,8 @@ def sets(checks):
 
 
 # What is told of a span that a device's window of 32 does not bear.
-OF_SPAN_32 = "note: --span 32: the device needs a window of 63 commands or more; its 32, unless it is told another, bear a span of 16\n"
+OF_SPAN_32 = ("note: --span 32: the device needs a window of 63 commands or more; "
+              "its default of 32 is enough for a span of 16\n")
 
 
 def sets_at_once(checks):
@@ -422,10 +423,35 @@ def silence(checks):
     with Served(stagebox()) as device:
         checks.prints("get: answered, and no handle is left", device, ["get", "--first-handle", oca.U32 - 1, 4097, 4098],
                       "4097 muted\n4098 refused 2 handles-spent\n", 3)
+    for kind in (Deaf, Faint):
+        with kind(stagebox(), None) as device:
+            checks.prints(f"get: heard, and never answered: {kind.__name__}", device, ["get", "--turns", 2, 4097],
+                          "4097 no answer\n", 3, is_deaf(device.port, checks.port))
+
+
+def is_deaf(device, own):
+    """The note on a device that is heard and answers no command."""
+    return f"note: 127.0.0.1:{device} is heard, but answers no command from port {own}: wait two minutes, or give " \
+        "another --port\n"
+
+
+def silence_of_a_run(checks):
+    """`run`, which nobody answers: its line, the note and the status, as for the commands above."""
+    def runs(what, port, note):
+        done = subprocess.run([f"{checks.folder}/ocactl", "run", "--device", f"127.0.0.1:{port}", "--port",
+                               str(checks.port), "--first-handle", "1"], input="4097 4 1 0 -\n", capture_output=True,
+                              text=True, timeout=60)
+        checks.same(f"run: {what}", (done.stdout, done.stderr, done.returncode), ("lost\n", note, 3))
+
+    port = own_ports.free_port()
+    unheard = "note: nothing was heard from 127.0.0.1:{}"
+    runs("nobody has the port", port, f"{unheard.format(port)}: its host says that no program has this port\n")
+    with socket.socket(socket.AF_INET, socket.SOCK_DGRAM) as s:
+        s.bind(("127.0.0.1", 0))
+        port = s.getsockname()[1]
+        runs("a device that is silent", port, f"{unheard.format(port)}\n")
     with Deaf(stagebox(), None) as device:
-        checks.prints("get: heard, and never answered", device, ["get", "--turns", 2, 4097], "4097 no answer\n", 3,
-                      f"note: 127.0.0.1:{device.port} is heard, and answers no command from port {checks.port}: "
-                      "wait two minutes, or give another --port\n")
+        runs("a device that is deaf", device.port, is_deaf(device.port, checks.port))
 
 
 def failed_sends(checks):
@@ -451,6 +477,21 @@ class Deaf(Served):
             if message[0] == "command" and (self.methods is None or (message[2].level, message[2].index) in self.methods):
                 return "", []
         return self.answers(peer, data, now)
+
+
+class Faint(Deaf):
+    """The same, which of three keep-alives hears the last alone."""
+
+    def __init__(self, tree, methods):
+        super().__init__(tree, methods)
+        self.beats = 0
+
+    def datagram(self, peer, data, now):
+        if any(message[0] == "keep-alive" for message in oca.check(data)):
+            self.beats += 1
+            if self.beats % 3:
+                return "", []
+        return super().datagram(peer, data, now)
 
 
 class Missing(Served):
@@ -541,6 +582,31 @@ def at_a_terminal(checks):
         checks.same("lock --hold at a terminal: no lock", [o.lock for o in device.tree], [None] * len(device.tree))
 
 
+# Runs a command in the background of its terminal, prints its number, and waits for it.
+IN_THE_BACKGROUND = "import os, subprocess, sys; run = subprocess.Popen(sys.argv[1:], preexec_fn=os.setpgrp); " \
+    "print(run.pid, 'is there', flush=True); run.wait()"
+
+
+def behind_a_terminal(checks):
+    """In the background of a terminal `lock --hold` reads nothing that is typed there, and is not stopped by it: it
+    keeps its lock."""
+    with Served(stagebox()) as device:
+        run = Terminal(sys.executable, "-c", IN_THE_BACKGROUND, f"{checks.folder}/ocactl", "lock", "--hold", "--device",
+                       f"127.0.0.1:{device.port}", "--port", str(free_port()), "4097")
+        checks.same("lock --hold in the background", (run.says(b" is there"), run.says(b"4097 locked")), (True, True))
+        pid = int(re.search(rb"(\d+) is there", run.said)[1])
+        for line in (b"a line of another program\n", b"and one more\n"):
+            run.write(line)
+            checks.same("lock --hold in the background: it goes on", run.says(b"unlocked", 1), False)
+            with open(f"/proc/{pid}/stat", encoding="ascii") as file:
+                state = file.read().rsplit(")", 1)[1].split()[0]
+            checks.same(f"lock --hold in the background: it is not stopped, but {state}", state in "RS", True)
+        is_locked = [o.lock is not None for o in device.tree if o.ono == 4097]
+        checks.same("lock --hold in the background: its lock", is_locked, [True])
+        os.kill(pid, signal.SIGKILL)
+        checks.same("lock --hold in the background: its end", run.ends(), 0)
+
+
 class OldSession(Served):
     """The second implementation's device, with a session of the program's own port that is ahead of the clock."""
 
@@ -561,13 +627,15 @@ def old_sessions(checks):
             run = subprocess.run([f"{folder}/ocactl", command, "--device", f"127.0.0.1:{device.port}", *map(str, words)],
                                  capture_output=True, text=True, timeout=60)
             checks.same(f"{command}: an old session", (run.stdout, run.stderr, run.returncode),
-                        (printed, f"note: 127.0.0.1:{device.port} answers no command from port {own}: port {other} is taken\n", 0))
+                        (printed, f"note: 127.0.0.1:{device.port} answers no command from port {own}: "
+                                  f"port {other} is used instead\n", 0))
             checks.same(f"{command}: an old session: the device", done(next(o for o in device.tree if o.ono == 4097)), True)
     with OldSession(stagebox(), [own, other]) as device:
         run = subprocess.run([f"{folder}/ocactl", "get", "--turns", "2", "--device", f"127.0.0.1:{device.port}", "4097"],
                              capture_output=True, text=True, timeout=60)
-        said = [f"note: 127.0.0.1:{device.port} answers no command from port {own}: port {other} is taken",
-                f"note: 127.0.0.1:{device.port} is heard, and answers no command from port {other}: wait two minutes, or give another --port"]
+        said = [f"note: 127.0.0.1:{device.port} answers no command from port {own}: port {other} is used instead",
+                f"note: 127.0.0.1:{device.port} is heard, but answers no command from port {other}: "
+                "wait two minutes, or give another --port"]
         checks.same("two old sessions", (run.stdout, run.stderr.splitlines(), run.returncode), ("4097 no answer\n", said, 3))
 
 
@@ -621,8 +689,9 @@ def held(checks):
 
 def main():
     checks = Checks(sys.argv[1])
-    for part in (trees, gets, sets, sets_at_once, tells_at_once, refusals, bad_words, locks, strange_answers, silence, failed_sends,
-                 old_sessions, own_port_in_use, missed_first, at_a_terminal, held):
+    for part in (trees, gets, sets, sets_at_once, tells_at_once, refusals, bad_words, locks, strange_answers, silence,
+                 silence_of_a_run, failed_sends, old_sessions, own_port_in_use, missed_first, at_a_terminal,
+                 behind_a_terminal, held):
         try:
             with own_ports.alone() if part in (old_sessions, own_port_in_use, missed_first) else contextlib.nullcontext():
                 part(checks)

@@ -258,6 +258,16 @@ def pages_wrong(header):
         texts = {file.stem: file.read_text() for file in Path(place).glob("*.3")}
     calls = prototypes(header).keys() | set(re.findall(r"^static inline [\w ]+?[ *](oca_\w+)\(", header, re.M)) - reference.HELPERS
     wrong = [f"{name}: a page in one of both alone" for name in sorted(calls ^ texts.keys())]
+    front = header[:header.index("#ifndef OCA_H")]
+    promised = re.sub(r"\W+", " ", front)
+    for name, said in sorted(texts.items()):
+        told = re.sub(r"\W+", " ", said.split("\n.SH NOTES\n")[-1]) if "\n.SH NOTES\n" in said else ""
+        if told.strip() != promised.strip():
+            wrong.append(f"{name}: its page does not say what all calls want")
+        if re.search(rf"^.*enum oca_result {name}\(", said, re.M):
+            answers = re.findall(r"\bOCA_\w+", said.split("\n.SH RETURN VALUE\n")[-1].split("\n.SH")[0])
+            if numbered(header, "oca_result").keys() - set(answers):
+                wrong.append(f"{name}: its page does not say what it can answer")
     for name in sorted(calls & texts.keys()):
         said = texts[name].split(".SH DESCRIPTION\n")[1].split("\n.SH")[0]
         if not re.search(rf"^(static inline )?[\w *]+[ *]{name}\(.*\)(?: OCA_\w+)?;$", texts[name], re.M) or not said or made[name][0] != said:

@@ -24,7 +24,7 @@ static bool asks(size_t room, size_t size, size_t align) {
     struct tried given = rattle_alloc(size, align);
     bool fits = align <= 16 && at <= room && size <= room - at && (size > 0 || at < room);
     expect(given.ok == fits, room, size);
-    if (!given.ok) {
+    if (!given.ok || !fits) {
         expect(heap_used == before, room, size);
         return false;
     }
@@ -43,6 +43,8 @@ int main(void) {
             while (given <= room && asks(room, sizes[i], 16)) given++;
             asks(room, 1, 32);
             asks(room, 1, 8);
+            asks(room, SIZE_MAX, 16); /* behind a block, where a sum with its place would wrap */
+            asks(room, SIZE_MAX - 15, 16);
         }
     }
     printf("%lu passed, %lu failed\n", passed, failed);

@@ -1,12 +1,17 @@
 #!/usr/bin/env python3
-"""Holds man/ocadev.1, man/ocactl.1 and man/ocapanel.1 against `--help`: the same commands, and of each the same options with
-the same values and the same defaults, those that stand before `unless given`. A program without commands has one of its own
-name.
+"""Compares man/ocadev.1, man/ocactl.1 and man/ocapanel.1 with `--help`: the same commands, and for each command the
+same options with the same values and the same defaults (`[default: N]` in the help, `The default is N` in the page). A
+program without commands has one of its own name. What the help says of each option and each command is more than a
+word, and not what it says of another one.
 
 Usage: manual.py BIN     BIN is the folder with the programs
 
-In a page a command is a `.SS`, and an option of it a `.BI \\-\\-NAME " VALUE"` or, without a value, a `.B \\-\\-NAME`.
-Where groff is installed, it must find nothing to warn of. The step is tried itself, by pages that are wrong. The last line is 'N passed, M failed'."""
+In a page a command is a `.SS` of the section COMMANDS, and an option of it, behind a `.TP`, a `.BI \\-\\-NAME " VALUE"`
+or, without a value, a `.B \\-\\-NAME`. Options that several commands have are in the section COMMON OPTIONS, where a
+`.SS` lists the commands: `replay and serve`, or `All commands`, or `All commands but replay`.
+
+Where groff is installed, it must find nothing to warn of. The step is tried itself, by pages that are wrong. The last
+line is 'N passed, M failed'."""
 import re
 import shutil
 import subprocess
@@ -27,7 +32,7 @@ def section(text, name):
 
 
 def options_in_help(text):
-    """Each option with its value or none; but `--help`, which every command has, and `--version`, which every program has."""
+    """Each option with its value or none; not `--help` and `--version`, which every command or program has."""
     pattern = r"\s+(?:-\w, )?--([a-z-]+)(?:[ =]<([^>]+)>)?"
     found = [re.match(pattern, line) for line in section(text, "Options")]
     return {m[1]: m[2] for m in found if m and m[1] not in ("help", "version")}
@@ -40,20 +45,40 @@ def commands_in_help(program):
     return found or {Path(program).name: []}
 
 
+def parts_of(text, section):
+    """The name of each `.SS` of a section, with its text; none where there is no such section."""
+    found = re.search(rf"^\.SH {section}\n(.*?)(?=^\.SH |\Z)", text, re.MULTILINE | re.DOTALL)
+    parts = re.split(r"^\.SS ", found[1], flags=re.MULTILINE)[1:] if found else []
+    return [part.split("\n", 1) for part in parts]
+
+
+def options_in(text):
+    """Each option of a part of a page: its value or none, and its default or none."""
+    option = r'^\.TP\n\.BI? ((?:\\-)+[a-z\\-]+)(?: " ([^"]+)")?\n((?:(?!\.TP).*\n)*)'
+    blocks = re.findall(option, text, re.MULTILINE)
+    return {name.replace("\\", "").lstrip("-"): (value or None, default_of(told)) for name, value, told in blocks}
+
+
+def has_options(heading, name, names):
+    """Whether the options under this heading of COMMON OPTIONS are those of the command `name`, one of `names`."""
+    listed = set(re.findall(r"[a-z]+", heading)) & names
+    return (name in listed) != heading.startswith("All commands")
+
+
 def commands_in_page(text):
-    """The options of each command, each with its value or none."""
-    commands = {}
-    body = re.search(r"^\.SH COMMANDS\n(.*?)^\.SH ", text, re.MULTILINE | re.DOTALL)[1]
-    for part in re.split(r"^\.SS ", body, flags=re.MULTILINE)[1:]:
-        name, rest = part.split("\n", 1)
-        found = re.findall(r'^\.BI? ((?:\\-)+[a-z\\-]+)(?: " ([^"]+)")?$', rest, re.MULTILINE)
-        commands[name] = {option.replace("\\", "").lstrip("-"): value or None for option, value in found}
+    """The options of each command: for each its value or none, and its default or none."""
+    commands = {name: options_in(rest) for name, rest in parts_of(text, "COMMANDS")}
+    for heading, rest in parts_of(text, "COMMON OPTIONS"):
+        for name, options in commands.items():
+            if has_options(heading, name, commands.keys()):
+                twice = options.keys() & options_in(rest).keys()
+                options |= options_in(rest) | {option: ("two values", None) for option in twice}
     return commands
 
 
 def default_of(text):
-    """The number that an option has unless it is given, where its text says one."""
-    found = re.search(r"\b(\d[\d.]*) unless given", text)
+    """The default that the text of an option tells: a number or an address, or none."""
+    found = re.search(r"(?:The default is|\[default:)\s(\d(?:[\d.:]*\d)?)", text)
     return found[1] if found else None
 
 
@@ -63,15 +88,6 @@ def defaults_in_help(text):
     return {m[1]: default_of(m[2]) for m in found if m and default_of(m[2])}
 
 
-def defaults_in_page(text, name):
-    """The default of each option of a command that has one, and the options that are said to be as those of another."""
-    body = re.search(r"^\.SH COMMANDS\n(.*?)^\.SH ", text, re.MULTILINE | re.DOTALL)[1]
-    part = re.search(rf"^{name}\n(.*)", next(p for p in re.split(r"^\.SS ", body, flags=re.MULTILINE) if p.startswith(f"{name}\n")), re.DOTALL)[1]
-    blocks = re.findall(r"^\.BI? ((?:\\-)+[a-z\\-]+)[^\n]*\n((?:(?!\.TP).*\n)*)", part, re.MULTILINE)
-    said = {option.replace("\\", "").lstrip("-"): block for option, block in blocks}
-    return {o: default_of(b) for o, b in said.items() if default_of(b)}, {o for o, b in said.items() if "As of" in b}
-
-
 def faults_of(text, program):
     """What differs between the text of a page and the program, a line each, and how much was compared."""
     documented, there = commands_in_page(text), commands_in_help(program)
@@ -79,14 +95,14 @@ def faults_of(text, program):
     count = len(there)
     for name in sorted(documented.keys() & there.keys()):
         said = options_in_help(help_of(program, *there[name]))
-        count += len(said)
-        defaults, others = defaults_in_page(text, name)
-        wanted = {option: value for option, value in defaults_in_help(help_of(program, *there[name])).items() if option not in others}
-        count += len(wanted)
+        values = {option: value for option, (value, _) in documented[name].items()}
+        defaults = {option: default for option, (_, default) in documented[name].items() if default}
+        wanted = defaults_in_help(help_of(program, *there[name]))
+        count += len(said) + len(wanted)
         if defaults != wanted:
             faults.append(f"{name}: the defaults are {defaults} in the page, {wanted} in the help")
-        for option in sorted(documented[name].keys() | said.keys()):
-            page_has, help_has = documented[name].get(option, "nothing"), said.get(option, "nothing")
+        for option in sorted(values.keys() | said.keys()):
+            page_has, help_has = values.get(option, "nothing"), said.get(option, "nothing")
             if page_has != help_has:
                 faults.append(f"{name} --{option}: {page_has!r} in the page, {help_has!r} in the help")
     return faults, count
@@ -100,11 +116,58 @@ def warnings_of(page):
     return [f"groff: {line}" for line in warned.splitlines()]
 
 
-# Pages that are wrong: the program, a text that stands there, and what stands in its place: a command that is missing, one that is
-# none, an option that is missing, one that is none, one of another value or without one, and another default.
-WRONG = [("ocadev", ".SS show\n", ".SS shows\n"), ("ocactl", ".SS unlock\n", ".PP\n"), ("ocadev", '.BI \\-\\-stats " SECONDS"\n', ".PP\n"),
-         ("ocactl", ".B \\-\\-hold\n", ".B \\-\\-held\n"), ("ocadev", '.BI \\-\\-stats " SECONDS"', '.BI \\-\\-stats " MINUTES"'),
-         ("ocadev", '.BI \\-\\-keep " FILE"', ".B \\-\\-keep"), ("ocadev", "1 to 64; 32 unless given", "1 to 64; 31 unless given")]
+def said_in_help(text):
+    """What the help says of each option and each command."""
+    found = [re.match(r"\s+(?:-\w, )?(?:--)?([a-z-]+)(?:[ =]<[^>]+>)*\s*(.*)", line)
+             for name in ("Options", "Commands") for line in section(text, name)]
+    return {m[1]: m[2] for m in found if m}
+
+
+def unexplained(text):
+    """The options and commands of which a help text says nothing: no sentence of more than one word, or what it says of
+    another one."""
+    said = said_in_help(text)
+    return [name for name, words in said.items()
+            if not re.match(r"[A-Z]\S* \S", words) or list(said.values()).count(words) > 1]
+
+
+# Help texts that are wrong: what stands in the place of what is said of an option.
+WRONG_HELP = ["", "window", "W", "Help", "Print help"]
+
+
+def explanations(folder):
+    """Which options and commands are not explained, a line each, and how many there are; and texts that are wrong are
+    found."""
+    faults, count = [], 0
+    for name in ("ocadev", "ocactl", "ocapanel"):
+        program = f"{folder}/{name}"
+        for words in {(), *map(tuple, commands_in_help(program).values())}:
+            text = help_of(program, *words)
+            count += len(said_in_help(text))
+            faults += [f"{name} {' '.join(words)} --help says nothing of {it}" for it in unexplained(text)]
+    text = help_of(f"{folder}/ocadev", "serve")
+    for other in WRONG_HELP:
+        wrong = re.sub(r"(?m)^( +--window <W> +)\S.*$", lambda m: m[1] + other, text)
+        count += 1
+        if wrong == text or "window" not in unexplained(wrong):
+            faults.append(f"not found: {other!r} as the help of --window")
+    return faults, count
+
+
+# Pages that are wrong: the program, a text of its page, and another text in its place: a command that is missing, one
+# that is none, an option that is missing, one that is none, one of another value or without one, another default or
+# none, options that fewer or more commands have, and an option that stands twice.
+WRONG = [
+    ("ocadev", ".SS show\nPrints", ".SS shows\nPrints"), ("ocactl", ".SS unlock\n", ".PP\n"),
+    ("ocadev", '.BI \\-\\-stats " SECONDS"\n', ".PP\n"), ("ocactl", ".B \\-\\-hold\n", ".B \\-\\-held\n"),
+    ("ocadev", '.BI \\-\\-stats " SECONDS"', '.BI \\-\\-stats " MINUTES"'),
+    ("ocadev", '.BI \\-\\-keep " FILE"', ".B \\-\\-keep"), ("ocadev", "The default is 32.", "The default is 31."),
+    ("ocadev", "The default is 16.", "It is 16."), ("ocactl", "The default is 200.", "The default is 20."),
+    ("ocapanel", "The default is 127.0.0.1:8080.", "The default is 127.0.0.1:80."),
+    ("ocadev", ".SS replay and serve\n", ".SS replay\n"), ("ocadev", ".SS replay and serve\n", ".SS All commands\n"),
+    ("ocactl", ".SS All commands but replay\n", ".SS All commands\n"),
+    ("ocactl", '.TP\n.BI \\-\\-params " HEX"', '.TP\n.BI \\-\\-span " S"\n.TP\n.BI \\-\\-params " HEX"'),
+]
 
 
 def is_found(name, there, other, folder):
@@ -123,6 +186,11 @@ def main():
             print(f"{name}.1: {fault}")
         failed += len(faults)
         passed += max(0, count - len(faults))
+    faults, count = explanations(sys.argv[1])
+    for fault in faults:
+        print(fault)
+    failed += len(faults)
+    passed += count - len(faults)
     for name, there, other in WRONG:
         if is_found(name, there, other, sys.argv[1]):
             passed += 1

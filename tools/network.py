@@ -12,6 +12,7 @@ import errno
 import itertools
 import os
 import re
+import select
 import socket
 import subprocess
 import sys
@@ -98,13 +99,14 @@ class Checks:
     def same(self, what, got, expected, is_time=False):
         self.expect(what, got == expected, f"{got!r:.300} in place of {expected!r:.300}", is_time)
 
-    def start(self, *words, stdin=subprocess.DEVNULL, close=(), **settings):
-        """A run with these descriptors closed and this done by the layer."""
+    def start(self, *words, stdin=subprocess.DEVNULL, close=(), cwd=None, **settings):
+        """A run in this folder, with these descriptors closed and this done by the layer."""
         env = dict(os.environ, **{name: str(value) for name, value in settings.items()})
         if settings:
             env["LD_PRELOAD"] = self.layer
         run = subprocess.Popen([f"{self.folder}/{words[0]}", *map(str, words[1:])], stdin=stdin, stdout=subprocess.PIPE,
-                               stderr=subprocess.PIPE, text=True, env=env, preexec_fn=lambda: [os.close(fd) for fd in close])
+                               stderr=subprocess.PIPE, text=True, env=env, cwd=cwd,
+                               preexec_fn=lambda: [os.close(fd) for fd in close])
         self.runs.append(run)
         return run
 
@@ -202,6 +204,26 @@ def signals(checks):
         run.kill()
 
 
+def runs_under_signals(checks):
+    """`ocactl run` whose input stays open, while signals come: each line is answered, nothing else is said, and it ends
+    with its input."""
+    run, port = checks.serve(100000)
+    reader, writer = os.pipe()
+    os.write(writer, b"4097 4 1 0 -\n")
+    asks = checks.start("ocactl", "run", "--device", f"127.0.0.1:{port}", "--first-handle", 1, "--port", free_port(),
+                        stdin=reader, SIGNALS=1000)
+    os.close(reader)
+    for count in (1, 2, 3):
+        is_there = bool(select.select([asks.stdout], [], [], 10)[0])
+        checks.same(f"`run` under signals: answer {count}", is_there and asks.stdout.readline(), "answer 0 1 01\n")
+        time.sleep(0.2)
+        with contextlib.suppress(BrokenPipeError):
+            os.write(writer, b"4097 4 1 0 -\n" if count < 3 else b"")
+    os.close(writer)
+    checks.same("`run` under signals: its end", (*asks.communicate(timeout=60), asks.returncode), ("", "", 0))
+    run.kill()
+
+
 def refused_sends(checks):
     """Sends that the system refuses are counted, each, and the command is answered when it comes again; a note says how many and why."""
     for number, count, words in ((errno.ENETUNREACH, 1, ()), (errno.ENOBUFS, 2, ()), (errno.EPERM, 3, ()), (errno.EPERM, 2, ("--verbose",)),
@@ -267,8 +289,9 @@ def closed_descriptors(checks):
     checks.same("`serve` without any of the three", run.returncode, 1)
 
 
-def opened(run, closed):
-    """What stands at each of these descriptors of a run, once it has a socket; nothing where it has none in ten seconds."""
+def nulls_of(run):
+    """The descriptors of a run at which the null device stands, once it has a socket; nothing where it has none in ten
+    seconds."""
     place, until = f"/proc/{run.pid}/fd", time.monotonic() + 10
     while run.poll() is None and time.monotonic() < until:
         try:
@@ -276,21 +299,23 @@ def opened(run, closed):
         except OSError:
             continue
         if any(what.startswith("socket:") for what in there.values()):
-            return [there.get(str(descriptor), "closed") for descriptor in closed]
+            return sorted(int(name) for name, what in there.items() if what == "/dev/null")
         time.sleep(0.005)
     return None
 
 
 def null_at_closed(checks):
-    """Each program has the null device at each of the descriptors 0 to 2 that was closed, before it opens a socket: none gets the number."""
+    """Each program has the null device at each of the descriptors 0 to 2 that was closed, before it opens a socket:
+    none gets the number. It stands at no other one but at 0, which each run here has from it."""
     with bound() as silent:
         to = silent.getsockname()[1]
         send = ("--target", 1, "--level", 1, "--index", 1, "--count", 0)
         for words in (("ocadev", "serve", "--port", 0, "--turns", 1000), ("ocactl", "send", "--device", f"127.0.0.1:{to}", *send),
                       ("ocapanel", "--device", f"127.0.0.1:{to}", "--listen", "127.0.0.1:0"), ("amplifier", 0, 1000), ("panel", to)):
-            for closed in (of for count in (1, 2, 3) for of in itertools.combinations((0, 1, 2), count)):
+            for closed in (of for count in (0, 1, 2, 3) for of in itertools.combinations((0, 1, 2), count)):
                 run = checks.start(*words, close=closed)
-                checks.same(f"{words[0]}: {closed} closed", opened(run, closed), ["/dev/null"] * len(closed))
+                checks.same(f"{words[0]}: {closed} closed: where the null device stands", nulls_of(run),
+                            sorted({0, *closed}))
                 run.kill()
                 run.communicate(timeout=60)
 
@@ -313,6 +338,12 @@ def asleep(checks):
         checks.same("no clock that counts sleep: the lock", holder.recv(2000), oca.pdu(3, [oca.response_body(1, 0, 0, b"")]))
         got = answer(other, 1, ("127.0.0.1", port))[0]
         checks.same("no clock that counts sleep, and the date is set: another peer", got and got[18], 3)
+        beat = oca.pdu(4, [(1).to_bytes(2, "big")])
+        holder.sendto(beat, ("127.0.0.1", port))
+        checks.same("no clock that counts sleep: a heartbeat of a second", holder.recv(2000), beat)
+        time.sleep(3.5)
+        got = answer(other, 2, ("127.0.0.1", port))[0]
+        checks.same("no clock that counts sleep: another peer behind a silence of three", got and got[18], 0)
     run.kill()
     for seconds, copies in ((101, 1), (60, 20)):
         with bound() as silent:
@@ -327,18 +358,26 @@ def asleep(checks):
 
 
 def kept_safely(checks):
-    """A state that is kept is on the disk before it takes the place of the one before."""
-    with tempfile.TemporaryDirectory() as room, bound() as peer:
-        run, port = checks.serve(100000, "--keep", f"{os.path.realpath(room)}/state", CALLS=f"{room}/calls")
-        for handle, state in ((1, b"\2"), (2, b"\1")):
-            peer.sendto(oca.pdu(1, [oca.Command(handle, 4097, 4, 2, 1, state).body()]), ("127.0.0.1", port))
-            checks.same(f"--keep: the answer to {handle}", peer.recv(2000), oca.pdu(3, [oca.response_body(handle, 0, 0, b"")]))
-            until, state = time.monotonic() + 30, f"{os.path.realpath(room)}/state"
-            wanted = [f"fsync {state}.new", f"rename {state}.new {state}", f"fsync {os.path.realpath(room)}"] * handle
-            while time.monotonic() < until and (said := calls_in(room)) != wanted:
-                time.sleep(0.01)
-            checks.same(f"--keep: what is called for {handle}", said, wanted)
-        run.kill()
+    """A state that is kept is on the disk before it takes the place of the one before, and then its folder is; so it is
+    too where the file is named alone, in the folder of the run. Nothing is written while nothing is set."""
+    for is_alone in (False, True):
+        with tempfile.TemporaryDirectory() as room, bound() as peer:
+            place = os.path.realpath(room)
+            state = "state" if is_alone else f"{place}/state"
+            run, port = checks.serve(100000, "--keep", state, cwd=place, CALLS=f"{place}/calls")
+            wanted = []
+            for handle, value in ((1, b"\2"), (2, b"\1")):
+                peer.sendto(oca.pdu(1, [oca.Command(handle, 4097, 4, 2, 1, value).body()]), ("127.0.0.1", port))
+                checks.same(f"--keep {state}: the answer to {handle}", peer.recv(2000),
+                            oca.pdu(3, [oca.response_body(handle, 0, 0, b"")]))
+                wanted += [f"fsync {place}/state.new", f"rename {state}.new {state}", f"fsync {place}"]
+                until = time.monotonic() + 30
+                while time.monotonic() < until and (said := calls_in(place)) != wanted:
+                    time.sleep(0.01)
+                checks.same(f"--keep {state}: what is called for {handle}", said, wanted)
+                time.sleep(10 * WAIT_MS / 1000)
+                checks.same(f"--keep {state}: what is called in ten turns behind {handle}", calls_in(place), wanted)
+            run.kill()
 
 
 def a_failed_receive(checks):
@@ -404,7 +443,9 @@ def main():
         subprocess.run(["gcc", "-O1", "-Wall", "-shared", "-fPIC", "-o", layer, str(HERE / "unreliable.c"), "-ldl"], check=True)
         checks = Checks(os.path.abspath(sys.argv[1]), layer)
         try:
-            for part in (closed_descriptors, null_at_closed, quiet_turns, signals, refused_sends, a_stalled_neighbour, asleep, a_failed_receive, reports_behind_a_sleep, kept_safely, calls_in_a_row, other_addresses):
+            for part in (closed_descriptors, null_at_closed, quiet_turns, signals, runs_under_signals, refused_sends,
+                         a_stalled_neighbour, asleep, a_failed_receive, reports_behind_a_sleep, kept_safely,
+                         calls_in_a_row, other_addresses):
                 checks.part(part)
         finally:
             for run in checks.runs:

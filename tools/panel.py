@@ -7,6 +7,7 @@ Usage: panel.py BIN     BIN is the folder with `ocapanel`, `ocadev` and `ocactl`
 Times are printed, and none fails but by a wait of many times its length. The last line is 'N passed, M failed'."""
 import base64
 import contextlib
+import errno
 import hashlib
 import http.client
 import json
@@ -303,12 +304,13 @@ def slow(panel):
 
 
 def nine(panel):
-    """Of nine connections with a request on each, the ninth is closed at once, and those that rest give way."""
+    """Of nine connections with a request on each, the ninth is closed at once, however long the others take, and those
+    that rest give way."""
     time.sleep(0.2)
     held = [socket.create_connection(("127.0.0.1", panel.port), timeout=10) for _ in range(8)]
     for s in held:
         s.sendall(b"GET / HT")
-    time.sleep(0.3)
+    time.sleep(1.5)
     ninth = socket.create_connection(("127.0.0.1", panel.port), timeout=3)
     with contextlib.suppress(OSError):
         ninth.sendall(f"GET / HTTP/1.1\r\nHost: {panel.host}\r\n\r\n".encode())
@@ -386,15 +388,17 @@ def lossy(folder):
 def gone_and_back(folder):
     """A device that goes is lost, with its orders; one that comes back is walked anew."""
     first = Device(folder)
-    with Panel(folder, first.port, "--verbose") as panel:
-        check(panel.wait(lambda v: v["walked"]) is not None, "found")
+    with Panel(folder, first.port, "--verbose") as panel, Panel(folder, first.port) as other:
+        check(panel.wait(lambda v: v["walked"]) is not None and other.wait(lambda v: v["walked"]) is not None, "found")
         epoch = panel.look()["epoch"]
         first.__exit__()
+        other_ticket = other.order("/set", MUTE, "unmuted")[1]
         status, ticket = panel.order("/set", MUTE, "unmuted")
         begun = time.monotonic()
         took = panel.wait(lambda _: ticket in panel.told, 30)
         check(status == 202 and panel.told.get(ticket) == "lost", f"an order to a device that is gone is lost: {panel.told.get(ticket)}")
         print(f"it was told after {took or 0:.1f} s")
+        check(other.wait(lambda _: other_ticket in other.told, 30) is not None, "one of the other panel is told too")
         values = panel.look()
         check(values["link"]["lost_for"] is not None and values["link"]["lost"] >= 1 and not values["walked"], f"the device is lost: {values['link']}")
         check(panel.order("/set", MUTE, "unmuted")[0] == 404, "an object that is not found yet takes no order")
@@ -405,11 +409,17 @@ def gone_and_back(folder):
             check(panel.look()["link"]["lost_for"] is None, "and is no longer lost")
             print(f"a device that came back was walked after {took or 0:.1f} s; gone for {time.monotonic() - begun:.1f} s")
             check(panel.fare("/set", 4097, "muted") is None, "and takes orders")
+            took = other.wait(lambda v: v["walked"] and v["link"]["lost"] >= 1, 30)
+            check(took is not None, "the other panel lost it too, and found it again")
             epoch = panel.look()["epoch"]
             second.__exit__()
             with Device(folder, first.port):  # at once, with other objects: the link does not notice, but its answers do
                 took = panel.wait(lambda v: v["walked"] and v["epoch"] > epoch and 4130 in {o["ono"] for o in panel.get("/tree")["objects"]}, 30)
                 check(took is not None, "a device that was away for a moment, and has other objects, is walked anew")
+        other.process.terminate()
+        other.process.wait()
+        notes = other.process.stderr.read()
+        check(notes == "", f"without --verbose nothing is told: {notes}")
         panel.process.terminate()
         panel.process.wait()
         notes = panel.process.stderr.read().splitlines()
@@ -463,19 +473,20 @@ def many(folder):
             print(f"an order among 4,096 objects was told after {(time.monotonic() - begun) * 1000:.0f} ms")
 
 
+def ticks(panel):
+    """The processor's time of a panel's process, in ticks."""
+    fields = Path(f"/proc/{panel.process.pid}/stat").read_text().rsplit(")", 1)[1].split()
+    return int(fields[11]) + int(fields[12])
+
+
 def rest(folder):
     """With no page open, next to no work is done."""
     with Device(folder) as device, Panel(folder, device.port) as panel:
         panel.wait(lambda v: v["walked"])
         time.sleep(3.5)
-
-        def ticks():
-            fields = Path(f"/proc/{panel.process.pid}/stat").read_text().rsplit(")", 1)[1].split()
-            return int(fields[11]) + int(fields[12])
-
-        begun = ticks()
+        begun = ticks(panel)
         time.sleep(4)
-        used = (ticks() - begun) / os.sysconf("SC_CLK_TCK") / 4
+        used = (ticks(panel) - begun) / os.sysconf("SC_CLK_TCK") / 4
         print(f"idle: {100 * used:.2f} % of a processor")
         check(used < 0.05, "an idle panel uses no processor")
         times = []
@@ -565,11 +576,58 @@ def beside_an_order(folder):
         check(status == 202 and took < 1, f"a page beside an order without an answer waits {took:.1f} s")
 
 
+def layer_in(place):
+    """The layer of `unreliable.c`, built in this folder."""
+    layer = f"{place}/unreliable.so"
+    subprocess.run(["gcc", "-O1", "-Wall", "-shared", "-fPIC", "-o", layer, str(TOP / "tools/unreliable.c"), "-ldl"],
+                   check=True)
+    return layer
+
+
+def failing(folder):
+    """While each receive fails the panel waits as long as ever, and takes next to no processor."""
+    with tempfile.TemporaryDirectory() as place, socket.socket(socket.AF_INET, socket.SOCK_DGRAM) as silent:
+        silent.bind(("127.0.0.1", 0))
+        with Panel(folder, silent.getsockname()[1], LD_PRELOAD=layer_in(place), FAIL_RECEIVE=str(10**9),
+                   ERRNO=str(errno.ENETDOWN)) as panel:
+            time.sleep(0.5)
+            begun = ticks(panel)
+            time.sleep(2)
+            used = (ticks(panel) - begun) / os.sysconf("SC_CLK_TCK") / 2
+            print(f"while each receive fails: {100 * used:.2f} % of a processor")
+            check(used < 0.4, f"a panel whose receives fail uses {used:.2f} of a processor")
+            check(panel.look()["link"]["heard"] is None, "and answers its pages")
+
+
+def unwatched(folder):
+    """A device is found while no page asks for anything: its answers wake the panel. The fastest of three runs counts,
+    which takes a third of a second; where its timers alone wake it, it takes some two seconds."""
+    took, is_found = [], False
+    while len(took) < 3 and min(took, default=9) >= 1:
+        with Served(oca.bench(80)) as device, Panel(folder, device.port) as panel:
+            begun = time.monotonic()
+            while len(device.heard) < 1300 and time.monotonic() - begun < 9:
+                time.sleep(0.01)
+            took.append(time.monotonic() - begun)
+            is_found = panel.wait(lambda v: v["walked"]) is not None
+    print(f"without a page 1,300 datagrams came in {min(took):.1f} s")
+    check(min(took) < 1, f"without a page 1,300 datagrams take {min(took):.1f} s")
+    check(is_found, "and the device is found")
+
+
+def troubled(folder):
+    """Why a block's members can't be listed is shown, and of all others that there is no trouble."""
+    tree = oca.bench(1) + [oca.Object(6000 + n, "mute", 4096, "m", state=1) for n in range(100)]
+    with Served(tree) as device, Panel(folder, device.port) as panel:
+        check(panel.wait(lambda v: v["walked"]) is not None, "a device with a long block is walked")
+        told = {ono: o["trouble"] for ono, o in panel.shown.items() if o["trouble"] is not None}
+        check(told == {4096: "BufferOverflow"} and len(panel.shown) > 4, f"why a block has no members: {told}")
+
+
 def asleep(folder):
     """The sleep of the machine counts: a command that was sent before it is not sent again."""
     with tempfile.TemporaryDirectory() as place, socket.socket(socket.AF_INET, socket.SOCK_DGRAM) as silent:
-        layer = f"{place}/unreliable.so"
-        subprocess.run(["gcc", "-O1", "-Wall", "-shared", "-fPIC", "-o", layer, str(TOP / "tools/unreliable.c"), "-ldl"], check=True)
+        layer = layer_in(place)
         silent.bind(("127.0.0.1", 0))
         silent.settimeout(0.2)
         for seconds, again in ((101, False), (60, True)):
@@ -614,6 +672,35 @@ const r=row({kind:"switch",value:"0",names:["a","b"]}),c=page.choice(r);c[0].val
 for(const lock of["free","own","other"])page.locker(row({lock}),true).onclick();
 console.log(orders.join(String.fromCharCode(10)));
 """
+# The page's script as it polls a panel, of whose orders the first is refused, and told from then on, and the second is
+# carried out: how often orders were settled behind each, and what the page says of the object then.
+POLLING_SCRIPT = r"""
+const of=(t,k)=>k in t?t[k]:k===Symbol.toPrimitive?()=>"":k===Symbol.iterator?undefined:made();
+const made=()=>new Proxy(function(){},{get:of,set:(t,k,v)=>(t[k]=v,true),apply:()=>made()});
+globalThis.document={createElement:made,getElementById:made,addEventListener(){},body:made(),hidden:false};
+globalThis.window=globalThis;globalThis.IntersectionObserver=class{observe(){}unobserve(){}disconnect(){}};
+let polls=0,orders=0;const told=[];
+const mute={ono:7,in:100,class:"mute",role:"m",lockable:true,names:[]};
+const shown={ono:7,value:"muted",limits:null,trouble:null,lock:"free",enabled:true,label:"",flags:[]};
+const link={heard:1,lost_for:null,in_flight:0,commands:1,again:0,lost:0};
+const said=more=>({status:200,ok:true,json:async()=>({epoch:1,walked:true,...more})});
+globalThis.fetch=async(path,how)=>{
+ if(how){const ticket=++orders;setTimeout(()=>told.push({ticket,ono:7,trouble:ticket===1?"Locked":null}),100);
+  return{status:202,ok:true,json:async()=>ticket}}
+ if(path==="/tree")return said({objects:[mute]});
+ return said({change:++polls,objects:[shown],link,told:told.slice()})};
+const script=require("fs").readFileSync(0,"utf8");
+const page=new Function(script+";return{order,times,row:()=>rows.get(7)}")();
+const pause=ms=>new Promise(done=>setTimeout(done,ms));
+(async()=>{
+ for(let n=0;n<100&&!page.row();n++)await pause(50);
+ const row=page.row(),said=[];
+ for(const[value,count]of[["unmuted",1],["unmuted",2]]){
+  page.order("/set",row,value);
+  for(let n=0;n<100&&page.times.length<count;n++)await pause(50);
+  await pause(600);said.push([page.times.length,row.why,row.ticket])}
+ console.log(JSON.stringify([polls>5,said]));process.exit(0)})();
+"""
 SET = ["unmuted", "muted", "non-inverted", "inverted", "off", "on", "5", "6", "5", "6", "5", "1"]
 
 
@@ -630,6 +717,17 @@ def controls(panel):
     got = [(path, json.loads(body)) for path, body in told]
     rows = [("/set", {"ono": 7, "value": value}) for value in SET] + [(path, {"ono": 7}) for path in ("/lock", "/unlock", "/lock")]
     check(got == rows, f"what the page's controls order: {got} {done.stderr[-300:]}")
+    settles(script)
+
+
+def settles(script):
+    """An order that was told is settled once, whatever the panel tells from then on."""
+    with tempfile.NamedTemporaryFile("w", suffix=".js") as file:
+        file.write(POLLING_SCRIPT)
+        file.flush()
+        done = subprocess.run(["node", file.name], input=script, capture_output=True, text=True, timeout=60)
+    got = json.loads(done.stdout or "null")
+    check(got == [True, [[1, "Locked", 0], [2, "", 0]]], f"how orders are settled: {got} {done.stderr[-300:]}")
 
 
 def asked_at_once(folder, *given):
@@ -659,7 +757,8 @@ def main():
     folder = sys.argv[1]
     words(folder)
     spans(folder)
-    for part in (bound_for, classes, seldom, of_other_classes, visible_first, beside_an_order, asleep):
+    for part in (bound_for, classes, seldom, of_other_classes, visible_first, beside_an_order, asleep, failing,
+                 unwatched, troubled):
         part(folder)
     with Device(folder) as device, Panel(folder, device.port) as panel:
         page(panel)

@@ -216,11 +216,12 @@ def faults(checks):
             checks.same(f"faults of {words}", (out, lines[-1:], len(lines), said[:6], run.returncode), ("", [fault], 2, "note: ", code))
     for program in ("ocadev", "ocactl"):
         done = subprocess.run([f"{checks.folder}/{program}".encode(), b"\xff"], capture_output=True, timeout=30)
-        checks.same(f"{program}: words that are no UTF-8", (done.stdout, done.stderr, done.returncode), (b"", b"note: a word is not UTF-8\nbad words\n", 2))
+        checks.same(f"{program}: words that are no UTF-8", (done.stdout, done.stderr, done.returncode),
+                    (b"", b"note: an argument is not UTF-8\nbad words\n", 2))
 
 
 def bad_options(checks):
-    """An option whose value is not of its form is named with its value; so is one that is missing."""
+    """An option whose value is not valid is named with its value; so is one that is missing."""
     to = ("--device", "127.0.0.1:65000")
     sent = ("--target", "1", "--level", "1", "--index", "1", "--count", "0")
     rows = [(("ocactl", "get", "--device", device, "4097"), f"--device {device} ") for device in
@@ -233,7 +234,7 @@ def bad_options(checks):
              (("ocactl", "set", *to, "--ahead", "3", "--span", "2", "4097", "muted"), "--ahead is more than the span"),
              (("ocactl", "replay", "--device", "x", "--first-handle", "1"), "--device x "),
              (("ocactl", "replay", *to, "--first-handle", "x"), "--first-handle x "),
-             (("ocactl", "send", *to, *sent, "--params", "5a" * 1446), "--params is not of its form"),
+             (("ocactl", "send", *to, *sent, "--params", "5a" * 1446), "--params is not valid: "),
              (("ocactl", "send", *to, "--target", "1"), "error: the following required arguments were not provided: --level <L>"),
              (("ocactl", "get", "4097"), "error: the following required arguments were not provided: --device <"),
              (("ocadev", "serve"), "error: the following required arguments were not provided: --port <PORT>"),
@@ -251,8 +252,8 @@ def bad_options(checks):
 NUMBERS = {"window": (3, 1, 64), "peers": (3, 1, 64), "channels": (4, 0, 1022), "turns": (10, 0, oca.U32), "stats": (5, 1, 86400), "port": (5, 0, 65535),
            "span": (3, 1, 32), "ahead": (3, 1, 32), "first-handle": (10, 0, oca.U32), "target": (10, 0, oca.U32), "level": (5, 0, 65535),
            "index": (5, 0, 65535), "count": (3, 0, 255), ("ocapanel", "span"): (3, 2, 32)}
-HOST = "A.B.C.D:PORT, the address of one host, 1.0.0.0 to 223.255.255.255, and a port from 1 to 65535"
-ADDRESS = "A.B.C.D, the address of one host, 1.0.0.0 to 223.255.255.255, or 0.0.0.0"
+HOST = "A.B.C.D:PORT, the address of one host (1.0.0.0 to 223.255.255.255) and a port from 1 to 65535"
+ADDRESS = "A.B.C.D, the address of one host (1.0.0.0 to 223.255.255.255), or 0.0.0.0"
 TEXTS = {"device": HOST, ("replay", "device"): "A.B.C.D:PORT", "listen": "A.B.C.D:PORT", "ip": ADDRESS,
          "params": "an even number of hexadecimal digits, 2 to 2890, or -"}
 FREE = {"tree", "keep"}  # any text names a file
@@ -276,8 +277,8 @@ def commands_of(folder):
 
 
 def bad_values(checks):
-    """Each option of each command with values that are not of its form: the note names it, the value and the form, and nothing else is done.
-    Where its help says from what to what it may be, that is the form's."""
+    """Each option of each command with values that are not valid: the note names it, the value and the form, and
+    nothing else is done. Where its help says from what to what it may be, that is the form's."""
     for program, name, options in commands_of(checks.folder):
         for option, told in options.items():
             numbers = NUMBERS.get((program, option), NUMBERS.get(option))
@@ -285,7 +286,7 @@ def bad_values(checks):
                 digits, least, largest = numbers
                 for said in re.findall(r"\b(\d+) to (\d+)\b", told):
                     checks.same(f"{program} {name} --{option}: its help", said, (str(least), str(largest)))
-                form = f"1 to {digits} digits, {least} to {largest}"
+                form = f"a number from {least} to {largest}, of 1 to {digits} digits"
                 values = ["x", "-1", str(largest + 1), "0" * digits + "1", *([str(least - 1)] if least else [])]
             elif option in FREE:
                 continue
@@ -296,7 +297,8 @@ def bad_values(checks):
                 given = {**WANTED.get((program, name), {}), option: value}
                 words = [program, *[name] * bool(name), *(f"--{which}={that}" for which, that in given.items()), *BEHIND.get(name, [])]
                 done = subprocess.run([f"{checks.folder}/{words[0]}", *words[1:]], stdin=subprocess.DEVNULL, capture_output=True, text=True, timeout=30)
-                checks.same(" ".join(words), (done.stdout, done.stderr, done.returncode), ("", f"note: --{option} {value} is not of its form: {form}\nbad words\n", 2))
+                note = f"note: --{option} {value} is not valid: it must be {form}\n"
+                checks.same(" ".join(words), (done.stdout, done.stderr, done.returncode), ("", f"{note}bad words\n", 2))
 
 
 def missing_options(checks):
@@ -360,7 +362,8 @@ def serves(checks):
 
 
 # What is told of a span of 17.
-WIDE = ["note: --span 17: the device needs a window of 33 commands or more; its 32, unless it is told another, bear a span of 16"]
+WIDE = ["note: --span 17: the device needs a window of 33 commands or more; "
+        "its default of 32 is enough for a span of 16"]
 
 
 def wide_spans(checks):
@@ -413,19 +416,27 @@ def holds(checks):
 
 
 def typed(checks):
-    """`run` gives the answer of a line before the next line comes, while its standard input stays open."""
-    with bound() as device:
-        run = checks.start("ocactl", "run", "--device", f"127.0.0.1:{device.getsockname()[1]}", "--first-handle", 1, "--port", free_port())
-        for handle in (1, 2, 3):
-            run.stdin.write("1 2 3 0 -\n")
-            run.stdin.flush()
-            data, sender = device.recvfrom(2000)
-            checks.same("run, typed: its bytes", data, oca.pdu(1, [oca.Command(handle, 1, 2, 3, 0, b"").body()]))
-            device.sendto(response(handle, handle, 0, b""), sender)
-            ready = select.select([run.stdout], [], [], 10)[0]
-            checks.same("run, typed: its answer", ready and run.stdout.readline(), f"answer {handle} 0 -\n")
-        out = run.communicate(timeout=30)
-        checks.same("run, typed: its end", (*out, run.returncode), ("", "", 0))
+    """`run` gives the answer of a line before the next line comes, while its standard input stays open; also where more
+    may be under way, the fastest of eight sooner than the command would be sent again, which is 250 ms behind it."""
+    for more in ([], ["--ahead", 4]):
+        with bound() as device:
+            run = checks.start("ocactl", "run", "--device", f"127.0.0.1:{device.getsockname()[1]}", "--first-handle", 1,
+                               "--port", free_port(), *more)
+            took = []
+            for handle in range(1, 9):
+                run.stdin.write("1 2 3 0 -\n")
+                run.stdin.flush()
+                data, sender = device.recvfrom(2000)
+                wanted = oca.pdu(1, [oca.Command(handle, 1, 2, 3, 0, b"").body()])
+                checks.same(f"run {more}, typed: its bytes", data, wanted)
+                device.sendto(response(handle, handle, 0, b""), sender)
+                begun = time.monotonic()
+                ready = select.select([run.stdout], [], [], 10)[0]
+                took.append(time.monotonic() - begun)
+                checks.same(f"run {more}, typed: its answer", ready and run.stdout.readline(), f"answer {handle} 0 -\n")
+            checks.same(f"run {more}, typed: the fastest answer, {1000 * min(took):.0f} ms", min(took) < 0.2, True)
+            out = run.communicate(timeout=30)
+            checks.same(f"run {more}, typed: its end", (*out, run.returncode), ("", "", 0))
 
 
 def limits(checks):
@@ -603,7 +614,8 @@ def tells_stats(checks):
     run.communicate(timeout=30)
     for seconds in ("0", "86401", "1s"):
         out, fault = checks.start("ocadev", "serve", "--port", 0, "--stats", seconds).communicate(timeout=30)
-        checks.same(f"serve --stats {seconds}", (out, fault), ("", f"note: --stats {seconds} is not of its form: 1 to 5 digits, 1 to 86400\nbad words\n"))
+        note = f"note: --stats {seconds} is not valid: it must be a number from 1 to 86400, of 1 to 5 digits\n"
+        checks.same(f"serve --stats {seconds}", (out, fault), ("", f"{note}bad words\n"))
 
 
 def listed_line(r, onos):

@@ -57,10 +57,12 @@ AnsweredWith behind kept = IsSomeAnd behind (λ b. IsSome b.device × (b.outbox 
 abbrev pub KeepsPackets : Option DeviceBehind → Option DeviceBehind → Type 0
 KeepsPackets old new = (kept : KeptPackets) → HasPackets old kept → HasPackets new kept
 
--- Of the packets that answer a datagram the first are kept, as many as there is room for; there are never more than 122.
+-- Of the packets that answer a datagram the first are kept, as many as there is room for; there are never more than
+-- 122.
 abbrev pub KeepsFirst : Option DeviceBehind → Option DeviceBehind → List (List ℕ) → Type 0
 KeepsFirst old new packets =
-    ((kept : KeptPackets) → HasPackets old kept → HasPackets new (first_packets kept.room packets)) × (length packets ≤ 122)
+    ((kept : KeptPackets) → HasPackets old kept → HasPackets new (first_packets kept.room packets))
+    × (length packets ≤ 122)
 
 -- ---- refusals
 

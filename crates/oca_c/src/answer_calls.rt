@@ -1,5 +1,5 @@
 //! What C calls to read the parameters of answers, and to encode a text. Nothing here has a handle.
-ghost use Rattle.std.specs.Prelude.{◌≡◌};
+ghost use Rattle.std.specs.Prelude.{◌≡◌, ◌⊎◌};
 ghost use Rattle.oca_types.specs.Reading.{text_at};
 ghost use Rattle.oca_model.specs.Answers.{names_in};
 ghost use Rattle.oca_model.specs.Members.{class_id_in, class_with, members_in};
@@ -73,7 +73,8 @@ pub extern "C" fn oca_class_with(fields: &[u16]) -> u32
 /// Encodes a text, as SetLabel has it for its one parameter: 2 to 66 bytes.
 #[unsafe(no_mangle)]
 pub extern "C" fn oca_text_put(text: &Name, out: &mut [u8], len: &mut usize) -> u32
-    ensures { WritesEncoding text.now out.old out.new len.new result }
+    ensures writes { WritesEncoding text.now out.old out.new len.new result }
+    ensures untold { (result ≡ 0) ⊎ ((result ≡ 14) ⊎ (len.new ≡ len.old)) }
 {
     let Some(text) = text_of(text) else {
         return Answer::NoValue.number();

@@ -1,6 +1,6 @@
 //! What is behind an open handle of a device.
 ghost use Rattle.std.specs.Prelude.{◌≡◌, ◌≤◌, ◌<◌, ◌∷◌, [], List, Option, Some, None, IfSome, IfNone, IsSome, length};
-ghost use Rattle.std.specs.Prelude.{take, slice_get};
+ghost use Rattle.std.specs.Prelude.{◌⊎◌, take, slice_get};
 ghost use Rattle.oca_types.specs.Sizes.{DeviceSizes};
 ghost use Rattle.oca_tree.specs.Room.{room_size};
 ghost use Rattle.oca_tree.specs.declared.object.Object.{Object};
@@ -139,8 +139,8 @@ impl DeviceBehind {
         add_spec(builder, container, ono, words)
     }
 
-    /// Makes the device of the objects, with reply windows of this size and sessions of so many peers, and with room for
-    /// so many packets that answer a datagram.
+    /// Makes the device of the objects, with reply windows of this size and sessions of so many peers, and with room
+    /// for so many packets that answer a datagram.
     pub fn start(&mut self, alloc: Global, window: u8, peers: u8, packets: usize) -> Answer
         ensures starts { (B : Store) → Builds self.old B → Starts result self.old self.new window peers packets B.list }
         ensures started { self.old.builder ≡ None → (result ≡ Started) × (self.new ≡ self.old) }
@@ -182,6 +182,7 @@ impl DeviceBehind {
             × (out.new ≡ put_words (verdict_words (verdict w T E from bytes.now now)) out.old)
             × (result ≡ Done) }
         ensures building { self.old.device ≡ None → (result ≡ NotStarted) × (self.new ≡ self.old) }
+        ensures unwritten { (result ≡ Done) ⊎ (out.new ≡ out.old) }
     {
         let Some(device) = &mut self.device else {
             return Answer::NotStarted;
@@ -210,6 +211,7 @@ impl DeviceBehind {
         ensures writes { (w : DeviceSizes) (T : List Object) (E : List Event) → Runs w self.now T E →
             WritesNextLapse w (state_after w T E) moment.new (answer_number result) }
         ensures building { self.now.device ≡ None → result ≡ NotStarted }
+        ensures unwritten { (result ≡ Done) ⊎ (moment.new ≡ moment.old) }
     {
         let Some(device) = &self.device else {
             return Answer::NotStarted;
@@ -324,11 +326,15 @@ impl DeviceBehind {
     /// Copies a packet to the front of `out`.
     pub fn packet(&self, i: usize, out: &mut [u8], len: &mut usize) -> Answer
         ensures nothing { IsSome self.now.device → IfNone (slice_get self.now.outbox.packets i) (result ≡ Nothing) }
-        ensures packet { IsSome self.now.device → IfSome (slice_get self.now.outbox.packets i) (λ p. length p ≤ length out.old →
+        ensures packet { IsSome self.now.device →
+            IfSome (slice_get self.now.outbox.packets i) (λ p. length p ≤ length out.old →
             (result ≡ Done) × (len.new ≡ length p) × (take (length p) out.new ≡ p)) }
-        ensures small { IsSome self.now.device → IfSome (slice_get self.now.outbox.packets i) (λ p. length out.old < length p →
+        ensures small { IsSome self.now.device →
+            IfSome (slice_get self.now.outbox.packets i) (λ p. length out.old < length p →
             (result ≡ TooSmall) × (len.new ≡ length p) × (out.new ≡ out.old)) }
         ensures building { self.now.device ≡ None → result ≡ NotStarted }
+        ensures unwritten { (result ≡ Done) ⊎ (out.new ≡ out.old) }
+        ensures untold { (result ≡ Done) ⊎ ((result ≡ TooSmall) ⊎ (len.new ≡ len.old)) }
     {
         if self.device.is_none() {
             return Answer::NotStarted;
@@ -352,6 +358,8 @@ impl DeviceBehind {
         ensures writes { (w : DeviceSizes) (T : List Object) (E : List Event) → Runs w self.now T E →
             WritesWords (written w T E) out.old out.new count.new (answer_number result) }
         ensures building { self.now.device ≡ None → result ≡ NotStarted }
+        ensures unwritten { (result ≡ Done)
+            ⊎ ((result ≡ TooSmall) ⊎ ((out.new ≡ out.old) × (count.new ≡ count.old))) }
     {
         let Some(device) = &self.device else {
             return Answer::NotStarted;
@@ -371,6 +379,7 @@ impl DeviceBehind {
         ensures writes { (w : DeviceSizes) (T : List Object) (E : List Event) → Runs w self.now T E →
             (result ≡ Done) × (count.new ≡ length (state_after w T E).tree) }
         ensures building { self.now.device ≡ None → result ≡ NotStarted }
+        ensures unwritten { (result ≡ Done) ⊎ (count.new ≡ count.old) }
     {
         let Some(device) = &self.device else {
             return Answer::NotStarted;
@@ -385,6 +394,7 @@ impl DeviceBehind {
             WritesObject (info_at (state_after w T E).tree index) out.old out.new role.old role.new
             (answer_number result) }
         ensures building { self.now.device ≡ None → result ≡ NotStarted }
+        ensures unwritten { (result ≡ Done) ⊎ ((out.new ≡ out.old) × (role.new ≡ role.old)) }
     {
         let Some(device) = &self.device else {
             return Answer::NotStarted;
@@ -403,6 +413,7 @@ impl DeviceBehind {
             WritesSpec (state_after w T E).tree (info_at (state_after w T E).tree index) out.old out.new
             (answer_number result) }
         ensures building { self.now.device ≡ None → (result ≡ NotStarted) × (out.new ≡ out.old) }
+        ensures unwritten { (result ≡ Done) ⊎ (out.new ≡ out.old) }
     {
         let Some(device) = &self.device else {
             return Answer::NotStarted;
@@ -415,6 +426,7 @@ impl DeviceBehind {
         ensures writes { (w : DeviceSizes) (T : List Object) (E : List Event) → Runs w self.now T E →
             WritesLock (lock_at (state_after w T E).tree ono) kind.new ip.new port.new (answer_number result) }
         ensures building { self.now.device ≡ None → result ≡ NotStarted }
+        ensures unwritten { (result ≡ Done) ⊎ ((kind.new ≡ kind.old) × (ip.new ≡ ip.old) × (port.new ≡ port.old)) }
     {
         let Some(device) = &self.device else {
             return Answer::NotStarted;
@@ -433,6 +445,7 @@ impl DeviceBehind {
         ensures writes { (w : DeviceSizes) (T : List Object) (E : List Event) → Runs w self.now T E →
             WritesSetting (setting_at (state_after w T E).tree ono) reading.new (answer_number result) }
         ensures building { self.now.device ≡ None → result ≡ NotStarted }
+        ensures unwritten { (result ≡ Done) ⊎ (reading.new ≡ reading.old) }
     {
         let Some(device) = &self.device else {
             return Answer::NotStarted;

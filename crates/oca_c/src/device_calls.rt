@@ -1,5 +1,6 @@
 //! What C calls of a device.
-ghost use Rattle.std.specs.Prelude.{◌≡◌, ◌≤◌, ◌<◌, ◌∷◌, ℕ, List, None, IfSome, IfNone, IsSome, slice_get, length, take};
+ghost use Rattle.std.specs.Prelude.{◌≡◌, ◌⊎◌, ◌≤◌, ◌<◌, ◌∷◌, ℕ, List, None, IfSome, IfNone, IsSome};
+ghost use Rattle.std.specs.Prelude.{slice_get, length, take};
 ghost use Rattle.oca_types.specs.Sizes.{DeviceSizes};
 ghost use Rattle.oca_tree.specs.declared.object.Object.{Object};
 ghost use Rattle.oca_tree.specs.Objects.{Store};
@@ -110,6 +111,7 @@ pub extern "C" fn oca_device_datagram_words(
         }) bytes.now now))
         × (out.new ≡ put_words (verdict_words (verdict w T E (record { ip = ip; port = port }) bytes.now now)) out.old)
         × (result ≡ 0) }
+    ensures unwritten { (result ≡ 0) ⊎ (out.new ≡ out.old) }
 {
     let Some(mut behind) = handle.take(alloc) else {
         return Answer::Closed.number();
@@ -149,6 +151,7 @@ pub extern "C" fn oca_device_next_lapse(
     ensures kept { handle.new.slot.inner ≡ handle.old.slot.inner }
     ensures writes { (w : DeviceSizes) (T : List Object) (E : List Event) → HandleRuns w handle.old.slot.inner T E →
         WritesNextLapse w (state_after w T E) moment.new result }
+    ensures unwritten { (result ≡ 0) ⊎ (moment.new ≡ moment.old) }
 {
     let Some(behind) = handle.take(alloc) else {
         return Answer::Closed.number();
@@ -168,7 +171,9 @@ pub extern "C" fn oca_device_packets(
     ensures closed { RefusesClosed handle.old.slot.inner handle.new.slot.inner result }
     ensures kept { handle.new.slot.inner ≡ handle.old.slot.inner }
     ensures building { RefusesBuilding handle.old.slot.inner handle.new.slot.inner result }
-    ensures count { (K : KeptPackets) → AnsweredWith handle.old.slot.inner K → (result ≡ 0) × (count.new ≡ length K.packets) }
+    ensures count { (K : KeptPackets) → AnsweredWith handle.old.slot.inner K →
+        (result ≡ 0) × (count.new ≡ length K.packets) }
+    ensures unwritten { (result ≡ 0) ⊎ (count.new ≡ count.old) }
 {
     let Some(behind) = handle.take(alloc) else {
         return Answer::Closed.number();
@@ -190,6 +195,7 @@ pub extern "C" fn oca_device_left_out(
     ensures building { RefusesBuilding handle.old.slot.inner handle.new.slot.inner result }
     ensures writes { (K : KeptPackets) → AnsweredWith handle.old.slot.inner K →
         (result ≡ 0) × (left_out.new ≡ K.is_cut) }
+    ensures unwritten { (result ≡ 0) ⊎ (left_out.new ≡ left_out.old) }
 {
     let Some(behind) = handle.take(alloc) else {
         return Answer::Closed.number();
@@ -219,6 +225,8 @@ pub extern "C" fn oca_device_packet(
     ensures small { (K : KeptPackets) → AnsweredWith handle.old.slot.inner K →
         IfSome (slice_get K.packets i) (λ p. length out.old < length p →
         (result ≡ 14) × (len.new ≡ length p) × (out.new ≡ out.old)) }
+    ensures unwritten { (result ≡ 0) ⊎ (out.new ≡ out.old) }
+    ensures untold { (result ≡ 0) ⊎ ((result ≡ 14) ⊎ (len.new ≡ len.old)) }
 {
     let Some(behind) = handle.take(alloc) else {
         return Answer::Closed.number();
@@ -242,6 +250,7 @@ pub extern "C" fn oca_device_written(
     ensures kept { handle.new.slot.inner ≡ handle.old.slot.inner }
     ensures writes { (w : DeviceSizes) (T : List Object) (E : List Event) → HandleRuns w handle.old.slot.inner T E →
         WritesWords (written w T E) out.old out.new count.new result }
+    ensures unwritten { (result ≡ 0) ⊎ ((result ≡ 14) ⊎ ((out.new ≡ out.old) × (count.new ≡ count.old))) }
 {
     let Some(behind) = handle.take(alloc) else {
         return Answer::Closed.number();

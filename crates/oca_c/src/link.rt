@@ -1,5 +1,5 @@
 //! What is behind an open handle of a link.
-ghost use Rattle.std.specs.Prelude.{◌≡◌, ◌≤◌, ◌<◌, List, Option, length};
+ghost use Rattle.std.specs.Prelude.{◌≡◌, ◌⊎◌, ◌≤◌, ◌<◌, List, Option, length};
 ghost use Rattle.std.specs.Option.{option_map};
 ghost use Rattle.oca_types.specs.Peers.{RequestFields};
 ghost use Rattle.oca_types.specs.Sizes.{largest_datagram, most_parameter_bytes};
@@ -50,6 +50,7 @@ impl LinkBehind {
           params = params.now;
         } in
             WritesSubmission result handle.new (submission request self.old.link) }
+        ensures unwritten { (result ≡ 0) ⊎ (handle.new ≡ handle.old) }
     {
         match self.link.submit(target, method, count, params, now) {
             Ok(given) => {
@@ -76,6 +77,8 @@ impl LinkBehind {
             × (handle.new ≡ due_handle (due_answer (decision now self.old.link))) }
         ensures bytes { largest_datagram ≤ length out.old →
             LiesIn (due_bytes (decision now self.old.link)) out.new len.new }
+        ensures unwritten { (result ≡ 0) ⊎ ((out.new ≡ out.old) × (len.new ≡ len.old)
+            × (kind.new ≡ kind.old) × (handle.new ≡ handle.old)) }
     {
         if out.len() < MOST_BYTES {
             return Answer::TooSmall.number();
@@ -121,6 +124,8 @@ impl LinkBehind {
         ensures link { most_parameter_bytes ≤ length out.old → self.new.link ≡ taken handle self.old.link }
         ensures writes { most_parameter_bytes ≤ length out.old →
             WritesAnswer result status.new count.new out.new len.new (answer_under handle self.old.link.untaken) }
+        ensures unwritten { (result ≡ 0) ⊎ ((status.new ≡ status.old) × (count.new ≡ count.old)
+            × (out.new ≡ out.old) × (len.new ≡ len.old)) }
     {
         if out.len() < MOST_PARAMETER_BYTES {
             return Answer::TooSmall.number();
@@ -138,7 +143,8 @@ impl LinkBehind {
 
     /// Tells when something is due next.
     pub fn next_due(&self, moment: &mut u64) -> u32
-        ensures { WritesNextDue result moment.new self.now.link }
+        ensures writes { WritesNextDue result moment.new self.now.link }
+        ensures unwritten { (result ≡ 0) ⊎ (moment.new ≡ moment.old) }
     {
         match self.link.next_due() {
             Some(due) => {
@@ -151,7 +157,8 @@ impl LinkBehind {
 
     /// Tells the lowest handle that has its answer.
     pub fn answered(&self, handle: &mut u32) -> u32
-        ensures { WritesNumber result handle.new (first_answered self.now.link.untaken) }
+        ensures writes { WritesNumber result handle.new (first_answered self.now.link.untaken) }
+        ensures unwritten { (result ≡ 0) ⊎ (handle.new ≡ handle.old) }
     {
         match self.link.answered() {
             Some(answered) => {
@@ -164,7 +171,8 @@ impl LinkBehind {
 
     /// Tells the handle that the next command gets.
     pub fn next_handle(&self, handle: &mut u32) -> u32
-        ensures { WritesNumber result handle.new self.now.link.next }
+        ensures writes { WritesNumber result handle.new self.now.link.next }
+        ensures unwritten { (result ≡ 0) ⊎ (handle.new ≡ handle.old) }
     {
         match self.link.next_handle() {
             Some(next) => {

@@ -1,5 +1,5 @@
 //! What C calls of a link.
-ghost use Rattle.std.specs.Prelude.{◌≡◌, ◌≤◌, ◌<◌, List, Option, None, IfSome, IsSome, length};
+ghost use Rattle.std.specs.Prelude.{◌≡◌, ◌⊎◌, ◌≤◌, ◌<◌, List, Option, None, IfSome, IsSome, length};
 ghost use Rattle.oca_types.specs.Peers.{RequestFields};
 ghost use Rattle.oca_types.specs.Sizes.{largest_datagram, most_parameter_bytes};
 ghost use Rattle.oca_pdu.specs.Messages.{Msg};
@@ -80,6 +80,7 @@ pub extern "C" fn oca_link_submit(
     } in
         IfSome handle.old.slot.inner (λ b. HoldsLink handle.new.slot.inner (submitted request now b.link)
         × WritesSubmission result command.new (submission request b.link)) }
+    ensures unwritten { (result ≡ 0) ⊎ (command.new ≡ command.old) }
 {
     let Some(mut behind) = handle.take(alloc) else {
         return Answer::Closed.number();
@@ -109,6 +110,8 @@ pub extern "C" fn oca_link_due(
         × (kind.new ≡ due_kind (due_answer (decision now b.link)))
         × (command.new ≡ due_handle (due_answer (decision now b.link)))
         × LiesIn (due_bytes (decision now b.link)) out.new len.new) }
+    ensures unwritten { (result ≡ 0) ⊎ ((out.new ≡ out.old) × (len.new ≡ len.old)
+        × (kind.new ≡ kind.old) × (command.new ≡ command.old)) }
 {
     let Some(mut behind) = handle.take(alloc) else {
         return Answer::Closed.number();
@@ -135,6 +138,7 @@ pub extern "C" fn oca_link_datagram(
         HoldsLink handle.new.slot.inner (received (record { ip = ip; port = port }) content now b.link) × (result ≡ 0)
         × (kind.new ≡ reception_kind (reception (record { ip = ip; port = port }) content b.link))
         × (answered.new ≡ answered_count (reception (record { ip = ip; port = port }) content b.link))) }
+    ensures unwritten { (result ≡ 0) ⊎ ((kind.new ≡ kind.old) × (answered.new ≡ answered.old)) }
 {
     let Some(mut behind) = handle.take(alloc) else {
         return Answer::Closed.number();
@@ -161,6 +165,8 @@ pub extern "C" fn oca_link_take(
     ensures takes { IfSome handle.old.slot.inner (λ b. most_parameter_bytes ≤ length out.old →
         HoldsLink handle.new.slot.inner (taken command b.link)
         × WritesAnswer result status.new count.new out.new len.new (answer_under command b.link.untaken)) }
+    ensures unwritten { (result ≡ 0) ⊎ ((status.new ≡ status.old) × (count.new ≡ count.old)
+        × (out.new ≡ out.old) × (len.new ≡ len.old)) }
 {
     let Some(mut behind) = handle.take(alloc) else {
         return Answer::Closed.number();
@@ -176,6 +182,7 @@ pub extern "C" fn oca_link_next_due(alloc: Global, handle: &mut LinkHandle, mome
     ensures closed { RefusesClosed handle.old.slot.inner handle.new.slot.inner result }
     ensures kept { handle.new.slot.inner ≡ handle.old.slot.inner }
     ensures writes { IfSome handle.old.slot.inner (λ b. WritesNextDue result moment.new b.link) }
+    ensures unwritten { (result ≡ 0) ⊎ (moment.new ≡ moment.old) }
 {
     let Some(behind) = handle.take(alloc) else {
         return Answer::Closed.number();
@@ -196,6 +203,7 @@ pub extern "C" fn oca_link_answered(
     ensures kept { handle.new.slot.inner ≡ handle.old.slot.inner }
     ensures writes { IfSome handle.old.slot.inner (λ b.
         WritesNumber result command.new (first_answered b.link.untaken)) }
+    ensures unwritten { (result ≡ 0) ⊎ (command.new ≡ command.old) }
 {
     let Some(behind) = handle.take(alloc) else {
         return Answer::Closed.number();
@@ -215,6 +223,7 @@ pub extern "C" fn oca_link_next_handle(
     ensures closed { RefusesClosed handle.old.slot.inner handle.new.slot.inner result }
     ensures kept { handle.new.slot.inner ≡ handle.old.slot.inner }
     ensures writes { IfSome handle.old.slot.inner (λ b. WritesNumber result command.new b.link.next) }
+    ensures unwritten { (result ≡ 0) ⊎ (command.new ≡ command.old) }
 {
     let Some(behind) = handle.take(alloc) else {
         return Answer::Closed.number();
@@ -234,6 +243,7 @@ pub extern "C" fn oca_link_last_heard(
     ensures closed { RefusesClosed handle.old.slot.inner handle.new.slot.inner result }
     ensures kept { handle.new.slot.inner ≡ handle.old.slot.inner }
     ensures writes { IfSome handle.old.slot.inner (λ b. (result ≡ 0) × (moment.new ≡ b.link.heard)) }
+    ensures unwritten { (result ≡ 0) ⊎ (moment.new ≡ moment.old) }
 {
     let Some(behind) = handle.take(alloc) else {
         return Answer::Closed.number();
@@ -249,6 +259,7 @@ pub extern "C" fn oca_link_is_lost(alloc: Global, handle: &mut LinkHandle, lost:
     ensures closed { RefusesClosed handle.old.slot.inner handle.new.slot.inner result }
     ensures kept { handle.new.slot.inner ≡ handle.old.slot.inner }
     ensures writes { IfSome handle.old.slot.inner (λ b. (result ≡ 0) × (lost.new ≡ b.link.lost)) }
+    ensures unwritten { (result ≡ 0) ⊎ (lost.new ≡ lost.old) }
 {
     let Some(behind) = handle.take(alloc) else {
         return Answer::Closed.number();
@@ -269,6 +280,7 @@ pub extern "C" fn oca_link_is_late(
     ensures closed { RefusesClosed handle.old.slot.inner handle.new.slot.inner result }
     ensures kept { handle.new.slot.inner ≡ handle.old.slot.inner }
     ensures writes { IfSome handle.old.slot.inner (λ b. (result ≡ 0) × (late.new ≡ late_at now b.link)) }
+    ensures unwritten { (result ≡ 0) ⊎ (late.new ≡ late.old) }
 {
     let Some(behind) = handle.take(alloc) else {
         return Answer::Closed.number();

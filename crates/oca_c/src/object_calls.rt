@@ -1,5 +1,5 @@
 //! What C calls to read the objects of a device.
-ghost use Rattle.std.specs.Prelude.{◌≡◌, List, length};
+ghost use Rattle.std.specs.Prelude.{◌≡◌, ◌⊎◌, List, length};
 ghost use Rattle.oca_types.specs.Sizes.{DeviceSizes};
 ghost use Rattle.oca_tree.specs.declared.object.Object.{Object};
 ghost use Rattle.oca_tree.specs.Readers.{info_at, lock_at, setting_at};
@@ -25,6 +25,7 @@ pub extern "C" fn oca_device_objects(
     ensures kept { handle.new.slot.inner ≡ handle.old.slot.inner }
     ensures writes { (w : DeviceSizes) (T : List Object) (E : List Event) → HandleRuns w handle.old.slot.inner T E →
         (result ≡ 0) × (count.new ≡ length (state_after w T E).tree) }
+    ensures unwritten { (result ≡ 0) ⊎ (count.new ≡ count.old) }
 {
     let Some(behind) = handle.take(alloc) else {
         return Answer::Closed.number();
@@ -48,6 +49,7 @@ pub extern "C" fn oca_device_object_words(
     ensures kept { handle.new.slot.inner ≡ handle.old.slot.inner }
     ensures writes { (w : DeviceSizes) (T : List Object) (E : List Event) → HandleRuns w handle.old.slot.inner T E →
         WritesObject (info_at (state_after w T E).tree index) out.old out.new role.old role.new result }
+    ensures unwritten { (result ≡ 0) ⊎ ((out.new ≡ out.old) × (role.new ≡ role.old)) }
 {
     let Some(behind) = handle.take(alloc) else {
         return Answer::Closed.number();
@@ -72,6 +74,7 @@ pub extern "C" fn oca_device_lock(
     ensures kept { handle.new.slot.inner ≡ handle.old.slot.inner }
     ensures writes { (w : DeviceSizes) (T : List Object) (E : List Event) → HandleRuns w handle.old.slot.inner T E →
         WritesLock (lock_at (state_after w T E).tree ono) kind.new ip.new port.new result }
+    ensures unwritten { (result ≡ 0) ⊎ ((kind.new ≡ kind.old) × (ip.new ≡ ip.old) × (port.new ≡ port.old)) }
 {
     let Some(behind) = handle.take(alloc) else {
         return Answer::Closed.number();
@@ -94,6 +97,7 @@ pub extern "C" fn oca_device_setting(
     ensures kept { handle.new.slot.inner ≡ handle.old.slot.inner }
     ensures writes { (w : DeviceSizes) (T : List Object) (E : List Event) → HandleRuns w handle.old.slot.inner T E →
         WritesSetting (setting_at (state_after w T E).tree ono) reading.new result }
+    ensures unwritten { (result ≡ 0) ⊎ (reading.new ≡ reading.old) }
 {
     let Some(behind) = handle.take(alloc) else {
         return Answer::Closed.number();

@@ -1,5 +1,5 @@
 //! What C calls with a struct that describes an object.
-ghost use Rattle.std.specs.Prelude.{◌≡◌, List, None, IsSome};
+ghost use Rattle.std.specs.Prelude.{◌≡◌, ◌⊎◌, List, None, IsSome};
 ghost use Rattle.oca_types.specs.Sizes.{DeviceSizes};
 ghost use Rattle.oca_tree.specs.declared.object.Object.{Object};
 ghost use Rattle.oca_tree.specs.Objects.{Store};
@@ -104,6 +104,7 @@ pub extern "C" fn oca_device_spec(
     ensures writes { (w : DeviceSizes) (T : List Object) (E : List Event) → HandleRuns w handle.old.slot.inner T E →
         WritesSpec (state_after w T E).tree (info_at (state_after w T E).tree index) spec.old spec.new result }
     ensures again { WrittenMakesAgain }
+    ensures unwritten { (result ≡ 0) ⊎ (spec.new ≡ spec.old) }
 {
     law_of_specs();
     let Some(behind) = handle.take(alloc) else {

@@ -1,10 +1,11 @@
 //! Telling of an object all that an addition makes of it.
-ghost use Rattle.std.specs.Prelude.{◌≡◌, ◌≤◌, length, map, take, IfSome, IsSome};
+ghost use Rattle.std.specs.Prelude.{◌≡◌, ◌⊎◌, ◌≤◌, length, map, take, IfSome, IsSome};
 ghost use Rattle.std.specs.Option.{option_copied};
 ghost use Rattle.oca_tree.specs.Readers.{info_at};
 ghost use Rattle.oca_c.specs.CSpecs.{AreSettingWords, FitsBits, FitsSetting, FitsSpec, HasBits, IsNumberWords};
 ghost use Rattle.oca_c.specs.CSpecs.{IsSpecOf, WritesSpec, alone, is_yes};
 ghost use Rattle.oca_c.specs.Numbers.{answer_number};
+ghost use Rattle.oca_c.specs.declared.answer.Answer.TheVariants.{Done};
 ghost use Rattle.oca_c.specs.Outputs.{class_number};
 
 use crate::answer::Answer;
@@ -163,7 +164,8 @@ fn spec_of(tree: &Tree, object: &ObjectInfo) -> Option<SpecWords>
 
 /// Tells of the object at this index what it is; nothing is written where there is none or it has no room.
 pub fn read_spec(tree: &Tree, index: usize, out: &mut SpecWords) -> Answer
-    ensures { WritesSpec tree.now (info_at tree.now index) out.old out.new (answer_number result) }
+    ensures writes { WritesSpec tree.now (info_at tree.now index) out.old out.new (answer_number result) }
+    ensures unwritten { (result ≡ Done) ⊎ (out.new ≡ out.old) }
 {
     let Some(object) = tree.object_at(index) else {
         return Answer::Nothing;

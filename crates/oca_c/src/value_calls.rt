@@ -1,4 +1,5 @@
 //! What C calls to encode a value, to ask for one and to read what came back. Nothing here has a handle.
+ghost use Rattle.std.specs.Prelude.{◌≡◌, ◌⊎◌};
 ghost use Rattle.oca_c.specs.CValues.{PutsWords, ReadsAnswer, WritesGetOf, WritesSetOf};
 
 use crate::answer::Answer;
@@ -9,7 +10,8 @@ use oca_model::{Reading, get_request, set_request};
 /// Puts what a set method has of a value for its parameter: 1 to 8 bytes.
 #[unsafe(no_mangle)]
 pub extern "C" fn oca_value_put(value: &ValueWords, out: &mut [u8], len: &mut usize) -> u32
-    ensures { PutsWords value.now out.old out.new len.new result }
+    ensures writes { PutsWords value.now out.old out.new len.new result }
+    ensures untold { (result ≡ 24) → (len.new ≡ len.old) }
 {
     let Some(value) = value.value() else {
         return Answer::NoValue.number();
@@ -25,7 +27,8 @@ pub extern "C" fn oca_value_read(
     params: &[u8],
     reading: &mut ReadingWords,
 ) -> u32
-    ensures { ReadsAnswer class_number params.now reading.new result }
+    ensures writes { ReadsAnswer class_number params.now reading.new result }
+    ensures unwritten { (result ≡ 0) ⊎ (reading.new ≡ reading.old) }
 {
     let Some(class) = class_with(class_number) else {
         return Answer::NoValue.number();
@@ -40,7 +43,8 @@ pub extern "C" fn oca_value_read(
 /// Tells what sets an object to a value.
 #[unsafe(no_mangle)]
 pub extern "C" fn oca_set_request(value: &ValueWords, request: &mut RequestWords) -> u32
-    ensures { WritesSetOf value.now request.new result }
+    ensures writes { WritesSetOf value.now request.new result }
+    ensures unwritten { (result ≡ 0) ⊎ (request.new ≡ request.old) }
 {
     let Some(value) = value.value() else {
         return Answer::NoValue.number();
@@ -52,7 +56,8 @@ pub extern "C" fn oca_set_request(value: &ValueWords, request: &mut RequestWords
 /// Tells what reads an object of this class.
 #[unsafe(no_mangle)]
 pub extern "C" fn oca_get_request(class_number: u32, request: &mut RequestWords) -> u32
-    ensures { WritesGetOf class_number request.new result }
+    ensures writes { WritesGetOf class_number request.new result }
+    ensures unwritten { (result ≡ 0) ⊎ (request.new ≡ request.old) }
 {
     let Some(class) = class_with(class_number) else {
         return Answer::NoValue.number();

@@ -13,12 +13,12 @@ use Rattle.oca_control.specs.declared.reception.Reception.{Reception}
 use Rattle.oca_control.specs.Answers.{AnswerFields}
 use Rattle.oca_control.specs.Untaken.{answer_under}
 use Rattle.oca_control.specs.Links.{LinkState}
-use Rattle.oca_control.specs.Histories.{Call, Submits, GivesOut, Receives, TakesAnswer, IsHistory, clock, commands, Sending, sendings, answers_in, answers_of, answers_to, first_of, is_untaken, is_answered, has_rested, is_due_at, says_lost, is_lost, IsDueAnswer, GivesWhatIsDue}
+use Rattle.oca_control.specs.Histories.{Call, Submits, GivesOut, Receives, TakesAnswer, IsHistory, clock_of_calls, commands, Sending, sendings, answers_among, answers_of, answers_to, first_of, is_untaken, is_answered, may_be_sent, is_due_at, is_lost_answer, is_lost, IsDueAnswer, GivesWhatIsDue}
 use Rattle.oca_control.specs.Answering.{has_response, TakesNothingOf, CallsDueAt, is_given_in, is_among}
 use Rattle.oca_control.proofs.Following.{equal_is, both_true, each_map}
 use Rattle.oca_control.proofs.Calls.{answer_is}
 use Rattle.oca_control.proofs.Dues.{each_held}
-use Rattle.oca_control.proofs.Histories.{stands}
+use Rattle.oca_control.proofs.Histories.{holds_after}
 
 or_true : (b : Bool) → (b || true) ≡ true
 or_true true = refl
@@ -43,7 +43,7 @@ some_behind (x ∷ xs) ys e = refl
 -- a handle that is untaken is not the next one
 not_next : (device : Peer) (first opened s h : ℕ) (calls : List Call) (l : LinkState) → 0 < s → IsHistory device first opened s calls l → is_untaken h calls ≡ true → h < first + length (commands calls)
 not_next device first opened s h calls l some p open_now =
-    let g = (stands device first opened s calls l some p).now in
+    let g = (holds_after device first opened s calls l some p).now in
     each_held (λ y. y < first + length (commands calls)) h l.untaken (each_map (λ u q. q.below) l.untaken g.are_sent) (g.held h ∙ open_now)
 
 -- one call more
@@ -52,7 +52,7 @@ answered_still : (device : Peer) (first opened s h : ℕ) (call : Call) (calls :
 answered_still device first opened s h (Submits r now (Ok x)) calls after some p none so =
     let b = both_true (is_untaken h calls) (is_some (first_of (answers_to device h calls))) so in
     let below = not_next device first opened s h calls p.0 some p.1 b.0 in
-    let number : x.0 ≡ first + length (commands calls) = (stands device first opened s (Submits r now (Ok x) ∷ calls) after some p).now.handles.0 in
+    let number : x.0 ≡ first + length (commands calls) = (holds_after device first opened s (Submits r now (Ok x) ∷ calls) after some p).now.handles.0 in
     both_are (is_untaken h calls || nat_eq x.0 h) (is_some (first_of (cond (nat_eq h x.0) [] (answers_to device h calls))))
     (ap (λ c. c || nat_eq x.0 h) b.0)
     (ap (λ c. is_some (first_of (cond c [] (answers_to device h calls)))) (unequal h x.0 (omega arith)) ∙ b.1)
@@ -81,8 +81,8 @@ answered_still device first opened s h (TakesAnswer x None) calls after some p n
 answered_first : (device : Peer) (h : ℕ) (before : List Call) (from : Peer) (bytes : List ℕ) (messages : List Msg) (now : ℕ) (a : Reception) → same_peer from device ≡ true →
     is_untaken h before ≡ true → has_response h messages ≡ true → is_answered device h (Receives from bytes (Some messages) now a ∷ before) ≡ true
 answered_first device h before from bytes messages now a same open_now has =
-    both_are (is_untaken h before) (is_some (first_of (answers_to device h before ++ cond (same_peer from device) (answers_in h messages) []))) open_now
-    (ap (λ b. is_some (first_of (answers_to device h before ++ cond b (answers_in h messages) []))) same ∙ some_behind (answers_to device h before) (answers_in h messages) has)
+    both_are (is_untaken h before) (is_some (first_of (answers_to device h before ++ cond (same_peer from device) (answers_among h messages) []))) open_now
+    (ap (λ b. is_some (first_of (answers_to device h before ++ cond b (answers_among h messages) []))) same ∙ some_behind (answers_to device h before) (answers_among h messages) has)
 
 answered_later : (device : Peer) (first opened s h : ℕ) (later calls : List Call) (after : LinkState) → 0 < s → IsHistory device first opened s (later ++ calls) after →
     AllByRecursion (TakesNothingOf h) later → is_answered device h calls ≡ true → is_answered device h (later ++ calls) ≡ true
@@ -90,12 +90,14 @@ answered_later device first opened s h [] calls after some p none so = so
 answered_later device first opened s h (call ∷ later) calls after some p none so =
     answered_still device first opened s h call (later ++ calls) after some p none.0 (answered_later device first opened s h later calls p.0 some p.1 none.1 so)
 
+-- After a well-formed datagram of the device with a response to an untaken command, a link whose span is not 0 holds an
+-- answer to it, as long as no take of its handle is called.
 pub answer_kept : (device : Peer) (first opened span : ℕ) (before later : List Call) (after : LinkState) (h : ℕ) (from : Peer) (bytes : List ℕ) (messages : List Msg) (now : ℕ) (a : Reception) →
     0 < span → IsHistory device first opened span (later ++ Receives from bytes (Some messages) now a ∷ before) after → same_peer from device ≡ true → is_untaken h before ≡ true →
     has_response h messages ≡ true → AllByRecursion (TakesNothingOf h) later → is_some (answer_under h after.untaken) ≡ true
 answer_kept device first opened span before later after h from bytes messages now a some p same open_now has none =
     let calls : List Call = later ++ Receives from bytes (Some messages) now a ∷ before in
-    let g = (stands device first opened span calls after some p).now in
+    let g = (holds_after device first opened span calls after some p).now in
     let so = answered_later device first opened span h later (Receives from bytes (Some messages) now a ∷ before) after some p none
     (answered_first device h before from bytes messages now a same open_now has) in
     let b = both_true (is_untaken h calls) (is_some (first_of (answers_to device h calls))) so in
@@ -162,16 +164,16 @@ record StillDue (device : Peer) (opened t h most : ℕ) (calls : List Call) (mad
   pub due : is_due_at device opened t h calls ≡ true
   pub count : length left + made ≤ most
 
-module _ (device : Peer) (opened now t h most : ℕ) (calls : List Call) (made : ℕ) (t_is : max (clock opened calls) now ≡ t) where
+module _ (device : Peer) (opened now t h most : ℕ) (calls : List Call) (made : ℕ) (t_is : max (clock_of_calls opened calls) now ≡ t) where
   abbrev sent_now : List ℕ → Sending
-  sent_now bytes = record { at = max (clock opened calls) now; bytes = bytes }
+  sent_now bytes = record { at = max (clock_of_calls opened calls) now; bytes = bytes }
 
   -- what was just given out is not due
-  not_again : (y : ℕ) (bytes : List ℕ) → (is_untaken y calls && (is_none (first_of (answers_to device y calls)) && has_rested t (sent_now bytes ∷ sendings opened y calls))) ≡ true → ⊥
+  not_again : (y : ℕ) (bytes : List ℕ) → (is_untaken y calls && (is_none (first_of (answers_to device y calls)) && may_be_sent t (sent_now bytes ∷ sendings opened y calls))) ≡ true → ⊥
   not_again y bytes e =
-      let b = both_true (is_untaken y calls) (is_none (first_of (answers_to device y calls)) && has_rested t (sent_now bytes ∷ sendings opened y calls)) e in
-      let c = both_true (is_none (first_of (answers_to device y calls))) (has_rested t (sent_now bytes ∷ sendings opened y calls)) b.1 in
-      differs (sym (young (max (clock opened calls) now) t_is) ∙ c.1)
+      let b = both_true (is_untaken y calls) (is_none (first_of (answers_to device y calls)) && may_be_sent t (sent_now bytes ∷ sendings opened y calls)) e in
+      let c = both_true (is_none (first_of (answers_to device y calls))) (may_be_sent t (sent_now bytes ∷ sendings opened y calls)) b.1 in
+      differs (sym (young (max (clock_of_calls opened calls) now) t_is) ∙ c.1)
     where
       young : (m : ℕ) → m ≡ t → nat_le 250 (t - m) ≡ false
       young m e = grind (arith, nat_tests)
@@ -181,10 +183,10 @@ module _ (device : Peer) (opened now t h most : ℕ) (calls : List Call) (made :
   one_call (dues.Send x) bytes q s = by_same (nat_eq x.0 h) refl
     where
       other : (y : ℕ) → nat_eq y x.0 ≡ false → is_due_at device opened t y (GivesOut now (dues.Send x) bytes ∷ calls) ≡ is_due_at device opened t y calls
-      other y p = ap (λ b. is_untaken y calls && (is_none (first_of (answers_to device y calls)) && has_rested t (cond b (sent_now bytes ∷ sendings opened y calls) (sendings opened y calls)))) p
+      other y p = ap (λ b. is_untaken y calls && (is_none (first_of (answers_to device y calls)) && may_be_sent t (cond b (sent_now bytes ∷ sendings opened y calls) (sendings opened y calls)))) p
 
       covered : (y : ℕ) (b : Bool) → nat_eq y x.0 ≡ b →
-          (is_untaken y calls && (is_none (first_of (answers_to device y calls)) && has_rested t (cond b (sent_now bytes ∷ sendings opened y calls) (sendings opened y calls)))) ≡ true →
+          (is_untaken y calls && (is_none (first_of (answers_to device y calls)) && may_be_sent t (cond b (sent_now bytes ∷ sendings opened y calls) (sendings opened y calls)))) ≡ true →
           is_among y (without x.0 s.left) ≡ true
       covered y true p e = absurd (not_again y bytes e)
       covered y false p e = among_without x.0 y s.left (s.covers y e) p
@@ -209,9 +211,9 @@ module _ (device : Peer) (opened now t h most : ℕ) (calls : List Call) (made :
   one_call dues.Lost bytes q s = inl refl
 
 -- the clock at the moment of the calls
-clock_stays : (opened now : ℕ) (before calls : List Call) → AllByRecursion (CallsDueAt now) calls → max (clock opened (calls ++ before)) now ≡ max (clock opened before) now
+clock_stays : (opened now : ℕ) (before calls : List Call) → AllByRecursion (CallsDueAt now) calls → max (clock_of_calls opened (calls ++ before)) now ≡ max (clock_of_calls opened before) now
 clock_stays opened now before [] e = refl
-clock_stays opened now before (GivesOut n a bytes ∷ calls) e = same (clock opened (calls ++ before)) n e.0 ∙ clock_stays opened now before calls e.1
+clock_stays opened now before (GivesOut n a bytes ∷ calls) e = same (clock_of_calls opened (calls ++ before)) n e.0 ∙ clock_stays opened now before calls e.1
   where
     same : (c n : ℕ) → n ≡ now → max (max c n) now ≡ max c now
     same c n e = omega arith
@@ -220,47 +222,49 @@ clock_stays opened now before (Receives from bytes content n a ∷ calls) e = ab
 clock_stays opened now before (TakesAnswer x a ∷ calls) e = absurd e.0
 
 goes_on_until : (device : Peer) (opened now h : ℕ) (before calls : List Call) (due : List ℕ) → GivesWhatIsDue device opened (calls ++ before) → AllByRecursion (CallsDueAt now) calls →
-    is_due_at device opened (max (clock opened before) now) h before ≡ true → ((x : ℕ) → is_due_at device opened (max (clock opened before) now) x before ≡ true → is_among x due ≡ true) →
-    (is_lost (calls ++ before) ≡ true) ⊎ ((list_any (is_given_in h) calls ≡ true) ⊎ StillDue device opened (max (clock opened before) now) h (length due) (calls ++ before) (length calls))
+    is_due_at device opened (max (clock_of_calls opened before) now) h before ≡ true → ((x : ℕ) → is_due_at device opened (max (clock_of_calls opened before) now) x before ≡ true → is_among x due ≡ true) →
+    (is_lost (calls ++ before) ≡ true) ⊎ ((list_any (is_given_in h) calls ≡ true) ⊎ StillDue device opened (max (clock_of_calls opened before) now) h (length due) (calls ++ before) (length calls))
 goes_on_until device opened now h before [] due g e d covers = inr (inr (record { left = due; covers = covers; due = d; count = at_first (length due) }))
   where
     at_first : (n : ℕ) → n + 0 ≤ n
     at_first n = omega arith
 goes_on_until device opened now h before (GivesOut n a bytes ∷ calls) due g e d covers = by (goes_on_until device opened now h before calls due g.1 e.1 d covers)
   where
-    t_is : max (clock opened (calls ++ before)) now ≡ max (clock opened before) now
+    t_is : max (clock_of_calls opened (calls ++ before)) now ≡ max (clock_of_calls opened before) now
     t_is = clock_stays opened now before calls e.1
 
-    same_now : max (clock opened (calls ++ before)) n ≡ max (clock opened before) now
-    same_now = ap (λ m. max (clock opened (calls ++ before)) m) e.0 ∙ t_is
+    same_now : max (clock_of_calls opened (calls ++ before)) n ≡ max (clock_of_calls opened before) now
+    same_now = ap (λ m. max (clock_of_calls opened (calls ++ before)) m) e.0 ∙ t_is
 
-    by_call : (is_lost (GivesOut n a bytes ∷ (calls ++ before)) ≡ true) ⊎ ((is_given_in h (GivesOut n a bytes) ≡ true) ⊎ StillDue device opened (max (clock opened before) now) h (length due) (GivesOut n a bytes ∷ (calls ++ before)) (suc (length calls))) →
-        (is_lost (GivesOut n a bytes ∷ (calls ++ before)) ≡ true) ⊎ ((list_any (is_given_in h) (GivesOut n a bytes ∷ calls) ≡ true) ⊎ StillDue device opened (max (clock opened before) now) h (length due) (GivesOut n a bytes ∷ (calls ++ before)) (suc (length calls)))
+    by_call : (is_lost (GivesOut n a bytes ∷ (calls ++ before)) ≡ true) ⊎ ((is_given_in h (GivesOut n a bytes) ≡ true) ⊎ StillDue device opened (max (clock_of_calls opened before) now) h (length due) (GivesOut n a bytes ∷ (calls ++ before)) (suc (length calls))) →
+        (is_lost (GivesOut n a bytes ∷ (calls ++ before)) ≡ true) ⊎ ((list_any (is_given_in h) (GivesOut n a bytes ∷ calls) ≡ true) ⊎ StillDue device opened (max (clock_of_calls opened before) now) h (length due) (GivesOut n a bytes ∷ (calls ++ before)) (suc (length calls)))
     by_call (inl lost) = inl lost
     by_call (inr (inl given)) = inr (inl (ap (λ b. b || list_any (is_given_in h) calls) given))
     by_call (inr (inr s)) = inr (inr s)
 
-    by : (is_lost (calls ++ before) ≡ true) ⊎ ((list_any (is_given_in h) calls ≡ true) ⊎ StillDue device opened (max (clock opened before) now) h (length due) (calls ++ before) (length calls)) →
-        (is_lost (GivesOut n a bytes ∷ (calls ++ before)) ≡ true) ⊎ ((list_any (is_given_in h) (GivesOut n a bytes ∷ calls) ≡ true) ⊎ StillDue device opened (max (clock opened before) now) h (length due) (GivesOut n a bytes ∷ (calls ++ before)) (suc (length calls)))
-    by (inl lost) = inl (ap (λ b. says_lost a || b) lost ∙ or_true (says_lost a))
+    by : (is_lost (calls ++ before) ≡ true) ⊎ ((list_any (is_given_in h) calls ≡ true) ⊎ StillDue device opened (max (clock_of_calls opened before) now) h (length due) (calls ++ before) (length calls)) →
+        (is_lost (GivesOut n a bytes ∷ (calls ++ before)) ≡ true) ⊎ ((list_any (is_given_in h) (GivesOut n a bytes ∷ calls) ≡ true) ⊎ StillDue device opened (max (clock_of_calls opened before) now) h (length due) (GivesOut n a bytes ∷ (calls ++ before)) (suc (length calls)))
+    by (inl lost) = inl (ap (λ b. is_lost_answer a || b) lost ∙ or_true (is_lost_answer a))
     by (inr (inl given)) = inr (inl (ap (λ b. is_given_in h (GivesOut n a bytes) || b) given ∙ or_true (is_given_in h (GivesOut n a bytes))))
-    by (inr (inr s)) = by_call (one_call device opened n (max (clock opened before) now) h (length due) (calls ++ before) (length calls) same_now a bytes
+    by (inr (inr s)) = by_call (one_call device opened n (max (clock_of_calls opened before) now) h (length due) (calls ++ before) (length calls) same_now a bytes
         (subst (λ (m : ℕ). IsDueAnswer device opened m bytes (calls ++ before) a) same_now g.0) s)
 goes_on_until device opened now h before (Submits r n a ∷ calls) due g e d covers = absurd e.0
 goes_on_until device opened now h before (Receives from bytes content n a ∷ calls) due g e d covers = absurd e.0
 goes_on_until device opened now h before (TakesAnswer x a ∷ calls) due g e d covers = absurd e.0
 
+-- Among calls of `due` alone, at one moment, and at least as many of them as handles are due then, each handle that is
+-- due is given out, or the link is lost (span not 0).
 pub given_out : (device : Peer) (first opened span : ℕ) (before calls : List Call) (after : LinkState) (now h : ℕ) (due : List ℕ) → 0 < span → IsHistory device first opened span (calls ++ before) after →
-    AllByRecursion (CallsDueAt now) calls → is_due_at device opened (max (clock opened before) now) h before ≡ true →
-    ((x : ℕ) → is_due_at device opened (max (clock opened before) now) x before ≡ true → is_among x due ≡ true) → length due ≤ length calls →
+    AllByRecursion (CallsDueAt now) calls → is_due_at device opened (max (clock_of_calls opened before) now) h before ≡ true →
+    ((x : ℕ) → is_due_at device opened (max (clock_of_calls opened before) now) x before ≡ true → is_among x due ≡ true) → length due ≤ length calls →
     (is_lost (calls ++ before) ≡ true) ⊎ (list_any (is_given_in h) calls ≡ true)
 given_out device first opened span before calls after now h due some p e d covers enough =
-    by (goes_on_until device opened now h before calls due (stands device first opened span (calls ++ before) after some p).dues_are e d covers)
+    by (goes_on_until device opened now h before calls due (holds_after device first opened span (calls ++ before) after some p).dues_are e d covers)
   where
     too_many : (n k m : ℕ) → 0 < n → n + k ≤ m → m ≤ k → ⊥
     too_many n k m p q r = omega arith
 
-    by : (is_lost (calls ++ before) ≡ true) ⊎ ((list_any (is_given_in h) calls ≡ true) ⊎ StillDue device opened (max (clock opened before) now) h (length due) (calls ++ before) (length calls)) →
+    by : (is_lost (calls ++ before) ≡ true) ⊎ ((list_any (is_given_in h) calls ≡ true) ⊎ StillDue device opened (max (clock_of_calls opened before) now) h (length due) (calls ++ before) (length calls)) →
         (is_lost (calls ++ before) ≡ true) ⊎ (list_any (is_given_in h) calls ≡ true)
     by (inl lost) = inl lost
     by (inr (inl given)) = inr given

@@ -12,17 +12,17 @@ use Rattle.oca_net.specs.Deliveries.{Delivery, Datagram, Quiet, Failed}
 use Rattle.oca_control.specs.declared.fault.ControlFault.TheVariants as faults
 use Rattle.oca_control.specs.Answers.{AnswerFields, answer_in}
 use Rattle.oca_control.specs.Untaken.{Untaken, is_due, is_late, first_due, given_out, waits, answered, hears_all, answer_under, without_handle}
-use Rattle.oca_control.specs.Links.{LinkState, present, late_at, submission, submitted, after_submission, Decision, GivesCommand, GivesKeepAlive, GivesNothing, IsLost, decision, due_answer, due_bytes, after_due, hears_content, taken}
-use Rattle.oca_control.specs.Histories.{Call, Submits, GivesOut, Receives, TakesAnswer, IsCall, IsHistory, clock, commands, sendings}
+use Rattle.oca_control.specs.Links.{LinkState, present_moment, late_at, submission, submitted, after_submission, Decision, GivesCommand, GivesKeepAlive, GivesNothing, IsLost, decision, due_answer, due_bytes, after_due, hears_content, taken}
+use Rattle.oca_control.specs.Histories.{Call, Submits, GivesOut, Receives, TakesAnswer, IsCall, IsHistory, clock_of_calls, commands, sendings}
 use Rattle.oca_control.specs.Answering.{last_asked, IsAskedEvery, IsInFlight, IsGivenOutInTime}
-use Rattle.oca_control.specs.Driving.{goes_on, link_from, Hears, DrivesTurn}
+use Rattle.oca_control.specs.Driving.{goes_on, link_from, HearsDelivery, DrivesTurn}
 use Rattle.oca_control.specs.Turning.{TurnsInTime}
 use Rattle.oca_control.specs.Asking.{beginning}
 use Rattle.oca_control.specs.Running.{NothingIsLeft, delivered_at, AreWithin, IsRun, NothingDone, DroveATurn, TookATurn, Began, Took, BecomesBy, IsAsked, CommandIsInTime}
 use Rattle.oca_control.proofs.Following.{is_at_most, each_map}
 use Rattle.oca_control.proofs.Calls.{is_given}
 use Rattle.oca_control.proofs.Dues.{Rises, none_first}
-use Rattle.oca_control.proofs.Histories.{stands}
+use Rattle.oca_control.proofs.Histories.{holds_after}
 use Rattle.oca_control.proofs.InTime.{in_time}
 use Rattle.oca_control.proofs.Settling.{due_count, count_length, none_counted, fewer_given, decided_nothing, is_quiet, again, left_from, not_lost_before, moment_from}
 
@@ -65,10 +65,10 @@ few_rising lo n (u ∷ us) r a b =
 
 few_untaken : (device : Peer) (first opened s : ℕ) (calls : List Call) (l : LinkState) → 0 < s → IsHistory device first opened s calls l → length l.untaken ≤ l.span
 few_untaken device first opened s calls l some p =
-    let g = stands device first opened s calls l some p in
+    let g = holds_after device first opened s calls l some p in
     let n : ℕ = first + length (commands calls) in
     within n (length l.untaken) g.now.span_is
-    (few_rising (n - s) n l.untaken g.rests.rises
+    (few_rising (n - s) n l.untaken g.others_are.rises
     (each_map (λ u q. from n u.command.handle q.near) l.untaken g.now.are_sent) (each_map (λ u q. q.below) l.untaken g.now.are_sent))
   where
     from : (n h : ℕ) → n ≤ h + s → n - s ≤ h
@@ -83,41 +83,41 @@ record Gave (ms since : ℕ) (calls : List Call) (l new : LinkState) : Type 0 wh
   pub more : List Call
   pub made : BecomesBy l more new
   pub every : IsAskedEvery ms since (more ++ calls)
-  pub clock_is : clock since (more ++ calls) ≡ new.moment
+  pub clock_is : clock_of_calls since (more ++ calls) ≡ new.moment
   pub asked_is : last_asked since (more ++ calls) ≡ new.moment
 
-gave_from : (ms since n now : ℕ) (calls : List Call) (l : LinkState) → due_count (present now l) l.untaken < n → clock since calls ≡ l.moment → present now l ≤ last_asked since calls + ms → IsAskedEvery ms since calls →
+gave_from : (ms since n now : ℕ) (calls : List Call) (l : LinkState) → due_count (present_moment now l) l.untaken < n → clock_of_calls since calls ≡ l.moment → present_moment now l ≤ last_asked since calls + ms → IsAskedEvery ms since calls →
     Gave ms since calls l (link_from now n l)
 unfolding link_from
-gave_from ms since zero now calls l few at soon every = absurd (never (due_count (present now l) l.untaken) few)
+gave_from ms since zero now calls l few at soon every = absurd (never (due_count (present_moment now l) l.untaken) few)
   where
     never : (n : ℕ) → n < 0 → ⊥
     never n p = omega arith
 gave_from ms since (suc n) now calls l few at soon every = by (decision now l) refl (λ xs x. gave_from ms since n now xs x)
   where
     t : ℕ
-    t = present now l
+    t = present_moment now l
 
     one : (d : Decision) → decision now l ≡ d → IsCall l (GivesOut now (due_answer d) (due_bytes d)) (after_due d t l)
     one d e = (ap due_answer (sym e), ap due_bytes (sym e), ap (λ x. after_due x t l) (sym e))
 
-    clock_now : max (clock since calls) now ≡ t
+    clock_now : max (clock_of_calls since calls) now ≡ t
     clock_now = ap (λ m. max m now) at
 
     later : (a b : ℕ) → a ≡ b → a ≤ a + ms
     later a b e = omega arith
 
-    ends : (d : Decision) → decision now l ≡ d → (after_due d t l).moment ≡ t → last_asked since (GivesOut now (due_answer d) (due_bytes d) ∷ calls) ≡ max (clock since calls) now →
+    ends : (d : Decision) → decision now l ≡ d → (after_due d t l).moment ≡ t → last_asked since (GivesOut now (due_answer d) (due_bytes d) ∷ calls) ≡ max (clock_of_calls since calls) now →
         Gave ms since calls l (after_due d t l)
     ends d e moment asked = record {
       more = GivesOut now (due_answer d) (due_bytes d) ∷ [];
       made = (l, refl, one d e);
-      every = (subst (λ (k : ℕ). max (clock since calls) now ≤ k + ms) (sym asked) (later (max (clock since calls) now) t clock_now), every);
+      every = (subst (λ (k : ℕ). max (clock_of_calls since calls) now ≤ k + ms) (sym asked) (later (max (clock_of_calls since calls) now) t clock_now), every);
       clock_is = clock_now ∙ sym moment;
       asked_is = asked ∙ clock_now ∙ sym moment;
     }
 
-    goes : (d : Decision) → decision now l ≡ d → (new : LinkState) → max (clock since calls) now ≤ last_asked since (GivesOut now (due_answer d) (due_bytes d) ∷ calls) + ms →
+    goes : (d : Decision) → decision now l ≡ d → (new : LinkState) → max (clock_of_calls since calls) now ≤ last_asked since (GivesOut now (due_answer d) (due_bytes d) ∷ calls) + ms →
         Gave ms since (GivesOut now (due_answer d) (due_bytes d) ∷ calls) (after_due d t l) new → Gave ms since calls l new
     goes d e new p r =
         let c : Call = GivesOut now (due_answer d) (due_bytes d) in
@@ -126,25 +126,25 @@ gave_from ms since (suc n) now calls l few at soon every = by (decision now l) r
           more = r.more ++ c ∷ [];
           made = made_more l (after_due d t l) new (c ∷ []) r.more (l, refl, one d e) r.made;
           every = subst (IsAskedEvery ms since) same r.every;
-          clock_is = sym (ap (clock since) same) ∙ r.clock_is;
+          clock_is = sym (ap (clock_of_calls since) same) ∙ r.clock_is;
           asked_is = sym (ap (last_asked since) same) ∙ r.asked_is;
         }
 
     fewer : (a b : ℕ) → a < b → b < suc n → a < n
     fewer a b p q = omega arith
 
-    at_t : (k : ℕ) → t ≤ k → max (clock since calls) now ≤ k
+    at_t : (k : ℕ) → t ≤ k → max (clock_of_calls since calls) now ≤ k
     at_t k p = subst (λ (x : ℕ). x ≤ k) (sym clock_now) p
 
     by : (d : Decision) → decision now l ≡ d →
-        ((xs : List Call) (x : LinkState) → due_count (present now x) x.untaken < n → clock since xs ≡ x.moment → present now x ≤ last_asked since xs + ms → IsAskedEvery ms since xs → Gave ms since xs x (link_from now n x)) →
+        ((xs : List Call) (x : LinkState) → due_count (present_moment now x) x.untaken < n → clock_of_calls since xs ≡ x.moment → present_moment now x ≤ last_asked since xs + ms → IsAskedEvery ms since xs → Gave ms since xs x (link_from now n x)) →
         Gave ms since calls l (cond (goes_on d) (link_from now n (after_due d t l)) (after_due d t l))
     by (GivesCommand c) e further =
         let i = is_given t l.sent l.lost c l.untaken e in
         let handle : i.given.command.handle ≡ c.handle = ap (λ (x : CommandFields). x.handle) i.command_is in
         let less : due_count t (map (given_out t c.handle) l.untaken) < due_count t l.untaken =
         subst (λ (k : ℕ). due_count t (map (given_out t k) l.untaken) < due_count t l.untaken) handle (fewer_given t l.untaken i.given i.first_is) in
-        let near : max (clock since calls) now ≤ last_asked since calls + ms = at_t (last_asked since calls + ms) soon in
+        let near : max (clock_of_calls since calls) now ≤ last_asked since calls + ms = at_t (last_asked since calls + ms) soon in
         goes (GivesCommand c) e (link_from now n (after_due (GivesCommand c) t l)) near
         (further (GivesOut now (due_answer (GivesCommand c)) (due_bytes (GivesCommand c)) ∷ calls) (after_due (GivesCommand c) t l)
         (subst (λ (k : ℕ). due_count k (map (given_out t c.handle) l.untaken) < n) (sym (again l.moment now))
@@ -159,11 +159,11 @@ gave_from ms since (suc n) now calls l few at soon every = by (decision now l) r
         by_calls zero same = subst (λ (m : ℕ). Gave ms since calls l (link_from now m k)) same (ends GivesKeepAlive e refl refl)
         by_calls (suc m) same =
             let q = is_quiet t l.sent l.lost l.untaken true e in
-            let near : max (clock since calls) now ≤ max (clock since calls) now + ms = later (max (clock since calls) now) t clock_now in
+            let near : max (clock_of_calls since calls) now ≤ max (clock_of_calls since calls) now + ms = later (max (clock_of_calls since calls) now) t clock_now in
             goes GivesKeepAlive e (link_from now n k) near
             (further (GivesOut now (due_answer GivesKeepAlive) (due_bytes GivesKeepAlive) ∷ calls) k
             (subst (λ (x : ℕ). due_count x l.untaken < n) (sym (again l.moment now)) (none m (due_count t l.untaken) same (none_counted t l.untaken q.none)))
-            clock_now (last (max (max l.moment now) now) (max (clock since calls) now) (again l.moment now) clock_now) (near, every))
+            clock_now (last (max (max l.moment now) now) (max (clock_of_calls since calls) now) (again l.moment now) clock_now) (near, every))
           where
             none : (m c : ℕ) → suc m ≡ n → c ≡ 0 → c < n
             none m c p q = omega arith
@@ -216,10 +216,10 @@ calm_received t true (Some ms) us q = calm_heard t ms us q
 calm_received t false content us q = q
 
 -- of a link at which nothing is left
-calm_each : (ms now : ℕ) (l : LinkState) → ms + 250 ≤ 100000 → NothingIsLeft l → now ≤ l.moment + ms → AllByRecursion (λ u. is_late (present now l) u ≡ false) l.untaken
+calm_each : (ms now : ℕ) (l : LinkState) → ms + 250 ≤ 100000 → NothingIsLeft l → now ≤ l.moment + ms → AllByRecursion (λ u. is_late (present_moment now l) u ≡ false) l.untaken
 calm_each ms now l short left soon =
     let q = is_quiet (max l.moment l.moment) l.sent l.lost l.untaken false left in
-    each_map (λ u p. not_late ms (max l.moment l.moment) (present now l) u short (near l.moment) p) l.untaken (none_first (max l.moment l.moment) l.untaken q.none)
+    each_map (λ u p. not_late ms (max l.moment l.moment) (present_moment now l) u short (near l.moment) p) l.untaken (none_first (max l.moment l.moment) l.untaken q.none)
   where
     near : (m : ℕ) → max l.moment now ≤ max l.moment l.moment + ms
     near m = omega arith
@@ -247,7 +247,7 @@ left_taken h l left =
     by None e = e
 
 -- what is heard keeps the moment, and changes nothing of being lost
-lost_heard : (d : Delivery) (l between : LinkState) (n : ℕ) → Hears d l between n → between.lost ≡ l.lost
+lost_heard : (d : Delivery) (l between : LinkState) (n : ℕ) → HearsDelivery d l between n → between.lost ≡ l.lost
 lost_heard (Datagram from bytes now) l between n x = by (nat_le (length bytes) 1472) refl
   where
     over : (k : ℕ) → nat_le k 1472 ≡ false → 1472 < k
@@ -259,7 +259,7 @@ lost_heard (Datagram from bytes now) l between n x = by (nat_le (length bytes) 1
 lost_heard (Quiet now) l between n x = ap (λ (k : LinkState). k.lost) x.0
 lost_heard Failed l between n x = ap (λ (k : LinkState). k.lost) x.0
 
-moment_heard : (d : Delivery) (l between : LinkState) (n : ℕ) → Hears d l between n → l.moment ≤ between.moment
+moment_heard : (d : Delivery) (l between : LinkState) (n : ℕ) → HearsDelivery d l between n → l.moment ≤ between.moment
 moment_heard (Datagram from bytes now) l between n x = by (nat_le (length bytes) 1472) refl
   where
     over : (k : ℕ) → nat_le k 1472 ≡ false → 1472 < k
@@ -272,7 +272,7 @@ moment_heard (Quiet now) l between n x = let e : between.moment ≡ l.moment = a
 moment_heard Failed l between n x = let e : between.moment ≡ l.moment = ap (λ (k : LinkState). k.moment) x.0 in omega arith
 
 -- no command is late after what was heard
-calm_between : (ms : ℕ) → ms + 250 ≤ 100000 → (now : ℕ) (l between : LinkState) (d : Delivery) (n : ℕ) → delivered_at d ≡ now ∷ [] → Hears d l between n → NothingIsLeft l → now ≤ l.moment + ms → late_at now between ≡ false
+calm_between : (ms : ℕ) → ms + 250 ≤ 100000 → (now : ℕ) (l between : LinkState) (d : Delivery) (n : ℕ) → delivered_at d ≡ now ∷ [] → HearsDelivery d l between n → NothingIsLeft l → now ≤ l.moment + ms → late_at now between ≡ false
 calm_between ms short now l between (Datagram from bytes t) n same x left soon = by (nat_le (length bytes) 1472) refl
   where
     over : (k : ℕ) → nat_le k 1472 ≡ false → 1472 < k
@@ -290,10 +290,10 @@ calm_between ms short now l between (Datagram from bytes t) n same x left soon =
         let content = (x.short (is_at_most (length bytes) 1472 q)).1.content in
         let us : List Untaken = cond (same_peer from l.device) (hears_content content l.untaken) l.untaken in
         ap (λ k. list_any (is_late k) between.untaken) (at_now moment between.moment (ap (λ (k : LinkState). k.moment) link))
-        ∙ ap (λ (k : LinkState). list_any (is_late (present now l)) k.untaken) link
-        ∙ none_any (is_late (present now l)) us (calm_received (present now l) (same_peer from l.device) content l.untaken (calm_each ms now l short left soon))
-    by false q = ap (late_at now) (x.long (over (length bytes) q)).0 ∙ none_any (is_late (present now l)) l.untaken (calm_each ms now l short left soon)
-calm_between ms short now l between (Quiet t) n same x left soon = ap (late_at now) x.0 ∙ none_any (is_late (present now l)) l.untaken (calm_each ms now l short left soon)
+        ∙ ap (λ (k : LinkState). list_any (is_late (present_moment now l)) k.untaken) link
+        ∙ none_any (is_late (present_moment now l)) us (calm_received (present_moment now l) (same_peer from l.device) content l.untaken (calm_each ms now l short left soon))
+    by false q = ap (late_at now) (x.long (over (length bytes) q)).0 ∙ none_any (is_late (present_moment now l)) l.untaken (calm_each ms now l short left soon)
+calm_between ms short now l between (Quiet t) n same x left soon = ap (late_at now) x.0 ∙ none_any (is_late (present_moment now l)) l.untaken (calm_each ms now l short left soon)
 calm_between ms short now l between Failed n same x left soon = cc
 
 -- a command that was begun
@@ -311,10 +311,10 @@ lost_submitted : (request : RequestFields) (now : ℕ) (l : LinkState) (h : Hand
 lost_submitted request now l h e = ap (λ a. (after_submission a request now l).lost) e
 
 module _ (device : Peer) (first opened s : ℕ) (some : 0 < s) (ms : ℕ) (short : ms + 250 ≤ 100000) (before : List Call) (base : LinkState) (p : IsHistory device first opened s before base) (since : ℕ) where
-  give_step : (calls : List Call) (l : LinkState) (now : ℕ) → BecomesBy base calls l → IsAskedEvery ms since calls → clock since calls ≡ l.moment → present now l ≤ last_asked since calls + ms →
+  give_step : (calls : List Call) (l : LinkState) (now : ℕ) → BecomesBy base calls l → IsAskedEvery ms since calls → clock_of_calls since calls ≡ l.moment → present_moment now l ≤ last_asked since calls + ms →
       (link_from now (l.span + 1) l).lost ≡ false → IsAsked ms since base (link_from now (l.span + 1) l)
   give_step calls l now made every at soon going =
-      let small = few (due_count (present now l) l.untaken) (length l.untaken) (count_length (present now l) l.untaken)
+      let small = few (due_count (present_moment now l) l.untaken) (length l.untaken) (count_length (present_moment now l) l.untaken)
       (few_untaken device first opened s (calls ++ before) l some (history_more device first opened s before base l calls p made)) in
       let r = gave_from ms since (l.span + 1) now calls l small at soon every in
       record {
@@ -329,7 +329,7 @@ module _ (device : Peer) (first opened s : ℕ) (some : 0 < s) (ms : ℕ) (short
       few : (a b : ℕ) → a ≤ b → b ≤ l.span → a < l.span + 1
       few a b p q = omega arith
 
-  at_once : (now : ℕ) (l : LinkState) (asked : ℕ) → asked ≡ l.moment → now ≤ l.moment + ms → present now l ≤ asked + ms
+  at_once : (now : ℕ) (l : LinkState) (asked : ℕ) → asked ≡ l.moment → now ≤ l.moment + ms → present_moment now l ≤ asked + ms
   at_once now l asked e soon = omega arith
 
   quiet_on : (l new : LinkState) (now : ℕ) → IsAsked ms since base l → now ≤ l.moment + ms → new ≡ link_from now (l.span + 1) l → new.lost ≡ false → IsAsked ms since base new
@@ -337,7 +337,7 @@ module _ (device : Peer) (first opened s : ℕ) (some : 0 < s) (ms : ℕ) (short
       subst (IsAsked ms since base) (sym is) (give_step g.calls l now g.made g.every g.clock_is (at_once now l (last_asked since g.calls) g.asked_is soon) (sym (ap (λ (x : LinkState). x.lost) is) ∙ going))
 
   -- a datagram, or silence, and what is due after it
-  hear_on : (d : Delivery) (now : ℕ) (l between new : LinkState) (n : ℕ) → delivered_at d ≡ now ∷ [] → Hears d l between n → IsAsked ms since base l → now ≤ l.moment + ms →
+  hear_on : (d : Delivery) (now : ℕ) (l between new : LinkState) (n : ℕ) → delivered_at d ≡ now ∷ [] → HearsDelivery d l between n → IsAsked ms since base l → now ≤ l.moment + ms →
       new ≡ link_from now (between.span + 1) between → new.lost ≡ false → IsAsked ms since base new
   hear_on (Datagram from bytes t) now l between new n same x g soon is going = by (nat_le (length bytes) 1472) refl
     where
@@ -359,7 +359,7 @@ module _ (device : Peer) (first opened s : ℕ) (some : 0 < s) (ms : ℕ) (short
           let at : between.moment ≡ max l.moment t = ap (λ (k : LinkState). k.moment) h.1.link_is in
           let calls : List Call = Receives from bytes h.1.content t h.0 ∷ g.calls in
           subst (IsAsked ms since base) (sym is)
-          (give_step calls between now (l, g.made, (h.1.holds, h.1.answer_is, h.1.link_is)) (behind moment (clock since g.calls) (last_asked since g.calls) g.clock_is g.asked_is, g.every)
+          (give_step calls between now (l, g.made, (h.1.holds, h.1.answer_is, h.1.link_is)) (behind moment (clock_of_calls since g.calls) (last_asked since g.calls) g.clock_is g.asked_is, g.every)
           (ap (λ k. max k t) g.clock_is ∙ sym at) (after moment between.moment at (last_asked since g.calls) g.asked_is) (sym (ap (λ (k : LinkState). k.lost) is) ∙ going))
       by false q =
           let same_link : between ≡ l = (x.long (over (length bytes) q)).0 in
@@ -372,7 +372,7 @@ module _ (device : Peer) (first opened s : ℕ) (some : 0 < s) (ms : ℕ) (short
   take_on l h g = record {
     calls = TakesAnswer h (answer_under h l.untaken) ∷ g.calls;
     made = (l, g.made, (refl, refl));
-    every = (still (clock since g.calls) (last_asked since g.calls) g.clock_is g.asked_is, g.every);
+    every = (still (clock_of_calls since g.calls) (last_asked since g.calls) g.clock_is g.asked_is, g.every);
     clock_is = g.clock_is;
     asked_is = g.asked_is;
     left = left_taken h l g.left;
@@ -388,7 +388,7 @@ module _ (device : Peer) (first opened s : ℕ) (some : 0 < s) (ms : ℕ) (short
       let x : LinkState = submitted request now l in
       let at : x.moment ≡ max l.moment now = moment_submitted request now l h accepted in
       subst (IsAsked ms since base) (sym made)
-      (give_step (Submits request now (Ok h) ∷ g.calls) x now (l, g.made, (sym accepted, refl)) (behind (clock since g.calls) (last_asked since g.calls) g.clock_is g.asked_is, g.every)
+      (give_step (Submits request now (Ok h) ∷ g.calls) x now (l, g.made, (sym accepted, refl)) (behind (clock_of_calls since g.calls) (last_asked since g.calls) g.clock_is g.asked_is, g.every)
       (ap (λ k. max k now) g.clock_is ∙ sym at) (after x.moment at (last_asked since g.calls) g.asked_is) (sym (ap (λ (k : LinkState). k.lost) made) ∙ going))
     where
       behind : (a b : ℕ) → a ≡ l.moment → b ≡ l.moment → max a now ≤ b + ms
@@ -418,7 +418,7 @@ module _ (device : Peer) (first opened s : ℕ) (some : 0 < s) (ms : ℕ) (short
       further a p q = omega arith
 
   -- a turn with a moment, in which all that is due is given out
-  turn_at : (old l between new : LinkState) (ts : List ℕ) (d : Delivery) (now n : ℕ) → delivered_at d ≡ now ∷ [] → Hears d l between n → new ≡ link_from now (between.span + 1) between →
+  turn_at : (old l between new : LinkState) (ts : List ℕ) (d : Delivery) (now n : ℕ) → delivered_at d ≡ now ∷ [] → HearsDelivery d l between n → new ≡ link_from now (between.span + 1) between →
       (AreWithin ms old.moment ts → l.lost ≡ false → Goes old l ts) → AreWithin ms old.moment (ts ++ delivered_at d) → new.lost ≡ false → Goes old new (ts ++ delivered_at d)
   turn_at old l between new ts d now n same hears made rest within going =
       let w = within_more ms old.moment ts now (subst (λ (us : List ℕ). AreWithin ms old.moment (ts ++ us)) same within) in
@@ -444,7 +444,7 @@ module _ (device : Peer) (first opened s : ℕ) (some : 0 < s) (ms : ℕ) (short
   drove_on Failed old l new ts ds n x rest within going = failed_at old l new ts (x.gives.1 ∙ x.hears.0) rest within going
 
   -- a turn in which the link is not late
-  took_at : (d : Delivery) (now : ℕ) (old l between new : LinkState) (ts : List ℕ) (n : ℕ) → delivered_at d ≡ now ∷ [] → Hears d l between n →
+  took_at : (d : Delivery) (now : ℕ) (old l between new : LinkState) (ts : List ℕ) (n : ℕ) → delivered_at d ≡ now ∷ [] → HearsDelivery d l between n →
       new ≡ cond (late_at now between) between (link_from now (between.span + 1) between) →
       (AreWithin ms old.moment ts → l.lost ≡ false → Goes old l ts) → AreWithin ms old.moment (ts ++ delivered_at d) → new.lost ≡ false → Goes old new (ts ++ delivered_at d)
   took_at d now old l between new ts n same hears made rest within going =
@@ -494,6 +494,8 @@ module _ (device : Peer) (first opened s : ℕ) (some : 0 < s) (ms : ℕ) (short
 
 -- ---- the laws
 
+-- A link whose span is not 0 and that has nothing left to give out, and then runs at moments that follow one another
+-- within `ms`, at most 99,750, is asked every `ms`, unless it is lost at the end.
 pub run_asked : (device : Peer) (first opened span ms : ℕ) (before : List Call) (old new : LinkState) (moments : List ℕ) → 0 < span → ms + 250 ≤ 100000 → IsHistory device first opened span before old → NothingIsLeft old →
     IsRun moments old new → AreWithin ms old.moment moments → new.lost ≡ false → IsAsked ms old.moment old new
 run_asked device first opened span ms before old new moments some short p left run within going =
@@ -504,7 +506,7 @@ lost_before_run : {ts : List ℕ} {old new : LinkState} → IsRun ts old new →
 lost_before_run NothingDone going = going
 lost_before_run (DroveATurn {l = l} {new = new} {n = n} d run turn) going = lost_before_run run (by d turn going)
   where
-    given : (e : Delivery) (now k : ℕ) (between : LinkState) → Hears e l between k → new ≡ link_from now (between.span + 1) between → new.lost ≡ false → l.lost ≡ false
+    given : (e : Delivery) (now k : ℕ) (between : LinkState) → HearsDelivery e l between k → new ≡ link_from now (between.span + 1) between → new.lost ≡ false → l.lost ≡ false
     given e now k between hears made going = sym (lost_heard e l between k hears) ∙ not_lost_before (between.span + 1) now between (sym (ap (λ (k : LinkState). k.lost) made) ∙ going)
 
     by : {ds : List Decision} (e : Delivery) → DrivesTurn e l new ds n → new.lost ≡ false → l.lost ≡ false
@@ -513,7 +515,7 @@ lost_before_run (DroveATurn {l = l} {new = new} {n = n} d run turn) going = lost
     by Failed x going = sym (ap (λ (k : LinkState). k.lost) (x.gives.1 ∙ x.hears.0)) ∙ going
 lost_before_run (TookATurn {l = l} {new = new} {n = n} d run turn) going = lost_before_run run (by d turn going)
   where
-    given : (e : Delivery) (now k : ℕ) (between : LinkState) → Hears e l between k → new ≡ cond (late_at now between) between (link_from now (between.span + 1) between) → new.lost ≡ false → l.lost ≡ false
+    given : (e : Delivery) (now k : ℕ) (between : LinkState) → HearsDelivery e l between k → new ≡ cond (late_at now between) between (link_from now (between.span + 1) between) → new.lost ≡ false → l.lost ≡ false
     given e now k between hears made going = sym (lost_heard e l between k hears) ∙ lost_of (late_at now between) (sym (ap (λ (k : LinkState). k.lost) made) ∙ going)
       where
         lost_of : (b : Bool) → (cond b between (link_from now (between.span + 1) between)).lost ≡ false → between.lost ≡ false
@@ -529,6 +531,8 @@ lost_before_run (Began {l = l} request now h run is made) going =
     ∙ not_lost_before ((submitted request now l).span + 1) now (submitted request now l) (sym (ap (λ (k : LinkState). k.lost) made) ∙ going))
 lost_before_run (Took run_h run made) going = lost_before_run run (sym (ap (λ (k : LinkState). k.lost) made) ∙ going)
 
+-- A command that was begun is given out in time as long as it is in flight, over a run whose moments follow one another
+-- within `ms`, at most 99,750, unless the link is lost at the end (span not 0).
 pub begun_in_time : (device : Peer) (first opened span ms : ℕ) (before : List Call) (old link new : LinkState) (request : RequestFields) (now : ℕ) (h : Handle) (moments : List ℕ) → 0 < span → ms + 250 ≤ 100000 →
     IsHistory device first opened span before old → beginning request now old ≡ Ok h → link ≡ link_from now ((submitted request now old).span + 1) (submitted request now old) →
     IsRun moments link new → AreWithin ms link.moment moments → new.lost ≡ false → CommandIsInTime device first opened span ms before request now h link.moment new
@@ -571,8 +575,8 @@ begun_in_time device first opened span ms before old link new request now h mome
     above : (n : ℕ) → 0 < n + 1
     above n = omega arith
 
-    since : max (clock opened before) now ≡ x.moment
-    since = ap (λ k. max k now) (sym (stands device first opened span before old some p).now.moment_is) ∙ sym at
+    since : max (clock_of_calls opened before) now ≡ x.moment
+    since = ap (λ k. max k now) (sym (holds_after device first opened span before old some p).now.moment_is) ∙ sym at
 
     since_link : x.moment ≡ link.moment
     since_link = sym (ap (λ (k : LinkState). k.moment) made ∙ moment_from (x.span + 1) now x (above x.span) ∙ no_later x.moment at)
@@ -581,5 +585,5 @@ begun_in_time device first opened span ms before old link new request now h mome
     by w =
         let calls : List Call = r.asked.calls ++ Submits request now (Ok h) ∷ before in
         subst (λ (k : ℕ). IsGivenOutInTime ms k new.moment (sendings opened h.0 calls)) (since ∙ since_link)
-        (subst (λ (k : ℕ). IsGivenOutInTime ms (max (clock opened before) now) k (sendings opened h.0 calls)) (sym (stands device first opened span calls new some history).now.moment_is)
+        (subst (λ (k : ℕ). IsGivenOutInTime ms (max (clock_of_calls opened before) now) k (sendings opened h.0 calls)) (sym (holds_after device first opened span calls new some history).now.moment_is)
         (in_time device first opened span before r.asked.calls new request now ms h some history (subst (λ (k : ℕ). IsAskedEvery ms k r.asked.calls) (sym since) r.asked.every) w))

@@ -13,48 +13,51 @@ use Rattle.oca_pdu.specs.Messages.{Msg, Command, Response, KeepAlive, Commands}
 use Rattle.oca_pdu.specs.Encoding.{pdu_encoding}
 use Rattle.oca_control.specs.declared.fault.ControlFault.TheVariants as faults
 use Rattle.oca_control.specs.Answers.{AnswerFields, answer_in}
-use Rattle.oca_control.specs.Untaken.{Untaken, new_untaken, has_room, is_due, first_due, given_out, answered, hears_all, answer_under, without_handle, holds}
-use Rattle.oca_control.specs.Links.{LinkState, Request, present, command_under, submission, submission_under, handle_after, GivesCommand, GivesKeepAlive, GivesNothing, IsLost, decision_among, hears_content, received}
-use Rattle.oca_control.specs.Histories.{command_of, Sending, answers_in, answers_of, first_of, IsCopy, AreApart}
+use Rattle.oca_control.specs.Untaken.{Untaken, new_untaken, span_has_room, is_due, first_due, given_out, answered, hears_all, answer_under, without_handle, holds}
+use Rattle.oca_control.specs.Links.{LinkState, Request, present_moment, command_under, submission, submission_under, handle_after, GivesCommand, GivesKeepAlive, GivesNothing, IsLost, decision_among, hears_content, received}
+use Rattle.oca_control.specs.Histories.{command_accepted, Sending, answers_among, answers_of, first_of, IsCopy, AreSendingsApart}
 use Rattle.oca_control.proofs.Following.{equal_is, equal_self, unequal, is_below, both_true, or_false, each_map, each_both, each_append, end_of, end_after, IsLast, IsSent, AreSent, AreAnswered, Follows}
 
 -- ---- a command is submitted
 
-pub room_each : (s h : ℕ) (us : List Untaken) → has_room s h us ≡ true → AllByRecursion (λ u. h < u.command.handle + s) us
+-- Where there is room for a handle, it lies below each untaken one plus the span.
+pub room_each : (s h : ℕ) (us : List Untaken) → span_has_room s h us ≡ true → AllByRecursion (λ u. h < u.command.handle + s) us
 room_each s h [] e = tt
-room_each s h (u ∷ us) e = let p = both_true (nat_lt h (u.command.handle + s)) (has_room s h us) e in (is_below h (u.command.handle + s) p.0, room_each s h us p.1)
+room_each s h (u ∷ us) e = let p = both_true (nat_lt h (u.command.handle + s)) (span_has_room s h us) e in (is_below h (u.command.handle + s) p.0, room_each s h us p.1)
 
 -- what is answered where a command is accepted
 pub record IsAccepted (r : Request) (h : Handle) (l : LinkState) : Type 0 where
   pub next : l.next ≡ Some h.0
-  pub room : has_room l.span h.0 l.untaken ≡ true
+  pub room : span_has_room l.span h.0 l.untaken ≡ true
 
+-- Where a submit returns a handle, that is the next one, and there is room for it.
 pub is_accepted : (r : Request) (h : Handle) (l : LinkState) → submission r l ≡ Ok h → IsAccepted r h l
 is_accepted r h l e = by_lost l.lost e
   where
-    by_length : (n : ℕ) → (b : Bool) → l.next ≡ Some n → has_room l.span n l.untaken ≡ true → cond b (Err faults.TooLong) (Ok (let k : Handle = record { 0 = n } in k)) ≡ Ok h → IsAccepted r h l
+    by_length : (n : ℕ) → (b : Bool) → l.next ≡ Some n → span_has_room l.span n l.untaken ≡ true → cond b (Err faults.TooLong) (Ok (let k : Handle = record { 0 = n } in k)) ≡ Ok h → IsAccepted r h l
     by_length n true q room e = cc
     by_length n false q room e =
         let same : (let k : Handle = record { 0 = n } in k) ≡ h = cc in
         let number : n ≡ h.0 = ap (λ (k : Handle). k.0) same in
-        record { next = q ∙ ap Some number; room = sym (ap (λ k. has_room l.span k l.untaken) number) ∙ room }
+        record { next = q ∙ ap Some number; room = sym (ap (λ k. span_has_room l.span k l.untaken) number) ∙ room }
 
-    by_room : (n : ℕ) → (b : Bool) → l.next ≡ Some n → has_room l.span n l.untaken ≡ b →
+    by_room : (n : ℕ) → (b : Bool) → l.next ≡ Some n → span_has_room l.span n l.untaken ≡ b →
         cond b (cond (nat_lt most_command_parameter_bytes (length r.params)) (Err faults.TooLong) (Ok (let k : Handle = record { 0 = n } in k))) (Err faults.SpanFull) ≡ Ok h → IsAccepted r h l
     by_room n true q room e = by_length n (nat_lt most_command_parameter_bytes (length r.params)) q room e
     by_room n false q room e = cc
 
     by_next : (o : Option ℕ) → l.next ≡ o → submission_under r o l ≡ Ok h → IsAccepted r h l
     by_next None q e = cc
-    by_next (Some n) q e = by_room n (has_room l.span n l.untaken) q refl e
+    by_next (Some n) q e = by_room n (span_has_room l.span n l.untaken) q refl e
 
     by_lost : (b : Bool) → cond b (Err faults.Lost) (submission_under r l.next l) ≡ Ok h → IsAccepted r h l
     by_lost true e = cc
     by_lost false e = by_next l.next refl e
 
 abbrev pub with_submit : ℕ → Request → ℕ → LinkState → LinkState
-with_submit h r now l = record l { moment = present now l; next = handle_after h; untaken = l.untaken ++ new_untaken (command_under h r) ∷ [] }
+with_submit h r now l = record l { moment = present_moment now l; next = handle_after h; untaken = l.untaken ++ new_untaken (command_under h r) ∷ [] }
 
+-- A link whose span is not 0 and that follows its history follows it still after an accepted submit.
 pub submits : (device : Peer) (first s t now : ℕ) (accepted : List CommandFields) (sent : ℕ → List Sending) (came : ℕ → List AnswerFields) (open_at : ℕ → Bool) (l : LinkState) (h : Handle) (r : Request) →
     0 < s → IsAccepted r h l → Follows device first s t accepted sent came open_at l →
     Follows device first s (max t now) (command_under h.0 r ∷ accepted) sent (λ x. cond (eqb x h.0) [] (came x)) (λ x. open_at x || eqb h.0 x) (with_submit h.0 r now l)
@@ -101,7 +104,7 @@ submits device first s t now accepted sent came open_at l h r some a g = record 
     still : (c : CommandFields) (times last : ℕ) → IsSent s (first + length accepted) accepted sent c times last → h.0 < c.handle + l.span →
         IsSent s (first + suc (length accepted)) (command_under h.0 r ∷ accepted) sent c times last
     still c times last p q = record {
-      command = ap (λ b. cond b (Some (command_under h.0 r)) (command_of c.handle accepted)) (older c.handle p.below) ∙ p.command;
+      command = ap (λ b. cond b (Some (command_under h.0 r)) (command_accepted c.handle accepted)) (older c.handle p.below) ∙ p.command;
       count = p.count;
       last_is = p.last_is;
       below = lower c.handle (length accepted) p.below;
@@ -119,7 +122,7 @@ submits device first s t now accepted sent came open_at l h r some a g = record 
 
     its : IsSent s (first + suc (length accepted)) (command_under h.0 r ∷ accepted) sent (command_under h.0 r) 0 0
     its = record {
-      command = ap (λ b. cond b (Some (command_under h.0 r)) (command_of h.0 accepted)) (equal_self h.0);
+      command = ap (λ b. cond b (Some (command_under h.0 r)) (command_accepted h.0 accepted)) (equal_self h.0);
       count = sym (ap (λ (xs : List Sending). length xs) none);
       last_is = subst (IsLast 0) (sym none) tt;
       below = is_under (length accepted) number;
@@ -133,7 +136,7 @@ submits device first s t now accepted sent came open_at l h r some a g = record 
         copy_still : (x : ℕ) (y : Sending) → IsCopy x accepted y.bytes → eqb x h.0 ≡ false → IsCopy x (command_under h.0 r ∷ accepted) y.bytes
         copy_still x y p q = record {
           command = p.command;
-          accepted_under = ap (λ b. cond b (Some (command_under h.0 r)) (command_of x accepted)) q ∙ p.accepted_under;
+          accepted_under = ap (λ b. cond b (Some (command_under h.0 r)) (command_accepted x accepted)) q ∙ p.accepted_under;
           bytes_are = p.bytes_are;
         }
 
@@ -146,6 +149,7 @@ pub record IsGiven (t : ℕ) (c : CommandFields) (us : List Untaken) : Type 0 wh
   pub command_is : given.command ≡ c
   pub few : given.times < 20
 
+-- Where a command is decided on, it is that of the first due one, which was given out less than 20 times.
 pub is_given : (t sent : ℕ) (lost : Bool) (c : CommandFields) (us : List Untaken) → cond lost IsLost (decision_among t sent (first_due t us)) ≡ GivesCommand c → IsGiven t c us
 is_given t sent true c us e = cc
 is_given t sent false c us e = by_first (first_due t us) refl e
@@ -211,17 +215,18 @@ with_sending t c l = record l { moment = t; sent = t; untaken = map (given_out t
 abbrev pub copy_at : ℕ → CommandFields → Sending
 copy_at t c = record { at = t; bytes = pdu_encoding (Commands true (c ∷ [])) }
 
+-- A link that follows its history follows it still after a command was given out.
 pub gives : (device : Peer) (first s t now : ℕ) (accepted : List CommandFields) (sent : ℕ → List Sending) (came : ℕ → List AnswerFields) (open_at : ℕ → Bool) (l : LinkState) (c : CommandFields) →
-    IsGiven (present now l) c l.untaken → Follows device first s t accepted sent came open_at l →
-    Follows device first s (max t now) accepted (sent_more c.handle (copy_at (max t now) c) sent) came open_at (with_sending (present now l) c l)
+    IsGiven (present_moment now l) c l.untaken → Follows device first s t accepted sent came open_at l →
+    Follows device first s (max t now) accepted (sent_more c.handle (copy_at (max t now) c) sent) came open_at (with_sending (present_moment now l) c l)
 gives device first s t now accepted sent came open_at l c i g = record {
   device_is = g.device_is;
   moment_is = now_is;
   span_is = g.span_is;
   next_is = g.next_is;
-  held = λ x. holds_given_out (present now l) c.handle x l.untaken ∙ g.held x;
-  are_sent = sent_given_out s (first + length accepted) (present now l) c.handle (copy_at (max t now) c) accepted sent l.untaken (sym now_is) g.are_sent;
-  are_answered = answered_given_out (present now l) c.handle came l.untaken g.are_answered;
+  held = λ x. holds_given_out (present_moment now l) c.handle x l.untaken ∙ g.held x;
+  are_sent = sent_given_out s (first + length accepted) (present_moment now l) c.handle (copy_at (max t now) c) accepted sent l.untaken (sym now_is) g.are_sent;
+  are_answered = answered_given_out (present_moment now l) c.handle came l.untaken g.are_answered;
   fresh = λ x q. ap (λ b. cond b ((copy_at (max t now) c) ∷ sent x) (sent x)) (later x q) ∙ g.fresh x q;
   handles = g.handles;
   copies = λ x. by_copy x (eqb x c.handle) refl;
@@ -229,11 +234,11 @@ gives device first s t now accepted sent came open_at l c i g = record {
   apart = λ x. by_apart x (eqb x c.handle) refl;
 }
   where
-    now_is : present now l ≡ max t now
+    now_is : present_moment now l ≡ max t now
     now_is = ap (λ m. max m now) g.moment_is
 
-    both : IsSent s (first + length accepted) accepted sent i.given.command i.given.times i.given.last × (is_due (present now l) i.given ≡ true)
-    both = each_first (λ u. IsSent s (first + length accepted) accepted sent u.command u.times u.last) (present now l) l.untaken i.given g.are_sent i.first_is
+    both : IsSent s (first + length accepted) accepted sent i.given.command i.given.times i.given.last × (is_due (present_moment now l) i.given ≡ true)
+    both = each_first (λ u. IsSent s (first + length accepted) accepted sent u.command u.times u.last) (present_moment now l) l.untaken i.given g.are_sent i.first_is
 
     own : IsSent s (first + length accepted) accepted sent c i.given.times i.given.last
     own = subst (λ (d : CommandFields). IsSent s (first + length accepted) accepted sent d i.given.times i.given.last) i.command_is both.0
@@ -261,28 +266,28 @@ gives device first s t now accepted sent came open_at l c i g = record {
     by_number x true q = subst (λ y. length ((copy_at (max t now) c) ∷ sent y) ≤ 20) (sym (equal_is x c.handle q)) number
     by_number x false q = g.at_most_20 x
 
-    far : (times last k : ℕ) → times ≡ suc k → (nat_eq times 0 || nat_le 250 (present now l - last)) ≡ true → last + 250 ≤ present now l
+    far : (times last k : ℕ) → times ≡ suc k → (nat_eq times 0 || nat_le 250 (present_moment now l - last)) ≡ true → last + 250 ≤ present_moment now l
     far times last k e q = grind (arith, nat_tests)
 
-    apart_more : (xs : List Sending) → i.given.times ≡ length xs → IsLast i.given.last xs → AreApart xs → AreApart ((copy_at (max t now) c) ∷ xs)
+    apart_more : (xs : List Sending) → i.given.times ≡ length xs → IsLast i.given.last xs → AreSendingsApart xs → AreSendingsApart ((copy_at (max t now) c) ∷ xs)
     apart_more [] e p a = tt
     apart_more (x ∷ xs) e p a = (
-      let d = both_true (is_none i.given.answer) (nat_eq i.given.times 0 || nat_le 250 (present now l - i.given.last)) both.1 in
-          at_least x.at (present now l) i.given.last (max t now) p (far i.given.times i.given.last (length xs) e d.1) now_is,
+      let d = both_true (is_none i.given.answer) (nat_eq i.given.times 0 || nat_le 250 (present_moment now l - i.given.last)) both.1 in
+          at_least x.at (present_moment now l) i.given.last (max t now) p (far i.given.times i.given.last (length xs) e d.1) now_is,
       a,
     )
       where
         at_least : (a p last m : ℕ) → a ≡ last → last + 250 ≤ p → p ≡ m → a + 250 ≤ m
         at_least a p last m e f q = omega arith
 
-    by_apart : (x : ℕ) (b : Bool) → eqb x c.handle ≡ b → AreApart (cond b ((copy_at (max t now) c) ∷ sent x) (sent x))
-    by_apart x true q = subst (λ y. AreApart ((copy_at (max t now) c) ∷ sent y)) (sym (equal_is x c.handle q)) (apart_more (sent c.handle) own.count own.last_is (g.apart c.handle))
+    by_apart : (x : ℕ) (b : Bool) → eqb x c.handle ≡ b → AreSendingsApart (cond b ((copy_at (max t now) c) ∷ sent x) (sent x))
+    by_apart x true q = subst (λ y. AreSendingsApart ((copy_at (max t now) c) ∷ sent y)) (sym (equal_is x c.handle q)) (apart_more (sent c.handle) own.count own.last_is (g.apart c.handle))
     by_apart x false q = g.apart x
 
 -- nothing of a command is given out
 pub passes : (device : Peer) (first s t now sent' : ℕ) (lost' : Bool) (accepted : List CommandFields) (sent : ℕ → List Sending) (came : ℕ → List AnswerFields) (open_at : ℕ → Bool) (l : LinkState) →
     Follows device first s t accepted sent came open_at l →
-    Follows device first s (max t now) accepted sent came open_at (record l { moment = present now l; sent = sent'; lost = lost' })
+    Follows device first s (max t now) accepted sent came open_at (record l { moment = present_moment now l; sent = sent'; lost = lost' })
 passes device first s t now sent' lost' accepted sent came open_at l g = record {
   device_is = g.device_is;
   moment_is = ap (λ m. max m now) g.moment_is;
@@ -300,6 +305,7 @@ passes device first s t now sent' lost' accepted sent came open_at l g = record 
 
 -- ---- a datagram is received
 
+-- What holds of the command, the times and the last moment of each untaken one holds still after an answer.
 pub held_answered : (h : ℕ) (a : AnswerFields) (P : CommandFields → ℕ → ℕ → Type 0) (us : List Untaken) → AllByRecursion (λ u. P u.command u.times u.last) us →
     AllByRecursion (λ u. P u.command u.times u.last) (map (answered h a) us)
 held_answered h a P [] p = tt
@@ -336,10 +342,10 @@ answered_more h a came (u ∷ us) p = (by_came (came u.command.handle) (eqb u.co
     by_came (x ∷ xs) true o e = ap (λ z. cond (is_none z) (Some a) z) e
     by_came (x ∷ xs) false o e = e
 
-answered_heard : (ms : List Msg) (came : ℕ → List AnswerFields) (us : List Untaken) → AreAnswered came us → AreAnswered (λ x. came x ++ answers_in x ms) (hears_all ms us)
+answered_heard : (ms : List Msg) (came : ℕ → List AnswerFields) (us : List Untaken) → AreAnswered came us → AreAnswered (λ x. came x ++ answers_among x ms) (hears_all ms us)
 answered_heard [] came us p = each_map (λ u q. q ∙ ap first_of (sym (append-nil (came u.command.handle)))) us p
 answered_heard (Response r ∷ ms) came us p =
-    each_map (λ u q. q ∙ ap first_of (regroup (came u.command.handle) (eqb u.command.handle r.handle) (answers_in u.command.handle ms)))
+    each_map (λ u q. q ∙ ap first_of (regroup (came u.command.handle) (eqb u.command.handle r.handle) (answers_among u.command.handle ms)))
     (hears_all ms (map (answered r.handle (answer_in r)) us))
     (answered_heard ms (came_more r.handle (answer_in r) came) (map (answered r.handle (answer_in r)) us) (answered_more r.handle (answer_in r) came us p))
   where
@@ -368,6 +374,7 @@ answered_received true false content came us e p = cc
 answered_received false true content came us e p = cc
 answered_received false false content came us e p = each_map (λ u q. q ∙ ap first_of (sym (append-nil (came u.command.handle)))) us p
 
+-- A link that follows its history follows it still after a datagram, whoever sent it and whatever it holds.
 pub receives : (device : Peer) (first s t now : ℕ) (accepted : List CommandFields) (sent : ℕ → List Sending) (came : ℕ → List AnswerFields) (open_at : ℕ → Bool) (l : LinkState) (from : Peer) (content : Option (List Msg)) →
     Follows device first s t accepted sent came open_at l →
     Follows device first s (max t now) accepted sent (λ x. came x ++ cond (same_peer from device) (answers_of x content) []) open_at (received from content now l)
@@ -388,6 +395,8 @@ receives device first s t now accepted sent came open_at l from content g = reco
 
 -- ---- an answer is taken
 
+-- The answer that is held under a handle is the first one that came to it, where the handle is held and its command has
+-- just that answer; else there is none.
 pub answer_is : (h : ℕ) (came : ℕ → List AnswerFields) (us : List Untaken) → AreAnswered came us → answer_under h us ≡ cond (holds h us) (first_of (came h)) None
 answer_is h came [] p = refl
 answer_is h came (u ∷ us) p = by_test (eqb u.command.handle h) refl (answer_is h came us p.1)
@@ -397,6 +406,7 @@ answer_is h came (u ∷ us) p = by_test (eqb u.command.handle h) refl (answer_is
     by_test true q rest = p.0 ∙ ap (λ x. first_of (came x)) (equal_is u.command.handle h q)
     by_test false q rest = rest
 
+-- What holds of each untaken command holds of each but those of a handle.
 pub each_without : (h : ℕ) (P : Untaken → Type 0) (us : List Untaken) → AllByRecursion P us → AllByRecursion P (without_handle h us)
 each_without h P [] p = tt
 each_without h P (u ∷ us) p = by_test (eqb u.command.handle h) (each_without h P us p.1)
@@ -429,6 +439,7 @@ holds_without h x (u ∷ us) = by_test (eqb u.command.handle h) refl (eqb h x) r
 abbrev pub with_take : ℕ → LinkState → LinkState
 with_take h l = record l { untaken = without_handle h l.untaken }
 
+-- A link that follows its history follows it still without the command of a handle.
 pub takes : (device : Peer) (first s t : ℕ) (accepted : List CommandFields) (sent : ℕ → List Sending) (came : ℕ → List AnswerFields) (open_at : ℕ → Bool) (l : LinkState) (h : ℕ) →
     Follows device first s t accepted sent came open_at l →
     Follows device first s t accepted sent came (λ x. not (eqb h x) && open_at x) (with_take h l)

@@ -18,15 +18,15 @@ use Rattle.oca_control.specs.declared.outcome.Outcome.TheVariants as outcomes
 use Rattle.oca_control.specs.declared.report.DriveReport.{DriveReport}
 use Rattle.oca_control.specs.Answers.{AnswerFields}
 use Rattle.oca_control.specs.Untaken.{Untaken, is_late, given_out, new_untaken, answer_under}
-use Rattle.oca_control.specs.Links.{LinkState, new_link, late_at, present, command_under, submission, submitted, after_submission, Decision, GivesCommand, GivesKeepAlive, GivesNothing, IsLost, decision, due_answer, due_bytes, after_due, gone_on}
-use Rattle.oca_control.specs.Histories.{Call, Submits, GivesOut, Receives, TakesAnswer, IsCall, IsHistory, clock, commands, Sending, sending_of, sendings}
-use Rattle.oca_control.specs.Driving.{goes_on, link_from, Hears}
+use Rattle.oca_control.specs.Links.{LinkState, new_link, late_at, present_moment, command_under, submission, submitted, after_submission, Decision, GivesCommand, GivesKeepAlive, GivesNothing, IsLost, decision, due_answer, due_bytes, after_due, gone_on}
+use Rattle.oca_control.specs.Histories.{Call, Submits, GivesOut, Receives, TakesAnswer, IsCall, IsHistory, clock_of_calls, commands, Sending, sending_of, sendings}
+use Rattle.oca_control.specs.Driving.{goes_on, link_from, HearsDelivery}
 use Rattle.oca_control.specs.Turning.{GivesIf, GivesInTime, GivesAfter, Turns}
-use Rattle.oca_control.specs.Asking.{TakesTurns, NoneTaken, OneTaken, Waits, Begins, Asks, Fares}
+use Rattle.oca_control.specs.Asking.{TakesTurns, NoneTaken, OneTaken, Waits, Begins, Asks, HasOutcome}
 use Rattle.oca_control.specs.Copies.{AreNear, IsInTime, MakesInTime, IsMadeInTime, EveryStepIsInTime}
 use Rattle.oca_control.proofs.Following.{equal_is, is_at_most, both_true, IsLast, IsSent}
 use Rattle.oca_control.proofs.Calls.{is_given, each_first}
-use Rattle.oca_control.proofs.Histories.{Stands, stands}
+use Rattle.oca_control.proofs.Histories.{HoldsAfter, holds_after}
 
 neither : (a b : Bool) → (a || b) ≡ false → (a ≡ false) × (b ≡ false)
 neither true b e = cc
@@ -57,28 +57,28 @@ near_more t at times last answer bytes (x ∷ xs) same due calm count is near = 
     close : (a : ℕ) → a ≡ last → nat_lt 100000 (t - last) ≡ false → at ≤ a + 100000
     close a e p = grind (arith, nat_tests)
 
-near_send : (device : Peer) (first opened s : ℕ) (before : List Call) (l : LinkState) (now h : ℕ) (bytes : List ℕ) (d : Decision) → Stands device first opened s before l →
+near_send : (device : Peer) (first opened s : ℕ) (before : List Call) (l : LinkState) (now h : ℕ) (bytes : List ℕ) (d : Decision) → HoldsAfter device first opened s before l →
     late_at now l ≡ false → decision now l ≡ d → AreNear (sendings opened h before) →
-    AreNear (sending_of h (due_answer d) (record { at = max (clock opened before) now; bytes = bytes }) (sendings opened h before))
+    AreNear (sending_of h (due_answer d) (record { at = max (clock_of_calls opened before) now; bytes = bytes }) (sendings opened h before))
 near_send device first opened s before l now h bytes GivesKeepAlive g calm e near = near
 near_send device first opened s before l now h bytes GivesNothing g calm e near = near
 near_send device first opened s before l now h bytes IsLost g calm e near = near
 near_send device first opened s before l now h bytes (GivesCommand c) g calm e near = by_test (eqb h c.handle) refl
   where
-    at_now : max (clock opened before) now ≡ present now l
+    at_now : max (clock_of_calls opened before) now ≡ present_moment now l
     at_now = sym (ap (λ m. max m now) g.now.moment_is)
 
-    here : (k : ℕ) → k ≡ c.handle → AreNear (sendings opened k before) → AreNear ((let x : Sending = record { at = max (clock opened before) now; bytes = bytes } in x) ∷ sendings opened k before)
+    here : (k : ℕ) → k ≡ c.handle → AreNear (sendings opened k before) → AreNear ((let x : Sending = record { at = max (clock_of_calls opened before) now; bytes = bytes } in x) ∷ sendings opened k before)
     here k same near =
-        let i = is_given (present now l) l.sent l.lost c l.untaken e in
-        let sent = each_first (λ u. IsSent s (first + length (commands before)) (commands before) (λ x. sendings opened x before) u.command u.times u.last) (present now l) l.untaken i.given g.now.are_sent i.first_is in
-        let quiet = each_first (λ u. is_late (present now l) u ≡ false) (present now l) l.untaken i.given (none_of (is_late (present now l)) l.untaken calm) i.first_is in
+        let i = is_given (present_moment now l) l.sent l.lost c l.untaken e in
+        let sent = each_first (λ u. IsSent s (first + length (commands before)) (commands before) (λ x. sendings opened x before) u.command u.times u.last) (present_moment now l) l.untaken i.given g.now.are_sent i.first_is in
+        let quiet = each_first (λ u. is_late (present_moment now l) u ≡ false) (present_moment now l) l.untaken i.given (none_of (is_late (present_moment now l)) l.untaken calm) i.first_is in
         let handle : i.given.command.handle ≡ k = ap (λ (x : CommandFields). x.handle) i.command_is ∙ sym same in
-        near_more (present now l) (max (clock opened before) now) i.given.times i.given.last i.given.answer bytes (sendings opened k before) at_now sent.1 quiet.0
+        near_more (present_moment now l) (max (clock_of_calls opened before) now) i.given.times i.given.last i.given.answer bytes (sendings opened k before) at_now sent.1 quiet.0
         (sent.0.count ∙ ap (λ x. length (sendings opened x before)) handle)
         (subst (λ (x : ℕ). IsLast i.given.last (sendings opened x before)) handle sent.0.last_is) near
 
-    by_test : (b : Bool) → eqb h c.handle ≡ b → AreNear (cond b ((let x : Sending = record { at = max (clock opened before) now; bytes = bytes } in x) ∷ sendings opened h before) (sendings opened h before))
+    by_test : (b : Bool) → eqb h c.handle ≡ b → AreNear (cond b ((let x : Sending = record { at = max (clock_of_calls opened before) now; bytes = bytes } in x) ∷ sendings opened h before) (sendings opened h before))
     by_test true q = here h (equal_is h c.handle q) near
     by_test false q = near
 
@@ -86,14 +86,16 @@ is_history : (device : Peer) (first opened s : ℕ) (calls : List Call) (after :
 is_history device first opened s [] after m = m
 is_history device first opened s (call ∷ before) after m = (m.0, is_history device first opened s before m.0 m.1, m.2)
 
+-- By calls in time of a new link whose span is not 0, each copy of a command is given out at most 100,000 ms after the
+-- one before it.
 pub copies_near : (device : Peer) (first opened s : ℕ) (calls : List Call) (after : LinkState) → 0 < s → MakesInTime (new_link device first opened s) calls after → (h : ℕ) → AreNear (sendings opened h calls)
 copies_near device first opened s [] after some m h = tt
 copies_near device first opened s (Submits r now a ∷ before) after some m h = copies_near device first opened s before m.0 some m.1 h
 copies_near device first opened s (Receives from bytes content now a ∷ before) after some m h = copies_near device first opened s before m.0 some m.1 h
 copies_near device first opened s (TakesAnswer x a ∷ before) after some m h = copies_near device first opened s before m.0 some m.1 h
 copies_near device first opened s (GivesOut now a bytes ∷ before) after some m h =
-    subst (λ (x : Due). AreNear (sending_of h x (record { at = max (clock opened before) now; bytes = bytes }) (sendings opened h before))) (sym m.2.0)
-    (near_send device first opened s before m.0 now h bytes (decision now m.0) (stands device first opened s before m.0 some (is_history device first opened s before m.0 m.1)) m.3 refl
+    subst (λ (x : Due). AreNear (sending_of h x (record { at = max (clock_of_calls opened before) now; bytes = bytes }) (sendings opened h before))) (sym m.2.0)
+    (near_send device first opened s before m.0 now h bytes (decision now m.0) (holds_after device first opened s before m.0 some (is_history device first opened s before m.0 m.1)) m.3 refl
     (copies_near device first opened s before m.0 some m.1 h))
 
 -- ---- the steps
@@ -139,9 +141,9 @@ none_given_out t h (u ∷ us) e =
 calm_after : (now : ℕ) (l : LinkState) → late_at now l ≡ false → late_at now (gone_on now l) ≡ false
 calm_after now l calm = by (decision now l)
   where
-    by : (d : Decision) → late_at now (after_due d (present now l) l) ≡ false
+    by : (d : Decision) → late_at now (after_due d (present_moment now l) l) ≡ false
     by (GivesCommand c) =
-        ap (λ k. list_any (is_late k) (map (given_out (present now l) c.handle) l.untaken)) (again l.moment now) ∙ none_given_out (present now l) c.handle l.untaken calm
+        ap (λ k. list_any (is_late k) (map (given_out (present_moment now l) c.handle) l.untaken)) (again l.moment now) ∙ none_given_out (present_moment now l) c.handle l.untaken calm
     by GivesKeepAlive = ap (λ k. list_any (is_late k) l.untaken) (again l.moment now) ∙ calm
     by GivesNothing = ap (λ k. list_any (is_late k) l.untaken) (again l.moment now) ∙ calm
     by IsLost = ap (λ k. list_any (is_late k) l.untaken) (again l.moment now) ∙ calm
@@ -172,7 +174,7 @@ all_made now old new e = by (late_at now old) refl e
     by true q e = not_changed e
     by false q e = subst (λ (l : LinkState). IsMadeInTime old l) (sym e) (made_from (old.span + 1) now old q)
 
-heard_made : (d : Delivery) (old new : LinkState) (n : ℕ) → Hears d old new n → IsMadeInTime old new
+heard_made : (d : Delivery) (old new : LinkState) (n : ℕ) → HearsDelivery d old new n → IsMadeInTime old new
 heard_made (Datagram from bytes now) old new n x = by (nat_le (length bytes) 1472) refl
   where
     over : (k : ℕ) → nat_le k 1472 ≡ false → 1472 < k
@@ -209,7 +211,7 @@ calm_submitted : (request : RequestFields) (now : ℕ) (h : Handle) (l : LinkSta
 calm_submitted request now h l is calm =
     ap (λ a. late_at now (after_submission a request now l)) (sym is)
     ∙ ap (λ k. list_any (is_late k) (l.untaken ++ new_untaken (command_under h.0 request) ∷ [])) (again l.moment now)
-    ∙ list_any-append (is_late (present now l)) l.untaken (new_untaken (command_under h.0 request) ∷ [])
+    ∙ list_any-append (is_late (present_moment now l)) l.untaken (new_untaken (command_under h.0 request) ∷ [])
     ∙ ap (λ b. b || false) calm
 
 begins_made : (request : RequestFields) (returned : Result Handle ControlFault) (old new : LinkState) (e f : EndState) → Begins request returned old new e f → IsMadeInTime old new
@@ -224,17 +226,19 @@ begins_made request (Ok h) old new e f b = by (late_at b.now old) refl b.answer
         (subst (λ (l : LinkState). IsMadeInTime first l) (sym b.gives.1.link) (made_from (first.span + 1) b.now first (calm_submitted request b.now h old is q)))
 
 asks_made : (request : RequestFields) (turns : ℕ) (old new : LinkState) (o : Outcome) (e f : EndState) → Asks request turns old o new e f → IsMadeInTime old new
-asks_made request turns old new o e f a = then_made (begins_made request a.returned old a.link e a.end_then a.begins) (by a.returned a.fares)
+asks_made request turns old new o e f a = then_made (begins_made request a.returned old a.link e a.end_then a.begins) (by a.returned a.outcome_is)
   where
-    by : (returned : Result Handle ControlFault) → Fares turns returned a.link o new a.end_then f → IsMadeInTime a.link new
+    by : (returned : Result Handle ControlFault) → HasOutcome turns returned a.link o new a.end_then f → IsMadeInTime a.link new
     by (Ok h) w = waits_made h.0 turns a.link new o a.end_then f w
     by (Err fault) w = not_changed w.1
 
+-- What each step over an end makes of a link, it makes by calls in time.
 pub every_step : EveryStepIsInTime
 every_step = record { giving = gives_made; turning = turn_made; beginning = begins_made; waiting = waits_made; asking = asks_made }
 
 -- ---- once late, late ever after
 
+-- A link that is late at a moment is late at each later one.
 pub stays_late : (now later : ℕ) (l : LinkState) → now ≤ later → late_at now l ≡ true → late_at later l ≡ true
 stays_late now later l le late = by l.untaken late
   where
@@ -254,8 +258,8 @@ stays_late now later l le late = by l.untaken late
         second true y q = refl
         second false y q = q
 
-    by : (us : List Untaken) → list_any (is_late (present now l)) us ≡ true → list_any (is_late (present later l)) us ≡ true
+    by : (us : List Untaken) → list_any (is_late (present_moment now l)) us ≡ true → list_any (is_late (present_moment later l)) us ≡ true
     by [] p = cc
     by (u ∷ us) p =
-        either (is_late (present now l) u) (list_any (is_late (present now l)) us) (is_late (present later l) u) (list_any (is_late (present later l)) us)
-        (one (is_none u.answer) (not (nat_eq u.times 0)) (nat_lt 100000 (present now l - u.last)) (nat_lt 100000 (present later l - u.last)) (more u.last)) (by us) p
+        either (is_late (present_moment now l) u) (list_any (is_late (present_moment now l)) us) (is_late (present_moment later l) u) (list_any (is_late (present_moment later l)) us)
+        (one (is_none u.answer) (not (nat_eq u.times 0)) (nat_lt 100000 (present_moment now l - u.last)) (nat_lt 100000 (present_moment later l - u.last)) (more u.last)) (by us) p

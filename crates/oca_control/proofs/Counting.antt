@@ -12,15 +12,15 @@ use Rattle.oca_control.specs.declared.reception.Reception.TheVariants as recepti
 use Rattle.oca_control.specs.Answers.{AnswerFields, answer_in}
 use Rattle.oca_control.specs.Untaken.{Untaken, waits, answered, answers_by_all, holds}
 use Rattle.oca_control.specs.Links.{LinkState, reception, reception_of, reception_counted}
-use Rattle.oca_control.specs.Histories.{Call, Submits, GivesOut, Receives, TakesAnswer, IsHistory, answers_in, answers_to, first_of, is_untaken}
+use Rattle.oca_control.specs.Histories.{Call, Submits, GivesOut, Receives, TakesAnswer, IsHistory, answers_among, answers_to, first_of, is_untaken}
 use Rattle.oca_control.specs.Receptions.{AreRising, AnswersSoMany, AnswersOfDevice, IsReception, AnswersDatagrams}
 use Rattle.oca_control.proofs.Following.{equal_is, each_map, AreAnswered}
 use Rattle.oca_control.proofs.Dues.{Rises, rises_answered}
-use Rattle.oca_control.proofs.Histories.{stands}
+use Rattle.oca_control.proofs.Histories.{holds_after}
 
 -- it gets its first answer among these messages
 abbrev fresh : List Msg → Untaken → Bool
-fresh ms u = is_none u.answer && is_some (first_of (answers_in u.command.handle ms))
+fresh ms u = is_none u.answer && is_some (first_of (answers_among u.command.handle ms))
 
 and_false : (b : Bool) → (b && false) ≡ false
 and_false true = refl
@@ -48,7 +48,7 @@ one_answered h a ms f (u ∷ us) r same other = by_handle (nat_eq u.command.hand
     -- this one
     by_answer : (o : Option AnswerFields) → list_any (waits h) us ≡ false → cond (list_any (waits h) us) 1 0 + length (filter (fresh ms) (map (answered h a) us)) ≡ length (filter f us) →
         cond (is_none o || list_any (waits h) us) 1 0
-        + length (cond (is_none (cond (is_none o) (Some a) o) && is_some (first_of (answers_in u.command.handle ms))) (answered h a u ∷ filter (fresh ms) (map (answered h a) us)) (filter (fresh ms) (map (answered h a) us)))
+        + length (cond (is_none (cond (is_none o) (Some a) o) && is_some (first_of (answers_among u.command.handle ms))) (answered h a u ∷ filter (fresh ms) (map (answered h a) us)) (filter (fresh ms) (map (answered h a) us)))
         ≡ length (cond (is_none o) (u ∷ filter f us) (filter f us))
     by_answer None none rest = one_more (length (filter (fresh ms) (map (answered h a) us))) (length (filter f us)) (sym (ap (λ b. cond b 1 0 + length (filter (fresh ms) (map (answered h a) us))) none) ∙ rest)
       where
@@ -68,12 +68,12 @@ one_answered h a ms f (u ∷ us) r same other = by_handle (nat_eq u.command.hand
         cond (list_any (waits h) (u ∷ us)) 1 0 + length (filter (fresh ms) (map (answered h a) (u ∷ us))) ≡ length (filter f (u ∷ us))
     by_handle true q rest =
         ap (λ b. cond ((b && is_none u.answer) || list_any (waits h) us) 1 0
-        + length (cond (is_none (cond (b && is_none u.answer) (Some a) u.answer) && is_some (first_of (answers_in u.command.handle ms))) (answered h a u ∷ filter (fresh ms) (map (answered h a) us)) (filter (fresh ms) (map (answered h a) us)))) q
+        + length (cond (is_none (cond (b && is_none u.answer) (Some a) u.answer) && is_some (first_of (answers_among u.command.handle ms))) (answered h a u ∷ filter (fresh ms) (map (answered h a) us)) (filter (fresh ms) (map (answered h a) us)))) q
         ∙ by_answer u.answer (none_waits h u.command.handle us (sym (equal_is u.command.handle h q)) r.0) rest
         ∙ sym (ap (λ b. length (cond b (u ∷ filter f us) (filter f us))) (same u q))
     by_handle false q rest =
         ap (λ b. cond ((b && is_none u.answer) || list_any (waits h) us) 1 0
-        + length (cond (is_none (cond (b && is_none u.answer) (Some a) u.answer) && is_some (first_of (answers_in u.command.handle ms))) (answered h a u ∷ filter (fresh ms) (map (answered h a) us)) (filter (fresh ms) (map (answered h a) us)))) q
+        + length (cond (is_none (cond (b && is_none u.answer) (Some a) u.answer) && is_some (first_of (answers_among u.command.handle ms))) (answered h a u ∷ filter (fresh ms) (map (answered h a) us)) (filter (fresh ms) (map (answered h a) us)))) q
         ∙ by_fresh (fresh ms u) rest
         ∙ sym (ap (λ b. length (cond b (u ∷ filter f us) (filter f us))) (other u q))
 
@@ -90,8 +90,8 @@ counted (Command respond c ∷ ms) us r = from_zero (answers_by_all ms us) ∙ c
 counted (Response x ∷ ms) us r =
     ap (λ n. cond (list_any (waits x.handle) us) 1 0 + n) (counted ms (map (answered x.handle (answer_in x)) us) (rises_answered x.handle (answer_in x) us r))
     ∙ one_answered x.handle (answer_in x) ms (fresh (Response x ∷ ms)) us r
-    (λ u q. ap (λ b. is_none u.answer && is_some (first_of (cond b (answer_in x ∷ answers_in u.command.handle ms) (answers_in u.command.handle ms)))) q ∙ and_true (is_none u.answer))
-    (λ u q. ap (λ b. is_none u.answer && is_some (first_of (cond b (answer_in x ∷ answers_in u.command.handle ms) (answers_in u.command.handle ms)))) q)
+    (λ u q. ap (λ b. is_none u.answer && is_some (first_of (cond b (answer_in x ∷ answers_among u.command.handle ms) (answers_among u.command.handle ms)))) q ∙ and_true (is_none u.answer))
+    (λ u q. ap (λ b. is_none u.answer && is_some (first_of (cond b (answer_in x ∷ answers_among u.command.handle ms) (answers_among u.command.handle ms)))) q)
   where
     and_true : (b : Bool) → (b && true) ≡ b
     and_true true = refl
@@ -142,10 +142,10 @@ so_many : (device : Peer) (ms : List Msg) (before : List Call) (us : List Untake
 so_many device ms before us held are r = record {
   handles = handles_of (filter (fresh ms) us);
   rising = rising_kept (fresh ms) us r;
-  each = λ h. among_kept h (fresh ms) (λ x. is_none (first_of (answers_to device x before)) && is_some (first_of (answers_in x ms))) us
-      (each_map {Q = λ (u : Untaken). fresh ms u ≡ (is_none (first_of (answers_to device u.command.handle before)) && is_some (first_of (answers_in u.command.handle ms)))}
-      (λ u (e : u.answer ≡ first_of (answers_to device u.command.handle before)). ap (λ o. is_none o && is_some (first_of (answers_in u.command.handle ms))) e) us are)
-      ∙ ap (λ b. b && (is_none (first_of (answers_to device h before)) && is_some (first_of (answers_in h ms)))) (held h);
+  each = λ h. among_kept h (fresh ms) (λ x. is_none (first_of (answers_to device x before)) && is_some (first_of (answers_among x ms))) us
+      (each_map {Q = λ (u : Untaken). fresh ms u ≡ (is_none (first_of (answers_to device u.command.handle before)) && is_some (first_of (answers_among u.command.handle ms)))}
+      (λ u (e : u.answer ≡ first_of (answers_to device u.command.handle before)). ap (λ o. is_none o && is_some (first_of (answers_among u.command.handle ms))) e) us are)
+      ∙ ap (λ b. b && (is_none (first_of (answers_to device h before)) && is_some (first_of (answers_among h ms)))) (held h);
   number = as_many (filter (fresh ms) us) ∙ sym (counted ms us r);
 }
 
@@ -174,11 +174,13 @@ reception_right device from content before l a same held are r e = subst (IsRece
     by_sender true q = by_content content q refl
     by_sender false q = q
 
+-- Over a whole history of a link whose span is not 0, each datagram is answered by its sender, its bytes and how many
+-- untaken commands it answered first.
 pub datagrams_counted : (device : Peer) (first opened span : ℕ) (calls : List Call) (after : LinkState) → 0 < span → IsHistory device first opened span calls after → AnswersDatagrams device calls
 datagrams_counted device first opened span [] after some p = tt
 datagrams_counted device first opened span (Submits r now a ∷ before) after some p = datagrams_counted device first opened span before p.0 some p.1
 datagrams_counted device first opened span (GivesOut now a bytes ∷ before) after some p = datagrams_counted device first opened span before p.0 some p.1
 datagrams_counted device first opened span (TakesAnswer x a ∷ before) after some p = datagrams_counted device first opened span before p.0 some p.1
 datagrams_counted device first opened span (Receives from bytes content now a ∷ before) after some p =
-    let g = stands device first opened span before p.0 some p.1 in
-    (reception_right device from content before p.0 a g.now.device_is g.now.held g.now.are_answered g.rests.rises p.2.1, datagrams_counted device first opened span before p.0 some p.1)
+    let g = holds_after device first opened span before p.0 some p.1 in
+    (reception_right device from content before p.0 a g.now.device_is g.now.held g.now.are_answered g.others_are.rises p.2.1, datagrams_counted device first opened span before p.0 some p.1)

@@ -42,9 +42,11 @@ one_due h s (Some k) =
     by_test true u = refl
     by_test false u = refl
 
+-- Among no handles none is due, at any moment.
 pub none_from : (lo : ℕ) (slots : List (Option Held)) → HoldsFrom (some_due (untaken_from lo (lo - lo) slots)) None
 none_from lo slots = λ s below. ap (λ us. some_due us s) (done lo lo slots (omega arith))
 
+-- From which moment on one of the handles up to h is due, is from which on one of those before h is, or h itself.
 pub from_more : (lo h : ℕ) (slots : List (Option Held)) (k : Option Held) (o : Option ℕ) → lo ≤ h → held_at h slots ≡ k →
     HoldsFrom (λ s. some_due (untaken_from lo (h - lo) slots) s || held_is_due s k) o → HoldsFrom (some_due (untaken_from lo (h + 1 - lo) slots)) o
 from_more lo h slots k o above read =
@@ -53,6 +55,7 @@ from_more lo h slots k o above read =
     ∙ due_more s (untaken_from lo (h - lo) slots) (untaken_at h (held_at h slots))
     ∙ ap (λ x. some_due (untaken_from lo (h - lo) slots) s || x) (one_due h s (held_at h slots) ∙ ap (held_is_due s) read))
 
+-- Where the first handle has no answer, the lowest answered one is that of the handles above it.
 pub not_answered : (lo hi : ℕ) (slots : List (Option Held)) → lo < hi → is_some (held_answer (held_at lo slots)) ≡ false →
     first_answered (untaken_from lo (hi - lo) slots) ≡ first_answered (untaken_from (lo + 1) (hi - (lo + 1)) slots)
 not_answered lo hi slots below not_so = ap first_answered (step lo hi slots below) ∙ by (held_at lo slots) not_so
@@ -61,6 +64,7 @@ not_answered lo hi slots below not_so = ap first_answered (step lo hi slots belo
     by None not_so = refl
     by (Some k) not_so = ap (λ b. cond b (Some lo) (first_answered (untaken_from (lo + 1) (hi - (lo + 1)) slots))) not_so
 
+-- The lowest answered handle is the first one where that has its answer.
 pub answered_here : (lo hi : ℕ) (slots : List (Option Held)) → lo < hi → is_some (held_answer (held_at lo slots)) ≡ true →
     first_answered (untaken_from lo (hi - lo) slots) ≡ Some lo
 answered_here lo hi slots below so = ap first_answered (step lo hi slots below) ∙ by (held_at lo slots) so
@@ -69,9 +73,11 @@ answered_here lo hi slots below so = ap first_answered (step lo hi slots below) 
     by None so = cc
     by (Some k) so = ap (λ b. cond b (Some lo) (first_answered (untaken_from (lo + 1) (hi - (lo + 1)) slots))) so
 
+-- Among no handles none is answered.
 pub none_answered : (lo hi : ℕ) (slots : List (Option Held)) → hi ≤ lo → first_answered (untaken_from lo (hi - lo) slots) ≡ None
 none_answered lo hi slots p = ap first_answered (done lo hi slots p)
 
+-- Where the first handle is not late, one is late just where one of those above it is.
 pub not_late : (now lo hi : ℕ) (slots : List (Option Held)) → lo < hi → held_is_late now (held_at lo slots) ≡ false →
     list_any (is_late now) (untaken_from lo (hi - lo) slots) ≡ list_any (is_late now) (untaken_from (lo + 1) (hi - (lo + 1)) slots)
 not_late now lo hi slots below not_so = ap (list_any (is_late now)) (step lo hi slots below) ∙ by (held_at lo slots) not_so
@@ -81,6 +87,7 @@ not_late now lo hi slots below not_so = ap (list_any (is_late now)) (step lo hi 
     by None not_so = refl
     by (Some k) not_so = ap (λ b. b || list_any (is_late now) (untaken_from (lo + 1) (hi - (lo + 1)) slots)) not_so
 
+-- One is late where the first is.
 pub late_here : (now lo hi : ℕ) (slots : List (Option Held)) → lo < hi → held_is_late now (held_at lo slots) ≡ true →
     list_any (is_late now) (untaken_from lo (hi - lo) slots) ≡ true
 late_here now lo hi slots below so = ap (list_any (is_late now)) (step lo hi slots below) ∙ by (held_at lo slots) so
@@ -89,6 +96,7 @@ late_here now lo hi slots below so = ap (list_any (is_late now)) (step lo hi slo
     by None so = cc
     by (Some k) so = ap (λ b. b || list_any (is_late now) (untaken_from (lo + 1) (hi - (lo + 1)) slots)) so
 
+-- Among no handles none is late.
 pub none_late : (now lo hi : ℕ) (slots : List (Option Held)) → hi ≤ lo → list_any (is_late now) (untaken_from lo (hi - lo) slots) ≡ false
 none_late now lo hi slots p = ap (list_any (is_late now)) (done lo hi slots p)
 

@@ -9,19 +9,22 @@ use Rattle.oca_pdu.specs.Messages.{Msg, Command, Response, KeepAlive}
 use Rattle.oca_control.specs.Answers.{AnswerFields, answer_in}
 use Rattle.oca_control.specs.Untaken.{Untaken, is_due, first_due, given_out, answered, hears_all, without_handle, holds}
 use Rattle.oca_control.specs.Links.{LinkState, hears_content}
-use Rattle.oca_control.specs.Histories.{Sending, first_of, has_rested}
+use Rattle.oca_control.specs.Histories.{Sending, first_of, may_be_sent}
 use Rattle.oca_control.proofs.Following.{equal_is, equal_self, each_map, each_both, each_append, IsLast, IsSent, AreSent, AreAnswered}
 use Rattle.oca_control.proofs.Calls.{held_answered, each_without}
 
+-- The handles of the untaken commands rise: each is below those behind it.
 abbrev pub Rises : List Untaken → Type 0
 Rises [] = Unit {0}
 Rises (u ∷ us) = AllByRecursion (λ v. u.command.handle < v.command.handle) us × Rises us
 
-pub record Rests (last : ℕ) (lost : Bool) (l : LinkState) : Type 0 where
+-- A link is lost or not, gave something out last at this moment, and its handles rise.
+pub record OtherFieldsAre (last : ℕ) (lost : Bool) (l : LinkState) : Type 0 where
   pub lost_is : l.lost ≡ lost
   pub sent_is : l.sent ≡ last
   pub rises : Rises l.untaken
 
+-- Handles rise still with one behind them that is above them all.
 pub rises_more : (us : List Untaken) (u : Untaken) → AllByRecursion (λ v. v.command.handle < u.command.handle) us → Rises us → Rises (us ++ u ∷ [])
 rises_more [] u a r = (tt, tt)
 rises_more (v ∷ us) u a r = (each_append _ us (u ∷ []) r.0 (a.0, tt), rises_more us u a.1 r.1)
@@ -30,10 +33,12 @@ kept_given_out : (t h k : ℕ) (us : List Untaken) → AllByRecursion (λ v. k <
 kept_given_out t h k [] a = tt
 kept_given_out t h k (u ∷ us) a = (a.0, kept_given_out t h k us a.1)
 
+-- Giving a command out leaves the handles as they are, so they rise still.
 pub rises_given_out : (t h : ℕ) (us : List Untaken) → Rises us → Rises (map (given_out t h) us)
 rises_given_out t h [] r = tt
 rises_given_out t h (u ∷ us) r = (kept_given_out t h u.command.handle us r.0, rises_given_out t h us r.1)
 
+-- An answer leaves the handles as they are, so they rise still.
 pub rises_answered : (h : ℕ) (a : AnswerFields) (us : List Untaken) → Rises us → Rises (map (answered h a) us)
 rises_answered h a [] r = tt
 rises_answered h a (u ∷ us) r = (held_answered h a (λ c times last. u.command.handle < c.handle) us r.0, rises_answered h a us r.1)
@@ -44,11 +49,13 @@ rises_heard (Response x ∷ ms) us r = rises_heard ms (map (answered x.handle (a
 rises_heard (KeepAlive form ∷ ms) us r = rises_heard ms us r
 rises_heard (Command respond c ∷ ms) us r = rises_heard ms us r
 
+-- Hearing the content of a datagram, or not, leaves the handles as they are, so they rise still.
 pub rises_received : (b : Bool) (content : Option (List Msg)) (us : List Untaken) → Rises us → Rises (cond b (hears_content content us) us)
 rises_received true None us r = r
 rises_received true (Some ms) us r = rises_heard ms us r
 rises_received false content us r = r
 
+-- Handles rise still where the commands of one are taken out.
 pub rises_without : (h : ℕ) (us : List Untaken) → Rises us → Rises (without_handle h us)
 rises_without h [] r = tt
 rises_without h (u ∷ us) r = by_test (eqb u.command.handle h) (rises_without h us r.1)
@@ -68,8 +75,10 @@ each_held Q x (u ∷ us) a e = by_test (eqb u.command.handle x) refl e (each_hel
 
 -- due, by what came and what was sent
 abbrev pub due_by : ℕ → (ℕ → List Sending) → (ℕ → List AnswerFields) → ℕ → Bool
-due_by t sent came h = is_none (first_of (came h)) && has_rested t (sent h)
+due_by t sent came h = is_none (first_of (came h)) && may_be_sent t (sent h)
 
+-- Where what a link holds of its untaken commands agrees with sendings and answers that came, each is due just where
+-- those say so.
 pub due_same : (t s n : ℕ) (accepted : List CommandFields) (sent : ℕ → List Sending) (came : ℕ → List AnswerFields) (us : List Untaken) →
     AreSent s n accepted sent us → AreAnswered came us → AllByRecursion (λ u. is_due t u ≡ due_by t sent came u.command.handle) us
 due_same t s n accepted sent came us a b = each_both (λ u p q. one u p q) us a b
@@ -77,7 +86,7 @@ due_same t s n accepted sent came us a b = each_both (λ u p q. one u p q) us a 
     never : (k : ℕ) → nat_eq (suc k) 0 ≡ false
     never k = grind (arith, nat_tests)
 
-    rests : (times last : ℕ) (xs : List Sending) → times ≡ length xs → IsLast last xs → (nat_eq times 0 || nat_le 250 (t - last)) ≡ has_rested t xs
+    rests : (times last : ℕ) (xs : List Sending) → times ≡ length xs → IsLast last xs → (nat_eq times 0 || nat_le 250 (t - last)) ≡ may_be_sent t xs
     rests times last [] e p = ap (λ k. nat_eq k 0 || nat_le 250 (t - last)) e
     rests times last (x ∷ xs) e p = ap (λ k. nat_eq k 0 || nat_le 250 (t - last)) e ∙ ap (λ b. b || nat_le 250 (t - last)) (never (length xs)) ∙ ap (λ k. nat_le 250 (t - k)) (sym p)
 
@@ -85,6 +94,7 @@ due_same t s n accepted sent came us a b = each_both (λ u p q. one u p q) us a 
     one u p q = ap (λ o. is_none o && (nat_eq u.times 0 || nat_le 250 (t - u.last))) q
         ∙ ap (λ b. is_none (first_of (came u.command.handle)) && b) (rests u.times u.last (sent u.command.handle) p.count p.last_is)
 
+-- The first due command is one that is held.
 pub first_held : (t : ℕ) (us : List Untaken) (u : Untaken) → first_due t us ≡ Some u → holds u.command.handle us ≡ true
 first_held t [] u e = cc
 first_held t (v ∷ us) u e = by_test (is_due t v) e (first_held t us u)
@@ -98,6 +108,7 @@ first_held t (v ∷ us) u e = by_test (is_due t v) e (first_held t us u)
         ap (λ b. b || holds u.command.handle us) (ap (λ (w : Untaken). eqb w.command.handle u.command.handle) same ∙ equal_self u.command.handle)
     by_test false e rest = ap (λ b. eqb v.command.handle u.command.handle || b) (rest e) ∙ or_true (eqb v.command.handle u.command.handle)
 
+-- Where handles rise, the first due command has the lowest handle of those that are due.
 pub first_lowest : (t : ℕ) (us : List Untaken) (u : Untaken) → Rises us → first_due t us ≡ Some u → AllByRecursion (λ v. is_due t v ≡ true → u.command.handle ≤ v.command.handle) us
 first_lowest t [] u r e = tt
 first_lowest t (v ∷ us) u r e = by_test (is_due t v) refl e (first_lowest t us u r.1)
@@ -121,6 +132,7 @@ first_lowest t (v ∷ us) u r e = by_test (is_due t v) refl e (first_lowest t us
         differs : false ≡ true → ⊥
         differs e = cc
 
+-- Where there is no first due command, none is due.
 pub none_first : (t : ℕ) (us : List Untaken) → first_due t us ≡ None → AllByRecursion (λ v. is_due t v ≡ false) us
 none_first t [] e = tt
 none_first t (v ∷ us) e = by_test (is_due t v) refl e (none_first t us)

@@ -8,41 +8,51 @@ use Rattle.oca_types.specs.Peers.{CommandFields}
 use Rattle.oca_control.specs.Answers.{AnswerFields}
 use Rattle.oca_control.specs.Untaken.{Untaken, holds}
 use Rattle.oca_control.specs.Links.{LinkState, new_link, handle_after}
-use Rattle.oca_control.specs.Histories.{command_of, Sending, first_of, RiseFrom, IsCopy, AreApart}
+use Rattle.oca_control.specs.Histories.{command_accepted, Sending, first_of, RiseFrom, IsCopy, AreSendingsApart}
 
 -- ---- numbers, tests and lists
 
+-- Numbers that the test finds equal are equal.
 pub equal_is : (a b : ℕ) → nat_eq a b ≡ true → a ≡ b
 equal_is a b h = grind (arith, nat_tests)
 
+-- The test finds a number equal to itself.
 pub equal_self : (a : ℕ) → nat_eq a a ≡ true
 equal_self a = grind (arith, nat_tests)
 
+-- The test finds a number unequal to a greater one.
 pub unequal : (a b : ℕ) → a < b → nat_eq a b ≡ false
 unequal a b h = grind (arith, nat_tests)
 
+-- A number that the test finds below another is below it.
 pub is_below : (a b : ℕ) → nat_lt a b ≡ true → a < b
 is_below a b p = grind (arith, nat_tests)
 
+-- A number that the test finds at most another is at most that.
 pub is_at_most : (a b : ℕ) → nat_le a b ≡ true → a ≤ b
 is_at_most a b p = grind (arith, nat_tests)
 
+-- Where two tests hold together, each holds.
 pub both_true : (a b : Bool) → (a && b) ≡ true → (a ≡ true) × (b ≡ true)
 both_true true b q = (refl, q)
 both_true false b q = cc
 
+-- A test or false is the test.
 pub or_false : (b : Bool) → (b || false) ≡ b
 or_false true = refl
 or_false false = refl
 
+-- What follows from what holds of each member holds of each.
 pub each_map : {X : Type 0} {P Q : X → Type 0} → ((x : X) → P x → Q x) → (xs : List X) → AllByRecursion P xs → AllByRecursion Q xs
 each_map f [] e = tt
 each_map f (x ∷ xs) e = (f x e.0, each_map f xs e.1)
 
+-- What follows from two facts that hold of each member holds of each.
 pub each_both : {X : Type 0} {P Q R : X → Type 0} → ((x : X) → P x → Q x → R x) → (xs : List X) → AllByRecursion P xs → AllByRecursion Q xs → AllByRecursion R xs
 each_both f [] p q = tt
 each_both f (x ∷ xs) p q = (f x p.0 q.0, each_both f xs p.1 q.1)
 
+-- What holds of each member of two lists holds of each of the two joined.
 pub each_append : {X : Type 0} (P : X → Type 0) (xs ys : List X) → AllByRecursion P xs → AllByRecursion P ys → AllByRecursion P (xs ++ ys)
 each_append P [] ys p q = q
 each_append P (x ∷ xs) ys p q = (p.0, each_append P xs ys p.1 q)
@@ -54,6 +64,7 @@ abbrev pub end_of : Option ℕ → ℕ
 end_of None = 4294967296
 end_of (Some n) = n
 
+-- The next handle after h is h + 1, or none is left after 4294967295, which counts as 4294967296.
 pub end_after : (h : ℕ) → end_of (handle_after h) ≡ h + 1
 end_after h = by_test (nat_eq h 4294967295) refl
   where
@@ -61,24 +72,29 @@ end_after h = by_test (nat_eq h 4294967295) refl
     by_test true q = let e : h ≡ 4294967295 = equal_is h 4294967295 q in omega arith
     by_test false q = refl
 
+-- The latest sending, where there is one, was at this moment.
 abbrev pub IsLast : ℕ → List Sending → Type 0
 IsLast t [] = Unit {0}
 IsLast t (x ∷ before) = x.at ≡ t
 
 -- of an untaken command, but its answer
 pub record IsSent (s n : ℕ) (accepted : List CommandFields) (sent : ℕ → List Sending) (c : CommandFields) (times last : ℕ) : Type 0 where
-  pub command : command_of c.handle accepted ≡ Some c
+  pub command : command_accepted c.handle accepted ≡ Some c
   pub count : times ≡ length (sent c.handle)
   pub last_is : IsLast last (sent c.handle)
   pub below : c.handle < n
   pub near : n ≤ c.handle + s
 
+-- What a link holds of each untaken command, but its answer, agrees with the accepted commands and its sendings.
 abbrev pub AreSent : ℕ → ℕ → List CommandFields → (ℕ → List Sending) → List Untaken → Type 0
 AreSent s n accepted sent us = AllByRecursion (λ u. IsSent s n accepted sent u.command u.times u.last) us
 
+-- The answer that each untaken command has is the first one that came to its handle.
 abbrev pub AreAnswered : (ℕ → List AnswerFields) → List Untaken → Type 0
 AreAnswered came us = AllByRecursion (λ u. u.answer ≡ first_of (came u.command.handle)) us
 
+-- A link FOLLOWS ITS HISTORY: it holds what these accepted commands, sendings, answers that came and untaken handles
+-- say, and they are lawful.
 pub record Follows (device : Peer) (first s t : ℕ) (accepted : List CommandFields) (sent : ℕ → List Sending) (came : ℕ → List AnswerFields) (open_at : ℕ → Bool) (l : LinkState) : Type 0 where
   pub device_is : l.device ≡ device
   pub moment_is : l.moment ≡ t
@@ -91,10 +107,11 @@ pub record Follows (device : Peer) (first s t : ℕ) (accepted : List CommandFie
   pub handles : RiseFrom first accepted
   pub copies : (h : ℕ) → AllByRecursion (λ x. IsCopy h accepted x.bytes) (sent h)
   pub at_most_20 : (h : ℕ) → length (sent h) ≤ 20
-  pub apart : (h : ℕ) → AreApart (sent h)
+  pub apart : (h : ℕ) → AreSendingsApart (sent h)
 
 -- ---- a new link
 
+-- A new link follows the empty history.
 pub opens : (device : Peer) (first opened s : ℕ) → Follows device first s opened [] (λ h. []) (λ h. []) (λ h. false) (new_link device first opened s)
 opens device first opened s = record {
   device_is = refl;

@@ -14,33 +14,33 @@ use Rattle.oca_control.specs.declared.fault.ControlFault.{ControlFault}
 use Rattle.oca_control.specs.declared.fault.ControlFault.TheVariants as faults
 use Rattle.oca_control.specs.Answers.{AnswerFields}
 use Rattle.oca_control.specs.Contents.{IsContent}
-use Rattle.oca_control.specs.Untaken.{Untaken, new_untaken, has_room, is_due, first_due, answer_under, without_handle, holds}
-use Rattle.oca_control.specs.Links.{LinkState, Request, new_link, present, command_under, submission, submission_under, submitted, after_submission, handle_after, Decision, GivesCommand, GivesKeepAlive, GivesNothing, IsLost, decision, decision_among, due_answer, due_bytes, after_due, gone_on, received, taken}
-use Rattle.oca_control.specs.Histories.{Call, Submits, GivesOut, Receives, TakesAnswer, IsCall, IsHistory, clock, commands, Sending, sendings, answers_to, first_of, is_untaken, last_given, is_lost, TakesTheFirst, IsLowestDue, NoneIsDue, HasRoom, IsFull, IsSubmitAnswer, AnswersSubmits, IsDueAnswer, GivesWhatIsDue, IsLawful}
+use Rattle.oca_control.specs.Untaken.{Untaken, new_untaken, span_has_room, is_due, first_due, answer_under, without_handle, holds}
+use Rattle.oca_control.specs.Links.{LinkState, Request, new_link, present_moment, command_under, submission, submission_under, submitted, after_submission, handle_after, Decision, GivesCommand, GivesKeepAlive, GivesNothing, IsLost, decision, decision_among, due_answer, due_bytes, after_due, gone_on, received, taken}
+use Rattle.oca_control.specs.Histories.{Call, Submits, GivesOut, Receives, TakesAnswer, IsCall, IsHistory, clock_of_calls, commands, Sending, sendings, answers_to, first_of, is_untaken, last_given, is_lost, TakesTheFirst, IsLowestDue, NoneIsDue, HasSpanRoom, IsFull, IsSubmitAnswer, AnswersSubmits, IsDueAnswer, GivesWhatIsDue, IsLawful}
 use Rattle.oca_control.proofs.Following.{equal_is, equal_self, is_below, is_at_most, both_true, each_map, each_both, end_of, IsSent, AreSent, Follows, opens}
 use Rattle.oca_control.proofs.Calls.{room_each, is_accepted, submits, is_given, each_first, gives, passes, receives, answer_is, takes}
-use Rattle.oca_control.proofs.Dues.{Rises, Rests, rises_more, rises_given_out, rises_received, rises_without, each_held, due_by, due_same, first_held, first_lowest, none_first}
+use Rattle.oca_control.proofs.Dues.{Rises, OtherFieldsAre, rises_more, rises_given_out, rises_received, rises_without, each_held, due_by, due_same, first_held, first_lowest, none_first}
 
 abbrev pub Now : Peer → ℕ → ℕ → ℕ → List Call → LinkState → Type 0
-Now device first opened s calls l = Follows device first s (clock opened calls) (commands calls) (λ h. sendings opened h calls) (λ h. answers_to device h calls) (λ h. is_untaken h calls) l
+Now device first opened s calls l = Follows device first s (clock_of_calls opened calls) (commands calls) (λ h. sendings opened h calls) (λ h. answers_to device h calls) (λ h. is_untaken h calls) l
 
 submit_step : (device : Peer) (first opened s : ℕ) (before : List Call) (l after : LinkState) (r : Request) (now : ℕ) (a : Result Handle ControlFault) → 0 < s →
     a ≡ submission r l → after ≡ after_submission (submission r l) r now l → Now device first opened s before l → Now device first opened s (Submits r now a ∷ before) after
 submit_step device first opened s before l after r now (Err fault) some e f g = subst (λ m. Now device first opened s before m) (sym (f ∙ ap (λ a. after_submission a r now l) (sym e))) g
 submit_step device first opened s before l after r now (Ok h) some e f g =
     subst (λ m. Now device first opened s (Submits r now (Ok h) ∷ before) m) (sym (f ∙ ap (λ a. after_submission a r now l) (sym e)))
-    (submits device first s (clock opened before) now (commands before) (λ x. sendings opened x before) (λ x. answers_to device x before) (λ x. is_untaken x before) l h r some (is_accepted r h l (sym e)) g)
+    (submits device first s (clock_of_calls opened before) now (commands before) (λ x. sendings opened x before) (λ x. answers_to device x before) (λ x. is_untaken x before) l h r some (is_accepted r h l (sym e)) g)
 
 due_step : (device : Peer) (first opened s : ℕ) (before : List Call) (l : LinkState) (now : ℕ) (d : Decision) → decision now l ≡ d → Now device first opened s before l →
-    Now device first opened s (GivesOut now (due_answer d) (due_bytes d) ∷ before) (after_due d (present now l) l)
+    Now device first opened s (GivesOut now (due_answer d) (due_bytes d) ∷ before) (after_due d (present_moment now l) l)
 due_step device first opened s before l now (GivesCommand c) e g =
-    gives device first s (clock opened before) now (commands before) (λ x. sendings opened x before) (λ x. answers_to device x before) (λ x. is_untaken x before) l c (is_given (present now l) l.sent l.lost c l.untaken e) g
+    gives device first s (clock_of_calls opened before) now (commands before) (λ x. sendings opened x before) (λ x. answers_to device x before) (λ x. is_untaken x before) l c (is_given (present_moment now l) l.sent l.lost c l.untaken e) g
 due_step device first opened s before l now GivesKeepAlive e g =
-    passes device first s (clock opened before) now (present now l) l.lost (commands before) (λ x. sendings opened x before) (λ x. answers_to device x before) (λ x. is_untaken x before) l g
+    passes device first s (clock_of_calls opened before) now (present_moment now l) l.lost (commands before) (λ x. sendings opened x before) (λ x. answers_to device x before) (λ x. is_untaken x before) l g
 due_step device first opened s before l now GivesNothing e g =
-    passes device first s (clock opened before) now l.sent l.lost (commands before) (λ x. sendings opened x before) (λ x. answers_to device x before) (λ x. is_untaken x before) l g
+    passes device first s (clock_of_calls opened before) now l.sent l.lost (commands before) (λ x. sendings opened x before) (λ x. answers_to device x before) (λ x. is_untaken x before) l g
 due_step device first opened s before l now IsLost e g =
-    passes device first s (clock opened before) now l.sent true (commands before) (λ x. sendings opened x before) (λ x. answers_to device x before) (λ x. is_untaken x before) l g
+    passes device first s (clock_of_calls opened before) now l.sent true (commands before) (λ x. sendings opened x before) (λ x. answers_to device x before) (λ x. is_untaken x before) l g
 
 take_step : (device : Peer) (first opened s : ℕ) (before : List Call) (l after : LinkState) (h : ℕ) (a : Option AnswerFields) →
     a ≡ answer_under h l.untaken → after ≡ taken h l → Now device first opened s before l → Now device first opened s (TakesAnswer h a ∷ before) after
@@ -49,7 +49,7 @@ take_step device first opened s before l after h None e f g =
 take_step device first opened s before l after h (Some a) e f g =
     subst (λ m. Now device first opened s (TakesAnswer h (Some a) ∷ before) m)
     (sym (f ∙ ap (λ (o : Option AnswerFields). let m : LinkState = record l { untaken = cond (is_some o) (without_handle h l.untaken) l.untaken } in m) (sym e)))
-    (takes device first s (clock opened before) (commands before) (λ x. sendings opened x before) (λ x. answers_to device x before) (λ x. is_untaken x before) l h g)
+    (takes device first s (clock_of_calls opened before) (commands before) (λ x. sendings opened x before) (λ x. answers_to device x before) (λ x. is_untaken x before) l h g)
 
 -- the answer of `due`
 due_right : (device : Peer) (first opened s t : ℕ) (before : List Call) (l : LinkState) (d : Decision) → Now device first opened s before l → Rises l.untaken →
@@ -121,18 +121,20 @@ due_right device first opened s t before l d g r e = by_lost (is_lost before) re
     by_lost true q e = subst (λ x. IsDueAnswer device opened t (due_bytes x) before (due_answer x)) e (inl q, refl)
     by_lost false q e = by_first q (first_due t l.untaken) refl e
 
-pub record Stands (device : Peer) (first opened s : ℕ) (calls : List Call) (l : LinkState) : Type 0 where
+-- What holds of a link after these calls: it follows its history, its handles rise, and its calls of `due` and `take`
+-- gave what they should.
+pub record HoldsAfter (device : Peer) (first opened s : ℕ) (calls : List Call) (l : LinkState) : Type 0 where
   pub now : Now device first opened s calls l
-  pub rests : Rests (last_given opened calls) (is_lost calls) l
+  pub others_are : OtherFieldsAre (last_given opened calls) (is_lost calls) l
   pub dues_are : GivesWhatIsDue device opened calls
   pub takes_are : TakesTheFirst device calls
 
-submit_rests : (device : Peer) (first opened s : ℕ) (before : List Call) (l after : LinkState) (r : Request) (now : ℕ) (a : Result Handle ControlFault) →
-    a ≡ submission r l → after ≡ after_submission (submission r l) r now l → Now device first opened s before l → Rests (last_given opened before) (is_lost before) l →
-    Rests (last_given opened before) (is_lost before) after
-submit_rests device first opened s before l after r now (Err fault) e f g q = subst (λ m. Rests (last_given opened before) (is_lost before) m) (sym (f ∙ ap (λ a. after_submission a r now l) (sym e))) q
-submit_rests device first opened s before l after r now (Ok h) e f g q =
-    subst (λ m. Rests (last_given opened before) (is_lost before) m) (sym (f ∙ ap (λ a. after_submission a r now l) (sym e)))
+submit_others : (device : Peer) (first opened s : ℕ) (before : List Call) (l after : LinkState) (r : Request) (now : ℕ) (a : Result Handle ControlFault) →
+    a ≡ submission r l → after ≡ after_submission (submission r l) r now l → Now device first opened s before l → OtherFieldsAre (last_given opened before) (is_lost before) l →
+    OtherFieldsAre (last_given opened before) (is_lost before) after
+submit_others device first opened s before l after r now (Err fault) e f g q = subst (λ m. OtherFieldsAre (last_given opened before) (is_lost before) m) (sym (f ∙ ap (λ a. after_submission a r now l) (sym e))) q
+submit_others device first opened s before l after r now (Ok h) e f g q =
+    subst (λ m. OtherFieldsAre (last_given opened before) (is_lost before) m) (sym (f ∙ ap (λ a. after_submission a r now l) (sym e)))
     (record {
       lost_is = q.lost_is;
       sent_is = q.sent_is;
@@ -146,36 +148,36 @@ submit_rests device first opened s before l after r now (Ok h) e f g q =
         let m : end_of l.next ≡ first + length (commands before) = g.next_is in
         omega arith
 
-due_rests : (opened : ℕ) (before : List Call) (l : LinkState) (now : ℕ) (d : Decision) → present now l ≡ max (clock opened before) now → Rests (last_given opened before) (is_lost before) l →
-    Rests (last_given opened (GivesOut now (due_answer d) (due_bytes d) ∷ before)) (is_lost (GivesOut now (due_answer d) (due_bytes d) ∷ before)) (after_due d (present now l) l)
-due_rests opened before l now (GivesCommand c) e q = record { lost_is = q.lost_is; sent_is = e; rises = rises_given_out (present now l) c.handle l.untaken q.rises }
-due_rests opened before l now GivesKeepAlive e q = record { lost_is = q.lost_is; sent_is = e; rises = q.rises }
-due_rests opened before l now GivesNothing e q = record { lost_is = q.lost_is; sent_is = q.sent_is; rises = q.rises }
-due_rests opened before l now IsLost e q = record { lost_is = refl; sent_is = q.sent_is; rises = q.rises }
+due_others : (opened : ℕ) (before : List Call) (l : LinkState) (now : ℕ) (d : Decision) → present_moment now l ≡ max (clock_of_calls opened before) now → OtherFieldsAre (last_given opened before) (is_lost before) l →
+    OtherFieldsAre (last_given opened (GivesOut now (due_answer d) (due_bytes d) ∷ before)) (is_lost (GivesOut now (due_answer d) (due_bytes d) ∷ before)) (after_due d (present_moment now l) l)
+due_others opened before l now (GivesCommand c) e q = record { lost_is = q.lost_is; sent_is = e; rises = rises_given_out (present_moment now l) c.handle l.untaken q.rises }
+due_others opened before l now GivesKeepAlive e q = record { lost_is = q.lost_is; sent_is = e; rises = q.rises }
+due_others opened before l now GivesNothing e q = record { lost_is = q.lost_is; sent_is = q.sent_is; rises = q.rises }
+due_others opened before l now IsLost e q = record { lost_is = refl; sent_is = q.sent_is; rises = q.rises }
 
-take_rests : (last h : ℕ) (lost : Bool) (l : LinkState) → Rests last lost l → Rests last lost (taken h l)
-take_rests last h lost l q = record { lost_is = q.lost_is; sent_is = q.sent_is; rises = by_test (is_some (answer_under h l.untaken)) }
+take_others : (last h : ℕ) (lost : Bool) (l : LinkState) → OtherFieldsAre last lost l → OtherFieldsAre last lost (taken h l)
+take_others last h lost l q = record { lost_is = q.lost_is; sent_is = q.sent_is; rises = by_test (is_some (answer_under h l.untaken)) }
   where
     by_test : (b : Bool) → Rises (cond b (without_handle h l.untaken) l.untaken)
     by_test true = rises_without h l.untaken q.rises
     by_test false = q.rises
 
-due_stands : (device : Peer) (first opened s : ℕ) (before : List Call) (l : LinkState) (now : ℕ) → Stands device first opened s before l →
-    Stands device first opened s (GivesOut now (due_answer (decision now l)) (due_bytes (decision now l)) ∷ before) (after_due (decision now l) (present now l) l)
-due_stands device first opened s before l now g = record {
+due_holds_after : (device : Peer) (first opened s : ℕ) (before : List Call) (l : LinkState) (now : ℕ) → HoldsAfter device first opened s before l →
+    HoldsAfter device first opened s (GivesOut now (due_answer (decision now l)) (due_bytes (decision now l)) ∷ before) (after_due (decision now l) (present_moment now l) l)
+due_holds_after device first opened s before l now g = record {
   now = due_step device first opened s before l now (decision now l) refl g.now;
-  rests = due_rests opened before l now (decision now l) now_is g.rests;
+  others_are = due_others opened before l now (decision now l) now_is g.others_are;
   dues_are = (
-    due_right device first opened s (max (clock opened before) now) before l (decision now l) g.now g.rests.rises
-        (sym (ap (λ b. cond b IsLost (decision_among (present now l) l.sent (first_due (present now l) l.untaken))) g.rests.lost_is
-        ∙ ap (λ k. cond (is_lost before) IsLost (decision_among (present now l) k (first_due (present now l) l.untaken))) g.rests.sent_is
+    due_right device first opened s (max (clock_of_calls opened before) now) before l (decision now l) g.now g.others_are.rises
+        (sym (ap (λ b. cond b IsLost (decision_among (present_moment now l) l.sent (first_due (present_moment now l) l.untaken))) g.others_are.lost_is
+        ∙ ap (λ k. cond (is_lost before) IsLost (decision_among (present_moment now l) k (first_due (present_moment now l) l.untaken))) g.others_are.sent_is
         ∙ ap (λ k. cond (is_lost before) IsLost (decision_among k (last_given opened before) (first_due k l.untaken))) now_is)),
     g.dues_are,
   );
   takes_are = g.takes_are;
 }
   where
-    now_is : present now l ≡ max (clock opened before) now
+    now_is : present_moment now l ≡ max (clock_of_calls opened before) now
     now_is = ap (λ m. max m now) g.now.moment_is
 
 -- A call makes another of a link, as `IsCall` says, whatever the content of a datagram is.
@@ -196,30 +198,31 @@ is_made l (GivesOut now answer bytes) after c = c
 is_made l (Receives from bytes content now answer) after c = c.2
 is_made l (TakesAnswer h answer) after c = c
 
+-- A history makes the link also without what is said of the contents of its datagrams.
 pub is_made_by : (device : Peer) (first opened s : ℕ) (calls : List Call) (after : LinkState) → IsHistory device first opened s calls after → IsMadeBy device first opened s calls after
 is_made_by device first opened s [] after h = h
 is_made_by device first opened s (call ∷ before) after h = (h.0, is_made_by device first opened s before h.0 h.1, is_made h.0 call after h.2)
 
-step : (device : Peer) (first opened s : ℕ) (before : List Call) (l after : LinkState) (call : Call) → 0 < s → Stands device first opened s before l → IsMade l call after →
-    Stands device first opened s (call ∷ before) after
+step : (device : Peer) (first opened s : ℕ) (before : List Call) (l after : LinkState) (call : Call) → 0 < s → HoldsAfter device first opened s before l → IsMade l call after →
+    HoldsAfter device first opened s (call ∷ before) after
 step device first opened s before l after (Submits r now a) some g c = record {
   now = submit_step device first opened s before l after r now a some c.0 c.1 g.now;
-  rests = submit_rests device first opened s before l after r now a c.0 c.1 g.now g.rests;
+  others_are = submit_others device first opened s before l after r now a c.0 c.1 g.now g.others_are;
   dues_are = g.dues_are;
   takes_are = g.takes_are;
 }
-step device first opened s before l after (GivesOut now a bytes) some g c = rw (c.0, c.1, c.2) (due_stands device first opened s before l now g)
+step device first opened s before l after (GivesOut now a bytes) some g c = rw (c.0, c.1, c.2) (due_holds_after device first opened s before l now g)
 step device first opened s before l after (Receives from bytes content now a) some g c = record {
   now = subst (λ m. Now device first opened s (Receives from bytes content now a ∷ before) m) (sym c)
-      (receives device first s (clock opened before) now (commands before) (λ x. sendings opened x before) (λ x. answers_to device x before) (λ x. is_untaken x before) l from content g.now);
-  rests = subst (λ m. Rests (last_given opened before) (is_lost before) m) (sym c)
-      (record { lost_is = g.rests.lost_is; sent_is = g.rests.sent_is; rises = rises_received (same_peer from l.device) content l.untaken g.rests.rises });
+      (receives device first s (clock_of_calls opened before) now (commands before) (λ x. sendings opened x before) (λ x. answers_to device x before) (λ x. is_untaken x before) l from content g.now);
+  others_are = subst (λ m. OtherFieldsAre (last_given opened before) (is_lost before) m) (sym c)
+      (record { lost_is = g.others_are.lost_is; sent_is = g.others_are.sent_is; rises = rises_received (same_peer from l.device) content l.untaken g.others_are.rises });
   dues_are = g.dues_are;
   takes_are = g.takes_are;
 }
 step device first opened s before l after (TakesAnswer h a) some g c = record {
   now = take_step device first opened s before l after h a c.0 c.1 g.now;
-  rests = subst (λ m. Rests (last_given opened before) (is_lost before) m) (sym c.1) (take_rests (last_given opened before) h (is_lost before) l g.rests);
+  others_are = subst (λ m. OtherFieldsAre (last_given opened before) (is_lost before) m) (sym c.1) (take_others (last_given opened before) h (is_lost before) l g.others_are);
   dues_are = g.dues_are;
   takes_are = (
     c.0 ∙ answer_is h (λ x. answers_to device x before) l.untaken g.now.are_answered ∙ ap (λ b. cond b (first_of (answers_to device h before)) None) (g.now.held h),
@@ -227,18 +230,20 @@ step device first opened s before l after (TakesAnswer h a) some g c = record {
   );
 }
 
-pub stands_made : (device : Peer) (first opened s : ℕ) (calls : List Call) (after : LinkState) → 0 < s → IsMadeBy device first opened s calls after → Stands device first opened s calls after
-stands_made device first opened s [] after some h = subst (λ m. Stands device first opened s [] m) (sym h) (record {
+-- All this holds of a link whose span is not 0 after calls of it, whatever the contents of datagrams are.
+pub holds_after_calls : (device : Peer) (first opened s : ℕ) (calls : List Call) (after : LinkState) → 0 < s → IsMadeBy device first opened s calls after → HoldsAfter device first opened s calls after
+holds_after_calls device first opened s [] after some h = subst (λ m. HoldsAfter device first opened s [] m) (sym h) (record {
   now = opens device first opened s;
-  rests = record { lost_is = refl; sent_is = refl; rises = tt };
+  others_are = record { lost_is = refl; sent_is = refl; rises = tt };
   dues_are = tt;
   takes_are = tt;
 })
-stands_made device first opened s (call ∷ before) after some h =
-    step device first opened s before h.0 after call some (stands_made device first opened s before h.0 some h.1) h.2
+holds_after_calls device first opened s (call ∷ before) after some h =
+    step device first opened s before h.0 after call some (holds_after_calls device first opened s before h.0 some h.1) h.2
 
-pub stands : (device : Peer) (first opened s : ℕ) (calls : List Call) (after : LinkState) → 0 < s → IsHistory device first opened s calls after → Stands device first opened s calls after
-stands device first opened s calls after some h = stands_made device first opened s calls after some (is_made_by device first opened s calls after h)
+-- All this holds of a link whose span is not 0 after each history.
+pub holds_after : (device : Peer) (first opened s : ℕ) (calls : List Call) (after : LinkState) → 0 < s → IsHistory device first opened s calls after → HoldsAfter device first opened s calls after
+holds_after device first opened s calls after some h = holds_after_calls device first opened s calls after some (is_made_by device first opened s calls after h)
 
 -- ---- what a submit answers
 
@@ -257,7 +262,7 @@ fits_after h p = by_test (nat_eq h 4294967295) refl
     by_test false q = further q
 
 -- room, or one without
-no_room : (s n : ℕ) (us : List Untaken) → has_room s n us ≡ false → (x : ℕ) × (holds x us ≡ true) × (x + s ≤ n)
+no_room : (s n : ℕ) (us : List Untaken) → span_has_room s n us ≡ false → (x : ℕ) × (holds x us ≡ true) × (x + s ≤ n)
 no_room s n [] e = cc
 no_room s n (u ∷ us) e = by_test (nat_lt n (u.command.handle + s)) refl e (no_room s n us)
   where
@@ -268,7 +273,7 @@ no_room s n (u ∷ us) e = by_test (nat_lt n (u.command.handle + s)) refl e (no_
     or_true true = refl
     or_true false = refl
 
-    by_test : (b : Bool) → nat_lt n (u.command.handle + s) ≡ b → (b && has_room s n us) ≡ false → (has_room s n us ≡ false → (x : ℕ) × (holds x us ≡ true) × (x + s ≤ n)) →
+    by_test : (b : Bool) → nat_lt n (u.command.handle + s) ≡ b → (b && span_has_room s n us) ≡ false → (span_has_room s n us ≡ false → (x : ℕ) × (holds x us ≡ true) × (x + s ≤ n)) →
         (x : ℕ) × ((eqb u.command.handle x || holds x us) ≡ true) × (x + s ≤ n)
     by_test true q e rest = let r = rest e in (r.0, ap (λ b. eqb u.command.handle r.0 || b) r.1 ∙ or_true (eqb u.command.handle r.0), r.2)
     by_test false q e rest = (u.command.handle, ap (λ b. b || holds u.command.handle us) (equal_self u.command.handle), far u.command.handle q)
@@ -277,7 +282,7 @@ submit_right : (device : Peer) (first opened s : ℕ) (before : List Call) (l : 
     l.lost ≡ is_lost before → Fits32 l.next → submission r l ≡ a → IsSubmitAnswer s (first + length (commands before)) (length r.params) before a
 submit_right device first opened s before l r a g lost fits e = by_lost l.lost lost e
   where
-    room_of : (k : ℕ) → k ≡ first + length (commands before) → has_room l.span k l.untaken ≡ true → HasRoom s (first + length (commands before)) before
+    room_of : (k : ℕ) → k ≡ first + length (commands before) → span_has_room l.span k l.untaken ≡ true → HasSpanRoom s (first + length (commands before)) before
     room_of k n q x p = each_held (λ y. first + length (commands before) < y + s) x l.untaken
         (each_map (λ u (w : k < u.command.handle + l.span). nearer u.command.handle (first + length (commands before)) l.span w n g.span_is) l.untaken (room_each l.span k l.untaken q))
         (g.held x ∙ p)
@@ -285,7 +290,7 @@ submit_right device first opened s before l r a g lost fits e = by_lost l.lost l
         nearer : (y m sp : ℕ) → k < y + sp → k ≡ m → sp ≡ s → m < y + s
         nearer y m sp w n e = omega arith
 
-    full_of : (k : ℕ) → k ≡ first + length (commands before) → has_room l.span k l.untaken ≡ false → IsFull s (first + length (commands before)) before
+    full_of : (k : ℕ) → k ≡ first + length (commands before) → span_has_room l.span k l.untaken ≡ false → IsFull s (first + length (commands before)) before
     full_of k n q = let f = no_room l.span k l.untaken q in (f.0, sym (g.held f.0) ∙ f.1, further f.0 l.span (first + length (commands before)) f.2 n g.span_is)
       where
         further : (y sp m : ℕ) → y + sp ≤ k → k ≡ m → sp ≡ s → y + s ≤ m
@@ -294,7 +299,7 @@ submit_right device first opened s before l r a g lost fits e = by_lost l.lost l
     low : (k m : ℕ) → k ≤ 4294967295 → k ≡ m → m ≤ 4294967295
     low k m p q = omega arith
 
-    by_length : is_lost before ≡ false → (k : ℕ) → k ≡ first + length (commands before) → k ≤ 4294967295 → has_room l.span k l.untaken ≡ true →
+    by_length : is_lost before ≡ false → (k : ℕ) → k ≡ first + length (commands before) → k ≤ 4294967295 → span_has_room l.span k l.untaken ≡ true →
         (b : Bool) → nat_lt most_command_parameter_bytes (length r.params) ≡ b → cond b (Err faults.TooLong) (Ok (let h : Handle = record { 0 = k } in h)) ≡ a →
         IsSubmitAnswer s (first + length (commands before)) (length r.params) before a
     by_length q k n f room true p e = subst (λ x. IsSubmitAnswer s (first + length (commands before)) (length r.params) before x) e
@@ -305,7 +310,7 @@ submit_right device first opened s before l r a g lost fits e = by_lost l.lost l
         short : (m : ℕ) → nat_lt 1445 m ≡ false → m ≤ 1445
         short m p = grind (arith, nat_tests)
 
-    by_room : is_lost before ≡ false → (k : ℕ) → k ≡ first + length (commands before) → k ≤ 4294967295 → (b : Bool) → has_room l.span k l.untaken ≡ b →
+    by_room : is_lost before ≡ false → (k : ℕ) → k ≡ first + length (commands before) → k ≤ 4294967295 → (b : Bool) → span_has_room l.span k l.untaken ≡ b →
         cond b (cond (nat_lt most_command_parameter_bytes (length r.params)) (Err faults.TooLong) (Ok (let h : Handle = record { 0 = k } in h))) (Err faults.SpanFull) ≡ a →
         IsSubmitAnswer s (first + length (commands before)) (length r.params) before a
     by_room q k n f true p e = by_length q k n f p (nat_lt most_command_parameter_bytes (length r.params)) refl e
@@ -318,7 +323,7 @@ submit_right device first opened s before l r a g lost fits e = by_lost l.lost l
       where
         spent : (m : ℕ) → 4294967296 ≡ m → 4294967295 < m
         spent m n = omega arith
-    by_next q (Some k) n f e = by_room q k n f (has_room l.span k l.untaken) refl e
+    by_next q (Some k) n f e = by_room q k n f (span_has_room l.span k l.untaken) refl e
 
     by_lost : (b : Bool) → b ≡ is_lost before → cond b (Err faults.Lost) (submission_under r l.next l) ≡ a → IsSubmitAnswer s (first + length (commands before)) (length r.params) before a
     by_lost true q e = subst (λ x. IsSubmitAnswer s (first + length (commands before)) (length r.params) before x) e (sym q)
@@ -343,14 +348,14 @@ fit : (device : Peer) (first opened s : ℕ) (calls : List Call) (after : LinkSt
 fit device first opened s [] after some low h = record { next = subst (λ (m : LinkState). Fits32 m.next) (sym h) low; submits_are = tt }
 fit device first opened s (Submits r now a ∷ before) after some low h =
     let f = fit device first opened s before h.0 some low h.1 in
-    let g = stands device first opened s before h.0 some h.1 in
+    let g = holds_after device first opened s before h.0 some h.1 in
     record {
       next = subst (λ (m : LinkState). Fits32 m.next) (sym h.2.1) (fit_submit r now h.0 (submission r h.0) refl f.next);
-      submits_are = (submit_right device first opened s before h.0 r a g.now g.rests.lost_is f.next (sym h.2.0), f.submits_are);
+      submits_are = (submit_right device first opened s before h.0 r a g.now g.others_are.lost_is f.next (sym h.2.0), f.submits_are);
     }
 fit device first opened s (GivesOut now a bytes ∷ before) after some low h =
     let f = fit device first opened s before h.0 some low h.1 in
-    record { next = subst (λ (m : LinkState). Fits32 m.next) (sym h.2.2) (fit_due (decision now h.0) (present now h.0) h.0 f.next); submits_are = f.submits_are }
+    record { next = subst (λ (m : LinkState). Fits32 m.next) (sym h.2.2) (fit_due (decision now h.0) (present_moment now h.0) h.0 f.next); submits_are = f.submits_are }
 fit device first opened s (Receives from bytes content now a ∷ before) after some low h =
     let f = fit device first opened s before h.0 some low h.1 in
     record { next = subst (λ (m : LinkState). Fits32 m.next) (sym h.2.2) f.next; submits_are = f.submits_are }
@@ -370,10 +375,11 @@ near_held s n h accepted sent (u ∷ us) p e = by_test (eqb u.command.handle h) 
     by_test true q e rest = near_is u.command.handle p.0.near (equal_is u.command.handle h q)
     by_test false q e rest = rest e
 
+-- Each history of a link whose span is not 0 is lawful.
 pub lawful : (device : Peer) (first opened span : ℕ) (calls : List Call) (after : LinkState) → 0 < span → IsHistory device first opened span calls after →
     IsLawful device first opened span calls
 lawful device first opened span calls after some h =
-    let g = stands device first opened span calls after some h in
+    let g = holds_after device first opened span calls after some h in
     record {
       handles = g.now.handles;
       submits_are = λ low. (fit device first opened span calls after some low h).submits_are;
@@ -387,6 +393,7 @@ lawful device first opened span calls after some h =
 
 -- ---- what bytes hold
 
+-- Bytes have one content where a datagram has one list of messages.
 pub one_content : OneListOfMessages → (bytes : List ℕ) (one other : Option (List Msg)) → IsContent one bytes → IsContent other bytes → one ≡ other
 one_content law bytes None None a b = refl
 one_content law bytes None (Some ms) a b = absurd (a b.0 b.1)

@@ -11,10 +11,10 @@ use Rattle.oca_control.specs.declared.due.Due.{Due}
 use Rattle.oca_control.specs.declared.due.Due.TheVariants as dues
 use Rattle.oca_control.specs.Answers.{AnswerFields}
 use Rattle.oca_control.specs.Links.{LinkState, Request}
-use Rattle.oca_control.specs.Histories.{Call, Submits, GivesOut, Receives, TakesAnswer, IsHistory, clock, commands, Sending, sending_of, sendings, answers_of, answers_to, first_of, is_untaken, has_rested, says_lost, is_lost, NoneIsDue, IsDueAnswer}
-use Rattle.oca_control.specs.Answering.{says_none_left, last_asked, IsAskedEvery, IsInFlight, IsGivenOutInTime}
+use Rattle.oca_control.specs.Histories.{Call, Submits, GivesOut, Receives, TakesAnswer, IsHistory, clock_of_calls, commands, Sending, sending_of, sendings, answers_of, answers_to, first_of, is_untaken, may_be_sent, is_lost_answer, is_lost, NoneIsDue, IsDueAnswer}
+use Rattle.oca_control.specs.Answering.{is_none_left, last_asked, IsAskedEvery, IsInFlight, IsGivenOutInTime}
 use Rattle.oca_control.proofs.Following.{both_true}
-use Rattle.oca_control.proofs.Histories.{IsMadeBy, is_made_by, stands_made}
+use Rattle.oca_control.proofs.Histories.{IsMadeBy, is_made_by, holds_after_calls}
 
 none_more : (xs ys : List AnswerFields) → first_of (xs ++ ys) ≡ None → first_of xs ≡ None
 none_more [] ys e = refl
@@ -53,7 +53,7 @@ once_more ms since asked t bytes given p q g = record { rested = omega arith; ea
     by (x ∷ xs) r e = let r' : asked < x.at + 250 = r in let e' : x.at ≤ since + ms + length xs * (250 + ms) = e in omega arith
 
 -- no command is left to give out
-none_left : (ms since asked t : ℕ) (given : List Sending) → has_rested t given ≡ false → Given ms since asked given → Given ms since t given
+none_left : (ms since asked t : ℕ) (given : List Sending) → may_be_sent t given ≡ false → Given ms since asked given → Given ms since t given
 none_left ms since asked t [] e g = cc
 none_left ms since asked t (x ∷ xs) e g = record { rested = young x.at e; early = g.early }
   where
@@ -81,9 +81,9 @@ module _ (device : Peer) (first opened s : ℕ) (some : 0 < s) (before : List Ca
   base = Submits r now (Ok h) ∷ before
 
   abbrev since : ℕ
-  since = max (clock opened before) now
+  since = max (clock_of_calls opened before) now
 
-  pub clock_from : (later : List Call) → clock opened (later ++ base) ≡ clock since later
+  pub clock_from : (later : List Call) → clock_of_calls opened (later ++ base) ≡ clock_of_calls since later
   clock_from [] = refl
   clock_from (Submits q n (Ok x) ∷ later) = ap (λ m. max m n) (clock_from later)
   clock_from (Submits q n (Err f) ∷ later) = clock_from later
@@ -98,26 +98,26 @@ module _ (device : Peer) (first opened s : ℕ) (some : 0 < s) (before : List Ca
   sent_from (Submits q n (Err f) ∷ later) e = sent_from later e
   sent_from (GivesOut n a bytes ∷ later) e =
       ap (λ (c : ℕ). sending_of h.0 a (record { at = max c n; bytes = bytes }) (sendings opened h.0 (later ++ base))) (clock_from later)
-      ∙ ap (λ (xs : List Sending). sending_of h.0 a (record { at = max (clock since later) n; bytes = bytes }) xs) (sent_from later e)
+      ∙ ap (λ (xs : List Sending). sending_of h.0 a (record { at = max (clock_of_calls since later) n; bytes = bytes }) xs) (sent_from later e)
   sent_from (Receives from bytes content n a ∷ later) e = sent_from later e
   sent_from (TakesAnswer x a ∷ later) e = sent_from later e
 
   further : (a c n : ℕ) → a ≤ c → a ≤ max c n
   further a c n p = omega arith
 
-  asked_then : (later : List Call) → last_asked since later ≤ clock since later
+  asked_then : (later : List Call) → last_asked since later ≤ clock_of_calls since later
   asked_then [] = omega arith
-  asked_then (Submits q n (Ok x) ∷ later) = further (last_asked since later) (clock since later) n (asked_then later)
+  asked_then (Submits q n (Ok x) ∷ later) = further (last_asked since later) (clock_of_calls since later) n (asked_then later)
   asked_then (Submits q n (Err f) ∷ later) = asked_then later
-  asked_then (GivesOut n a bytes ∷ later) = by (says_none_left a) (clock since later) (last_asked since later) (asked_then later)
+  asked_then (GivesOut n a bytes ∷ later) = by (is_none_left a) (clock_of_calls since later) (last_asked since later) (asked_then later)
     where
       by : (b : Bool) (c l : ℕ) → l ≤ c → cond b (max c n) l ≤ max c n
       by true c l p = omega arith
       by false c l p = omega arith
-  asked_then (Receives from bytes content n a ∷ later) = further (last_asked since later) (clock since later) n (asked_then later)
+  asked_then (Receives from bytes content n a ∷ later) = further (last_asked since later) (clock_of_calls since later) n (asked_then later)
   asked_then (TakesAnswer x a ∷ later) = asked_then later
 
-  lately : (later : List Call) → IsAskedEvery ms since later → clock since later ≤ last_asked since later + ms
+  lately : (later : List Call) → IsAskedEvery ms since later → clock_of_calls since later ≤ last_asked since later + ms
   lately [] e = omega arith
   lately (call ∷ later) e = e.0
 
@@ -137,14 +137,14 @@ module _ (device : Peer) (first opened s : ℕ) (some : 0 < s) (before : List Ca
   accepted_more (TakesAnswer x a ∷ later) = accepted_more later
 
   number_of : (later : List Call) (after : LinkState) → IsMadeBy device first opened s (later ++ base) after → h.0 ≡ first + length (commands before)
-  number_of [] after p = (stands_made device first opened s base after some p).now.handles.0
+  number_of [] after p = (holds_after_calls device first opened s base after some p).now.handles.0
   number_of (call ∷ later) after p = number_of later p.0 p.1
 
   -- a later command has another handle
   other : (later : List Call) (q : Request) (n : ℕ) (x : Handle) (after : LinkState) → IsMadeBy device first opened s (Submits q n (Ok x) ∷ (later ++ base)) after → h.0 < x.0
   other later q n x after p =
       let mine : h.0 ≡ first + length (commands before) = number_of later p.0 p.1 in
-      let its : x.0 ≡ first + length (commands (later ++ base)) = (stands_made device first opened s (Submits q n (Ok x) ∷ (later ++ base)) after some p).now.handles.0 in
+      let its : x.0 ≡ first + length (commands (later ++ base)) = (holds_after_calls device first opened s (Submits q n (Ok x) ∷ (later ++ base)) after some p).now.handles.0 in
       let more : length (commands before) < length (commands (later ++ base)) = accepted_more later in
       omega arith
 
@@ -158,40 +158,40 @@ module _ (device : Peer) (first opened s : ℕ) (some : 0 < s) (before : List Ca
   GivenAfter later = Given ms since (last_asked since later) (sendings opened h.0 (later ++ base))
 
   -- a call of `due`, whatever it answers
-  by_due : (later : List Call) (n : ℕ) (a : Due) (bytes : List ℕ) → clock since (GivesOut n a bytes ∷ later) ≤ last_asked since (GivesOut n a bytes ∷ later) + ms →
-      IsDueAnswer device opened (max (clock opened (later ++ base)) n) bytes (later ++ base) a → IsInFlight device h.0 (GivesOut n a bytes ∷ (later ++ base)) → GivenAfter later →
+  by_due : (later : List Call) (n : ℕ) (a : Due) (bytes : List ℕ) → clock_of_calls since (GivesOut n a bytes ∷ later) ≤ last_asked since (GivesOut n a bytes ∷ later) + ms →
+      IsDueAnswer device opened (max (clock_of_calls opened (later ++ base)) n) bytes (later ++ base) a → IsInFlight device h.0 (GivesOut n a bytes ∷ (later ++ base)) → GivenAfter later →
       GivenAfter (GivesOut n a bytes ∷ later)
   by_due later n a bytes soon d w g = by a soon d w
     where
       t : ℕ
-      t = max (clock opened (later ++ base)) n
+      t = max (clock_of_calls opened (later ++ base)) n
 
-      t_is : t ≡ max (clock since later) n
+      t_is : t ≡ max (clock_of_calls since later) n
       t_is = ap (λ m. max m n) (clock_from later)
 
-      at_t : (bytes : List ℕ) → max (clock since later) n ≤ last_asked since later + ms →
-          Given ms since (last_asked since later) ((let x : Sending = record { at = max (clock opened (later ++ base)) n; bytes = bytes } in x) ∷ (sendings opened h.0 (later ++ base)))
+      at_t : (bytes : List ℕ) → max (clock_of_calls since later) n ≤ last_asked since later + ms →
+          Given ms since (last_asked since later) ((let x : Sending = record { at = max (clock_of_calls opened (later ++ base)) n; bytes = bytes } in x) ∷ (sendings opened h.0 (later ++ base)))
       at_t bytes p = once_more ms since (last_asked since later) t bytes (sendings opened h.0 (later ++ base))
-          (rw t_is (further (last_asked since later) (clock since later) n (asked_then later))) (rw t_is p) g
+          (rw t_is (further (last_asked since later) (clock_of_calls since later) n (asked_then later))) (rw t_is p) g
 
-      sent : (x : Handle) (bytes : List ℕ) (b : Bool) → max (clock since later) n ≤ last_asked since later + ms →
-          Given ms since (last_asked since later) (cond b ((let x : Sending = record { at = max (clock opened (later ++ base)) n; bytes = bytes } in x) ∷ (sendings opened h.0 (later ++ base))) (sendings opened h.0 (later ++ base)))
+      sent : (x : Handle) (bytes : List ℕ) (b : Bool) → max (clock_of_calls since later) n ≤ last_asked since later + ms →
+          Given ms since (last_asked since later) (cond b ((let x : Sending = record { at = max (clock_of_calls opened (later ++ base)) n; bytes = bytes } in x) ∷ (sendings opened h.0 (later ++ base))) (sendings opened h.0 (later ++ base)))
       sent x bytes true p = at_t bytes p
       sent x bytes false p = g
 
-      resting : is_untaken h.0 (later ++ base) ≡ true → first_of (answers_to device h.0 (later ++ base)) ≡ None → NoneIsDue device opened t (later ++ base) → has_rested t (sendings opened h.0 (later ++ base)) ≡ false
-      resting u none d = second (is_untaken h.0 (later ++ base)) (is_none (first_of (answers_to device h.0 (later ++ base)))) (has_rested t (sendings opened h.0 (later ++ base))) u (ap is_none none) (d h.0)
+      resting : is_untaken h.0 (later ++ base) ≡ true → first_of (answers_to device h.0 (later ++ base)) ≡ None → NoneIsDue device opened t (later ++ base) → may_be_sent t (sendings opened h.0 (later ++ base)) ≡ false
+      resting u none d = second (is_untaken h.0 (later ++ base)) (is_none (first_of (answers_to device h.0 (later ++ base)))) (may_be_sent t (sendings opened h.0 (later ++ base))) u (ap is_none none) (d h.0)
         where
           second : (a b c : Bool) → a ≡ true → b ≡ true → (a && (b && c)) ≡ false → c ≡ false
           second true true c p q e = e
           second true false c p q e = cc
           second false b c p q e = cc
 
-      left : is_untaken h.0 (later ++ base) ≡ true → first_of (answers_to device h.0 (later ++ base)) ≡ None → NoneIsDue device opened t (later ++ base) → Given ms since (max (clock since later) n) (sendings opened h.0 (later ++ base))
+      left : is_untaken h.0 (later ++ base) ≡ true → first_of (answers_to device h.0 (later ++ base)) ≡ None → NoneIsDue device opened t (later ++ base) → Given ms since (max (clock_of_calls since later) n) (sendings opened h.0 (later ++ base))
       left u none d = rw t_is at (none_left ms since (last_asked since later) t (sendings opened h.0 (later ++ base)) (resting u none d) g)
 
-      by : (a : Due) → clock since (GivesOut n a bytes ∷ later) ≤ last_asked since (GivesOut n a bytes ∷ later) + ms →
-          IsDueAnswer device opened (max (clock opened (later ++ base)) n) bytes (later ++ base) a → IsInFlight device h.0 (GivesOut n a bytes ∷ (later ++ base)) →
+      by : (a : Due) → clock_of_calls since (GivesOut n a bytes ∷ later) ≤ last_asked since (GivesOut n a bytes ∷ later) + ms →
+          IsDueAnswer device opened (max (clock_of_calls opened (later ++ base)) n) bytes (later ++ base) a → IsInFlight device h.0 (GivesOut n a bytes ∷ (later ++ base)) →
           GivenAfter (GivesOut n a bytes ∷ later)
       by (dues.Send x) soon d w = sent x bytes (nat_eq h.0 x.0) soon
       by dues.KeepAlive soon d w = left w.untaken w.unanswered d.1
@@ -205,10 +205,10 @@ module _ (device : Peer) (first opened s : ℕ) (some : 0 < s) (before : List Ca
       at_most n = omega arith
 
       none : sendings opened h.0 before ≡ []
-      none = let n : h.0 ≡ first + length (commands before) = number_of [] after p in (stands_made device first opened s before p.0 some p.1).now.fresh h.0 (omega arith)
+      none = let n : h.0 ≡ first + length (commands before) = number_of [] after p in (holds_after_calls device first opened s before p.0 some p.1).now.fresh h.0 (omega arith)
   given (GivesOut n a bytes ∷ later) after p e w =
-      let lost = neither (says_lost a) (is_lost (later ++ base)) w.not_lost in
-      by_due later n a bytes e.0 (stands_made device first opened s (GivesOut n a bytes ∷ (later ++ base)) after some p).dues_are.0 w
+      let lost = neither (is_lost_answer a) (is_lost (later ++ base)) w.not_lost in
+      by_due later n a bytes e.0 (holds_after_calls device first opened s (GivesOut n a bytes ∷ (later ++ base)) after some p).dues_are.0 w
       (given later p.0 p.1 e.1 (record { untaken = w.untaken; unanswered = w.unanswered; not_lost = lost.1 }))
   given (Submits q n (Ok x) ∷ later) after p e w =
       let above : h.0 < x.0 = other later q n x after p in
@@ -231,14 +231,16 @@ module _ (device : Peer) (first opened s : ℕ) (some : 0 < s) (before : List Ca
   given (TakesAnswer x None ∷ later) after p e w = given later p.0 p.1 e.1 (record { untaken = w.untaken; unanswered = w.unanswered; not_lost = w.not_lost })
 
   pub in_time_made : (later : List Call) (after : LinkState) → IsMadeBy device first opened s (later ++ base) after → IsAskedEvery ms since later → IsInFlight device h.0 (later ++ base) →
-      IsGivenOutInTime ms since (clock opened (later ++ base)) (sendings opened h.0 (later ++ base))
+      IsGivenOutInTime ms since (clock_of_calls opened (later ++ base)) (sendings opened h.0 (later ++ base))
   in_time_made later after p e w =
-      in_time_by ms since (last_asked since later) (clock opened (later ++ base)) (sendings opened h.0 (later ++ base)) (rw (clock_from later) (lately later e))
-      ((stands_made device first opened s (later ++ base) after some p).now.at_most_20 h.0) (given later after p e w)
+      in_time_by ms since (last_asked since later) (clock_of_calls opened (later ++ base)) (sendings opened h.0 (later ++ base)) (rw (clock_from later) (lately later e))
+      ((holds_after_calls device first opened s (later ++ base) after some p).now.at_most_20 h.0) (given later after p e w)
 
+-- Where a link whose span is not 0 is asked every so many ms from the submit of a command on, the command is given out
+-- in time as long as it is in flight.
 pub in_time : (device : Peer) (first opened span : ℕ) (before later : List Call) (after : LinkState) (r : Request) (now ms : ℕ) (h : Handle) → 0 < span →
-    IsHistory device first opened span (later ++ Submits r now (Ok h) ∷ before) after → IsAskedEvery ms (max (clock opened before) now) later →
+    IsHistory device first opened span (later ++ Submits r now (Ok h) ∷ before) after → IsAskedEvery ms (max (clock_of_calls opened before) now) later →
     IsInFlight device h.0 (later ++ Submits r now (Ok h) ∷ before) →
-    IsGivenOutInTime ms (max (clock opened before) now) (clock opened (later ++ Submits r now (Ok h) ∷ before)) (sendings opened h.0 (later ++ Submits r now (Ok h) ∷ before))
+    IsGivenOutInTime ms (max (clock_of_calls opened before) now) (clock_of_calls opened (later ++ Submits r now (Ok h) ∷ before)) (sendings opened h.0 (later ++ Submits r now (Ok h) ∷ before))
 in_time device first opened span before later after r now ms h some p e w =
     in_time_made device first opened span some before r now ms h later after (is_made_by device first opened span (later ++ Submits r now (Ok h) ∷ before) after p) e w

@@ -14,7 +14,7 @@ use Rattle.oca_control.specs.declared.reception.Reception.{Reception}
 use Rattle.oca_control.specs.Steps.{ReceivesDatagram}
 use Rattle.oca_control.specs.declared.report.DriveReport.{DriveReport}
 use Rattle.oca_control.specs.Links.{LinkState, Decision, IsLost, late_at}
-use Rattle.oca_control.specs.Driving.{answered_by, is_failed_delivery, report_of, all_given_to, decisions_from, link_from}
+use Rattle.oca_control.specs.Driving.{answered_by, is_failed_delivery, drive_report_of, all_given_to, decisions_from, link_from}
 use Rattle.oca_control.specs.Turning.{GivesIf, GivesInTime, decisions_in_time, link_in_time, TurnsInTime, TurnsOnce, Turns}
 use Rattle.oca_control.specs.PrivateDriving.{given_report}
 use Rattle.oca_control.proofs.Turns.{datagram_reported, silent_reported, failed_reported, heard_datagram, same_device}
@@ -45,7 +45,7 @@ gave {now} {old} {new} {f} {g} {given} k = let w = by (late_at now old) k in rec
 -- one was heard, and what was due then given out in time
 heard_one : (x : Delivery) {h : Heard} {held : List ℕ} {old new : LinkState} {e f g : EndState} {ds : List Decision} {n : ℕ} {r : DriveReport} →
     Receives h held e f → (IsTrue e.tells → f.delivered ≡ e.delivered ++ x ∷ []) → count_by is_failed_delivery (x ∷ []) ≡ cond (is_failed h) 1 0 →
-    SendsAllBut r.failed_sends f g (all_given_to old.device ds) → TurnsInTime x old new ds n → r ≡ report_of (x ∷ []) ds n r.failed_sends →
+    SendsAllBut r.failed_sends f g (all_given_to old.device ds) → TurnsInTime x old new ds n → r ≡ drive_report_of (x ∷ []) ds n r.failed_sends →
     TurnsOnce old new e g r
 heard_one x {h} {held} {old} {new} {e} {f} {g} {ds} {n} {r} heard grew failed sent turns reported = record {
   delivery = x;
@@ -87,12 +87,14 @@ module _ {e f g : EndState} {held : List ℕ} {now : ℕ} (given : DriveReport) 
       (record { between = old; hears = record { short = λ fits. absurd (omega arith); long = λ _. (refl, refl) }; gives = (refl, in_time.link) })
       (silent_reported (Datagram d.from d.long now) (decisions_in_time now old) given refl in_time.reported))
 
+-- A turn at a failed receive leaves the link as it was and counts that receive.
 pub failed_turn : {e f : EndState} {held : List ℕ} (given : DriveReport) (l : LinkState) → Receives heard.Failed held e f → given ≡ given_report [] 0 →
     Turns l l e f (record { turns = 1; sent = given.sent; keep_alives = given.keep_alives; answered = given.answered; failed_receives = 1; failed_sends = given.failed_sends; lost = given.lost })
 failed_turn {e} {f} given l h none =
     inl (heard_one Failed h h.delivered refl (subst (λ (k : ℕ). SendsAllBut k f f []) (sym (ap (λ (q : DriveReport). q.failed_sends) none)) (sends_none f))
     (record { between = l; hears = (refl, refl); gives = (refl, refl) }) (failed_reported given none))
 
+-- At a closed end no turn is taken, and the link stays as it was.
 pub closed_turn : {e f : EndState} {held : List ℕ} (given : DriveReport) (l : LinkState) → held ≡ [] → Receives heard.Closed held e f → given ≡ given_report [] 0 → Turns l l e f given
 closed_turn {e} {f} given l empty h none = inr (record { link = refl; received = subst (λ (xs : List ℕ). Receives heard.Closed xs e f) empty h; reported = none })
 

@@ -2,7 +2,7 @@ pub mod Following
 pub mod Calls
 pub mod Dues
 pub mod Histories
-pub mod Telling
+pub mod AgreeingWithCalls
 pub mod Answering
 pub mod InTime
 pub mod Counting

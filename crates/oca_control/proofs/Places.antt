@@ -6,7 +6,7 @@ use Rattle.std.proofs.lemmas.List.{get_or-set_same, get_or-set_other, get_or_def
 use Rattle.std.proofs.lemmas.List.Elements.{filter-append}
 use Rattle.std.proofs.lemmas.List.Folds.{list_any-append, list_all-append}
 use Rattle.std.proofs.lemmas.Bool.Decides.{nat_tests}
-use Rattle.oca_control.specs.Untaken.{Untaken, first_due, waits, answer_under, without_handle, has_room}
+use Rattle.oca_control.specs.Untaken.{Untaken, first_due, waits, answer_under, without_handle, span_has_room}
 use Rattle.oca_control.specs.PrivateSlots.{Held, held_at, held_is_due, held_waits, held_answer, untaken_at, untaken_from}
 
 -- handles less than 32 apart have slots of their own
@@ -25,6 +25,7 @@ others h lo (suc n) slots x far =
     ap (λ o. untaken_at lo o ++ untaken_from (lo + 1) n (set slots (h % 32) x)) (get_or-set_other slots (h % 32) (lo % 32) x None (far lo (omega arith) (omega arith)))
     ∙ ap (λ us. untaken_at lo (held_at lo slots) ++ us) (others h (lo + 1) n slots x (λ k l u. far k (omega arith) (omega arith)))
 
+-- The commands of m + n handles are those of the first m and then those of the n others.
 pub split : (lo m n : ℕ) (slots : List (Option Held)) → untaken_from lo (m + n) slots ≡ untaken_from lo m slots ++ untaken_from (lo + m) n slots
 unfolding untaken_from
 split lo zero n slots = ap (λ i. untaken_from lo i slots) (zero_plus n) ∙ ap (λ i. untaken_from i n slots) (sym (plus_zero lo))
@@ -198,6 +199,7 @@ step lo hi slots below = ap (λ w. untaken_from lo w slots) (less lo hi below) �
     less : (lo hi : ℕ) → lo < hi → hi - lo ≡ hi - (lo + 1) + 1
     less lo hi p = omega arith
 
+-- From a handle on up to one that is not above it there are no commands.
 pub done : (lo hi : ℕ) (slots : List (Option Held)) → hi ≤ lo → untaken_from lo (hi - lo) slots ≡ []
 unfolding untaken_from
 done lo hi slots p = ap (λ w. untaken_from lo w slots) (none lo hi p)
@@ -221,6 +223,7 @@ waits_none h lo (suc n) slots far =
     one None = refl
     one (Some k) = ap (λ b. (b && is_none k.answer) || false) (differs lo h (far lo (omega arith) (omega arith)))
 
+-- No answer is held under a handle that is none of those looked at.
 pub answer_none : (h lo n : ℕ) (slots : List (Option Held)) → ((k : ℕ) → lo ≤ k → k < lo + n → k ≢ h) → answer_under h (untaken_from lo n slots) ≡ None
 unfolding untaken_from
 answer_none h lo zero slots far = refl
@@ -285,6 +288,7 @@ no_handle h lo (suc n) slots far =
     one None = refl
     one (Some k) = ap (λ b. b || false) (differs lo h (far lo (omega arith) (omega arith)))
 
+-- The answer that is held under a handle in the range is that in its slot.
 pub answer_at : (lo hi h : ℕ) (slots : List (Option Held)) → lo ≤ h → h < hi → answer_under h (untaken_from lo (hi - lo) slots) ≡ held_answer (held_at h slots)
 answer_at lo hi h slots above below = by (h - lo) (hi - (h + 1)) (omega arith) (omega arith)
   where
@@ -305,27 +309,27 @@ answer_at lo hi h slots above below = by (h - lo) (hi - (h + 1)) (omega arith) (
         ∙ one (lo + m) (held_at (lo + m) slots) (untaken_from (lo + m + 1) n slots) (answer_none (lo + m) (lo + m + 1) n slots (λ k l u e. omega arith))))
 
 -- All handles from lo on are below the span where lo is.
-all_near : (s h lo n : ℕ) (slots : List (Option Held)) → h < lo + s → has_room s h (untaken_from lo n slots) ≡ true
+all_near : (s h lo n : ℕ) (slots : List (Option Held)) → h < lo + s → span_has_room s h (untaken_from lo n slots) ≡ true
 unfolding untaken_from
 all_near s h lo zero slots near = refl
 all_near s h lo (suc n) slots near =
     list_all-append (λ (u : Untaken). nat_lt h (u.command.handle + s)) (untaken_at lo (held_at lo slots)) (untaken_from (lo + 1) n slots)
-    ∙ ap (λ b. b && has_room s h (untaken_from (lo + 1) n slots)) (one (held_at lo slots))
+    ∙ ap (λ b. b && span_has_room s h (untaken_from (lo + 1) n slots)) (one (held_at lo slots))
     ∙ all_near s h (lo + 1) n slots (omega arith)
   where
     lower : (a b : ℕ) → a < b → nat_lt a b ≡ true
     lower a b p = grind (arith, nat_tests)
 
-    one : (o : Option Held) → has_room s h (untaken_at lo o) ≡ true
+    one : (o : Option Held) → span_has_room s h (untaken_at lo o) ≡ true
     one None = refl
     one (Some k) = ap (λ b. b && true) (lower h (lo + s) near)
 
 -- The lowest decides whether there is room.
 pub room_by_lowest : (s h lo hi : ℕ) (slots : List (Option Held)) → lo ≤ hi → (lo < hi → held_at lo slots ≡ None → ⊥) →
-    has_room s h (untaken_from lo (hi - lo) slots) ≡ (nat_eq lo hi || nat_lt h (lo + s))
+    span_has_room s h (untaken_from lo (hi - lo) slots) ≡ (nat_eq lo hi || nat_lt h (lo + s))
 room_by_lowest s h lo hi slots ordered held = elim (cases lo hi ordered) [
-  | inl same ↦ ap (has_room s h) (done lo hi slots (omega arith)) ∙ sym (ap (λ b. b || nat_lt h (lo + s)) (equal lo hi same))
-  | inr below ↦ ap (has_room s h) (step lo hi slots below) ∙ by_slot (held_at lo slots) (held below) ∙ sym (ap (λ b. b || nat_lt h (lo + s)) (unequal lo hi below))
+  | inl same ↦ ap (span_has_room s h) (done lo hi slots (omega arith)) ∙ sym (ap (λ b. b || nat_lt h (lo + s)) (equal lo hi same))
+  | inr below ↦ ap (span_has_room s h) (step lo hi slots below) ∙ by_slot (held_at lo slots) (held below) ∙ sym (ap (λ b. b || nat_lt h (lo + s)) (unequal lo hi below))
 ]
   where
     cases : (a b : ℕ) → a ≤ b → (a ≡ b) ⊎ (a < b)
@@ -340,11 +344,11 @@ room_by_lowest s h lo hi slots ordered held = elim (cases lo hi ordered) [
     lower : (a b : ℕ) → nat_lt a b ≡ true → a < b
     lower a b p = grind (arith, nat_tests)
 
-    by_test : (b : Bool) → nat_lt h (lo + s) ≡ b → (b && has_room s h (untaken_from (lo + 1) (hi - (lo + 1)) slots)) ≡ b
+    by_test : (b : Bool) → nat_lt h (lo + s) ≡ b → (b && span_has_room s h (untaken_from (lo + 1) (hi - (lo + 1)) slots)) ≡ b
     by_test true p = all_near s h (lo + 1) (hi - (lo + 1)) slots (let q : h < lo + s = lower h (lo + s) p in omega arith)
     by_test false p = refl
 
-    by_slot : (o : Option Held) → (o ≡ None → ⊥) → has_room s h (untaken_at lo o ++ untaken_from (lo + 1) (hi - (lo + 1)) slots) ≡ nat_lt h (lo + s)
+    by_slot : (o : Option Held) → (o ≡ None → ⊥) → span_has_room s h (untaken_at lo o ++ untaken_from (lo + 1) (hi - (lo + 1)) slots) ≡ nat_lt h (lo + s)
     by_slot None some = absurd (some refl)
     by_slot (Some k) some = by_test (nat_lt h (lo + s)) refl
 
@@ -357,6 +361,7 @@ not_due now lo hi slots below not_so = ap (first_due now) (step lo hi slots belo
     by None not_so = refl
     by (Some k) not_so = ap (λ b. cond b (Some (record { command = record { handle = lo; target = k.request.target; level = k.request.level; index = k.request.index; count = k.request.count; params = k.request.params }; times = k.times; last = k.last; answer = k.answer })) (first_due now (untaken_from (lo + 1) (hi - (lo + 1)) slots))) not_so
 
+-- The first due command is that of the first handle where that one is due.
 pub due_here : (now lo hi : ℕ) (slots : List (Option Held)) → lo < hi → held_is_due now (held_at lo slots) ≡ true →
     first_due now (untaken_from lo (hi - lo) slots) ≡ first_due now (untaken_at lo (held_at lo slots))
 due_here now lo hi slots below due = ap (first_due now) (step lo hi slots below) ∙ by (held_at lo slots) due
@@ -367,6 +372,7 @@ due_here now lo hi slots below due = ap (first_due now) (step lo hi slots below)
         let u : Untaken = record { command = record { handle = lo; target = k.request.target; level = k.request.level; index = k.request.index; count = k.request.count; params = k.request.params }; times = k.times; last = k.last; answer = k.answer } in
         ap (λ b. cond b (Some u) (first_due now (untaken_from (lo + 1) (hi - (lo + 1)) slots))) due ∙ sym (ap (λ b. cond b (Some u) None) due)
 
+-- Where the first handle's slot is empty, the commands are those above it.
 pub not_held : (lo hi : ℕ) (slots : List (Option Held)) → lo < hi → is_some (held_at lo slots) ≡ false →
     untaken_from lo (hi - lo) slots ≡ untaken_from (lo + 1) (hi - (lo + 1)) slots
 not_held lo hi slots below not_so = step lo hi slots below ∙ by (held_at lo slots) not_so
@@ -375,6 +381,7 @@ not_held lo hi slots below not_so = step lo hi slots below ∙ by (held_at lo sl
     by None not_so = refl
     by (Some k) not_so = cc
 
+-- Among no handles none is due.
 pub none_due : (now lo hi : ℕ) (slots : List (Option Held)) → hi ≤ lo → first_due now (untaken_from lo (hi - lo) slots) ≡ None
 none_due now lo hi slots p = ap (first_due now) (done lo hi slots p)
 

@@ -5,24 +5,28 @@ use Rattle.std.proofs.lemmas.Bool.{lt-ltb, ltb-true}
 use Rattle.std.proofs.Math.Dec.{eqb}
 use Rattle.oca_pdu.specs.Messages.{Msg, Command, Response, KeepAlive}
 use Rattle.oca_control.specs.Answers.{AnswerFields, answer_in}
-use Rattle.oca_control.specs.Untaken.{Untaken, has_room, answered, hears, hears_all, answers_by, answers_by_all, answer_under, without_handle}
-use Rattle.oca_control.specs.PrivateSlots.{AreShort, IsShort, TableState}
+use Rattle.oca_control.specs.Untaken.{Untaken, span_has_room, answered, hears, hears_all, answers_by, answers_by_all, answer_under, without_handle}
+use Rattle.oca_control.specs.PrivateSlots.{AreShortResponses, IsShortResponse, TableState}
 
+-- Half-way through the messages of a datagram: so many commands were answered so far, what is still to be heard gives
+-- the whole, and the next handle is as it was.
 pub record HearsOn (rest : List Msg) (us : List Untaken) (hi n : ℕ) (all : List Msg) (first : List Untaken) (start : ℕ) : Type 0 where
   pub few : n + length rest ≤ 146
-  pub short : AreShort rest
+  pub short : AreShortResponses rest
   pub count : n + answers_by_all rest us ≡ answers_by_all all first
   pub heard : hears_all rest us ≡ hears_all all first
   pub next : hi ≡ start
 
-pub hears_first : (m : Msg) (rest rest' all : List Msg) (us first : List Untaken) (hi n start : ℕ) → HearsOn rest us hi n all first start → rest ≡ m ∷ rest' → IsShort m
-hears_first m rest rest' all us first hi n start h step = (subst AreShort step h.short).0
+-- The next message to be heard is short.
+pub hears_first : (m : Msg) (rest rest' all : List Msg) (us first : List Untaken) (hi n start : ℕ) → HearsOn rest us hi n all first start → rest ≡ m ∷ rest' → IsShortResponse m
+hears_first m rest rest' all us first hi n start h step = (subst AreShortResponses step h.short).0
 
+-- One message more was heard.
 pub hears_further : (m : Msg) (rest rest' all : List Msg) (us first us' : List Untaken) (hi hi' n n' start : ℕ) → HearsOn rest us hi n all first start → rest ≡ m ∷ rest' →
     us' ≡ hears m us → hi' ≡ hi → n' ≡ n + answers_by m us → n' ≤ n + 1 → HearsOn rest' us' hi' n' all first start
 hears_further m rest rest' all us first us' hi hi' n n' start h step heard next count one = record {
   few = let few : n + length rest ≤ 146 = h.few in let fewer : length rest ≡ length (m ∷ rest') = ap length step in omega arith;
-  short = (subst AreShort step h.short).1;
+  short = (subst AreShortResponses step h.short).1;
   count = ap (λ k. k + answers_by_all rest' us') count
       ∙ ap (λ vs. n + answers_by m us + answers_by_all rest' vs) heard
       ∙ plus_assoc n (answers_by m us) (answers_by_all rest' (hears m us))
@@ -36,16 +40,16 @@ hears_further m rest rest' all us first us' hi hi' n n' start h step heard next 
     plus_assoc a b c = omega arith
 
 -- Room within a span is room within 32 handles.
-pub room_in_all : (s h : ℕ) (us : List Untaken) → s ≤ 32 → has_room s h us ≡ true → has_room 32 h us ≡ true
+pub room_in_all : (s h : ℕ) (us : List Untaken) → s ≤ 32 → span_has_room s h us ≡ true → span_has_room 32 h us ≡ true
 room_in_all s h [] small room = refl
 room_in_all s h (u ∷ us) small room = by (nat_lt h (u.command.handle + s)) refl room (room_in_all s h us small)
   where
     wider : (a : ℕ) → nat_lt h (a + s) ≡ true → nat_lt h (a + 32) ≡ true
     wider a p = lt-ltb h (a + 32) (let q : h < a + s = ltb-true h (a + s) p in omega arith)
 
-    by : (b : Bool) → nat_lt h (u.command.handle + s) ≡ b → (b && has_room s h us) ≡ true → (has_room s h us ≡ true → has_room 32 h us ≡ true) →
-        (nat_lt h (u.command.handle + 32) && has_room 32 h us) ≡ true
-    by true p room more = ap (λ b. b && has_room 32 h us) (wider u.command.handle p) ∙ more room
+    by : (b : Bool) → nat_lt h (u.command.handle + s) ≡ b → (b && span_has_room s h us) ≡ true → (span_has_room s h us ≡ true → span_has_room 32 h us ≡ true) →
+        (nat_lt h (u.command.handle + 32) && span_has_room 32 h us) ≡ true
+    by true p room more = ap (λ b. b && span_has_room 32 h us) (wider u.command.handle p) ∙ more room
     by false p room more = cc
 
 -- ---- how many are untaken
@@ -79,6 +83,7 @@ pub heard_few : (ms : List Msg) (s : ℕ) (t new : TableState) → new ≡ (let 
 heard_few ms s t new e few =
     subst (λ (k : ℕ). k ≤ s) (sym (ap (λ (x : TableState). length x.untaken) e ∙ as_many_heard ms t.untaken)) few
 
+-- Where at most s commands are untaken, at most s are after an answer is taken.
 pub taken_few : (h s : ℕ) (t new : TableState) →
     new ≡ (let x : TableState = record { next = t.next; untaken = cond (is_some (answer_under h t.untaken)) (without_handle h t.untaken) t.untaken } in x) → length t.untaken ≤ s → length new.untaken ≤ s
 taken_few h s t new e few = subst (λ (x : TableState). length x.untaken ≤ s) (sym e) (by (is_some (answer_under h t.untaken)))

@@ -16,7 +16,7 @@ use Rattle.oca_control.specs.Links.{LinkState, Decision}
 use Rattle.oca_control.specs.Histories.{Call, IsHistory}
 use Rattle.oca_control.specs.Driving.{Drives, NoTurn, OneMore, DrivesEnd}
 use Rattle.oca_control.specs.Turning.{Turns}
-use Rattle.oca_control.specs.Asking.{TakesTurns, NoneTaken, OneTaken, Waits, Begins, Asks, Fares}
+use Rattle.oca_control.specs.Asking.{TakesTurns, NoneTaken, OneTaken, Waits, Begins, Asks, HasOutcome}
 use Rattle.oca_control.specs.Running.{NothingIsLeft, delivered_at, moments_delivered, AreWithin, ReturnsWithin, IsRun, NothingDone, DroveATurn, TookATurn, Began, Took, RunsOver, begun_at, EveryCallRuns, EveryRunGoesOn, IsAsked, EveryScriptIsKept}
 use Rattle.oca_control.proofs.Asked.{run_asked}
 
@@ -42,7 +42,7 @@ over_both {begun} {a} {b} {c} {d} {e} {f} x y = record {
   run = subst (λ (ts : List ℕ). IsRun ts a c)
       (append_assoc begun (moments_delivered x.deliveries) (moments_delivered y.deliveries) ∙ ap (λ zs. begun ++ zs) (sym (flat_map-append delivered_at x.deliveries y.deliveries))) (run_both x.run y.run);
   telling = y.telling ∙ x.telling;
-  told = λ tells. y.told (subst IsTrue (sym x.telling) tells) ∙ ap (λ zs. zs ++ y.deliveries) (x.told tells) ∙ append_assoc d.delivered x.deliveries y.deliveries;
+  delivered = λ tells. y.delivered (subst IsTrue (sym x.telling) tells) ∙ ap (λ zs. zs ++ y.deliveries) (x.delivered tells) ∙ append_assoc d.delivered x.deliveries y.deliveries;
 }
 
 -- nothing was received
@@ -51,18 +51,18 @@ over_none begun a b d e run telling same = record {
   deliveries = [];
   run = subst (λ (ts : List ℕ). IsRun ts a b) (sym (append-nil begun)) run;
   telling = telling;
-  told = λ tells. same tells ∙ sym (append-nil d.delivered);
+  delivered = λ tells. same tells ∙ sym (append-nil d.delivered);
 }
 
 drive_runs : (old new : LinkState) (e f : EndState) (r : DriveReport) → DrivesEnd old new e f r → RunsOver [] old new e f
-drive_runs old new e f r x = record { deliveries = x.deliveries; run = drives_run x.drives; telling = x.runs.telling; told = x.runs.delivered }
+drive_runs old new e f r x = record { deliveries = x.deliveries; run = drives_run x.drives; telling = x.runs.telling; delivered = x.runs.delivered }
 
 turn_runs : (old new : LinkState) (e f : EndState) (r : DriveReport) → Turns old new e f r → RunsOver [] old new e f
 turn_runs old new e f r (inl x) = record {
   deliveries = x.delivery ∷ [];
   run = subst (λ (ts : List ℕ). IsRun ts old new) (sym (append-nil (delivered_at x.delivery))) (TookATurn x.delivery NothingDone x.turns);
   telling = x.runs.telling;
-  told = x.runs.delivered;
+  delivered = x.runs.delivered;
 }
 turn_runs old new e f r (inr x) = over_none [] old new e f (subst (λ (l : LinkState). IsRun [] old l) (sym x.link) NothingDone) x.received.telling x.received.delivered
 
@@ -73,7 +73,7 @@ turns_run (OneTaken {l = l} {new = new} {e = e} {f = f} before none going turn) 
 wait_runs : (h turns : ℕ) (old new : LinkState) (o : Outcome) (e f : EndState) → Waits h turns old o new e f → RunsOver [] old new e f
 wait_runs h turns old new (outcomes.Answered a) e f w =
     let r = turns_run w.4 in
-    record { deliveries = r.deliveries; run = Took h r.run w.6; telling = r.telling; told = r.told }
+    record { deliveries = r.deliveries; run = Took h r.run w.6; telling = r.telling; delivered = r.delivered }
 wait_runs h turns old new (outcomes.Refused fault) e f w = absurd w
 wait_runs h turns old new outcomes.Lost e f w = turns_run w.3
 wait_runs h turns old new outcomes.Unanswered e f w = turns_run w.0
@@ -85,23 +85,27 @@ begin_runs request (Ok h) old new e f b =
     over_none (b.now ∷ []) old new e f (Began request b.now h NothingDone (sym b.answer) b.gives.1.link) b.gives.1.sends.telling b.gives.1.sends.delivered
 
 ask_runs : (request : RequestFields) (turns : ℕ) (old new : LinkState) (o : Outcome) (e f : EndState) (a : Asks request turns old o new e f) → RunsOver (begun_at a.returned a.begins.now) old new e f
-ask_runs request turns old new o e f a = over_both (begin_runs request a.returned old a.link e a.end_then a.begins) (by a.returned a.fares)
+ask_runs request turns old new o e f a = over_both (begin_runs request a.returned old a.link e a.end_then a.begins) (by a.returned a.outcome_is)
   where
-    by : (returned : Result Handle ControlFault) → Fares turns returned a.link o new a.end_then f → RunsOver [] a.link new a.end_then f
+    by : (returned : Result Handle ControlFault) → HasOutcome turns returned a.link o new a.end_then f → RunsOver [] a.link new a.end_then f
     by (Ok h) w = wait_runs h.0 turns a.link new o a.end_then f w
     by (Err fault) w =
         over_none [] a.link new a.end_then f (subst (λ (l : LinkState). IsRun [] a.link l) (sym w.1) NothingDone) (ap (λ (x : EndState). x.tells) w.2) (λ tells. ap (λ (x : EndState). x.delivered) w.2)
 
+-- One run and then another are a run.
 pub runs_on : EveryRunGoesOn
 runs_on moments later old l new first then = run_both first then
 
+-- What each call over an end makes of a link is a run over that end.
 pub every_call : EveryCallRuns
 every_call = record { of_drive = drive_runs; of_turn = turn_runs; of_wait = wait_runs; of_begin = begin_runs; of_ask = ask_runs }
 
+-- A link whose span is not 0 and that has nothing left to give out, and then runs over an end that tells and whose
+-- receives return within `ms`, at most 99,750, is asked every `ms`, unless it is lost at the end.
 pub end_serves : (device : Peer) (first opened span ms : ℕ) (before : List Call) (old new : LinkState) (begun : List ℕ) (e f : EndState) → 0 < span → ms + 250 ≤ 100000 → IsHistory device first opened span before old →
     NothingIsLeft old → RunsOver begun old new e f → IsTrue e.tells → ReturnsWithin ms old.moment begun e f → new.lost ≡ false → IsAsked ms old.moment old new
 end_serves device first opened span ms before old new begun e f some short p left x tells returns going =
-    run_asked device first opened span ms before old new (begun ++ moments_delivered x.deliveries) some short p left x.run (returns x.deliveries (x.told tells)) going
+    run_asked device first opened span ms before old new (begun ++ moments_delivered x.deliveries) some short p left x.run (returns x.deliveries (x.delivered tells)) going
 
 -- ---- an end in memory
 
@@ -129,5 +133,7 @@ script_within ms since e f whole within ds grew =
     within_first ms since (moments_delivered ds) (moments_delivered f.to_come)
     (subst (λ (ts : List ℕ). AreWithin ms since ts) (sym (ap moments_delivered rest) ∙ flat_map-append delivered_at ds f.to_come) within)
 
+-- A receive and a send leave what an end in memory delivered and will deliver as a whole; so its receives return within
+-- so many ms where the moments of its script do.
 pub every_script : EveryScriptIsKept
 every_script = record { receiving = received_whole; sending = λ e to bytes. refl; within = script_within }

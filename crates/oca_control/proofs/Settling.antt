@@ -6,7 +6,7 @@ use Rattle.std.proofs.Math.Dec.{eqb}
 use Rattle.std.proofs.lemmas.Bool.Decides.{nat_tests}
 use Rattle.oca_types.specs.Peers.{CommandFields}
 use Rattle.oca_control.specs.Untaken.{Untaken, is_due, first_due, given_out}
-use Rattle.oca_control.specs.Links.{LinkState, present, Decision, GivesCommand, GivesKeepAlive, GivesNothing, IsLost, decision, decision_among, after_due}
+use Rattle.oca_control.specs.Links.{LinkState, present_moment, Decision, GivesCommand, GivesKeepAlive, GivesNothing, IsLost, decision, decision_among, after_due}
 use Rattle.oca_net.specs.EndStates.{EndState}
 use Rattle.oca_control.specs.declared.report.DriveReport.{DriveReport}
 use Rattle.oca_control.specs.Driving.{decides_lost, goes_on, decisions_from, link_from, GivesOut}
@@ -16,10 +16,12 @@ use Rattle.oca_control.proofs.Calls.{is_given}
 
 -- ---- how many are due
 
+-- How many commands are due at a moment.
 abbrev pub due_count : ℕ → List Untaken → ℕ
 due_count t [] = 0
 due_count t (u ∷ us) = cond (is_due t u) 1 0 + due_count t us
 
+-- No more commands are due than there are.
 pub count_length : (t : ℕ) (us : List Untaken) → due_count t us ≤ length us
 count_length t [] = omega arith
 count_length t (u ∷ us) = one_more (is_due t u) (due_count t us) (length us) (count_length t us)
@@ -28,6 +30,7 @@ count_length t (u ∷ us) = one_more (is_due t u) (due_count t us) (length us) (
     one_more true n k p = omega arith
     one_more false n k p = omega arith
 
+-- Where no command is the first due one, the count of due ones is 0.
 pub none_counted : (t : ℕ) (us : List Untaken) → first_due t us ≡ None → due_count t us ≡ 0
 none_counted t [] e = refl
 none_counted t (u ∷ us) e = by (is_due t u) e (none_counted t us)
@@ -74,6 +77,7 @@ not_more t h (u ∷ us) =
     both : (a b c d : ℕ) → a ≤ b → c ≤ d → a + c ≤ b + d
     both a b c d p q = omega arith
 
+-- Giving out the first due command leaves fewer due at that moment.
 pub fewer_given : (t : ℕ) (us : List Untaken) (u : Untaken) → first_due t us ≡ Some u → due_count t (map (given_out t u.command.handle) us) < due_count t us
 fewer_given t [] u e = cc
 fewer_given t (v ∷ us) u e = by (is_due t v) refl e (fewer_given t us u)
@@ -104,7 +108,9 @@ fewer_given t (v ∷ us) u e = by (is_due t v) refl e (fewer_given t us u)
 
 -- ---- what is decided
 
-pub decided_nothing : (l : LinkState) (now t : ℕ) → present now l ≡ t → l.lost ≡ false → first_due t l.untaken ≡ None → nat_le 2500 (t - l.sent) ≡ false → decision now l ≡ GivesNothing
+-- Nothing is to be given out where the link is not lost, no command is due, and less than 2,500 ms passed since
+-- something was given out.
+pub decided_nothing : (l : LinkState) (now t : ℕ) → present_moment now l ≡ t → l.lost ≡ false → first_due t l.untaken ≡ None → nat_le 2500 (t - l.sent) ≡ false → decision now l ≡ GivesNothing
 decided_nothing l now t at going none silent =
     ap (λ k. cond l.lost IsLost (decision_among k l.sent (first_due k l.untaken))) at
     ∙ ap (λ b. cond b IsLost (decision_among t l.sent (first_due t l.untaken))) going
@@ -120,6 +126,8 @@ pub record IsQuiet (t sent : ℕ) (lost : Bool) (us : List Untaken) (keeps : Boo
 abbrev quiet_decision : Bool → Decision
 quiet_decision keeps = cond keeps GivesKeepAlive GivesNothing
 
+-- Where a keep-alive or nothing is to be given out, the link is not lost, no command is due, and the time since
+-- something was given out decides which.
 pub is_quiet : (t sent : ℕ) (lost : Bool) (us : List Untaken) (keeps : Bool) → cond lost IsLost (decision_among t sent (first_due t us)) ≡ quiet_decision keeps → IsQuiet t sent lost us keeps
 is_quiet t sent true us true e = cc
 is_quiet t sent true us false e = cc
@@ -143,9 +151,11 @@ is_quiet t sent false us keeps e = by_first (first_due t us) refl e
 
 -- ---- all that is due
 
+-- A moment that was taken in already changes nothing.
 pub again : (m now : ℕ) → max (max m now) now ≡ max m now
 again m now = omega arith
 
+-- The link's own moment changes nothing.
 pub own : (m : ℕ) → max m m ≡ m
 own m = omega arith
 
@@ -153,16 +163,16 @@ pub no_silence : (t : ℕ) → nat_le 2500 (t - t) ≡ false
 no_silence t = grind (arith, nat_tests)
 
 -- so many calls of `due` suffice where fewer commands are due
-pub left_from : (n now : ℕ) (l : LinkState) → due_count (present now l) l.untaken < n → (link_from now n l).lost ≡ false → NothingIsLeft (link_from now n l)
+pub left_from : (n now : ℕ) (l : LinkState) → due_count (present_moment now l) l.untaken < n → (link_from now n l).lost ≡ false → NothingIsLeft (link_from now n l)
 unfolding link_from
-left_from zero now l few going = absurd (never (due_count (present now l) l.untaken) few)
+left_from zero now l few going = absurd (never (due_count (present_moment now l) l.untaken) few)
   where
     never : (n : ℕ) → n < 0 → ⊥
     never n p = omega arith
 left_from (suc n) now l few going = by (decision now l) refl going (λ x. left_from n now x)
   where
     t : ℕ
-    t = present now l
+    t = present_moment now l
 
     fewer : (a b c : ℕ) → a < b → b < suc c → a < c
     fewer a b c p q = omega arith
@@ -170,16 +180,16 @@ left_from (suc n) now l few going = by (decision now l) refl going (λ x. left_f
     at_zero : (m : ℕ) (x : LinkState) → decision now x ≡ GivesNothing → x.moment ≡ max l.moment now → (link_from now m x).lost ≡ false → NothingIsLeft (link_from now m x)
     at_zero m x e at going = by_calls m
       where
-        here : (y : LinkState) → y ≡ (let z : LinkState = record x { moment = present now x } in z) → NothingIsLeft y
-        here y is = let q = is_quiet (present now x) x.sent x.lost x.untaken false e in
-            subst NothingIsLeft (sym is) (decided_nothing (record x { moment = present now x }) (present now x) (present now x) (own (present now x)) q.going q.none q.silent)
+        here : (y : LinkState) → y ≡ (let z : LinkState = record x { moment = present_moment now x } in z) → NothingIsLeft y
+        here y is = let q = is_quiet (present_moment now x) x.sent x.lost x.untaken false e in
+            subst NothingIsLeft (sym is) (decided_nothing (record x { moment = present_moment now x }) (present_moment now x) (present_moment now x) (own (present_moment now x)) q.going q.none q.silent)
 
         by_calls : (m : ℕ) → NothingIsLeft (link_from now m x)
         by_calls zero = here x (ap (λ k. let z : LinkState = record x { moment = k } in z) (sym (ap (λ k. max k now) at ∙ again l.moment now ∙ sym at)))
-        by_calls (suc m) = subst (λ (d : Decision). NothingIsLeft (cond (goes_on d) (link_from now m (after_due d (present now x) x)) (after_due d (present now x) x))) (sym e) (here (after_due GivesNothing (present now x) x) refl)
+        by_calls (suc m) = subst (λ (d : Decision). NothingIsLeft (cond (goes_on d) (link_from now m (after_due d (present_moment now x) x)) (after_due d (present_moment now x) x))) (sym e) (here (after_due GivesNothing (present_moment now x) x) refl)
 
     by : (d : Decision) → decision now l ≡ d → (cond (goes_on d) (link_from now n (after_due d t l)) (after_due d t l)).lost ≡ false →
-        ((x : LinkState) → due_count (present now x) x.untaken < n → (link_from now n x).lost ≡ false → NothingIsLeft (link_from now n x)) →
+        ((x : LinkState) → due_count (present_moment now x) x.untaken < n → (link_from now n x).lost ≡ false → NothingIsLeft (link_from now n x)) →
         NothingIsLeft (cond (goes_on d) (link_from now n (after_due d t l)) (after_due d t l))
     by (GivesCommand c) e going rest =
         let i = is_given t l.sent l.lost c l.untaken e in
@@ -201,11 +211,12 @@ left_from (suc n) now l few going = by (decision now l) refl going (λ x. left_f
 pub lost_stays : (n now : ℕ) (l : LinkState) → l.lost ≡ true → (link_from now n l).lost ≡ true
 unfolding link_from
 lost_stays zero now l e = e
-lost_stays (suc n) now l e = subst (λ (d : Decision). (cond (goes_on d) (link_from now n (after_due d (present now l) l)) (after_due d (present now l) l)).lost ≡ true) (sym is) refl
+lost_stays (suc n) now l e = subst (λ (d : Decision). (cond (goes_on d) (link_from now n (after_due d (present_moment now l) l)) (after_due d (present_moment now l) l)).lost ≡ true) (sym is) refl
   where
     is : decision now l ≡ IsLost
-    is = ap (λ b. cond b IsLost (decision_among (present now l) l.sent (first_due (present now l) l.untaken))) e
+    is = ap (λ b. cond b IsLost (decision_among (present_moment now l) l.sent (first_due (present_moment now l) l.untaken))) e
 
+-- A link that is not lost after calls of `due` was not lost before.
 pub not_lost_before : (n now : ℕ) (l : LinkState) → (link_from now n l).lost ≡ false → l.lost ≡ false
 not_lost_before n now l e = by l.lost refl
   where
@@ -226,7 +237,7 @@ lost_from (suc n) now l p = by (decision now l) refl (λ x some. lost_from n now
     going d e not = by_lost l.lost refl
       where
         is : l.lost ≡ true → decision now l ≡ IsLost
-        is q = ap (λ b. cond b IsLost (decision_among (present now l) l.sent (first_due (present now l) l.untaken))) q
+        is q = ap (λ b. cond b IsLost (decision_among (present_moment now l) l.sent (first_due (present_moment now l) l.untaken))) q
 
         by_lost : (b : Bool) → l.lost ≡ b → b ≡ false
         by_lost true q = let same : d ≡ IsLost = sym e ∙ is q in let z : true ≡ false = sym (ap decides_lost same) ∙ not in cc
@@ -241,15 +252,15 @@ lost_from (suc n) now l p = by (decision now l) refl (λ x some. lost_from n now
         above m = omega arith
 
     by : (d : Decision) → decision now l ≡ d → ((y : LinkState) → 0 < n → list_any decides_lost (decisions_from now n y) ≡ (link_from now n y).lost) →
-        (decides_lost d || list_any decides_lost (cond (goes_on d) (decisions_from now n (after_due d (present now l) l)) []))
-        ≡ (cond (goes_on d) (link_from now n (after_due d (present now l) l)) (after_due d (present now l) l)).lost
-    by (GivesCommand c) e further = rest n (after_due (GivesCommand c) (present now l) l) refl (going (GivesCommand c) e refl) further
-    by GivesKeepAlive e further = rest n (after_due GivesKeepAlive (present now l) l) refl (going GivesKeepAlive e refl) further
+        (decides_lost d || list_any decides_lost (cond (goes_on d) (decisions_from now n (after_due d (present_moment now l) l)) []))
+        ≡ (cond (goes_on d) (link_from now n (after_due d (present_moment now l) l)) (after_due d (present_moment now l) l)).lost
+    by (GivesCommand c) e further = rest n (after_due (GivesCommand c) (present_moment now l) l) refl (going (GivesCommand c) e refl) further
+    by GivesKeepAlive e further = rest n (after_due GivesKeepAlive (present_moment now l) l) refl (going GivesKeepAlive e refl) further
     by GivesNothing e further = sym (going GivesNothing e refl)
     by IsLost e further = refl
 
 -- the moment after it
-pub moment_from : (n now : ℕ) (l : LinkState) → 0 < n → (link_from now n l).moment ≡ present now l
+pub moment_from : (n now : ℕ) (l : LinkState) → 0 < n → (link_from now n l).moment ≡ present_moment now l
 unfolding link_from
 moment_from zero now l p = absurd (never p)
   where
@@ -257,29 +268,32 @@ moment_from zero now l p = absurd (never p)
     never p = omega arith
 moment_from (suc n) now l p = by (decision now l) (λ x some. moment_from n now x some)
   where
-    rest : (m : ℕ) (x : LinkState) → m ≡ n → x.moment ≡ present now l → ((y : LinkState) → 0 < n → (link_from now n y).moment ≡ present now y) → (link_from now m x).moment ≡ present now l
+    rest : (m : ℕ) (x : LinkState) → m ≡ n → x.moment ≡ present_moment now l → ((y : LinkState) → 0 < n → (link_from now n y).moment ≡ present_moment now y) → (link_from now m x).moment ≡ present_moment now l
     rest zero x same e further = e
     rest (suc m) x same e further =
-        subst (λ (k : ℕ). (link_from now k x).moment ≡ present now l) (sym same) (further x (subst (λ (k : ℕ). 0 < k) same (above m)) ∙ ap (λ k. max k now) e ∙ again l.moment now)
+        subst (λ (k : ℕ). (link_from now k x).moment ≡ present_moment now l) (sym same) (further x (subst (λ (k : ℕ). 0 < k) same (above m)) ∙ ap (λ k. max k now) e ∙ again l.moment now)
       where
         above : (m : ℕ) → 0 < suc m
         above m = omega arith
 
-    by : (d : Decision) → ((y : LinkState) → 0 < n → (link_from now n y).moment ≡ present now y) → (cond (goes_on d) (link_from now n (after_due d (present now l) l)) (after_due d (present now l) l)).moment ≡ present now l
-    by (GivesCommand c) further = rest n (after_due (GivesCommand c) (present now l) l) refl refl further
-    by GivesKeepAlive further = rest n (after_due GivesKeepAlive (present now l) l) refl refl further
+    by : (d : Decision) → ((y : LinkState) → 0 < n → (link_from now n y).moment ≡ present_moment now y) → (cond (goes_on d) (link_from now n (after_due d (present_moment now l) l)) (after_due d (present_moment now l) l)).moment ≡ present_moment now l
+    by (GivesCommand c) further = rest n (after_due (GivesCommand c) (present_moment now l) l) refl refl further
+    by GivesKeepAlive further = rest n (after_due GivesKeepAlive (present_moment now l) l) refl refl further
     by GivesNothing further = refl
     by IsLost further = refl
 
 -- ---- what was given out
 
+-- What was given out is reported as lost just where the link is lost, if `due` was called at all.
 pub gave_lost : {now n : ℕ} {old new : LinkState} {e f : EndState} {r : DriveReport} → GivesOut now n old new e f r → 0 < n → r.lost ≡ new.lost
 gave_lost {now} {n} {old} g some = ap (λ (x : DriveReport). x.lost) g.reported ∙ lost_from n now old some ∙ sym (ap (λ (l : LinkState). l.lost) g.link)
 
+-- Where no more commands are untaken than the span has handles, nothing is left to give out after one call of `due`
+-- more than that, unless the link is reported lost.
 pub gave_left : {now : ℕ} {old new : LinkState} {e f : EndState} {r : DriveReport} → GivesOut now (old.span + 1) old new e f r → length old.untaken ≤ old.span → r.lost ≡ false → NothingIsLeft new
 gave_left {now} {old} {new} g few going =
     subst NothingIsLeft (sym g.link)
-    (left_from (old.span + 1) now old (small (due_count (present now old) old.untaken) (length old.untaken) (count_length (present now old) old.untaken) few)
+    (left_from (old.span + 1) now old (small (due_count (present_moment now old) old.untaken) (length old.untaken) (count_length (present_moment now old) old.untaken) few)
     (sym (ap (λ (l : LinkState). l.lost) g.link) ∙ sym (gave_lost g (above old.span)) ∙ going))
   where
     small : (a b : ℕ) → a ≤ b → b ≤ old.span → a < old.span + 1

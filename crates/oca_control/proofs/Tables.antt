@@ -3,9 +3,9 @@ use Rattle.std.proofs.Common.{◌≡◌, ℕ, ◌+◌, ◌-◌, ◌%◌, ◌<◌
 use Rattle.std.specs.Prelude.{nat_lt, nat_eq, ◌||◌}
 use Rattle.std.proofs.lemmas.List.{get_or-set_same, get_or-set_other, length-set}
 use Rattle.std.proofs.lemmas.Bool.Decides.{nat_tests}
-use Rattle.oca_control.specs.Untaken.{has_room, new_untaken}
+use Rattle.oca_control.specs.Untaken.{span_has_room, new_untaken}
 use Rattle.oca_control.specs.Links.{Request, command_under}
-use Rattle.oca_control.specs.PrivateSlots.{Held, held_at, new_held, untaken_from, IsTable}
+use Rattle.oca_control.specs.PrivateSlots.{Held, held_at, new_held, untaken_from, IsSlotTable}
 use Rattle.oca_control.proofs.Places.{apart, room_by_lowest, put_at}
 
 within : (a : ℕ) (slots : List (Option Held)) → length slots ≡ 32 → a % 32 < length slots
@@ -19,7 +19,7 @@ pub kept_same : (h : ℕ) (slots : List (Option Held)) (x : Option Held) → len
 kept_same h slots x all = get_or-set_same slots (h % 32) x None (within h slots all)
 
 -- where there is room within 32 handles
-pub room_near : (lo hi : ℕ) (slots : List (Option Held)) → IsTable lo hi slots → has_room 32 hi (untaken_from lo (hi - lo) slots) ≡ true → hi < lo + 32
+pub room_near : (lo hi : ℕ) (slots : List (Option Held)) → IsSlotTable lo hi slots → span_has_room 32 hi (untaken_from lo (hi - lo) slots) ≡ true → hi < lo + 32
 room_near lo hi slots t room = by (nat_eq lo hi) (nat_lt hi (lo + 32)) refl refl (sym (room_by_lowest 32 hi lo hi slots t.ordered t.lowest) ∙ room)
   where
     equal : (a b : ℕ) → nat_eq a b ≡ true → a ≡ b
@@ -34,7 +34,7 @@ room_near lo hi slots t room = by (nat_eq lo hi) (nat_lt hi (lo + 32)) refl refl
     by false false p q e = cc
 
 -- a command is put in
-pub table_put : (lo hi : ℕ) (slots : List (Option Held)) (k : Held) → IsTable lo hi slots → hi < 4294967296 → hi < lo + 32 → IsTable lo (hi + 1) (set slots (hi % 32) (Some k))
+pub table_put : (lo hi : ℕ) (slots : List (Option Held)) (k : Held) → IsSlotTable lo hi slots → hi < 4294967296 → hi < lo + 32 → IsSlotTable lo (hi + 1) (set slots (hi % 32) (Some k))
 table_put lo hi slots k t left near = record {
   ordered = let o = t.ordered in omega arith;
   near = omega arith;
@@ -53,7 +53,7 @@ table_put lo hi slots k t left near = record {
     is_put h none = let e = sym (kept_same h slots (Some k) t.all) ∙ none in cc
 
 -- a command is changed
-pub table_changed : (lo hi h : ℕ) (slots : List (Option Held)) (x : Option Held) → IsTable lo hi slots → lo ≤ h → h < hi → (x ≡ None → ⊥) → IsTable lo hi (set slots (h % 32) x)
+pub table_changed : (lo hi h : ℕ) (slots : List (Option Held)) (x : Option Held) → IsSlotTable lo hi slots → lo ≤ h → h < hi → (x ≡ None → ⊥) → IsSlotTable lo hi (set slots (h % 32) x)
 table_changed lo hi h slots x t above below some = record {
   ordered = t.ordered;
   near = t.near;
@@ -69,8 +69,8 @@ table_changed lo hi h slots x t above below some = record {
     cases a b p = grind arith
 
 -- a command is taken, and low goes on
-pub table_taken : (lo hi h lo' : ℕ) (slots : List (Option Held)) (x : Option Held) → IsTable lo hi slots → lo ≤ lo' → lo' ≤ hi →
-    (lo' < hi → held_at lo' (set slots (h % 32) x) ≡ None → ⊥) → IsTable lo' hi (set slots (h % 32) x)
+pub table_taken : (lo hi h lo' : ℕ) (slots : List (Option Held)) (x : Option Held) → IsSlotTable lo hi slots → lo ≤ lo' → lo' ≤ hi →
+    (lo' < hi → held_at lo' (set slots (h % 32) x) ≡ None → ⊥) → IsSlotTable lo' hi (set slots (h % 32) x)
 table_taken lo hi h lo' slots x t above below held = record {
   ordered = below;
   near = let n = t.near in omega arith;
@@ -80,6 +80,6 @@ table_taken lo hi h lo' slots x t above below held = record {
 }
 
 -- what the table then is
-pub submitted_is : (lo hi : ℕ) (slots : List (Option Held)) (r : Request) → IsTable lo hi slots → hi < lo + 32 →
+pub submitted_is : (lo hi : ℕ) (slots : List (Option Held)) (r : Request) → IsSlotTable lo hi slots → hi < lo + 32 →
     untaken_from lo (hi + 1 - lo) (set slots (hi % 32) (Some (new_held r))) ≡ untaken_from lo (hi - lo) slots ++ new_untaken (command_under hi r) ∷ []
 submitted_is lo hi slots r t near = put_at lo hi slots (Some (new_held r)) t.ordered near t.all

@@ -11,13 +11,15 @@ use Rattle.oca_pdu.specs.Messages.{Commands}
 use Rattle.oca_pdu.specs.Encoding.{pdu_encoding}
 use Rattle.oca_control.specs.declared.due.Due.TheVariants as dues
 use Rattle.oca_control.specs.Links.{Request, command_under, GivesCommand, IsLost, due_answer}
-use Rattle.oca_control.specs.PrivateSlots.{Held, held_at, held_is_due, held_waits, held_answer, held_given, held_answered, new_held, untaken_at, untaken_from, IsTable, TableState, IsLowestDue, decided, first_decided, after_decision, bytes_decided}
+use Rattle.oca_control.specs.PrivateSlots.{Held, held_at, held_is_due, held_waits, held_answer, held_given, held_answered, new_held, untaken_at, untaken_from, IsSlotTable, TableState, IsLowestDueSlot, decided, first_decided, after_decision, bytes_decided}
 use Rattle.oca_control.proofs.Places.{slot_read, changed_at, removed_at, waits_at, waits_none, answer_at, answer_none}
 use Rattle.oca_control.proofs.Tables.{submitted_is}
 
+-- The table that the slots hold, with the lowest untaken handle and the next one.
 abbrev pub view : ℕ → ℕ → List (Option Held) → TableState
 view lo hi slots = record { next = hi; untaken = untaken_from lo (hi - lo) slots }
 
+-- The table with this next handle and these untaken commands.
 abbrev pub table : ℕ → List Untaken → TableState
 table hi us = record { next = hi; untaken = us }
 
@@ -31,7 +33,7 @@ in_range : (lo hi h : ℕ) → ((lo ≤ h) → (h < hi) → ⊥) → (k : ℕ) �
 in_range lo hi h out k l u e = out (omega arith) (omega arith)
 
 -- SUBMIT
-pub view_put : (lo hi p : ℕ) (slots : List (Option Held)) (r : Request) (x : Option Held) → IsTable lo hi slots → hi < lo + 32 → p ≡ hi % 32 → x ≡ Some (new_held r) →
+pub view_put : (lo hi p : ℕ) (slots : List (Option Held)) (r : Request) (x : Option Held) → IsSlotTable lo hi slots → hi < lo + 32 → p ≡ hi % 32 → x ≡ Some (new_held r) →
     view lo (hi + 1) (set slots p x) ≡ table (hi + 1) (untaken_from lo (hi - lo) slots ++ new_untaken (command_under hi r) ∷ [])
 view_put lo hi p slots r x t near place is =
     ap (λ i. view lo (hi + 1) (set slots i x)) place
@@ -42,10 +44,12 @@ view_put lo hi p slots r x t near place is =
 pub waits_out : (lo hi h : ℕ) (slots : List (Option Held)) → ((lo ≤ h) → (h < hi) → ⊥) → list_any (waits h) (untaken_from lo (hi - lo) slots) ≡ false
 waits_out lo hi h slots out = waits_none h lo (hi - lo) slots (in_range lo hi h out)
 
-pub waits_in : (lo hi h p : ℕ) (slots : List (Option Held)) (d : Option Held) (b : Bool) → IsTable lo hi slots → (lo ≤ h) × (h < hi) × (p ≡ h % 32) → b ≡ held_waits (get_or slots p d) →
+-- Whether the command of a handle in the range has no answer yet is what its slot says.
+pub waits_in : (lo hi h p : ℕ) (slots : List (Option Held)) (d : Option Held) (b : Bool) → IsSlotTable lo hi slots → (lo ≤ h) × (h < hi) × (p ≡ h % 32) → b ≡ held_waits (get_or slots p d) →
     b ≡ list_any (waits h) (untaken_from lo (hi - lo) slots)
 waits_in lo hi h p slots d b t at is = is ∙ sym (waits_at lo hi h slots at.0 at.1 ∙ ap held_waits (slot_read h p slots d t.all at.2))
 
+-- An answer to a handle under which no command waits changes nothing.
 pub none_answered : (h : ℕ) (a : AnswerFields) (us : List Untaken) → list_any (waits h) us ≡ false → map (answered h a) us ≡ us
 none_answered h a [] none = refl
 none_answered h a (u ∷ us) none = by (waits h u) refl none (none_answered h a us)
@@ -60,7 +64,8 @@ answered_other : (h : ℕ) (a : AnswerFields) (u : Untaken) → u.command.handle
 answered_other h a u other =
     ap (λ b. let v : Untaken = record { command = u.command; times = u.times; last = u.last; answer = cond (b && is_none u.answer) (Some a) u.answer } in v) (differ_nat u.command.handle h other)
 
-pub view_answered : (lo hi h p : ℕ) (slots : List (Option Held)) (d x : Option Held) (a : AnswerFields) → IsTable lo hi slots → (lo ≤ h) × (h < hi) × (p ≡ h % 32) →
+-- Putting an answer into the slot of a command that waits answers the command of that handle.
+pub view_answered : (lo hi h p : ℕ) (slots : List (Option Held)) (d x : Option Held) (a : AnswerFields) → IsSlotTable lo hi slots → (lo ≤ h) × (h < hi) × (p ≡ h % 32) →
     held_waits (get_or slots p d) ≡ true → x ≡ option_map (held_answered a) (get_or slots p d) →
     view lo hi (set slots p x) ≡ table hi (map (answered h a) (untaken_from lo (hi - lo) slots))
 view_answered lo hi h p slots d x a t at wait is =
@@ -80,7 +85,8 @@ given_other : (now h : ℕ) (u : Untaken) → u.command.handle ≢ h → given_o
 given_other now h u other =
     ap (λ b. let v : Untaken = record { command = u.command; times = cond b (u.times + 1) u.times; last = cond b now u.last; answer = u.answer } in v) (differ_nat u.command.handle h other)
 
-pub view_given : (now lo hi h p : ℕ) (slots : List (Option Held)) (d x : Option Held) → IsTable lo hi slots → IsLowestDue now slots lo hi (Some h) → p ≡ h % 32 →
+-- Noting in the slot of the lowest due command that it was given out does so to the command of that handle.
+pub view_given : (now lo hi h p : ℕ) (slots : List (Option Held)) (d x : Option Held) → IsSlotTable lo hi slots → IsLowestDueSlot now slots lo hi (Some h) → p ≡ h % 32 →
     x ≡ option_map (held_given now) (get_or slots p d) →
     view lo hi (set slots p x) ≡ table hi (map (given_out now h) (untaken_from lo (hi - lo) slots))
 view_given now lo hi h p slots d x t at place is =
@@ -95,7 +101,7 @@ view_given now lo hi h p slots d x t at place is =
 pub record FirstIs (now h : ℕ) (us : List Untaken) (k : Held) : Type 0 where
   pub first : first_decided now us ≡ Some (cond (nat_lt k.times 20) (GivesCommand (command_under h k.request)) IsLost)
 
-first_is : (now lo hi h p : ℕ) (slots : List (Option Held)) (d : Option Held) (k : Held) → IsTable lo hi slots → IsLowestDue now slots lo hi (Some h) → p ≡ h % 32 →
+first_is : (now lo hi h p : ℕ) (slots : List (Option Held)) (d : Option Held) (k : Held) → IsSlotTable lo hi slots → IsLowestDueSlot now slots lo hi (Some h) → p ≡ h % 32 →
     get_or slots p d ≡ Some k → FirstIs now h (untaken_from lo (hi - lo) slots) k
 first_is now lo hi h p slots d k t at place is = record {
   first = ap (option_map decided) (at.3 ∙ ap (λ o. first_due now (untaken_at h o)) kept ∙ here (sym (ap (held_is_due now) kept) ∙ at.2));
@@ -108,7 +114,7 @@ first_is now lo hi h p slots d k t at place is = record {
     here due = ap (λ b. cond b (Some (let v : Untaken = record { command = command_under h k.request; times = k.times; last = k.last; answer = k.answer } in v)) None) due
 
 -- the slot of the lowest due command holds one
-due_kept : (now lo hi h p : ℕ) (slots : List (Option Held)) (d : Option Held) → IsTable lo hi slots → IsLowestDue now slots lo hi (Some h) → p ≡ h % 32 →
+due_kept : (now lo hi h p : ℕ) (slots : List (Option Held)) (d : Option Held) → IsSlotTable lo hi slots → IsLowestDueSlot now slots lo hi (Some h) → p ≡ h % 32 →
     (k : Held) × (get_or slots p d ≡ Some k)
 due_kept now lo hi h p slots d t at place = by (get_or slots p d) refl (sym (ap (held_is_due now) (slot_read h p slots d t.all place)) ∙ at.2)
   where
@@ -116,11 +122,11 @@ due_kept now lo hi h p slots d t at place = by (get_or slots p d) refl (sym (ap 
     by None e due = cc
     by (Some k) e due = (k, e)
 
-pub none_decided : (now lo hi : ℕ) (slots : List (Option Held)) → IsLowestDue now slots lo hi None → first_decided now (untaken_from lo (hi - lo) slots) ≡ None
+pub none_decided : (now lo hi : ℕ) (slots : List (Option Held)) → IsLowestDueSlot now slots lo hi None → first_decided now (untaken_from lo (hi - lo) slots) ≡ None
 none_decided now lo hi slots none = ap (option_map decided) none
 
 -- it was given out 20 times
-pub spent : (now lo hi h p : ℕ) (slots : List (Option Held)) (d : Option Held) (b : Bool) → IsTable lo hi slots → IsLowestDue now slots lo hi (Some h) → p ≡ h % 32 →
+pub spent : (now lo hi h p : ℕ) (slots : List (Option Held)) (d : Option Held) (b : Bool) → IsSlotTable lo hi slots → IsLowestDueSlot now slots lo hi (Some h) → p ≡ h % 32 →
     IfSome (get_or slots p d) (λ k. b ≡ nat_lt k.times 20) → b ≡ false → first_decided now (untaken_from lo (hi - lo) slots) ≡ Some IsLost
 spent now lo hi h p slots d b t at place test not_so =
     let kept = due_kept now lo hi h p slots d t at place in
@@ -133,7 +139,8 @@ pub record Gives (now h : ℕ) (us : List Untaken) (slot : Option Held) : Type 0
   pub is : slot ≡ Some kept
   pub first : first_decided now us ≡ Some (GivesCommand (command_under h kept.request))
 
-pub gives : (now lo hi h p : ℕ) (slots : List (Option Held)) (d : Option Held) (b : Bool) → IsTable lo hi slots → IsLowestDue now slots lo hi (Some h) → p ≡ h % 32 →
+-- The lowest due command, which was given out less than 20 times, is what is decided on.
+pub gives : (now lo hi h p : ℕ) (slots : List (Option Held)) (d : Option Held) (b : Bool) → IsSlotTable lo hi slots → IsLowestDueSlot now slots lo hi (Some h) → p ≡ h % 32 →
     IfSome (get_or slots p d) (λ k. b ≡ nat_lt k.times 20) → b ≡ true → Gives now h (untaken_from lo (hi - lo) slots) (get_or slots p d)
 gives now lo hi h p slots d b t at place test so =
     let kept = due_kept now lo hi h p slots d t at place in
@@ -144,15 +151,18 @@ gives now lo hi h p slots d b t at place test so =
       first = (first_is now lo hi h p slots d kept.0 t at place kept.1).first ∙ ap (λ x. Some (cond x (GivesCommand (command_under h kept.0.request)) IsLost)) (sym few ∙ so);
     }
 
+-- What is returned is that the command of the handle is given out.
 pub gives_answer : (now h : ℕ) (us : List Untaken) (o : Option Held) → Gives now h us o → Some (dues.Send (record { 0 = h })) ≡ option_map due_answer (first_decided now us)
 gives_answer now h us o g = sym (ap (option_map due_answer) g.first)
 
+-- The bytes in the packet are those of the command that is given out.
 pub gives_packet : (now h : ℕ) (us : List Untaken) (o : Option Held) (bytes : List ℕ) → Gives now h us o →
     IfSome o (λ k. bytes ≡ pdu_encoding (Commands true (command_under h k.request ∷ []))) → bytes ≡ bytes_decided (first_decided now us)
 gives_packet now h us o bytes g written =
     let there : bytes ≡ pdu_encoding (Commands true (command_under h g.kept.request ∷ [])) = subst (λ (x : Option Held). IfSome x (λ k. bytes ≡ pdu_encoding (Commands true (command_under h k.request ∷ [])))) g.is written in
     there ∙ sym (ap bytes_decided g.first)
 
+-- The table after it is that after the decision.
 pub gives_state : (now hi h : ℕ) (us : List Untaken) (o : Option Held) (new : TableState) → Gives now h us o → new ≡ table hi (map (given_out now h) us) →
     new ≡ table hi (after_decision now (first_decided now us) us)
 gives_state now hi h us o new g is = is ∙ sym (ap (λ d. table hi (after_decision now d us)) g.first)
@@ -161,11 +171,14 @@ gives_state now hi h us o new g is = is ∙ sym (ap (λ d. table hi (after_decis
 pub answer_out : (lo hi h : ℕ) (slots : List (Option Held)) → ((lo ≤ h) → (h < hi) → ⊥) → answer_under h (untaken_from lo (hi - lo) slots) ≡ None
 answer_out lo hi h slots out = answer_none h lo (hi - lo) slots (in_range lo hi h out)
 
-pub answer_in_slot : (lo hi h p : ℕ) (slots : List (Option Held)) (d : Option Held) → IsTable lo hi slots → (lo ≤ h) × (h < hi) × (p ≡ h % 32) →
+-- The answer in the slot of a handle in the range is the one that is held under the handle.
+pub answer_in_slot : (lo hi h p : ℕ) (slots : List (Option Held)) (d : Option Held) → IsSlotTable lo hi slots → (lo ≤ h) × (h < hi) × (p ≡ h % 32) →
     held_answer (get_or slots p d) ≡ answer_under h (untaken_from lo (hi - lo) slots)
 answer_in_slot lo hi h p slots d t at = sym (answer_at lo hi h slots at.0 at.1 ∙ ap held_answer (slot_read h p slots d t.all at.2))
 
-pub view_taken : (lo hi h p lo' : ℕ) (slots : List (Option Held)) (d x : Option Held) → IsTable lo hi slots → (lo ≤ h) × (h < hi) × (p ≡ h % 32) → p < length slots →
+-- Emptying the slot of a handle whose command is answered, and then skipping empty slots at the lower end, takes that
+-- command out.
+pub view_taken : (lo hi h p lo' : ℕ) (slots : List (Option Held)) (d x : Option Held) → IsSlotTable lo hi slots → (lo ≤ h) × (h < hi) × (p ≡ h % 32) → p < length slots →
     x ≡ cond (is_some (held_answer (get_or slots p d))) None (get_or slots p d) →
     untaken_from lo' (hi - lo') (set slots p x) ≡ untaken_from lo (hi - lo) (set slots p x) →
     view lo' hi (set slots p x) ≡ table hi (let us = untaken_from lo (hi - lo) slots in cond (is_some (answer_under h us)) (without_handle h us) us)
@@ -186,5 +199,6 @@ view_taken lo hi h p lo' slots d x t at inside is same =
         ap (λ y. untaken_from lo (hi - lo) (set slots p y)) (is ∙ ap (λ b. cond b None (get_or slots p d)) e)
         ∙ ap (untaken_from lo (hi - lo)) (set-get_or slots p d)
 
+-- Where no answer is held under the handle, nothing is taken out.
 pub not_taken : (hi h : ℕ) (us : List Untaken) → answer_under h us ≡ None → table hi us ≡ table hi (cond (is_some (answer_under h us)) (without_handle h us) us)
 not_taken hi h us none = sym (ap (λ b. table hi (cond b (without_handle h us) us)) (ap is_some none))

@@ -1,6 +1,7 @@
 -- WHAT COMES OF A COMMAND over histories of calls (*profile*): each that is due is given out, again and again where the
 -- link is asked often enough, and what was answered stays so. As in Histories the latest call stands first.
-use Rattle.std.specs.Prelude.{◌≡◌, ◌⊎◌, ℕ, ◌+◌, ◌*◌, ◌==◌, ◌<◌, ◌≤◌, max, Bool, true, false, ⊤, if◌then◌else◌, List, [], ◌∷◌, ◌++◌, length, Some, None, is_some, Ok}
+use Rattle.std.specs.Prelude.{◌≡◌, ◌⊎◌, ℕ, ◌+◌, ◌*◌, ◌==◌, ◌<◌, ◌≤◌, max, Bool, true, false, ⊤, if◌then◌else◌, List, []}
+use Rattle.std.specs.Prelude.{◌∷◌, ◌++◌, length, Some, None, is_some, Ok}
 use Rattle.std.specs.List.{AllByRecursion, list_any}
 use Rattle.oca_types.specs.declared.words.Peer.{Peer}
 use Rattle.oca_types.specs.declared.words.Handle.{Handle}
@@ -12,11 +13,13 @@ use Rattle.oca_control.specs.declared.reception.Reception.{Reception}
 use Rattle.oca_control.specs.Untaken.{answer_under}
 use Rattle.oca_control.specs.Limits.{repeat_time, most_sendings}
 use Rattle.oca_control.specs.Links.{LinkState, Request}
-use Rattle.oca_control.specs.Histories.{Call, Submits, GivesOut, Receives, TakesAnswer, IsHistory, clock, Sending, sendings, answers_in, answers_to, first_of, is_untaken, is_due_at, is_lost}
+use Rattle.oca_control.specs.Histories.{Call, Submits, GivesOut, Receives, TakesAnswer, IsHistory, clock_of_calls}
+use Rattle.oca_control.specs.Histories.{Sending}
+use Rattle.oca_control.specs.Histories.{sendings, answers_among, answers_to, first_of, is_untaken, is_due_at, is_lost}
 
 -- a response among the messages is to this handle
 abbrev pub has_response : ℕ → List Msg → Bool
-has_response h messages = is_some (first_of (answers_in h messages))
+has_response h messages = is_some (first_of (answers_among h messages))
 
 -- a call is no take of this handle
 abbrev pub TakesNothingOf : ℕ → Call → Type 0
@@ -31,7 +34,8 @@ abbrev pub EveryAnswerIsKept : Type 0
 EveryAnswerIsKept =
     (device : Peer) (first opened span : ℕ) (before later : List Call) (after : LinkState) (h : ℕ) (from : Peer)
     (bytes : List ℕ) (messages : List Msg) (now : ℕ) (returned : Reception) →
-    0 < span → IsHistory device first opened span (later ++ Receives from bytes (Some messages) now returned ∷ before) after →
+    0 < span →
+    IsHistory device first opened span (later ++ Receives from bytes (Some messages) now returned ∷ before) after →
     same_peer from device ≡ true → is_untaken h before ≡ true → has_response h messages ≡ true →
     AllByRecursion (TakesNothingOf h) later →
     is_some (answer_under h after.untaken) ≡ true
@@ -50,6 +54,7 @@ is_send_of h dues.KeepAlive = false
 is_send_of h dues.Nothing = false
 is_send_of h dues.Lost = false
 
+-- the same of a call: one of `due` that returned it
 abbrev pub is_given_in : ℕ → Call → Bool
 is_given_in h (GivesOut now returned bytes) = is_send_of h returned
 is_given_in h (Submits request now returned) = false
@@ -66,25 +71,26 @@ abbrev pub EveryDueCommandIsGivenOut : Type 0
 EveryDueCommandIsGivenOut =
     (device : Peer) (first opened span : ℕ) (before calls : List Call) (after : LinkState) (now h : ℕ) (due : List ℕ) →
     0 < span → IsHistory device first opened span (calls ++ before) after → AllByRecursion (CallsDueAt now) calls →
-    is_due_at device opened (max (clock opened before) now) h before ≡ true →
-    ((x : ℕ) → is_due_at device opened (max (clock opened before) now) x before ≡ true → is_among x due ≡ true) →
+    is_due_at device opened (max (clock_of_calls opened before) now) h before ≡ true →
+    ((x : ℕ) → is_due_at device opened (max (clock_of_calls opened before) now) x before ≡ true →
+    is_among x due ≡ true) →
     length due ≤ length calls →
     (is_lost (calls ++ before) ≡ true) ⊎ (list_any (is_given_in h) calls ≡ true)
 
 -- ---- a link that is asked often enough
 
 -- `due` returned that no command is left to give out: with a keep-alive, with nothing, or that the link is lost
-abbrev pub says_none_left : Due → Bool
-says_none_left (dues.Send h) = false
-says_none_left dues.KeepAlive = true
-says_none_left dues.Nothing = true
-says_none_left dues.Lost = true
+abbrev pub is_none_left : Due → Bool
+is_none_left (dues.Send h) = false
+is_none_left dues.KeepAlive = true
+is_none_left dues.Nothing = true
+is_none_left dues.Lost = true
 
 -- THE LAST TIME that it did, by the clock, and at first the moment since when the calls are looked at.
 abbrev pub last_asked : ℕ → List Call → ℕ
 last_asked since [] = since
 last_asked since (GivesOut now returned bytes ∷ before) =
-    if says_none_left returned then max (clock since before) now else last_asked since before
+    if is_none_left returned then max (clock_of_calls since before) now else last_asked since before
 last_asked since (Submits request now returned ∷ before) = last_asked since before
 last_asked since (Receives from bytes content now returned ∷ before) = last_asked since before
 last_asked since (TakesAnswer h answer ∷ before) = last_asked since before
@@ -94,7 +100,7 @@ last_asked since (TakesAnswer h answer ∷ before) = last_asked since before
 abbrev pub IsAskedEvery : ℕ → ℕ → List Call → Type 0
 IsAskedEvery ms since [] = ⊤
 IsAskedEvery ms since (call ∷ before) =
-    (clock since (call ∷ before) ≤ last_asked since (call ∷ before) + ms) × IsAskedEvery ms since before
+    (clock_of_calls since (call ∷ before) ≤ last_asked since (call ∷ before) + ms) × IsAskedEvery ms since before
 
 -- A command IS IN FLIGHT while it is untaken, no answer came to it, and the link is not lost.
 pub record IsInFlight (device : Peer) (h : ℕ) (calls : List Call) : Type 0 where
@@ -119,7 +125,8 @@ abbrev pub EveryCommandIsGivenOutInTime : Type 0
 EveryCommandIsGivenOutInTime =
     (device : Peer) (first opened span : ℕ) (before later : List Call) (after : LinkState)
     (request : Request) (now ms : ℕ) (h : Handle) →
-    let since : ℕ = max (clock opened before) now in
+    let since : ℕ = max (clock_of_calls opened before) now in
     let calls : List Call = later ++ Submits request now (Ok h) ∷ before in
-    0 < span → IsHistory device first opened span calls after → IsAskedEvery ms since later → IsInFlight device h.0 calls →
-    IsGivenOutInTime ms since (clock opened calls) (sendings opened h.0 calls)
+    0 < span → IsHistory device first opened span calls after → IsAskedEvery ms since later →
+    IsInFlight device h.0 calls →
+    IsGivenOutInTime ms since (clock_of_calls opened calls) (sendings opened h.0 calls)

@@ -1,5 +1,6 @@
--- How a command fares that is asked of a link over an end (*profile*).
-use Rattle.std.specs.Prelude.{◌≡◌, ℕ, ◌+◌, ◌<◌, ◌≤◌, Bool, true, false, ◌||◌, if◌then◌else◌, Some, None, Result, Ok, Err, IfSome}
+-- The outcome of a command that is asked of a link over an end (*profile*).
+use Rattle.std.specs.Prelude.{◌≡◌, ℕ, ◌+◌, ◌<◌, ◌≤◌, Bool, true, false, ◌||◌, if◌then◌else◌, Some, None, Result, Ok}
+use Rattle.std.specs.Prelude.{Err, IfSome}
 use Rattle.oca_types.specs.declared.words.Handle.{Handle}
 use Rattle.oca_types.specs.Peers.{RequestFields}
 use Rattle.oca_net.specs.EndStates.{EndState}
@@ -24,7 +25,8 @@ pub record TakesATurn (lost : Bool) (old new : LinkState) (before after : EndSta
 -- lost, nor was it found late in one before; and whether it was in the last.
 pub data TakesTurns (h : ℕ) : (turns : ℕ) (lost : Bool) (old new : LinkState) (before after : EndState) → Type 0 where
   NoneTaken : {l : LinkState} {e : EndState} → TakesTurns h 0 false l l e e
-  OneTaken : {n : ℕ} {lost : Bool} {old l new : LinkState} {d e f : EndState} → TakesTurns h n false old l d e → answer_under h l.untaken ≡ None → l.lost ≡ false →
+  OneTaken : {n : ℕ} {lost : Bool} {old l new : LinkState} {d e f : EndState} → TakesTurns h n false old l d e →
+      answer_under h l.untaken ≡ None → l.lost ≡ false →
       TakesATurn lost l new e f → TakesTurns h (n + 1) lost old new d f
 
 -- From a link under whose handle an answer is waited for, to the link after it, where so many turns were allowed. An
@@ -32,10 +34,12 @@ pub data TakesTurns (h : ℕ) : (turns : ℕ) (lost : Bool) (old new : LinkState
 -- link is lost or was found late. Unanswered: none is held, the link is not lost, and all the turns were taken.
 abbrev pub Waits : ℕ → ℕ → LinkState → Outcome → LinkState → EndState → EndState → Type 0
 Waits h turns old (outcomes.Answered a) new before after =
-    (l : LinkState) × (n : ℕ) × (lost : Bool) × (n ≤ turns) × TakesTurns h n lost old l before after × (answer_under h l.untaken ≡ Some (answer_fields a)) × (new ≡ taken h l)
+    (l : LinkState) × (n : ℕ) × (lost : Bool) × (n ≤ turns) × TakesTurns h n lost old l before after
+    × (answer_under h l.untaken ≡ Some (answer_fields a)) × (new ≡ taken h l)
 Waits h turns old (outcomes.Refused fault) new before after = ⊥
 Waits h turns old outcomes.Lost new before after =
-    (n : ℕ) × (lost : Bool) × (n ≤ turns) × TakesTurns h n lost old new before after × (answer_under h new.untaken ≡ None) × ((lost || new.lost) ≡ true)
+    (n : ℕ) × (lost : Bool) × (n ≤ turns) × TakesTurns h n lost old new before after
+    × (answer_under h new.untaken ≡ None) × ((lost || new.lost) ≡ true)
 Waits h turns old outcomes.Unanswered new before after =
     TakesTurns h turns false old new before after × (answer_under h new.untaken ≡ None) × (new.lost ≡ false)
 
@@ -46,15 +50,15 @@ ReceivesSoOften turns (outcomes.Refused fault) before after = after ≡ before
 ReceivesSoOften turns outcomes.Lost before after = after ≤ before + turns
 ReceivesSoOften turns outcomes.Unanswered before after = after ≡ before + turns
 
--- how a command fares that the link refuses
+-- the outcome of a command that the link refuses
 abbrev pub refused_by : ControlFault → Outcome
 refused_by faults.Lost = outcomes.Lost
 refused_by faults.HandlesSpent = outcomes.Refused faults.HandlesSpent
 refused_by faults.SpanFull = outcomes.Refused faults.SpanFull
 refused_by faults.TooLong = outcomes.Refused faults.TooLong
 
--- The present moment of an end: none that a receive returned is later. An end that keeps no time may say 0, which counts
--- as the link's own moment.
+-- The present moment of an end: none that a receive returned is later. An end that keeps no time may say 0, which
+-- counts as the link's own moment.
 abbrev pub IsPresent : ℕ → EndState → Type 0
 IsPresent now e = 0 < now → IfSome e.moment (λ m. m ≤ now)
 
@@ -63,27 +67,32 @@ abbrev pub beginning : RequestFields → ℕ → LinkState → Result Handle Con
 beginning request now l = if late_at now l then Err faults.Lost else submission request l
 
 -- The command was submitted at a moment, and all that was due then given out; or it was refused, which changes nothing.
-abbrev pub GivesFirst : RequestFields → ℕ → Result Handle ControlFault → LinkState → LinkState → EndState → EndState → Type 0
+abbrev pub GivesFirst : RequestFields → ℕ → Result Handle ControlFault → LinkState → LinkState → EndState → EndState →
+    Type 0
 GivesFirst request now (Ok handle) old new before after =
-    (report : DriveReport) × GivesOut now ((submitted request now old).span + 1) (submitted request now old) new before after report
+    (report : DriveReport)
+    × GivesOut now ((submitted request now old).span + 1) (submitted request now old) new before after report
 GivesFirst request now (Err fault) old new before after = (new ≡ old) × (after ≡ before)
 
 -- A COMMAND WAS BEGUN at the present moment of the end.
-pub record Begins (request : RequestFields) (returned : Result Handle ControlFault) (old new : LinkState) (before after : EndState) : Type 0 where
+pub record Begins (request : RequestFields) (returned : Result Handle ControlFault) (old new : LinkState)
+    (before after : EndState) : Type 0 where
   pub now : ℕ
   pub present : IsPresent now before
   pub answer : returned ≡ beginning request now old
   pub gives : GivesFirst request now returned old new before after
 
--- How a command fared that was begun: it was waited for, or it had been refused, which changes nothing.
-abbrev pub Fares : ℕ → Result Handle ControlFault → LinkState → Outcome → LinkState → EndState → EndState → Type 0
-Fares turns (Ok handle) old outcome new before after = Waits handle.0 turns old outcome new before after
-Fares turns (Err fault) old outcome new before after = (outcome ≡ refused_by fault) × (new ≡ old) × (after ≡ before)
+-- The outcome of a command that was begun: it was waited for, or it had been refused, which changes nothing.
+abbrev pub HasOutcome : ℕ → Result Handle ControlFault → LinkState → Outcome → LinkState → EndState → EndState → Type 0
+HasOutcome turns (Ok handle) old outcome new before after = Waits handle.0 turns old outcome new before after
+HasOutcome turns (Err fault) old outcome new before after =
+    (outcome ≡ refused_by fault) × (new ≡ old) × (after ≡ before)
 
 -- A COMMAND WAS ASKED: it was begun, and its answer waited for.
-pub record Asks (request : RequestFields) (turns : ℕ) (old : LinkState) (outcome : Outcome) (new : LinkState) (before after : EndState) : Type 0 where
+pub record Asks (request : RequestFields) (turns : ℕ) (old : LinkState) (outcome : Outcome) (new : LinkState)
+    (before after : EndState) : Type 0 where
   pub returned : Result Handle ControlFault
   pub link : LinkState
   pub end_then : EndState
   pub begins : Begins request returned old link before end_then
-  pub fares : Fares turns returned link outcome new end_then after
+  pub outcome_is : HasOutcome turns returned link outcome new end_then after

@@ -1,5 +1,5 @@
--- COPIES IN TIME (*profile*), over whole histories of the calls of a link. As in Histories the latest call and the latest
--- sending stand first.
+-- COPIES IN TIME (*profile*), over whole histories of the calls of a link. As in Histories the latest call and the
+-- latest sending stand first.
 use Rattle.std.specs.Prelude.{◌≡◌, ℕ, ◌+◌, ◌<◌, ◌≤◌, true, false, ⊤, List, [], ◌∷◌, Result}
 use Rattle.oca_types.specs.declared.words.Peer.{Peer}
 use Rattle.oca_types.specs.declared.words.Handle.{Handle}
@@ -36,19 +36,26 @@ MakesInTime old (call ∷ before) new = (l : LinkState) × MakesInTime old befor
 -- before it.
 abbrev pub EveryCopyIsInTime : Type 0
 EveryCopyIsInTime =
-    (device : Peer) (first opened span : ℕ) (calls : List Call) (after : LinkState) → 0 < span → MakesInTime (new_link device first opened span) calls after →
+    (device : Peer) (first opened span : ℕ) (calls : List Call) (after : LinkState) → 0 < span →
+    MakesInTime (new_link device first opened span) calls after →
     (h : ℕ) → AreNear (sendings opened h calls)
 
+-- it becomes another by some calls, each of which is in time
 abbrev pub IsMadeInTime : LinkState → LinkState → Type 0
 IsMadeInTime old new = (calls : List Call) × MakesInTime old calls new
 
 -- WHAT A STEP MAKES OF A LINK, it makes by calls in time: `give_in_time`, `turn`, `begin`, `wait_for` and `ask`.
 pub record EveryStepIsInTime : Type 0 where
-  pub giving : (now : ℕ) (old new : LinkState) (before after : EndState) (report : DriveReport) → GivesInTime now old new before after report → IsMadeInTime old new
-  pub turning : (old new : LinkState) (before after : EndState) (report : DriveReport) → Turns old new before after report → IsMadeInTime old new
-  pub beginning : (request : RequestFields) (returned : Result Handle ControlFault) (old new : LinkState) (before after : EndState) → Begins request returned old new before after → IsMadeInTime old new
-  pub waiting : (h turns : ℕ) (old new : LinkState) (outcome : Outcome) (before after : EndState) → Waits h turns old outcome new before after → IsMadeInTime old new
-  pub asking : (request : RequestFields) (turns : ℕ) (old new : LinkState) (outcome : Outcome) (before after : EndState) → Asks request turns old outcome new before after → IsMadeInTime old new
+  pub giving : (now : ℕ) (old new : LinkState) (before after : EndState) (report : DriveReport) →
+      GivesInTime now old new before after report → IsMadeInTime old new
+  pub turning : (old new : LinkState) (before after : EndState) (report : DriveReport) →
+      Turns old new before after report → IsMadeInTime old new
+  pub beginning : (request : RequestFields) (returned : Result Handle ControlFault) (old new : LinkState)
+      (before after : EndState) → Begins request returned old new before after → IsMadeInTime old new
+  pub waiting : (h turns : ℕ) (old new : LinkState) (outcome : Outcome) (before after : EndState) →
+      Waits h turns old outcome new before after → IsMadeInTime old new
+  pub asking : (request : RequestFields) (turns : ℕ) (old new : LinkState) (outcome : Outcome)
+      (before after : EndState) → Asks request turns old outcome new before after → IsMadeInTime old new
 
 -- A link that is late stays so, as moments rise.
 abbrev pub EveryLateLinkStaysLate : Type 0

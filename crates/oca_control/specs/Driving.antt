@@ -1,5 +1,6 @@
 -- What the loop makes of a link and an end (*profile*).
-use Rattle.std.specs.Prelude.{◌≡◌, ℕ, zero, suc, ◌+◌, ◌<◌, ◌≤◌, nat_lt, min, Bool, true, false, not, ◌&&◌, ◌||◌, if◌then◌else◌, List, [], ◌∷◌, ◌++◌, length, count_by}
+use Rattle.std.specs.Prelude.{◌≡◌, ℕ, zero, suc, ◌+◌, ◌<◌, ◌≤◌, nat_lt, min, Bool, true, false, not, ◌&&◌, ◌||◌}
+use Rattle.std.specs.Prelude.{if◌then◌else◌, List, [], ◌∷◌, ◌++◌, length, count_by}
 use Rattle.std.specs.List.{list_any, flat_map}
 use Rattle.oca_types.specs.declared.words.Peer.{Peer}
 use Rattle.oca_net.specs.Deliveries.{Delivery, Datagram, Quiet, Failed, Sent}
@@ -8,7 +9,8 @@ use Rattle.oca_net.specs.EndStates.{EndState, SendsAllBut, Runs}
 use Rattle.oca_control.specs.declared.reception.Reception.{Reception}
 use Rattle.oca_control.specs.declared.reception.Reception.TheVariants as receptions
 use Rattle.oca_control.specs.declared.report.DriveReport.{DriveReport}
-use Rattle.oca_control.specs.Links.{LinkState, Decision, GivesCommand, GivesKeepAlive, GivesNothing, IsLost, decision, gone_on, due_bytes}
+use Rattle.oca_control.specs.Links.{LinkState, Decision, GivesCommand, GivesKeepAlive, GivesNothing, IsLost, decision}
+use Rattle.oca_control.specs.Links.{gone_on, due_bytes}
 use Rattle.oca_control.specs.Steps.{ReceivesDatagram}
 
 -- how many commands a datagram answered
@@ -18,18 +20,21 @@ answered_by receptions.Stranger = 0
 answered_by receptions.Malformed = 0
 answered_by receptions.NothingNew = 0
 
-abbrev pub is_command : Decision → Bool
-is_command (GivesCommand c) = true
-is_command GivesKeepAlive = false
-is_command GivesNothing = false
-is_command IsLost = false
+-- a decision is that a command is given out
+abbrev pub gives_command : Decision → Bool
+gives_command (GivesCommand c) = true
+gives_command GivesKeepAlive = false
+gives_command GivesNothing = false
+gives_command IsLost = false
 
+-- or a keep-alive
 abbrev pub is_keep_alive : Decision → Bool
 is_keep_alive (GivesCommand c) = false
 is_keep_alive GivesKeepAlive = true
 is_keep_alive GivesNothing = false
 is_keep_alive IsLost = false
 
+-- or that the link is lost
 abbrev pub decides_lost : Decision → Bool
 decides_lost (GivesCommand c) = false
 decides_lost GivesKeepAlive = false
@@ -46,7 +51,8 @@ goes_on IsLost = false
 -- what at most n calls of `due` decide at a moment, until one gives nothing out
 unfoldable pub decisions_from : ℕ → ℕ → LinkState → List Decision
 decisions_from now zero l = []
-decisions_from now (suc n) l = decision now l ∷ (if goes_on (decision now l) then decisions_from now n (gone_on now l) else [])
+decisions_from now (suc n) l =
+    decision now l ∷ (if goes_on (decision now l) then decisions_from now n (gone_on now l) else [])
 
 -- the link after them
 unfoldable pub link_from : ℕ → ℕ → LinkState → LinkState
@@ -57,23 +63,28 @@ link_from now (suc n) l = if goes_on (decision now l) then link_from now n (gone
 abbrev pub given_to : Peer → Decision → List Sent
 given_to device d = if goes_on d then (record { to = device; bytes = due_bytes d }) ∷ [] else []
 
+-- those of decisions, in order
 abbrev pub all_given_to : Peer → List Decision → List Sent
 all_given_to device decisions = flat_map (given_to device) decisions
 
 -- What is heard of a delivery: a datagram of at most 1,472 bytes is one for the link, and nothing else is.
 pub record HearsDatagram (from : Peer) (bytes : List ℕ) (now : ℕ) (old new : LinkState) (answered : ℕ) : Type 0 where
-  pub short : length bytes ≤ largest_datagram → (returned : Reception) × ReceivesDatagram from bytes now old returned new × (answered ≡ answered_by returned)
+  pub short : length bytes ≤ largest_datagram →
+      (returned : Reception) × ReceivesDatagram from bytes now old returned new × (answered ≡ answered_by returned)
   pub long : largest_datagram < length bytes → (new ≡ old) × (answered ≡ 0)
 
-abbrev pub Hears : Delivery → LinkState → LinkState → ℕ → Type 0
-Hears (Datagram from bytes now) old new answered = HearsDatagram from bytes now old new answered
-Hears (Quiet now) old new answered = (new ≡ old) × (answered ≡ 0)
-Hears Failed old new answered = (new ≡ old) × (answered ≡ 0)
+-- what is heard of a delivery: where nothing came, or the receive failed, the link stays as it is
+abbrev pub HearsDelivery : Delivery → LinkState → LinkState → ℕ → Type 0
+HearsDelivery (Datagram from bytes now) old new answered = HearsDatagram from bytes now old new answered
+HearsDelivery (Quiet now) old new answered = (new ≡ old) × (answered ≡ 0)
+HearsDelivery Failed old new answered = (new ≡ old) × (answered ≡ 0)
 
 -- What is then given out: `due` is called at most once more than the span has handles, and not after a failed receive.
 abbrev pub GivesAll : ℕ → LinkState → LinkState → List Decision → Type 0
-GivesAll now old new decisions = (decisions ≡ decisions_from now (old.span + 1) old) × (new ≡ link_from now (old.span + 1) old)
+GivesAll now old new decisions =
+    (decisions ≡ decisions_from now (old.span + 1) old) × (new ≡ link_from now (old.span + 1) old)
 
+-- what is given out after a delivery
 abbrev pub Gives : Delivery → LinkState → LinkState → List Decision → Type 0
 Gives (Datagram from bytes now) old new decisions = GivesAll now old new decisions
 Gives (Quiet now) old new decisions = GivesAll now old new decisions
@@ -82,26 +93,29 @@ Gives Failed old new decisions = (decisions ≡ []) × (new ≡ old)
 -- A TURN: what was delivered is heard, and then what is due is given out.
 pub record DrivesTurn (d : Delivery) (old new : LinkState) (decisions : List Decision) (answered : ℕ) : Type 0 where
   pub between : LinkState
-  pub hears : Hears d old between answered
+  pub hears : HearsDelivery d old between answered
   pub gives : Gives d between new decisions
 
 -- THE TURNS, one for each delivery. After one in which the link is lost there is no other.
-pub data Drives : (deliveries : List Delivery) (old new : LinkState) (decisions : List Decision) (answered : ℕ) → Type 0 where
+pub data Drives : (deliveries : List Delivery) (old new : LinkState) (decisions : List Decision) (answered : ℕ) →
+    Type 0 where
   NoTurn : {l : LinkState} → Drives [] l l [] 0
   OneMore : {ds : List Delivery} {old l new : LinkState} {gs hs : List Decision} {n k : ℕ} (d : Delivery) →
-      Drives ds old l gs n → list_any decides_lost gs ≡ false → DrivesTurn d l new hs k → Drives (ds ++ d ∷ []) old new (gs ++ hs) (n + k)
+      Drives ds old l gs n → list_any decides_lost gs ≡ false → DrivesTurn d l new hs k →
+      Drives (ds ++ d ∷ []) old new (gs ++ hs) (n + k)
 
+-- a delivery is a failed receive
 abbrev pub is_failed_delivery : Delivery → Bool
 is_failed_delivery (Datagram from bytes now) = false
 is_failed_delivery (Quiet now) = false
 is_failed_delivery Failed = true
 
 -- the report of turns in which so many sends failed
-abbrev pub report_of : List Delivery → List Decision → ℕ → ℕ → DriveReport
-report_of deliveries decisions answered failed_sends =
+abbrev pub drive_report_of : List Delivery → List Decision → ℕ → ℕ → DriveReport
+drive_report_of deliveries decisions answered failed_sends =
     record {
       turns = length deliveries;
-      sent = count_by is_command decisions;
+      sent = count_by gives_command decisions;
       keep_alives = count_by is_keep_alive decisions;
       answered = answered;
       failed_receives = count_by is_failed_delivery deliveries;
@@ -110,8 +124,8 @@ report_of deliveries decisions answered failed_sends =
     }
 
 -- first the one, then the other
-abbrev pub added : DriveReport → DriveReport → DriveReport
-added a b =
+abbrev pub drive_report_sum : DriveReport → DriveReport → DriveReport
+drive_report_sum a b =
     record {
       turns = a.turns + b.turns;
       sent = a.sent + b.sent;
@@ -123,8 +137,8 @@ added a b =
     }
 
 -- a number that would pass 64 bits stays at its last value
-abbrev pub capped : DriveReport → DriveReport
-capped r =
+abbrev pub drive_report_capped : DriveReport → DriveReport
+drive_report_capped r =
     record {
       turns = min r.turns last_u64;
       sent = min r.sent last_u64;
@@ -143,17 +157,18 @@ pub record DrivesEnd (old new : LinkState) (before after : EndState) (report : D
   pub decisions : List Decision
   pub answered : ℕ
   pub drives : Drives deliveries old new decisions answered
-  pub reported : report ≡ report_of deliveries decisions answered report.failed_sends
+  pub reported : report ≡ drive_report_of deliveries decisions answered report.failed_sends
   pub runs : Runs deliveries (all_given_to old.device decisions) report.failed_receives report.failed_sends before after
 
 -- WHAT WAS DUE at a moment, in so many calls of `due`, WAS GIVEN OUT: it was handed to the end, for the device, and the
 -- report counts it and the sends that failed. No turn was taken.
-pub record GivesOut (now calls : ℕ) (old new : LinkState) (before after : EndState) (report : DriveReport) : Type 0 where
+pub record GivesOut (now calls : ℕ) (old new : LinkState) (before after : EndState) (report : DriveReport)
+    : Type 0 where
   pub link : new ≡ link_from now calls old
   pub device : new.device ≡ old.device
-  pub reported : report ≡ report_of [] (decisions_from now calls old) 0 report.failed_sends
+  pub reported : report ≡ drive_report_of [] (decisions_from now calls old) 0 report.failed_sends
   pub sends : SendsAllBut report.failed_sends before after (all_given_to old.device (decisions_from now calls old))
 
 -- how often is received: once a turn, and once more where neither the turns nor a lost link ended the loop
-abbrev pub receives_of : DriveReport → ℕ → ℕ
-receives_of report turns = report.turns + (if nat_lt report.turns turns && not report.lost then 1 else 0)
+abbrev pub receives_driven : DriveReport → ℕ → ℕ
+receives_driven report turns = report.turns + (if nat_lt report.turns turns && not report.lost then 1 else 0)

@@ -1,5 +1,7 @@
 -- THE CONTROLLER: its link to a device, and what each call makes of it (*profile*). Moments are in milliseconds.
-use Rattle.std.specs.Prelude.{◌≡◌, ℕ, ◌+◌, ◌-◌, ◌^◌, ◌==◌, ◌<◌, ◌≤◌, nat_lt, nat_le, max, Bool, true, false, ◌&&◌, if◌then◌else◌, List, [], ◌∷◌, ◌++◌, map, length, Option, Some, None, is_some, Result, Ok, Err}
+use Rattle.std.specs.Prelude.{◌≡◌, ℕ, ◌+◌, ◌-◌, ◌^◌, ◌==◌, ◌<◌, ◌≤◌, nat_lt, nat_le, max, Bool, true, false, ◌&&◌}
+use Rattle.std.specs.Prelude.{if◌then◌else◌, List, [], ◌∷◌, ◌++◌, map, length, Option, Some, None, is_some, Result, Ok}
+use Rattle.std.specs.Prelude.{Err}
 use Rattle.std.specs.List.{list_any}
 use Rattle.oca_types.specs.declared.words.Peer.{Peer}
 use Rattle.oca_types.specs.declared.words.Handle.{Handle}
@@ -15,7 +17,8 @@ use Rattle.oca_control.specs.declared.due.Due.TheVariants as dues
 use Rattle.oca_control.specs.declared.reception.Reception.{Reception}
 use Rattle.oca_control.specs.declared.reception.Reception.TheVariants as receptions
 use Rattle.oca_control.specs.Limits.{most_sendings, keep_alive_time, last_handle}
-use Rattle.oca_control.specs.Untaken.{Untaken, new_untaken, has_room, is_late, first_due, given_out, hears_all, answers_by_all, answer_under, without_handle}
+use Rattle.oca_control.specs.Untaken.{Untaken, new_untaken, span_has_room, is_late, first_due, given_out, hears_all}
+use Rattle.oca_control.specs.Untaken.{answers_by_all, answer_under, without_handle}
 
 -- The device's address, the present moment, the handle of the next command or none, the moment when something was given
 -- out last, that of the last well-formed datagram from the device, whether the link is lost, its span, and the untaken
@@ -33,15 +36,24 @@ pub record LinkState : Type 0 where
 -- a new link
 abbrev pub new_link : Peer → ℕ → ℕ → ℕ → LinkState
 new_link device first now span =
-    record { device = device; moment = now; next = Some first; sent = now; heard = now; lost = false; span = span; untaken = [] }
+    record {
+      device = device;
+      moment = now;
+      next = Some first;
+      sent = now;
+      heard = now;
+      lost = false;
+      span = span;
+      untaken = [];
+    }
 
 -- A moment earlier than one already seen counts as the one already seen.
-abbrev pub present : ℕ → LinkState → ℕ
-present now l = max l.moment now
+abbrev pub present_moment : ℕ → LinkState → ℕ
+present_moment now l = max l.moment now
 
 -- LATE. A link is late at a moment at which a command of it is: to give that out once more would be unsafe.
 abbrev pub late_at : ℕ → LinkState → Bool
-late_at now l = list_any (is_late (present now l)) l.untaken
+late_at now l = list_any (is_late (present_moment now l)) l.untaken
 
 -- SUBMIT. The command of a request, under a handle (AES70-3).
 abbrev pub command_under : ℕ → RequestFields → CommandFields
@@ -56,7 +68,8 @@ Request = RequestFields
 abbrev pub submission_under : RequestFields → Option ℕ → LinkState → Result Handle ControlFault
 submission_under r None l = Err faults.HandlesSpent
 submission_under r (Some h) l =
-    if has_room l.span h l.untaken then (if nat_lt most_command_parameter_bytes (length r.params) then Err faults.TooLong else Ok (record { 0 = h }))
+    if span_has_room l.span h l.untaken
+    then (if nat_lt most_command_parameter_bytes (length r.params) then Err faults.TooLong else Ok (record { 0 = h }))
     else Err faults.SpanFull
 
 -- what `submit` returns
@@ -71,7 +84,11 @@ handle_after h = if h == last_handle then None else Some (h + 1)
 abbrev pub after_submission : Result Handle ControlFault → RequestFields → ℕ → LinkState → LinkState
 after_submission (Err fault) r now l = l
 after_submission (Ok h) r now l =
-    record l { moment = present now l; next = handle_after h.0; untaken = l.untaken ++ new_untaken (command_under h.0 r) ∷ [] }
+    record l {
+      moment = present_moment now l;
+      next = handle_after h.0;
+      untaken = l.untaken ++ new_untaken (command_under h.0 r) ∷ [];
+    }
 
 abbrev pub submitted : RequestFields → ℕ → LinkState → LinkState
 submitted r now l = after_submission (submission r l) r now l
@@ -91,7 +108,8 @@ decision_among now sent (Some u) = if nat_lt u.times most_sendings then GivesCom
 
 -- what is decided; a link that is lost stays lost
 abbrev pub decision : ℕ → LinkState → Decision
-decision now l = if l.lost then IsLost else decision_among (present now l) l.sent (first_due (present now l) l.untaken)
+decision now l =
+    if l.lost then IsLost else decision_among (present_moment now l) l.sent (first_due (present_moment now l) l.untaken)
 
 -- what `due` returns
 abbrev pub due_answer : Decision → Due
@@ -109,13 +127,18 @@ due_bytes IsLost = []
 
 -- the link after it, at the present moment
 abbrev pub after_due : Decision → ℕ → LinkState → LinkState
-after_due (GivesCommand c) now l = record l { moment = now; sent = now; untaken = map (given_out now c.handle) l.untaken }
+after_due (GivesCommand c) now l = record l {
+  moment = now;
+  sent = now;
+  untaken = map (given_out now c.handle) l.untaken;
+}
 after_due GivesKeepAlive now l = record l { moment = now; sent = now }
 after_due GivesNothing now l = record l { moment = now }
 after_due IsLost now l = record l { moment = now; lost = true }
 
+-- the link after `due` at a moment, by what is decided then
 abbrev pub gone_on : ℕ → LinkState → LinkState
-gone_on now l = after_due (decision now l) (present now l) l
+gone_on now l = after_due (decision now l) (present_moment now l) l
 
 -- NEXT DUE. Something is due at this moment, or the link is lost; and at no earlier one, from the link's own on.
 pub record IsNextDue (l : LinkState) (t : ℕ) : Type 0 where
@@ -140,6 +163,7 @@ reception_of (Some messages) us = reception_counted (answers_by_all messages us)
 abbrev pub reception : Peer → Option (List Msg) → LinkState → Reception
 reception from content l = if same_peer from l.device then reception_of content l.untaken else receptions.Stranger
 
+-- the untaken commands after a datagram: one that is malformed changes nothing
 abbrev pub hears_content : Option (List Msg) → List Untaken → List Untaken
 hears_content None us = us
 hears_content (Some messages) us = hears_all messages us
@@ -148,7 +172,11 @@ hears_content (Some messages) us = hears_all messages us
 -- datagram
 abbrev pub received : Peer → Option (List Msg) → ℕ → LinkState → LinkState
 received from content now l =
-    record l { moment = present now l; heard = if same_peer from l.device && is_some content then present now l else l.heard; untaken = if same_peer from l.device then hears_content content l.untaken else l.untaken }
+    record l {
+      moment = present_moment now l;
+      heard = if same_peer from l.device && is_some content then present_moment now l else l.heard;
+      untaken = if same_peer from l.device then hears_content content l.untaken else l.untaken;
+    }
 
 -- TAKE. The link without the command of the handle, where it has an answer.
 abbrev pub taken : ℕ → LinkState → LinkState

@@ -1,6 +1,8 @@
 -- For private contracts: where the untaken commands lie in memory. The command of the handle h lies in the slot number
 -- h modulo 32, and the handle itself is not stored.
-use Rattle.std.specs.Prelude.{◌≡◌, ℕ, zero, suc, ◌+◌, ◌-◌, ◌%◌, ◌<◌, ◌≤◌, ◌==◌, nat_lt, nat_le, Bool, true, false, not, ◌&&◌, ◌||◌, if◌then◌else◌, List, [], ◌∷◌, ◌++◌, map, length, Option, Some, None, is_none, is_some, slice_index_or}
+use Rattle.std.specs.Prelude.{◌≡◌, ℕ, zero, suc, ◌+◌, ◌-◌, ◌%◌, ◌<◌, ◌≤◌, ◌==◌, nat_lt, nat_le, Bool, true, false, not}
+use Rattle.std.specs.Prelude.{◌&&◌, ◌||◌, if◌then◌else◌, List, [], ◌∷◌, ◌++◌, map, length, Option, Some, None, is_none}
+use Rattle.std.specs.Prelude.{is_some, slice_index_or}
 use Rattle.std.specs.List.{AllByRecursion}
 use Rattle.std.specs.Option.{option_map}
 use Rattle.oca_pdu.specs.Messages.{Msg, Command, Response, KeepAlive}
@@ -8,7 +10,8 @@ use Rattle.oca_control.specs.Answers.{AnswerFields}
 use Rattle.oca_types.specs.Sizes.{most_parameter_bytes}
 use Rattle.oca_control.specs.Limits.{repeat_time, most_sendings, longest_pause}
 use Rattle.oca_control.specs.Untaken.{Untaken, first_due, given_out}
-use Rattle.oca_control.specs.Links.{Request, command_under, due_bytes, Decision, GivesCommand, GivesKeepAlive, GivesNothing, IsLost}
+use Rattle.oca_control.specs.Links.{Request, command_under, due_bytes, Decision, GivesCommand, GivesKeepAlive}
+use Rattle.oca_control.specs.Links.{GivesNothing, IsLost}
 
 -- what a slot holds of a command
 pub record Held : Type 0 where
@@ -17,21 +20,26 @@ pub record Held : Type 0 where
   pub last : ℕ
   pub answer : Option AnswerFields
 
+-- what a slot holds of a command that was submitted now
 abbrev pub new_held : Request → Held
 new_held r = record { request = r; times = 0; last = 0; answer = None }
 
+-- its command is due
 abbrev pub held_is_due : ℕ → Option Held → Bool
 held_is_due now None = false
 held_is_due now (Some k) = is_none k.answer && (k.times == 0 || nat_le repeat_time (now - k.last))
 
+-- its command is late
 abbrev pub held_is_late : ℕ → Option Held → Bool
 held_is_late now None = false
 held_is_late now (Some k) = is_none k.answer && (not (k.times == 0) && nat_lt longest_pause (now - k.last))
 
+-- its command has no answer yet
 abbrev pub held_waits : Option Held → Bool
 held_waits None = false
 held_waits (Some k) = is_none k.answer
 
+-- the answer of its command
 abbrev pub held_answer : Option Held → Option AnswerFields
 held_answer None = None
 held_answer (Some k) = k.answer
@@ -40,13 +48,19 @@ held_answer (Some k) = k.answer
 abbrev pub held_given : ℕ → Held → Held
 held_given now k = record { request = k.request; times = k.times + 1; last = now; answer = k.answer }
 
+-- it gets the answer
 abbrev pub held_answered : AnswerFields → Held → Held
 held_answered answer k = record { request = k.request; times = k.times; last = k.last; answer = Some answer }
 
 -- the command of the handle, where its slot holds one
 abbrev pub untaken_at : ℕ → Option Held → List Untaken
 untaken_at h None = []
-untaken_at h (Some k) = (record { command = command_under h k.request; times = k.times; last = k.last; answer = k.answer }) ∷ []
+untaken_at h (Some k) = (record {
+  command = command_under h k.request;
+  times = k.times;
+  last = k.last;
+  answer = k.answer;
+}) ∷ []
 
 -- the slot of the handle
 abbrev pub held_at : ℕ → List (Option Held) → Option Held
@@ -63,7 +77,7 @@ pub record TableState : Type 0 where
   pub untaken : List Untaken
 
 -- The lowest untaken handle is low, or nothing is untaken and it is the next. All that is untaken lies in 32 handles.
-pub record IsTable (low next : ℕ) (slots : List (Option Held)) : Type 0 where
+pub record IsSlotTable (low next : ℕ) (slots : List (Option Held)) : Type 0 where
   pub ordered : low ≤ next
   pub near : next ≤ low + 32
   pub last : next ≤ 4294967296
@@ -89,14 +103,15 @@ after_decision now (Some GivesKeepAlive) us = us
 after_decision now (Some GivesNothing) us = us
 after_decision now (Some IsLost) us = us
 
+-- the bytes that are given out then
 abbrev pub bytes_decided : Option Decision → List ℕ
 bytes_decided None = []
 bytes_decided (Some d) = due_bytes d
 
 -- The handle is the lowest due one from low on and below next; or none of them is due.
-abbrev pub IsLowestDue : ℕ → List (Option Held) → ℕ → ℕ → Option ℕ → Type 0
-IsLowestDue now slots low next None = first_due now (untaken_from low (next - low) slots) ≡ None
-IsLowestDue now slots low next (Some h) = (low ≤ h) × (h < next) × (held_is_due now (held_at h slots) ≡ true)
+abbrev pub IsLowestDueSlot : ℕ → List (Option Held) → ℕ → ℕ → Option ℕ → Type 0
+IsLowestDueSlot now slots low next None = first_due now (untaken_from low (next - low) slots) ≡ None
+IsLowestDueSlot now slots low next (Some h) = (low ≤ h) × (h < next) × (held_is_due now (held_at h slots) ≡ true)
     × (first_due now (untaken_from low (next - low) slots) ≡ first_due now (untaken_at h (held_at h slots)))
 
 -- a command is due
@@ -109,10 +124,11 @@ IsPlaceOf h low next None = (low ≤ h) → (h < next) → ⊥
 IsPlaceOf h low next (Some place) = (low ≤ h) × (h < next) × (place ≡ h % 32)
 
 -- The parameters of a response in a datagram have at most 1,452 bytes.
-abbrev pub IsShort : Msg → Type 0
-IsShort (Command respond c) = Unit {0}
-IsShort (Response r) = length r.params ≤ most_parameter_bytes
-IsShort (KeepAlive form) = Unit {0}
+abbrev pub IsShortResponse : Msg → Type 0
+IsShortResponse (Command respond c) = Unit {0}
+IsShortResponse (Response r) = length r.params ≤ most_parameter_bytes
+IsShortResponse (KeepAlive form) = Unit {0}
 
-abbrev pub AreShort : List Msg → Type 0
-AreShort messages = AllByRecursion IsShort messages
+-- so it is of each message
+abbrev pub AreShortResponses : List Msg → Type 0
+AreShortResponses messages = AllByRecursion IsShortResponse messages

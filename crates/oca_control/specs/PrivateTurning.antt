@@ -2,7 +2,8 @@
 use Rattle.std.specs.Prelude.{[], ◌∷◌}
 use Rattle.oca_control.specs.declared.report.DriveReport.{DriveReport}
 use Rattle.oca_control.specs.Links.{IsLost}
-use Rattle.oca_control.specs.Driving.{report_of}
+use Rattle.oca_control.specs.Driving.{drive_report_of}
 
+-- nothing was given out, and the link counts as lost
 abbrev pub lost_report : DriveReport
-lost_report = report_of [] (IsLost ∷ []) 0 0
+lost_report = drive_report_of [] (IsLost ∷ []) 0 0

@@ -1,5 +1,6 @@
 -- WHAT BECAME OF EACH DATAGRAM over histories of calls (*profile*). As in Histories the latest call stands first.
-use Rattle.std.specs.Prelude.{◌≡◌, ℕ, ◌==◌, ◌<◌, Bool, true, false, ◌&&◌, ⊤, List, [], ◌∷◌, length, Option, Some, None, is_none, is_some}
+use Rattle.std.specs.Prelude.{◌≡◌, ℕ, ◌==◌, ◌<◌, Bool, true, false, ◌&&◌, ⊤, List, [], ◌∷◌, length, Option, Some, None}
+use Rattle.std.specs.Prelude.{is_none, is_some}
 use Rattle.std.specs.List.{AllByRecursion, list_any}
 use Rattle.oca_types.specs.declared.words.Peer.{Peer}
 use Rattle.oca_types.specs.Peers.{same_peer}
@@ -7,12 +8,14 @@ use Rattle.oca_pdu.specs.Messages.{Msg}
 use Rattle.oca_control.specs.declared.reception.Reception.{Reception}
 use Rattle.oca_control.specs.declared.reception.Reception.TheVariants as receptions
 use Rattle.oca_control.specs.Links.{LinkState}
-use Rattle.oca_control.specs.Histories.{Call, Submits, GivesOut, Receives, TakesAnswer, IsHistory, answers_in, answers_to, first_of, is_untaken}
+use Rattle.oca_control.specs.Histories.{Call, Submits, GivesOut, Receives, TakesAnswer, IsHistory, answers_among}
+use Rattle.oca_control.specs.Histories.{answers_to, first_of, is_untaken}
 
 -- a handle gets its first answer in these messages: it is untaken, none came before, and one is among them
 abbrev pub is_answered_first : Peer → ℕ → List Msg → List Call → Bool
 is_answered_first device h messages before =
-    is_untaken h before && (is_none (first_of (answers_to device h before)) && is_some (first_of (answers_in h messages)))
+    is_untaken h before
+    && (is_none (first_of (answers_to device h before)) && is_some (first_of (answers_among h messages)))
 
 -- each number is below those behind it
 abbrev pub AreRising : List ℕ → Type 0
@@ -27,7 +30,8 @@ pub record AnswersSoMany (device : Peer) (messages : List Msg) (before : List Ca
   pub number : length handles ≡ n
 
 -- the datagram came from the device, and is well-formed
-pub record AnswersOfDevice (device from : Peer) (content : Option (List Msg)) (before : List Call) (n : ℕ) : Type 0 where
+pub record AnswersOfDevice (device from : Peer) (content : Option (List Msg)) (before : List Call) (n : ℕ)
+    : Type 0 where
   pub sender : same_peer from device ≡ true
   pub messages : List Msg
   pub content_is : content ≡ Some messages
@@ -43,11 +47,14 @@ IsReception device from content before (receptions.Answered n) = AnswersOfDevice
 -- EACH DATAGRAM is answered so.
 abbrev pub AnswersDatagrams : Peer → List Call → Type 0
 AnswersDatagrams device [] = ⊤
-AnswersDatagrams device (Receives from bytes content now returned ∷ before) = IsReception device from content before returned × AnswersDatagrams device before
+AnswersDatagrams device (Receives from bytes content now returned ∷ before) =
+    IsReception device from content before returned × AnswersDatagrams device before
 AnswersDatagrams device (Submits request now returned ∷ before) = AnswersDatagrams device before
 AnswersDatagrams device (GivesOut now returned bytes ∷ before) = AnswersDatagrams device before
 AnswersDatagrams device (TakesAnswer h answer ∷ before) = AnswersDatagrams device before
 
+-- So it is over every history of a link whose span is not 0, as no span is.
 abbrev pub EveryDatagramIsCounted : Type 0
 EveryDatagramIsCounted =
-    (device : Peer) (first opened span : ℕ) (calls : List Call) (after : LinkState) → 0 < span → IsHistory device first opened span calls after → AnswersDatagrams device calls
+    (device : Peer) (first opened span : ℕ) (calls : List Call) (after : LinkState) → 0 < span →
+    IsHistory device first opened span calls after → AnswersDatagrams device calls

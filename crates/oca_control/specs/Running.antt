@@ -1,6 +1,6 @@
--- A LINK THAT RUNS OVER AN END (*profile*): what is done with it by the calls of this crate, at which moments, and that it
--- is asked in time where the receives of the end return in time. Moments are in milliseconds, and stand in the order of
--- time here.
+-- A LINK THAT RUNS OVER AN END (*profile*): what is done with it by the calls of this crate, at which moments, and that
+-- it is asked in time where the receives of the end return in time. Moments are in milliseconds, and stand in the order
+-- of time here.
 use Rattle.std.specs.Prelude.{◌≡◌, ℕ, ◌+◌, ◌<◌, ◌≤◌, max, false, ⊤, IsTrue, List, [], ◌∷◌, ◌++◌, Result, Ok, Err}
 use Rattle.std.specs.List.{flat_map}
 use Rattle.oca_types.specs.declared.words.Peer.{Peer}
@@ -14,7 +14,7 @@ use Rattle.oca_control.specs.declared.outcome.Outcome.{Outcome}
 use Rattle.oca_control.specs.declared.report.DriveReport.{DriveReport}
 use Rattle.oca_control.specs.Limits.{repeat_time, longest_pause}
 use Rattle.oca_control.specs.Links.{LinkState, Decision, GivesNothing, decision, submitted, taken}
-use Rattle.oca_control.specs.Histories.{Call, Submits, IsCall, IsHistory, clock, sendings}
+use Rattle.oca_control.specs.Histories.{Call, Submits, IsCall, IsHistory, clock_of_calls, sendings}
 use Rattle.oca_control.specs.Answering.{last_asked, IsAskedEvery, IsInFlight, IsGivenOutInTime}
 use Rattle.oca_control.specs.Driving.{DrivesTurn, DrivesEnd, link_from}
 use Rattle.oca_control.specs.Turning.{TurnsInTime, Turns}
@@ -36,6 +36,7 @@ delivered_at (Datagram from bytes now) = now ∷ []
 delivered_at (Quiet now) = now ∷ []
 delivered_at Failed = []
 
+-- the moments of deliveries, in order
 abbrev pub moments_delivered : List Delivery → List ℕ
 moments_delivered deliveries = flat_map delivered_at deliveries
 
@@ -48,7 +49,8 @@ AreWithin ms since (t ∷ later) = (t ≤ since + ms) × AreWithin ms (max since
 -- delivered in between follow one another, behind these others that came first.
 abbrev pub ReturnsWithin : ℕ → ℕ → List ℕ → EndState → EndState → Type 0
 ReturnsWithin ms since others before after =
-    (deliveries : List Delivery) → after.delivered ≡ before.delivered ++ deliveries → AreWithin ms since (others ++ moments_delivered deliveries)
+    (deliveries : List Delivery) → after.delivered ≡ before.delivered ++ deliveries →
+    AreWithin ms since (others ++ moments_delivered deliveries)
 
 -- ---- a link that runs
 
@@ -61,7 +63,8 @@ pub data IsRun : (moments : List ℕ) (old new : LinkState) → Type 0 where
   TookATurn : {ts : List ℕ} {old l new : LinkState} {decisions : List Decision} {n : ℕ} (d : Delivery) →
       IsRun ts old l → TurnsInTime d l new decisions n → IsRun (ts ++ delivered_at d) old new
   Began : {ts : List ℕ} {old l new : LinkState} (request : RequestFields) (now : ℕ) (h : Handle) →
-      IsRun ts old l → beginning request now l ≡ Ok h → new ≡ link_from now ((submitted request now l).span + 1) (submitted request now l) →
+      IsRun ts old l → beginning request now l ≡ Ok h →
+      new ≡ link_from now ((submitted request now l).span + 1) (submitted request now l) →
       IsRun (ts ++ now ∷ []) old new
   Took : {ts : List ℕ} {old l new : LinkState} (h : ℕ) → IsRun ts old l → new ≡ taken h l → IsRun ts old new
 
@@ -71,7 +74,7 @@ pub record RunsOver (begun : List ℕ) (old new : LinkState) (before after : End
   pub deliveries : List Delivery
   pub run : IsRun (begun ++ moments_delivered deliveries) old new
   pub telling : after.tells ≡ before.tells
-  pub told : IsTrue before.tells → after.delivered ≡ before.delivered ++ deliveries
+  pub delivered : IsTrue before.tells → after.delivered ≡ before.delivered ++ deliveries
 
 -- a refused command has no moment
 abbrev pub begun_at : Result Handle ControlFault → ℕ → List ℕ
@@ -80,17 +83,23 @@ begun_at (Err fault) now = []
 
 -- WHAT IS DONE BY `drive`, `turn`, `wait_for`, `begin` AND `ask` is such a run.
 pub record EveryCallRuns : Type 0 where
-  pub of_drive : (old new : LinkState) (before after : EndState) (report : DriveReport) → DrivesEnd old new before after report → RunsOver [] old new before after
-  pub of_turn : (old new : LinkState) (before after : EndState) (report : DriveReport) → Turns old new before after report → RunsOver [] old new before after
-  pub of_wait : (h turns : ℕ) (old new : LinkState) (outcome : Outcome) (before after : EndState) → Waits h turns old outcome new before after → RunsOver [] old new before after
-  pub of_begin : (request : RequestFields) (returned : Result Handle ControlFault) (old new : LinkState) (before after : EndState) (begins : Begins request returned old new before after) →
+  pub of_drive : (old new : LinkState) (before after : EndState) (report : DriveReport) →
+      DrivesEnd old new before after report → RunsOver [] old new before after
+  pub of_turn : (old new : LinkState) (before after : EndState) (report : DriveReport) →
+      Turns old new before after report → RunsOver [] old new before after
+  pub of_wait : (h turns : ℕ) (old new : LinkState) (outcome : Outcome) (before after : EndState) →
+      Waits h turns old outcome new before after → RunsOver [] old new before after
+  pub of_begin : (request : RequestFields) (returned : Result Handle ControlFault) (old new : LinkState)
+      (before after : EndState) (begins : Begins request returned old new before after) →
       RunsOver (begun_at returned begins.now) old new before after
-  pub of_ask : (request : RequestFields) (turns : ℕ) (old new : LinkState) (outcome : Outcome) (before after : EndState) (asks : Asks request turns old outcome new before after) →
+  pub of_ask : (request : RequestFields) (turns : ℕ) (old new : LinkState) (outcome : Outcome) (before after : EndState)
+      (asks : Asks request turns old outcome new before after) →
       RunsOver (begun_at asks.returned asks.begins.now) old new before after
 
 -- Runs go on: the one and then the other are a run.
 abbrev pub EveryRunGoesOn : Type 0
-EveryRunGoesOn = (moments later : List ℕ) (old l new : LinkState) → IsRun moments old l → IsRun later l new → IsRun (moments ++ later) old new
+EveryRunGoesOn = (moments later : List ℕ) (old l new : LinkState) → IsRun moments old l → IsRun later l new →
+    IsRun (moments ++ later) old new
 
 -- ---- it is asked in time
 
@@ -99,13 +108,13 @@ abbrev pub BecomesBy : LinkState → List Call → LinkState → Type 0
 BecomesBy old [] new = new ≡ old
 BecomesBy old (call ∷ before) new = (l : LinkState) × BecomesBy old before l × IsCall l call new
 
--- Calls make a link another, by which it IS ASKED EVERY so many ms from a moment on, and it was asked at the moment that
--- it has now: nothing is left.
+-- Calls make a link another, by which it IS ASKED EVERY so many ms from a moment on, and it was asked at the moment
+-- that it has now: nothing is left.
 pub record IsAsked (ms since : ℕ) (old new : LinkState) : Type 0 where
   pub calls : List Call
   pub made : BecomesBy old calls new
   pub every : IsAskedEvery ms since calls
-  pub clock_is : clock since calls ≡ new.moment
+  pub clock_is : clock_of_calls since calls ≡ new.moment
   pub asked_is : last_asked since calls ≡ new.moment
   pub left : NothingIsLeft new
 
@@ -125,14 +134,17 @@ EveryRunIsAsked =
 -- So it is OVER AN END that tells and whose receives return within so many ms.
 abbrev pub EveryEndInTimeServes : Type 0
 EveryEndInTimeServes =
-    (device : Peer) (first opened span ms : ℕ) (before : List Call) (old new : LinkState) (begun : List ℕ) (old_end new_end : EndState) →
+    (device : Peer) (first opened span ms : ℕ) (before : List Call) (old new : LinkState) (begun : List ℕ)
+    (old_end new_end : EndState) →
     0 < span → IsShortPause ms → IsHistory device first opened span before old → NothingIsLeft old →
-    RunsOver begun old new old_end new_end → IsTrue old_end.tells → ReturnsWithin ms old.moment begun old_end new_end → new.lost ≡ false →
+    RunsOver begun old new old_end new_end → IsTrue old_end.tells → ReturnsWithin ms old.moment begun old_end new_end →
+    new.lost ≡ false →
     IsAsked ms old.moment old new
 
--- Nothing is left; and there are calls after the submit of which the command of a handle is given out in time as long as
--- it is in flight.
-pub record CommandIsInTime (device : Peer) (first opened span ms : ℕ) (before : List Call) (request : RequestFields) (now : ℕ) (h : Handle) (since : ℕ) (new : LinkState) : Type 0 where
+-- Nothing is left; and there are calls after the submit of which the command of a handle is given out in time as long
+-- as it is in flight.
+pub record CommandIsInTime (device : Peer) (first opened span ms : ℕ) (before : List Call) (request : RequestFields)
+    (now : ℕ) (h : Handle) (since : ℕ) (new : LinkState) : Type 0 where
   pub left : NothingIsLeft new
   pub later : List Call
   pub history : IsHistory device first opened span (later ++ Submits request now (Ok h) ∷ before) new
@@ -143,16 +155,21 @@ pub record CommandIsInTime (device : Peer) (first opened span ms : ℕ) (before 
 -- follows are within so many ms of one another, the first of that of the begin.
 abbrev pub EveryBegunCommandIsInTime : Type 0
 EveryBegunCommandIsInTime =
-    (device : Peer) (first opened span ms : ℕ) (before : List Call) (old link new : LinkState) (request : RequestFields) (now : ℕ) (h : Handle) (moments : List ℕ) →
+    (device : Peer) (first opened span ms : ℕ) (before : List Call) (old link new : LinkState) (request : RequestFields)
+    (now : ℕ) (h : Handle) (moments : List ℕ) →
     0 < span → IsShortPause ms → IsHistory device first opened span before old →
-    beginning request now old ≡ Ok h → link ≡ link_from now ((submitted request now old).span + 1) (submitted request now old) →
+    beginning request now old ≡ Ok h →
+    link ≡ link_from now ((submitted request now old).span + 1) (submitted request now old) →
     IsRun moments link new → AreWithin ms link.moment moments → new.lost ≡ false →
     CommandIsInTime device first opened span ms before request now h link.moment new
 
 -- AN END IN MEMORY keeps that promise where its script does: a receive and a send leave what it delivered and will
 -- deliver as a whole, and so the moments of what it delivers are those of the script.
 pub record EveryScriptIsKept : Type 0 where
-  pub receiving : (e : MemoryState) → (after_receive e).delivered ++ (after_receive e).to_come ≡ e.delivered ++ e.to_come
-  pub sending : (e : MemoryState) (to : Peer) (bytes : List ℕ) → (after_send e to bytes).delivered ++ (after_send e to bytes).to_come ≡ e.delivered ++ e.to_come
-  pub within : (ms since : ℕ) (e f : MemoryState) → f.delivered ++ f.to_come ≡ e.delivered ++ e.to_come → AreWithin ms since (moments_delivered e.to_come) →
+  pub receiving : (e : MemoryState) →
+      (after_receive e).delivered ++ (after_receive e).to_come ≡ e.delivered ++ e.to_come
+  pub sending : (e : MemoryState) (to : Peer) (bytes : List ℕ) →
+      (after_send e to bytes).delivered ++ (after_send e to bytes).to_come ≡ e.delivered ++ e.to_come
+  pub within : (ms since : ℕ) (e f : MemoryState) → f.delivered ++ f.to_come ≡ e.delivered ++ e.to_come →
+      AreWithin ms since (moments_delivered e.to_come) →
       ReturnsWithin ms since [] (state_of_memory e) (state_of_memory f)

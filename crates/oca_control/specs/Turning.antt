@@ -7,14 +7,16 @@ use Rattle.oca_net.specs.Ends.{one_more}
 use Rattle.oca_net.specs.EndStates.{EndState, Receives, Runs}
 use Rattle.oca_control.specs.declared.report.DriveReport.{DriveReport}
 use Rattle.oca_control.specs.Links.{LinkState, Decision, IsLost, late_at}
-use Rattle.oca_control.specs.Driving.{Hears, GivesOut, decisions_from, link_from, all_given_to, report_of}
+use Rattle.oca_control.specs.Driving.{HearsDelivery, GivesOut, decisions_from, link_from, all_given_to, drive_report_of}
 
 -- What is given out where the link is late, and where it is not: nothing, which changes neither the link nor the end,
 -- and is reported as lost; or all that is due.
 abbrev pub GivesIf : Bool → ℕ → LinkState → LinkState → EndState → EndState → DriveReport → Type 0
-GivesIf true now old new before after report = (new ≡ old) × (after ≡ before) × (report ≡ report_of [] (IsLost ∷ []) 0 0)
+GivesIf true now old new before after report =
+    (new ≡ old) × (after ≡ before) × (report ≡ drive_report_of [] (IsLost ∷ []) 0 0)
 GivesIf false now old new before after report = GivesOut now (old.span + 1) old new before after report
 
+-- what is given out in time: by whether the link is late at the moment
 abbrev pub GivesInTime : ℕ → LinkState → LinkState → EndState → EndState → DriveReport → Type 0
 GivesInTime now old new before after report = GivesIf (late_at now old) now old new before after report
 
@@ -37,25 +39,27 @@ GivesAfter Failed old new decisions = (decisions ≡ []) × (new ≡ old)
 -- What was delivered is heard, whether the link is late or not, and then what is due is given out in time.
 pub record TurnsInTime (d : Delivery) (old new : LinkState) (decisions : List Decision) (answered : ℕ) : Type 0 where
   pub between : LinkState
-  pub hears : Hears d old between answered
+  pub hears : HearsDelivery d old between answered
   pub gives : GivesAfter d between new decisions
 
--- A TURN OVER AN END: there is a delivery of which it is what was done and reported. Where the end tells, that is what it
--- delivered, and it took what was given out but for the failed sends.
+-- A TURN OVER AN END: there is a delivery of which it is what was done and reported. Where the end tells, that is what
+-- it delivered, and it took what was given out but for the failed sends.
 pub record TurnsOnce (old new : LinkState) (before after : EndState) (report : DriveReport) : Type 0 where
   pub delivery : Delivery
   pub decisions : List Decision
   pub answered : ℕ
   pub turns : TurnsInTime delivery old new decisions answered
-  pub reported : report ≡ report_of (delivery ∷ []) decisions answered report.failed_sends
-  pub runs : Runs (delivery ∷ []) (all_given_to old.device decisions) report.failed_receives report.failed_sends before after
+  pub reported : report ≡ drive_report_of (delivery ∷ []) decisions answered report.failed_sends
+  pub runs : Runs (delivery ∷ []) (all_given_to old.device decisions)
+      report.failed_receives report.failed_sends before after
   pub receives : after.receives ≡ one_more before.receives
 
 -- the end was closed, which is no turn and changes nothing of the link
 pub record FindsClosed (old new : LinkState) (before after : EndState) (report : DriveReport) : Type 0 where
   pub link : new ≡ old
   pub received : Receives heard.Closed [] before after
-  pub reported : report ≡ report_of [] [] 0 0
+  pub reported : report ≡ drive_report_of [] [] 0 0
 
+-- a turn, or a closed end
 abbrev pub Turns : LinkState → LinkState → EndState → EndState → DriveReport → Type 0
 Turns old new before after report = TurnsOnce old new before after report ⊎ FindsClosed old new before after report

@@ -1,5 +1,6 @@
 -- The commands whose answers have not been taken (*profile*). In a list of them the lowest handle stands first.
-use Rattle.std.specs.Prelude.{ℕ, ◌+◌, ◌-◌, ◌==◌, nat_lt, nat_le, Bool, not, ◌&&◌, ◌||◌, if◌then◌else◌, List, [], ◌∷◌, map, filter, Option, Some, None, is_none, is_some}
+use Rattle.std.specs.Prelude.{ℕ, ◌+◌, ◌-◌, ◌==◌, nat_lt, nat_le, Bool, not, ◌&&◌, ◌||◌, if◌then◌else◌, List, [], ◌∷◌}
+use Rattle.std.specs.Prelude.{map, filter, Option, Some, None, is_none, is_some}
 use Rattle.std.specs.List.{list_any, list_all}
 use Rattle.oca_types.specs.Peers.{CommandFields}
 use Rattle.oca_pdu.specs.Messages.{Msg, Command, Response, KeepAlive}
@@ -19,8 +20,8 @@ abbrev pub new_untaken : CommandFields → Untaken
 new_untaken c = record { command = c; times = 0; last = 0; answer = None }
 
 -- A new handle lies below each untaken one plus the span.
-abbrev pub has_room : ℕ → ℕ → List Untaken → Bool
-has_room s h us = list_all (λ u. nat_lt h (u.command.handle + s)) us
+abbrev pub span_has_room : ℕ → ℕ → List Untaken → Bool
+span_has_room s h us = list_all (λ u. nat_lt h (u.command.handle + s)) us
 
 -- A command is due while it is unanswered, and was never given out or was given out 250 ms ago or earlier.
 abbrev pub is_due : ℕ → Untaken → Bool

@@ -19,7 +19,8 @@ use oca_types::{Handle, Request};
 /// command that got no answer stays in the link, and can be waited for again.
 pub fn ask<E: End>(link: &mut Link, end: &mut E, request: Request<'_>, turns: u32) -> Outcome
     ensures asks { Asks (request_of request.entry) turns link.old result link.new (E.state end.old) (E.state end.new) }
-    ensures receives { (E.state end.new).receives < last_u64 → ReceivesSoOften turns result (E.state end.old).receives (E.state end.new).receives }
+    ensures receives { (E.state end.new).receives < last_u64 →
+        ReceivesSoOften turns result (E.state end.old).receives (E.state end.new).receives }
 {
     match begin(link, end, request) {
         Ok(handle) => wait_for(link, end, handle, turns),
@@ -29,10 +30,10 @@ pub fn ask<E: End>(link: &mut Link, end: &mut E, request: Request<'_>, turns: u3
 
 /// Submits a command at the end's present moment and hands it to the end at once, and returns its handle.
 ///
-/// An end that keeps no time has the link's own moment, the greatest that it was told. All else that is due at the moment
-/// is given out with the command. Where an older one is due and had 20 sendings, the link is lost, and this one is not
-/// given out; else nothing is left to give out at that moment (`law_of_running`). Refusals, which change nothing and
-/// send nothing: `Lost` where the link is late at the moment ([`is_late`](crate::is_late)), then those of
+/// An end that keeps no time has the link's own moment, the greatest that it was told. All else that is due at the
+/// moment is given out with the command. Where an older one is due and had 20 sendings, the link is lost, and this one
+/// is not given out; else nothing is left to give out at that moment (`law_of_running`). Refusals, which change nothing
+/// and send nothing: `Lost` where the link is late at the moment ([`is_late`](crate::is_late)), then those of
 /// [`submit`](Link::submit).
 pub fn begin<E: End>(
     link: &mut Link,
@@ -58,12 +59,13 @@ pub fn begin<E: End>(
 
 /// Waits for the answer under this handle, and takes it: looks for it first, then takes turns ([`turn`]).
 ///
-/// `Answered` as soon as the answer is there; `Lost` as soon as the link is lost, or a turn found it late, and no answer
-/// is there; `Unanswered` after so many turns, each of which receives once (at a closed end too), at a socket for at most
-/// 50 ms. A handle that the link does not hold is waited for in vain.
+/// `Answered` as soon as the answer is there; `Lost` as soon as the link is lost, or a turn found it late, and no
+/// answer is there; `Unanswered` after so many turns, each of which receives once (at a closed end too), at a socket
+/// for at most 50 ms. A handle that the link does not hold is waited for in vain.
 pub fn wait_for<E: End>(link: &mut Link, end: &mut E, handle: Handle, turns: u32) -> Outcome
     ensures waits { Waits handle.0 turns link.old result link.new (E.state end.old) (E.state end.new) }
-    ensures receives { (E.state end.new).receives < last_u64 → ReceivesSoOften turns result (E.state end.old).receives (E.state end.new).receives }
+    ensures receives { (E.state end.new).receives < last_u64 →
+        ReceivesSoOften turns result (E.state end.old).receives (E.state end.new).receives }
 {
     let mut late = false;
     for _turn in 0..turns {

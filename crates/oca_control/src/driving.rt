@@ -2,9 +2,9 @@
 ghost use Rattle.std.specs.Prelude.{◌≡◌, ◌+◌, ◌-◌, ◌<◌, ◌≤◌, ◌^◌, ℕ, [], ◌∷◌, IsTrue, IfSome, false, length};
 ghost use Rattle.oca_net.specs.Ends.{last_u64};
 ghost use Rattle.oca_net.specs.EndStates.{SendsAllBut};
-ghost use Rattle.oca_control.specs.Driving.{DrivesEnd, GivesOut, added, answered_by, receives_of};
+ghost use Rattle.oca_control.specs.Driving.{DrivesEnd, GivesOut, drive_report_sum, answered_by, receives_driven};
 ghost use Rattle.oca_control.specs.Running.{NothingIsLeft};
-ghost use Rattle.oca_control.specs.PrivateDriving.{IsWithin, given_report, GivesOne, TakesTurn};
+ghost use Rattle.oca_control.specs.PrivateDriving.{IsReportWithin, given_report, GivesOne, TakesDriveTurn};
 
 use crate::due::Due;
 use crate::link::Link;
@@ -25,7 +25,7 @@ pub fn drive<E: End>(link: &mut Link, end: &mut E, turns: u32) -> DriveReport
     ensures turns { result.turns ≤ turns }
     ensures early { result.turns < turns → result.lost ≡ false → IsTrue (E.state end.new).closed }
     ensures receives { (E.state end.new).receives < last_u64 →
-        (E.state end.new).receives ≡ (E.state end.old).receives + receives_of result turns }
+        (E.state end.new).receives ≡ (E.state end.old).receives + receives_driven result turns }
 {
     let mut report = nothing();
     let mut packet = Packet::new();
@@ -47,9 +47,9 @@ pub fn drive<E: End>(link: &mut Link, end: &mut E, turns: u32) -> DriveReport
 ///
 /// `due` is called at this moment until it returns `Nothing` or `Lost`, and at most once more than the span has
 /// handles: these are all, since at most as many commands as the span has handles are untaken (`law_of_histories`), so
-/// that each is reached (`law_of_giving_out`). So nothing is left to give out at that moment, or the link is lost. Where a
-/// send fails, it is counted. Nothing is received. A moment that is earlier than one already seen counts as the one
-/// already seen.
+/// that each is reached (`law_of_giving_out`). So nothing is left to give out at that moment, or the link is lost.
+/// Where a send fails, it is counted. Nothing is received. A moment that is earlier than one already seen counts as the
+/// one already seen.
 pub fn give_out<E: End>(link: &mut Link, end: &mut E, now: u64) -> DriveReport
     ensures gives { GivesOut now (link.old.span + 1) link.old link.new (E.state end.old) (E.state end.new) result }
     ensures lost { result.lost ≡ link.new.lost }
@@ -61,8 +61,8 @@ pub fn give_out<E: End>(link: &mut Link, end: &mut E, now: u64) -> DriveReport
 
 /// Receives once, and does what there is to do. Returns what it did, or nothing at Closed.
 fn take_turn<E: End>(link: &mut Link, end: &mut E, packet: &mut Packet) -> Option<DriveReport>
-    ensures turn { TakesTurn link.old link.new (E.state end.old) (E.state end.new) result }
-    ensures fits { IfSome result (IsWithin 4294967295) }
+    ensures turn { TakesDriveTurn link.old link.new (E.state end.old) (E.state end.new) result }
+    ensures fits { IfSome result (IsReportWithin 4294967295) }
 {
     match end.receive(packet) {
         Heard::Datagram { from, now } => {
@@ -106,7 +106,7 @@ pub(crate) fn count_of(reception: Reception) -> u64
 fn give_all<E: End>(link: &mut Link, end: &mut E, packet: &mut Packet, now: u64) -> DriveReport
     ensures gives { GivesOut now (link.old.span + 1) link.old link.new (E.state end.old) (E.state end.new) result }
     ensures few { length link.old.untaken ≤ link.old.span }
-    ensures fits { IsWithin 4294967295 result }
+    ensures fits { IsReportWithin 4294967295 result }
 {
     let mut report = nothing();
     let most = u32::from(link.span()) + 1;
@@ -129,7 +129,7 @@ fn give_one<E: End>(
     now: u64,
 ) -> (bool, DriveReport)
     ensures gives { GivesOne now link.old link.new (E.state end.old) (E.state end.new) result.0 result.1 }
-    ensures fits { IsWithin 1 result.1 }
+    ensures fits { IsReportWithin 1 result.1 }
 {
     let device = link.device();
     match link.due(now, packet) {
@@ -162,7 +162,8 @@ fn give_one<E: End>(
 
 /// Sends a datagram, and returns how many sends failed.
 fn send<E: End>(end: &mut E, to: Peer, packet: &Packet) -> u64
-    ensures sends { SendsAllBut result (E.state end.old) (E.state end.new) ((record { to = to; bytes = packet.now.items }) ∷ []) }
+    ensures sends { SendsAllBut result (E.state end.old) (E.state end.new)
+        ((record { to = to; bytes = packet.now.items }) ∷ []) }
     ensures few { result ≤ 1 }
 {
     if end.send(to, packet.as_slice()) {
@@ -174,9 +175,9 @@ fn send<E: End>(end: &mut E, to: Peer, packet: &Packet) -> u64
 
 /// What both did, where the numbers fit.
 fn sum(a: DriveReport, b: DriveReport) -> DriveReport
-    requires a { IsWithin (2 ^ 64 - 2 ^ 32) a }
-    requires b { IsWithin (2 ^ 32 - 1) b }
-    ensures { result ≡ added a b }
+    requires a { IsReportWithin (2 ^ 64 - 2 ^ 32) a }
+    requires b { IsReportWithin (2 ^ 32 - 1) b }
+    ensures { result ≡ drive_report_sum a b }
 {
     a + b
 }

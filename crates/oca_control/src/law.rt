@@ -1,9 +1,11 @@
 //! The law of a link, over whole histories. Nothing here runs: the contracts are the law.
-ghost use Rattle.oca_control.specs.Answering.{EveryAnswerIsKept, EveryDueCommandIsGivenOut, EveryCommandIsGivenOutInTime};
+ghost use Rattle.oca_control.specs.Answering.{EveryAnswerIsKept, EveryDueCommandIsGivenOut};
+ghost use Rattle.oca_control.specs.Answering.{EveryCommandIsGivenOutInTime};
 ghost use Rattle.oca_control.specs.Copies.{EveryCopyIsInTime, EveryStepIsInTime, EveryLateLinkStaysLate};
-ghost use Rattle.oca_control.specs.Running.{EveryCallRuns, EveryRunGoesOn, EveryRunIsAsked, EveryEndInTimeServes, EveryBegunCommandIsInTime, EveryScriptIsKept};
+ghost use Rattle.oca_control.specs.Running.{EveryCallRuns, EveryRunGoesOn, EveryRunIsAsked, EveryEndInTimeServes};
+ghost use Rattle.oca_control.specs.Running.{EveryBegunCommandIsInTime, EveryScriptIsKept};
 ghost use Rattle.oca_control.specs.Receptions.{EveryDatagramIsCounted};
-ghost use Rattle.oca_control.specs.Histories.{EveryHistoryIsLawful, EveryLinkTellsOfItself, BytesHaveOneContent};
+ghost use Rattle.oca_control.specs.Histories.{EveryHistoryIsLawful, EveryLinkAgreesWithItsCalls, BytesHaveOneContent};
 
 use oca_pdu::law_one_list_of_messages;
 
@@ -14,16 +16,16 @@ use oca_pdu::law_one_list_of_messages;
 ///
 /// What is given out for a handle is the same bytes each time, a PDU of type 1 with its command alone; at most 20
 /// times, and at least 250 ms apart by the clock, which is the greatest moment so far. `due` gives the lowest handle
-/// that is untaken and unanswered and has rested for 250 ms, or else a keep-alive after 2,500 ms, or else nothing; and
-/// the link is lost exactly where that handle was given out 20 times. A take of an untaken handle gives the first
-/// answer that came to it in a well-formed datagram of the device since its submit, and nothing where none came: also
-/// where that answers a command that an earlier link of this address and port had under this handle. The next handle is
-/// at most an untaken one plus the span.
+/// that is untaken and unanswered and was not given out for 250 ms, or else a keep-alive after 2,500 ms, or else
+/// nothing; and the link is lost exactly where that handle was given out 20 times. A take of an untaken handle gives
+/// the first answer that came to it in a well-formed datagram of the device since its submit, and nothing where none
+/// came: also where that answers a command that an earlier link of this address and port had under this handle. The
+/// next handle is at most an untaken one plus the span.
 ///
 /// `datagram` says by the sender whether it is a stranger, by the bytes whether they are well-formed, and else how many
 /// untaken commands got their first answer in it.
 ///
-/// What a link tells of itself: `last_heard` is the clock at the last well-formed datagram of the device, at first that
+/// The state of a link: `last_heard` is the clock at the last well-formed datagram of the device, at first that
 /// of the opening; `is_lost` says whether `due` returned so; `answered` is the lowest handle that is untaken and to
 /// which an answer came.
 ///
@@ -32,7 +34,7 @@ use oca_pdu::law_one_list_of_messages;
 pub fn law_of_histories()
     ensures law { EveryHistoryIsLawful }
     ensures datagrams { EveryDatagramIsCounted }
-    ensures telling { EveryLinkTellsOfItself }
+    ensures telling { EveryLinkAgreesWithItsCalls }
     ensures content { BytesHaveOneContent }
 {
     law_one_list_of_messages();
@@ -65,9 +67,9 @@ pub fn law_of_giving_out()
 /// [`ask`](crate::ask) do with a link is a run, over the moments of what the end delivered and those at which commands
 /// were begun. Where each of these moments is at most `ms` milliseconds after the latest one before it, and nothing was
 /// left to give out when the run began, the link is asked every `ms` milliseconds, which is the premise of
-/// [`law_of_giving_out`], or it is lost; `ms` is at most 99,750. After a [`begin`](crate::begin) nothing is left, so each
-/// command that is begun is given out at once, and from then on in time as long as it waits: with receives of at most
-/// 50 ms, again less than 300 ms after each sending.
+/// [`law_of_giving_out`], or it is lost; `ms` is at most 99,750. After a [`begin`](crate::begin) nothing is left, so
+/// each command that is begun is given out at once, and from then on in time as long as it waits: with receives of at
+/// most 50 ms, again less than 300 ms after each sending.
 ///
 /// Of an end that tells what it delivers the premise is a fact of its state: its receives return within `ms` of one
 /// another. An end in memory keeps it where its script does. Of an end at a socket it is a fact of what its receives
@@ -86,8 +88,8 @@ pub fn law_of_running()
 /// before it, by the clock, over every list of calls of a link.
 ///
 /// What [`give_in_time`](crate::give_in_time), [`turn`](crate::turn), [`begin`](crate::begin),
-/// [`wait_for`](crate::wait_for) and [`ask`](crate::ask) make of a link, they make by such calls. And a link that is late
-/// at a moment is so at each later one.
+/// [`wait_for`](crate::wait_for) and [`ask`](crate::ask) make of a link, they make by such calls. And a link that is
+/// late at a moment is so at each later one.
 pub fn law_copies_in_time()
     ensures copies { EveryCopyIsInTime }
     ensures steps { EveryStepIsInTime }

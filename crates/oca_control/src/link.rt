@@ -1,5 +1,6 @@
 //! The link of a controller to a device.
-ghost use Rattle.std.specs.Prelude.{◌≡◌, ◌≤◌, ◌<◌, ℕ, max, if◌then◌else◌, length, List, Option, Some, None, MatchOption};
+ghost use Rattle.std.specs.Prelude.{◌≡◌, ◌≤◌, ◌<◌, ℕ, max, if◌then◌else◌, length, List, Option, Some, None};
+ghost use Rattle.std.specs.Prelude.{MatchOption};
 ghost use Rattle.std.specs.Option.{option_map};
 ghost use Rattle.oca_types.specs.Peers.{RequestFields};
 ghost use Rattle.oca_types.specs.Sizes.{span_size};
@@ -8,10 +9,13 @@ ghost use Rattle.oca_pdu.specs.Limits.{most_messages};
 ghost use Rattle.oca_pdu.specs.Datagrams.{messages_left};
 ghost use Rattle.oca_control.specs.Answers.{answer_fields};
 ghost use Rattle.oca_control.specs.Contents.{IsContent};
-ghost use Rattle.oca_control.specs.Untaken.{Untaken, hears, answers_by, hears_all, answers_by_all, first_answered, answer_under};
-ghost use Rattle.oca_control.specs.Links.{reception_counted, late_at, new_link, submission, submitted, decision, due_answer, due_bytes, gone_on, IsNextDue, NeverIsDue, reception, received, taken};
+ghost use Rattle.oca_control.specs.Untaken.{Untaken, hears, answers_by, hears_all, answers_by_all, first_answered};
+ghost use Rattle.oca_control.specs.Untaken.{answer_under};
+ghost use Rattle.oca_control.specs.Links.{reception_counted, late_at, new_link, submission, submitted, decision};
+ghost use Rattle.oca_control.specs.Links.{due_answer, due_bytes, gone_on, IsNextDue, NeverIsDue, reception, received};
+ghost use Rattle.oca_control.specs.Links.{taken};
 ghost use Rattle.oca_control.specs.Steps.{ReceivesDatagram};
-ghost use Rattle.oca_control.specs.PrivateSlots.{AreShort, IsShort};
+ghost use Rattle.oca_control.specs.PrivateSlots.{AreShortResponses, IsShortResponse};
 
 use crate::answer::Answer;
 use crate::due::Due;
@@ -73,10 +77,10 @@ impl Link {
     /// A link to the device at this address, whose first command gets this handle, and whose handles stay
     /// below the lowest untaken one plus the span.
     ///
-    /// A device remembers what it executed for an address and port until it heard nothing from there for 120 seconds. So
-    /// the first handle is to lie above all handles that an earlier link used from this address and port in that time:
-    /// a device is silent at a handle that it counts as old, or that another command had. And a late answer to a command
-    /// of an earlier link is taken for one to this link's command under that handle.
+    /// A device remembers what it executed for an address and port until it heard nothing from there for 120 seconds.
+    /// So the first handle is to lie above all handles that an earlier link used from this address and port in that
+    /// time: a device is silent at a handle that it counts as old, or that another command had. And a late answer to a
+    /// command of an earlier link is taken for one to this link's command under that handle.
     pub fn new(device: Peer, first_handle: Handle, now: u64, span: Span) -> Link
         ensures { result ≡ new_link device first_handle.0 now (span_size span) }
     {
@@ -104,9 +108,21 @@ impl Link {
         params: &[u8],
         now: u64,
     ) -> Result<Handle, ControlFault>
-        ensures answer { let request : RequestFields = record { target = target.0; level = method.level; index = method.index; count = count; params = params.now } in
+        ensures answer { let request : RequestFields = record {
+          target = target.0;
+          level = method.level;
+          index = method.index;
+          count = count;
+          params = params.now;
+        } in
             result ≡ submission request self.old }
-        ensures link { let request : RequestFields = record { target = target.0; level = method.level; index = method.index; count = count; params = params.now } in
+        ensures link { let request : RequestFields = record {
+          target = target.0;
+          level = method.level;
+          index = method.index;
+          count = count;
+          params = params.now;
+        } in
             self.new ≡ submitted request now self.old }
     {
         if self.lost {
@@ -171,8 +187,10 @@ impl Link {
     /// an untaken command without an answer; commands and keep-alives are ignored. The moment is kept in all cases.
     pub fn datagram(&mut self, from: Peer, bytes: &[u8], now: u64) -> Reception
         ensures receives { ReceivesDatagram from bytes.now now self.old result self.new }
-        ensures answer { (content : Option (List Msg)) → IsContent content bytes.now → result ≡ reception from content self.old }
-        ensures link { (content : Option (List Msg)) → IsContent content bytes.now → self.new ≡ received from content now self.old }
+        ensures answer { (content : Option (List Msg)) → IsContent content bytes.now →
+            result ≡ reception from content self.old }
+        ensures link { (content : Option (List Msg)) → IsContent content bytes.now →
+            self.new ≡ received from content now self.old }
     {
         self.moment = self.moment.max(now);
         if from != self.device {
@@ -296,9 +314,10 @@ fn counted(answered: u32) -> Reception
 /// Takes the responses among the messages in, and returns how many commands they answer.
 fn hear_all(table: &mut Table, messages: Messages<'_>) -> u32
     requires few { length (messages_left messages) ≤ most_messages }
-    requires short { AreShort (messages_left messages) }
+    requires short { AreShortResponses (messages_left messages) }
     ensures answered { result ≡ answers_by_all (messages_left messages.entry) table.old.untaken }
-    ensures table { table.new ≡ record { next = table.old.next; untaken = hears_all (messages_left messages.entry) table.old.untaken } }
+    ensures table { table.new
+        ≡ record { next = table.old.next; untaken = hears_all (messages_left messages.entry) table.old.untaken } }
 {
     let mut answered = 0;
     for message in messages {
@@ -311,9 +330,10 @@ fn hear_all(table: &mut Table, messages: Messages<'_>) -> u32
 
 /// Takes a message in, and returns whether it is a response that a command waited for.
 fn hear(table: &mut Table, message: Message<'_>) -> bool
-    requires { IsShort (msg_of message) }
+    requires { IsShortResponse (msg_of message) }
     ensures answered { (if result then 1 else 0) ≡ answers_by (msg_of message.entry) table.old.untaken }
-    ensures table { table.new ≡ record { next = table.old.next; untaken = hears (msg_of message.entry) table.old.untaken } }
+    ensures table { table.new
+        ≡ record { next = table.old.next; untaken = hears (msg_of message.entry) table.old.untaken } }
 {
     match message {
         Message::Response {

@@ -17,6 +17,7 @@ pub enum Outcome {
 }
 
 impl fmt::Display for Outcome {
+    /// Writes how the command came out, in words.
     fn fmt<W: fmt::Write>(&self, f: &mut fmt::Formatter<W>) -> fmt::Result {
         match self {
             Outcome::Answered(answer) => write!(f, "answered with status {}", answer.status),

@@ -1,8 +1,8 @@
 //! What a loop did with a link.
 use std::ops::Add;
 
-/// What the loop [`drive`](crate::drive) did, or a [`turn`](crate::turn), or what was given out. Two are added number by
-/// number: a number that would pass 64 bits stays at its last value; lost is what either says.
+/// What the loop [`drive`](crate::drive) did, or a [`turn`](crate::turn), or what was given out. Two are added number
+/// by number: a number that would pass 64 bits stays at its last value; lost is what either says.
 #[derive(Clone, Copy, Debug, PartialEq, Eq)]
 pub struct DriveReport {
     /// The turns: receives that delivered something: a datagram, an oversize one, silence or a failure.
@@ -23,9 +23,9 @@ pub struct DriveReport {
 
 impl Default for DriveReport {
     ghost use Rattle.std.specs.Prelude.{◌≡◌, []};
-    ghost use Rattle.oca_control.specs.Driving.{report_of};
+    ghost use Rattle.oca_control.specs.Driving.{drive_report_of};
 
-    ghost is_default = { λ r. r ≡ report_of [] [] 0 0 };
+    ghost is_default = { λ r. r ≡ drive_report_of [] [] 0 0 };
 
     /// Nothing was done.
     fn default() -> Self {
@@ -43,11 +43,11 @@ impl Default for DriveReport {
 
 impl Add for DriveReport {
     ghost use Rattle.std.specs.Prelude.{◌≡◌};
-    ghost use Rattle.oca_control.specs.Driving.{added, capped};
+    ghost use Rattle.oca_control.specs.Driving.{drive_report_sum, drive_report_capped};
 
     type Output = DriveReport;
 
-    ghost add_gives = { λ a b r. r ≡ capped (added a b) };
+    ghost add_gives = { λ a b r. r ≡ drive_report_capped (drive_report_sum a b) };
 
     /// What both did.
     fn add(self, rhs: DriveReport) -> DriveReport {

@@ -1,5 +1,6 @@
 //! The place of one command and its answer.
-ghost use Rattle.std.specs.Prelude.{◌≡◌, ◌<◌, ◌≤◌, [], ◌∷◌, length, Some, None, true, is_some, IsSomeAnd, IfSome, IsTrue, if◌then◌else◌, nat_lt};
+ghost use Rattle.std.specs.Prelude.{◌≡◌, ◌<◌, ◌≤◌, [], ◌∷◌, length, Some, None, true, is_some, IsSomeAnd, IfSome};
+ghost use Rattle.std.specs.Prelude.{IsTrue, if◌then◌else◌, nat_lt};
 ghost use Rattle.std.specs.Option.{option_map};
 ghost use Rattle.oca_types.specs.Peers.{request_of};
 ghost use Rattle.oca_types.specs.Sizes.{most_command_parameter_bytes, most_parameter_bytes};
@@ -9,7 +10,8 @@ ghost use Rattle.oca_pdu.specs.Encoding.{pdu_encoding};
 ghost use Rattle.oca_control.specs.Limits.{most_sendings};
 ghost use Rattle.oca_control.specs.Answers.{answer_fields};
 ghost use Rattle.oca_control.specs.Links.{command_under};
-ghost use Rattle.oca_control.specs.PrivateSlots.{new_held, held_is_due, held_is_late, held_waits, held_answer, held_given, held_answered};
+ghost use Rattle.oca_control.specs.PrivateSlots.{new_held, held_is_due, held_is_late, held_waits, held_answer};
+ghost use Rattle.oca_control.specs.PrivateSlots.{held_given, held_answered};
 
 use crate::answer::Answer;
 use crate::moments::later;
@@ -51,7 +53,13 @@ impl Model for Slot {
     ghost Value = { Option Held };
 
     ghost view = { λ s. if s.held then Some (record {
-      request = record { target = s.target.0; level = s.method.level; index = s.method.index; count = s.count; params = s.params.items };
+      request = record {
+        target = s.target.0;
+        level = s.method.level;
+        index = s.method.index;
+        count = s.count;
+        params = s.params.items;
+      };
       times = s.times;
       last = s.last;
       answer = if s.answered then Some (answer_fields s.answer) else None;
@@ -160,7 +168,8 @@ impl Slot {
     pub fn give_out(&mut self, handle: Handle, now: u64, packet: &mut Packet)
         requires few { IsSomeAnd self.old (λ k. k.times < most_sendings) }
         requires empty { packet.old.items ≡ [] }
-        ensures packet { IfSome self.old (λ k. packet.new.items ≡ pdu_encoding (Commands true (command_under handle.0 k.request ∷ []))) }
+        ensures packet { IfSome self.old
+            (λ k. packet.new.items ≡ pdu_encoding (Commands true (command_under handle.0 k.request ∷ []))) }
         ensures slot { self.new ≡ option_map (held_given now) self.old }
     {
         let command = Command {
@@ -178,7 +187,8 @@ impl Slot {
     /// Stores the answer.
     pub fn store(&mut self, status: u8, count: u8, params: &[u8])
         requires { length params.now ≤ most_parameter_bytes }
-        ensures { self.new ≡ option_map (held_answered (record { status = status; count = count; params = params.now })) self.old }
+        ensures { self.new
+            ≡ option_map (held_answered (record { status = status; count = count; params = params.now })) self.old }
     {
         self.answered = true;
         self.answer.status = status;

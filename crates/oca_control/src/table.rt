@@ -1,14 +1,19 @@
 //! The untaken commands of a link, each in the place that its handle names.
-ghost use Rattle.std.specs.Prelude.{◌≡◌, ◌+◌, ◌-◌, ◌%◌, ◌<◌, ◌≤◌, [], ◌∷◌, ◌++◌, map, length, Option, Some, None, true, is_some, IfSome, IsTrue, if◌then◌else◌, slice_index_or};
+ghost use Rattle.std.specs.Prelude.{◌≡◌, ◌+◌, ◌-◌, ◌%◌, ◌<◌, ◌≤◌, [], ◌∷◌, ◌++◌, map, length, Option, Some, None, true};
+ghost use Rattle.std.specs.Prelude.{is_some, IfSome, IsTrue, if◌then◌else◌, slice_index_or};
 ghost use Rattle.std.specs.List.{list_any};
 ghost use Rattle.std.specs.Option.{option_map};
 ghost use Rattle.oca_types.specs.Peers.{request_of};
 ghost use Rattle.oca_types.specs.Sizes.{most_command_parameter_bytes, most_parameter_bytes};
 ghost use Rattle.oca_types.specs.Moments.{HoldsFrom};
 ghost use Rattle.oca_control.specs.Answers.{answer_fields};
-ghost use Rattle.oca_control.specs.Untaken.{new_untaken, has_room, is_late, first_due, waits, answered, first_answered, answer_under, without_handle};
+ghost use Rattle.oca_control.specs.Untaken.{new_untaken, span_has_room, is_late, first_due, waits, answered};
+ghost use Rattle.oca_control.specs.Untaken.{first_answered};
+ghost use Rattle.oca_control.specs.Untaken.{answer_under, without_handle};
 ghost use Rattle.oca_control.specs.Links.{command_under, due_answer};
-ghost use Rattle.oca_control.specs.PrivateSlots.{IsTable, untaken_from, untaken_at, held_at, held_is_due, some_due, handle_left, first_decided, after_decision, bytes_decided, IsLowestDue, IsPlaceOf};
+ghost use Rattle.oca_control.specs.PrivateSlots.{IsSlotTable, untaken_from, untaken_at, held_at, held_is_due, some_due};
+ghost use Rattle.oca_control.specs.PrivateSlots.{handle_left, first_decided, after_decision, bytes_decided};
+ghost use Rattle.oca_control.specs.PrivateSlots.{IsLowestDueSlot, IsPlaceOf};
 
 use crate::answer::Answer;
 use crate::due::Due;
@@ -28,13 +33,13 @@ pub struct Table {
 
 impl Model for Table {
     ghost use Rattle.std.specs.Prelude.{◌-◌};
-    ghost use Rattle.oca_control.specs.PrivateSlots.{TableState, IsTable, untaken_from};
+    ghost use Rattle.oca_control.specs.PrivateSlots.{TableState, IsSlotTable, untaken_from};
 
     ghost Value = { TableState };
 
     ghost view = { λ t. record { next = t.next; untaken = untaken_from t.low (t.next - t.low) t.slots } };
 
-    ghost invariant = { λ t. IsTable t.low t.next t.slots };
+    ghost invariant = { λ t. IsSlotTable t.low t.next t.slots };
 }
 
 impl Table {
@@ -58,7 +63,7 @@ impl Table {
 
     /// Whether the next handle lies below each untaken one plus the span.
     pub fn has_room(&self, span: u8) -> bool
-        ensures room { result ≡ has_room span self.now.next self.now.untaken }
+        ensures room { result ≡ span_has_room span self.now.next self.now.untaken }
         ensures few { IsTrue result → 0 < span → length self.now.untaken < span }
     {
         self.low == self.next || self.next < self.low + u64::from(span)
@@ -67,7 +72,7 @@ impl Table {
     /// Puts a command behind the others, under the next handle.
     pub fn submit(&mut self, request: Request<'_>)
         requires left { self.old.next < 4294967296 }
-        requires room { has_room 32 self.old.next self.old.untaken ≡ true }
+        requires room { span_has_room 32 self.old.next self.old.untaken ≡ true }
         requires short { length request.params.now ≤ most_command_parameter_bytes }
         ensures { self.new ≡ record {
           next = self.old.next + 1;
@@ -84,7 +89,10 @@ impl Table {
         requires { packet.old.items ≡ [] }
         ensures answer { result ≡ option_map due_answer (first_decided now self.old.untaken) }
         ensures packet { packet.new.items ≡ bytes_decided (first_decided now self.old.untaken) }
-        ensures state { self.new ≡ record { next = self.old.next; untaken = after_decision now (first_decided now self.old.untaken) self.old.untaken } }
+        ensures state { self.new ≡ record {
+          next = self.old.next;
+          untaken = after_decision now (first_decided now self.old.untaken) self.old.untaken;
+        } }
     {
         let Some(at) = lowest_due(&self.slots, self.low, self.next, now) else {
             return None;
@@ -126,7 +134,11 @@ impl Table {
     pub fn answer(&mut self, handle: Handle, status: u8, count: u8, params: &[u8]) -> bool
         requires { length params.now ≤ most_parameter_bytes }
         ensures new { result ≡ list_any (waits handle.0) self.old.untaken }
-        ensures state { self.new ≡ record { next = self.old.next; untaken = map (answered handle.0 (record { status = status; count = count; params = params.now })) self.old.untaken } }
+        ensures state { self.new ≡ record {
+          next = self.old.next;
+          untaken = map (answered handle.0 (record { status = status; count = count; params = params.now }))
+              self.old.untaken;
+        } }
     {
         let Some(at) = place_of(handle, self.low, self.next) else {
             return false;
@@ -142,7 +154,12 @@ impl Table {
     /// Takes the answer of this handle, where there is one, and the command with it.
     pub fn take(&mut self, handle: Handle) -> Option<Answer>
         ensures answer { option_map answer_fields result ≡ answer_under handle.0 self.old.untaken }
-        ensures state { self.new ≡ record { next = self.old.next; untaken = if is_some (answer_under handle.0 self.old.untaken) then without_handle handle.0 self.old.untaken else self.old.untaken } }
+        ensures state { self.new
+            ≡ record {
+              next = self.old.next;
+              untaken = if is_some (answer_under handle.0 self.old.untaken)
+                  then without_handle handle.0 self.old.untaken else self.old.untaken;
+            } }
     {
         let Some(at) = place_of(handle, self.low, self.next) else {
             return None;
@@ -216,7 +233,7 @@ fn place_of(handle: Handle, low: u64, next: u64) -> Option<usize>
 /// The lowest due handle from `low` on and below `next`.
 fn lowest_due(slots: &[Slot; 32], low: u64, next: u64, now: u64) -> Option<u64>
     requires { low ≤ next }
-    ensures { IsLowestDue now slots.now low next result }
+    ensures { IsLowestDueSlot now slots.now low next result }
 {
     for handle in low..next {
         if slots[place(handle)].is_due(now) {

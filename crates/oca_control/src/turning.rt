@@ -14,8 +14,8 @@ use oca_types::Packet;
 /// How long a turn receives at most, in milliseconds.
 const WAIT_MS: u64 = 50;
 
-/// Whether a link is late at this moment: a command is in flight, submitted, unanswered and given out, and was given out
-/// last more than 100,000 ms before (*profile*). A moment that is earlier than one already seen counts as the one
+/// Whether a link is late at this moment: a command is in flight, submitted, unanswered and given out, and was given
+/// out last more than 100,000 ms before (*profile*). A moment that is earlier than one already seen counts as the one
 /// already seen.
 ///
 /// A device that hears nothing for 120 seconds forgets what it executed, and would execute a command once more that
@@ -34,17 +34,18 @@ pub fn give_in_time<E: End>(link: &mut Link, end: &mut E, now: u64) -> DriveRepo
     ensures left { result.lost ≡ false → NothingIsLeft link.new }
 {
     if link.late_at(now) {
-        return given_up();
+        return late_report();
     }
     give_out(link, end, now)
 }
 
 /// A turn of a link over an end, and what was done: receives once, and gives out what is due in time.
 ///
-/// An end that keeps time receives until something is due ([`Link::next_due`]), and for at most 50 ms. A datagram goes to
-/// the link, however late it is. Then, at a datagram, at silence and at an oversize datagram, [`give_in_time`] follows.
-/// A failed receive does nothing else. At Closed nothing is done, and `turns` is 0. `lost` says that the link is lost or
-/// late: it will give out nothing more. After any other turn nothing is left to give out at the link's moment.
+/// An end that keeps time receives until something is due ([`Link::next_due`]), and for at most 50 ms. A datagram goes
+/// to the link, however late it is. Then, at a datagram, at silence and at an oversize datagram, [`give_in_time`]
+/// follows. A failed receive does nothing else. At Closed nothing is done, and `turns` is 0. `lost` says that the link
+/// is lost or late: it will give out nothing more. After any other turn nothing is left to give out at the link's
+/// moment.
 pub fn turn<E: End>(link: &mut Link, end: &mut E) -> DriveReport
     ensures turns { Turns link.old link.new (E.state end.old) (E.state end.new) result }
     ensures left { LeavesNothing result link.new }
@@ -88,7 +89,7 @@ fn wait_until(link: &Link, now: u64) -> u64 {
 }
 
 /// Nothing was given out, since the link is late.
-fn given_up() -> DriveReport
+fn late_report() -> DriveReport
     ensures { result ≡ lost_report }
 {
     DriveReport {

@@ -23,7 +23,7 @@ use Rattle.oca_device.specs.States.{State, admits, after_messages, after_reading
 use Rattle.oca_device.specs.Answers.{answers_to_messages, answers_to_reading, answers_in, counts_of_messages, served, verdict_of_reading}
 use Rattle.oca_device.specs.Written.{written_by_messages, written_by_reading}
 use Rattle.oca_device.specs.Written as effects
-use Rattle.oca_device.specs.LawByEvents.{Execution, executions, executions_noted, written_of, Arrival, Happening, Passes, Says, Sets, Happened, nothing, tick, local, malformed, datagram, EventsAreBytes, clock, admitted, session, messages_in, lapsed_peers, has_room, accepted_of, accepted_by, served_of, Change, Executes, Releases, changes, objects, reply, replies, all_counted, IsVerdict}
+use Rattle.oca_device.specs.LawByEvents.{Execution, executions, executions_noted, written_of, Arrival, Happening, Passes, Says, Sets, Happened, nothing, tick, local, malformed, datagram, EventsAreBytes, clock, admitted, session, messages_in, lapsed_peers, has_room, accepted_of, accepted_by, Change, Executes, Releases, changes, objects, reply, replies, all_counted, IsVerdict}
 use Rattle.oca_device.specs.LawByEvents as law
 use Rattle.oca_device.proofs.Peers.{same_is}
 use Rattle.oca_device.proofs.Runs.{run_goes_on, run_begins}

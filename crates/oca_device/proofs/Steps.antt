@@ -7,7 +7,7 @@ use Rattle.oca_types.specs.declared.words.Peer.{Peer}
 use Rattle.oca_types.specs.Sizes.{DeviceSizes}
 use Rattle.oca_pdu.specs.Messages.{Msg, Command, Response, KeepAlive, Pdu}
 use Rattle.oca_session.specs.declared.sessions.Admission.TheVariants as heard
-use Rattle.oca_session.specs.Accepted.{Entry, retained_of, Agrees, Judgement, Fresh, Duplicate, Reused, Old}
+use Rattle.oca_session.specs.Accepted.{Entry, retained_of, AgreesWithAccepted, Judgement, Fresh, Duplicate, Reused, Old}
 use Rattle.oca_session.specs.Table.{Session, Table, session_of, changed, opened_session, heard_at, with_heartbeat, with_accepted, with_sessions, with_moment_and_sessions, present, lapsed, staying, Hears, AgreesAt}
 use Rattle.oca_pdu.specs.declared.fault.PduFault.{PduFault}
 use Rattle.oca_pdu.specs.Reading.{read_datagram}
@@ -69,7 +69,7 @@ new_there w s p old was h =
 pub agrees_there : (w : DeviceSizes) (s : State) (p : Peer) (old : Table) → old ≡ table_of w s → is_noted s.moment s.notes p ≡ true →
     AgreesAt p w.window (accepted (run p s.notes)) old.sessions
 agrees_there w s p old was k =
-    let P : Option Session → Type 0 = λ o. IfSome o (λ x. Agrees w.window (accepted (run p s.notes)) x.retained) in
+    let P : Option Session → Type 0 = λ o. IfSome o (λ x. AgreesWithAccepted w.window (accepted (run p s.notes)) x.retained) in
     subst P (sym (ap (λ (x : Table). session_of p x.sessions) was ∙ session_known w s p ∙ ap (λ b. cond b (Some (session_for w s.notes p)) None) k)) refl
 
 -- ---- a peer is let in

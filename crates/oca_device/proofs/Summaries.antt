@@ -12,7 +12,7 @@ use Rattle.oca_device.specs.Notes.{run, is_noted, noted_peers, noted_order, acce
 use Rattle.oca_device.specs.States.{State}
 use Rattle.oca_device.specs.Devices.{session_for, table_of}
 use Rattle.oca_device.specs.Answers.{response}
-use Rattle.oca_device.specs.LawByEvents.{Arrival, Happening, clock, admitted, session, messages_in, accepted_of, Change, changes, reply, Summary, summary_of, summary_by_events, greatest_handle}
+use Rattle.oca_device.specs.LawByEvents.{Arrival, Happening, clock, admitted, messages_in, accepted_of, Change, changes, reply, Summary, summary_of, summary_by_events, greatest_handle}
 use Rattle.oca_device.specs.LawByEvents as law
 use Rattle.oca_device.proofs.Acceptance.{commands_of, AreDistinct, distinct_none, distinct_of, distinct_dropped, equal_self, found_after, window_mapped, outside_mapped}
 use Rattle.oca_device.proofs.Answering.{AnswersUnder, Replied}

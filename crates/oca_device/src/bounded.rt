@@ -1,10 +1,10 @@
 //! An outbox with room for so many packets as its maker chose.
-ghost use Rattle.std.specs.Prelude.{◌≡◌, ℕ, ◌+◌, ◌<◌, ◌≤◌, List, [], ◌∷◌, ◌++◌, length, take, IfOk, slice_get};
+ghost use Rattle.std.specs.Prelude.{◌≡◌, ◌+◌, ◌<◌, ◌≤◌, [], length, take, IfOk, slice_get};
 ghost use Rattle.std.specs.Prelude.{◌==◌, vec_capacity, false, true};
 ghost use Rattle.std.specs.Option.{option_map};
-ghost use Rattle.oca_pdu.specs.Messages.{Msg, KeepAlive, Pdu};
+ghost use Rattle.oca_pdu.specs.Messages.{KeepAlive, Pdu};
 ghost use Rattle.oca_pdu.specs.Encoding.{pdu_encoding};
-ghost use Rattle.oca_device.specs.Groups.{pdu_of, with_answer, encodings};
+ghost use Rattle.oca_device.specs.Groups.{pdu_of};
 ghost use Rattle.oca_device.specs.Answers.{response};
 ghost use Rattle.oca_device.specs.Outboxes.{bytes_of_packets, first_packets};
 ghost use Rattle.oca_device.specs.PrivateServing.{AreGrouped, AreEncodings, IsGrouped, Joins, JoinsLast};

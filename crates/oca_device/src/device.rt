@@ -1,5 +1,5 @@
 //! The device: it takes events, and puts its answers into an outbox.
-ghost use Rattle.std.specs.Prelude.{◌≡◌, ℕ, ◌+◌, ◌<◌, ◌≤◌, List, [], ◌∷◌, ◌++◌, length, max, IfOk, OnErr, MatchOption};
+ghost use Rattle.std.specs.Prelude.{◌≡◌, ◌+◌, ◌<◌, ◌≤◌, List, [], ◌∷◌, ◌++◌, length, max, IfOk, OnErr, MatchOption};
 ghost use Rattle.std.specs.Prelude.{IsTrue, IsSome, if◌then◌else◌, Ok, Err};
 ghost use Rattle.oca_types.specs.Peers.{fields_of};
 ghost use Rattle.oca_types.specs.Sizes.{most_command_parameter_bytes, window_size, sizes_of, DeviceSizes};

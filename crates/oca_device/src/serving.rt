@@ -1,8 +1,8 @@
 //! The loop that serves an end of a link.
-ghost use Rattle.std.specs.Prelude.{◌≡◌, ◌+◌, ◌<◌, ◌≤◌, ◌^◌, [], IsTrue, IfSome, length, ◌-◌, slice_index_or};
+ghost use Rattle.std.specs.Prelude.{◌≡◌, ◌+◌, ◌<◌, ◌≤◌, ◌^◌, [], IsTrue, IfSome, ◌-◌};
 ghost use Rattle.oca_pdu.specs.Limits.{most_answered};
 ghost use Rattle.oca_net.specs.Ends.{last_u64};
-ghost use Rattle.oca_net.specs.EndStates.{Sends, SendsAllBut};
+ghost use Rattle.oca_net.specs.EndStates.{SendsAllBut};
 ghost use Rattle.oca_device.specs.Reports.{added, no_turns, one_turn, verdict_turn, receives_of};
 ghost use Rattle.oca_device.specs.Replies.{ServesEnd, sent_to};
 ghost use Rattle.oca_device.specs.Following.{ServesEndWith};

@@ -26,6 +26,7 @@ pub enum Verdict {
 }
 
 impl fmt::Display for Verdict {
+    /// Writes what became of the datagram, in words.
     fn fmt<W: fmt::Write>(&self, f: &mut fmt::Formatter<W>) -> fmt::Result {
         match self {
             Verdict::Served {

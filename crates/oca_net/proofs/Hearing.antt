@@ -1,13 +1,14 @@
 -- What was delivered, of an end that tells; and a delivery that is heard so, of one that does not.
 use Rattle.std.proofs.Common.{◌≡◌, ℕ, zero, suc, ◌<◌, Bool, true, false, List, [], ◌∷◌, ◌++◌, length, refl, sym, ap, subst, arith}
-use Rattle.std.specs.Prelude.{IsTrue}
+use Rattle.std.specs.Prelude.{IsTrue, Option, None}
+use Rattle.std.specs.declared.io.Error.{Error}
 use Rattle.std.proofs.lemmas.Bool.{false≢true}
 use Rattle.oca_types.specs.declared.words.Peer.{Peer}
 use Rattle.oca_net.specs.declared.end.Heard.{Heard}
 use Rattle.oca_net.specs.declared.end.Heard.TheVariants as heard
 use Rattle.oca_net.specs.Deliveries.{Datagram}
 use Rattle.oca_net.specs.Ends.{Delivers, IsHeardBy, largest_datagram}
-use Rattle.oca_net.specs.Sockets.{SaysMoment}
+use Rattle.oca_net.specs.Sockets.{IsWhy, ReturnsMoment}
 use Rattle.oca_net.specs.EndStates.{EndState, Receives}
 
 -- a datagram of more than 1,472 bytes, which is what was delivered where the end tells
@@ -38,9 +39,17 @@ oversize_heard {now} {bytes} {old} {new} r = let d = by_tells old.tells r.delive
     by_tells false f = (record { ip = 0; port = 0 }, zeros 1473, above_all 1473 (omega arith), λ told. absurd (false≢true told))
 
 -- what says this moment is heard by then
-pub heard_by : (h : Heard) (t : ℕ) → SaysMoment h t → IsHeardBy t h
+pub heard_by : (h : Heard) (t : ℕ) → ReturnsMoment h t → IsHeardBy t h
 heard_by (heard.Datagram from now) t e = omega (arith, e)
 heard_by (heard.Quiet now) t e = omega (arith, e)
 heard_by (heard.Oversize now) t e = omega (arith, e)
 heard_by heard.Failed t e = tt
 heard_by heard.Closed t e = tt
+
+-- what was heard needs no reason
+pub why_heard : (h : Heard) (fault : Option Error) → IsWhy h None → IsWhy h fault
+why_heard (heard.Datagram from now) fault w = tt
+why_heard (heard.Quiet now) fault w = absurd (false≢true w)
+why_heard (heard.Oversize now) fault w = tt
+why_heard heard.Failed fault w = absurd (false≢true w.0)
+why_heard heard.Closed fault w = tt

@@ -1,3 +1,4 @@
+pub mod Counting
 pub mod Sending
 pub mod Hearing
 pub mod Running

@@ -3,7 +3,8 @@ use Rattle.std.specs.Prelude.{◌≡◌, ℕ, ◌+◌, ◌<◌, Bool, ◌||◌, 
 use Rattle.oca_types.specs.declared.words.Peer.{Peer}
 use Rattle.oca_net.specs.declared.end.Heard.{Heard}
 use Rattle.oca_net.specs.Deliveries.{Delivery, Sent}
-use Rattle.oca_net.specs.Ends.{Delivers, KeepsTime, HoldsOnlyADatagram, is_closed, failures_after, failures_sent, taken_after, one_more, last_u64, TakesAllBut}
+use Rattle.oca_net.specs.Ends.{Delivers, KeepsTime, HoldsOnlyADatagram, is_closed, failures_after, failures_sent}
+use Rattle.oca_net.specs.Ends.{taken_after, one_more, last_u64, TakesAllBut}
 
 -- Whether the end tells what it delivers and takes; what it delivered and what it took (the latest last), which say
 -- nothing of an end that does not tell; whether it has returned Closed; how many calls failed, and how often `receive`
@@ -50,7 +51,8 @@ pub record SendsAllBut (failed : ℕ) (old new : EndState) (all : List Sent) : T
 
 -- These were delivered and these given out, and so many receives and sends failed: where the end tells, it delivered
 -- the ones and took the others but for those whose send failed.
-pub record Runs (deliveries : List Delivery) (all : List Sent) (failed_receives failed_sends : ℕ) (old new : EndState) : Type 0 where
+pub record Runs (deliveries : List Delivery) (all : List Sent) (failed_receives failed_sends : ℕ) (old new : EndState)
+    : Type 0 where
   pub telling : new.tells ≡ old.tells
   pub delivered : IsTrue old.tells → new.delivered ≡ old.delivered ++ deliveries
   pub taken : IsTrue old.tells → TakesAllBut failed_sends old.taken new.taken all

@@ -1,5 +1,6 @@
 -- An end in memory: a script that it delivers, and room for what it takes (*profile*).
-use Rattle.std.specs.Prelude.{ℕ, ◌==◌, nat_le, nat_lt, Bool, true, false, not, ◌&&◌, if◌then◌else◌, List, [], ◌∷◌, ◌++◌, length, map, Option, Some, None}
+use Rattle.std.specs.Prelude.{ℕ, ◌==◌, nat_le, nat_lt, Bool, true, false, not, ◌&&◌, if◌then◌else◌, List, [], ◌∷◌, ◌++◌}
+use Rattle.std.specs.Prelude.{length, map, Option, Some, None}
 use Rattle.oca_types.specs.declared.words.Peer.{Peer}
 use Rattle.arrayvec.specs.ArrayVec.{ArrayVec}
 use Rattle.oca_net.specs.declared.end.Heard.{Heard}
@@ -71,7 +72,8 @@ new_memory script room fail_send =
 
 -- how an entry is heard, and what the packet then holds: a datagram of more than 1,472 bytes is oversize
 abbrev pub heard_of : Delivery → Heard
-heard_of (Datagram from bytes now) = if nat_le (length bytes) largest_datagram then heard.Datagram from now else heard.Oversize now
+heard_of (Datagram from bytes now) =
+    if nat_le (length bytes) largest_datagram then heard.Datagram from now else heard.Oversize now
 heard_of (Quiet now) = heard.Quiet now
 heard_of Failed = heard.Failed
 

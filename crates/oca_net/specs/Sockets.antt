@@ -1,5 +1,10 @@
 -- An end at a UDP socket (*profile*). It tells neither what it delivered nor what it took, and is never closed.
-use Rattle.std.specs.Prelude.{◌≡◌, ◌≢◌, ◌==◌, ℕ, max, Bool, false, if◌then◌else◌, [], Option, None, Some}
+use Rattle.std.specs.Prelude.{◌≡◌, ◌≢◌, ◌<◌, ◌+◌, ◌==◌, ℕ, zero, suc, max, Bool, true, false, if◌then◌else◌, []}
+use Rattle.std.specs.Prelude.{Option, None, Some}
+use Rattle.std.specs.Prelude.{Result, Ok, Err, IsSome}
+use Rattle.std.specs.IoError.{error_kind}
+use Rattle.std.specs.declared.io.ErrorKind.{ErrorKind}
+use Rattle.std.specs.declared.io.ErrorKind.TheVariants as kind
 use Rattle.std.specs.declared.io.Error.{Error}
 use Rattle.oca_types.specs.declared.words.Peer.{Peer}
 use Rattle.oca_net.specs.declared.end.Heard.{Heard}
@@ -14,17 +19,77 @@ use Rattle.oca_net.specs.EndStates.{EndState}
 -- What the calls of the system were, numbered from 1 in their order: looks at the clock, receives and sends. How many
 -- there were; the number of the last look, and what it gave for a moment, in milliseconds (0 where the clock could not
 -- be read); the number of the last receive; and how many bytes of the last datagram that was handed over were taken,
--- where it was.
+-- where it was. Why the last receive or send failed, where it did; and how many of them a signal interrupted.
 pub record CallState : Type 0 where
   pub calls : ℕ
   pub looked : ℕ
   pub reading : ℕ
   pub received : ℕ
   pub taken : Option ℕ
+  pub refused : Option Error
+  pub signals : ℕ
+
+-- a signal interrupted the call
+abbrev pub is_signal : ErrorKind → Bool
+is_signal kind.Interrupted = true
+is_signal _ = false
+
+abbrev pub is_interrupted : Option Error → Bool
+is_interrupted None = false
+is_interrupted (Some e) = is_signal (error_kind e)
+
+-- the reason of what failed
+abbrev pub reason_of : {X : Type 0} → Result X Error → Option Error
+reason_of (Ok x) = None
+reason_of (Err e) = Some e
+
+-- how many calls a signal interrupted, after one that failed for this reason
+abbrev pub signals_after : Option Error → ℕ → ℕ
+signals_after reason n = if is_interrupted reason then one_more n else n
+
+-- By these kinds of error the system says that no datagram has come: the time of the wait is over, or a signal
+-- interrupted it.
+abbrev pub says_none_came : ErrorKind → Bool
+says_none_came kind.WouldBlock = true
+says_none_came kind.TimedOut = true
+says_none_came kind.Interrupted = true
+says_none_came _ = false
+
+abbrev pub says_none : Option Error → Bool
+says_none None = false
+says_none (Some e) = says_none_came (error_kind e)
+
+-- Why nothing was heard, by the reason that was noted last: `Quiet` where it is that no datagram has come, `Failed`
+-- where it is another one.
+abbrev pub IsWhy : Heard → Option Error → Type 0
+IsWhy (heard.Datagram from now) fault = Unit {0}
+IsWhy (heard.Quiet now) fault = says_none fault ≡ true
+IsWhy (heard.Oversize now) fault = Unit {0}
+IsWhy heard.Failed fault = IsSome fault × (says_none fault ≡ false)
+IsWhy heard.Closed fault = Unit {0}
+
+-- how often a send is begun at most
+abbrev pub most_tries : ℕ
+most_tries = 65536
+
+-- so many more, in a number that stays at its last value
+abbrev pub many_more : (n many : ℕ) → ℕ
+many_more n zero = n
+many_more n (suc k) = one_more (many_more n k)
+
+-- A SEND WAS BEGUN AGAIN so often, and only where a signal interrupted it: each of its calls but the last was
+-- interrupted, and so was the last one only where they were as many as may be. The counts of calls and of signals are
+-- those before and after, and the last call failed for this reason, where it did.
+pub record IsBegunAgain (refused : Option Error) (calls calls_now signals signals_now : ℕ) : Type 0 where
+  pub again : ℕ
+  pub few : again < most_tries
+  pub calls_so : calls_now ≡ one_more (many_more calls again)
+  pub signals_so : signals_now ≡ signals_after refused (many_more signals again)
+  pub last : is_interrupted refused ≡ true → again + 1 ≡ most_tries
 
 -- Where it is bound, its counts of failures and of receives, the latest moment that it said, the calls of the system,
--- until which moment the last receive was to wait, why the last receive or send that failed did so, and that of receives
--- and of sends alone.
+-- until which moment the last receive was to wait, why the last receive or send that failed did so, and that of
+-- receives and of sends alone.
 pub record SocketState : Type 0 where
   pub local : Peer
   pub failures : ℕ
@@ -57,7 +122,7 @@ new_socket local =
       failures = 0;
       receives = 0;
       moment = 0;
-      system = record { calls = 0; looked = 0; reading = 0; received = 0; taken = None };
+      system = record { calls = 0; looked = 0; reading = 0; received = 0; taken = None; refused = None; signals = 0 };
       until = 0;
       fault = None;
       receive_fault = None;
@@ -87,24 +152,24 @@ after_heard h system until fault e =
     }
 
 -- the last call of the system was a look at the clock
-abbrev pub IsLooked : CallState → Type 0
-IsLooked system = system.looked ≡ system.calls
+abbrev pub ReadClockLast : CallState → Type 0
+ReadClockLast system = system.looked ≡ system.calls
 
 -- Where a datagram was heard, the look at the clock was the call right behind the receive.
-abbrev pub LooksBehind : Heard → CallState → Type 0
-LooksBehind (heard.Datagram from now) system = IsLooked system × (system.looked ≡ one_more system.received)
-LooksBehind (heard.Quiet now) system = IsLooked system
-LooksBehind (heard.Oversize now) system = IsLooked system × (system.looked ≡ one_more system.received)
-LooksBehind heard.Failed system = Unit {0}
-LooksBehind heard.Closed system = Unit {0}
+abbrev pub ReadsClockAfter : Heard → CallState → Type 0
+ReadsClockAfter (heard.Datagram from now) system = ReadClockLast system × (system.looked ≡ one_more system.received)
+ReadsClockAfter (heard.Quiet now) system = ReadClockLast system
+ReadsClockAfter (heard.Oversize now) system = ReadClockLast system × (system.looked ≡ one_more system.received)
+ReadsClockAfter heard.Failed system = Unit {0}
+ReadsClockAfter heard.Closed system = Unit {0}
 
 -- the moment of what was heard, where it has one
-abbrev pub SaysMoment : Heard → ℕ → Type 0
-SaysMoment (heard.Datagram from now) moment = now ≡ moment
-SaysMoment (heard.Quiet now) moment = now ≡ moment
-SaysMoment (heard.Oversize now) moment = now ≡ moment
-SaysMoment heard.Failed moment = Unit {0}
-SaysMoment heard.Closed moment = Unit {0}
+abbrev pub ReturnsMoment : Heard → ℕ → Type 0
+ReturnsMoment (heard.Datagram from now) moment = now ≡ moment
+ReturnsMoment (heard.Quiet now) moment = now ≡ moment
+ReturnsMoment (heard.Oversize now) moment = now ≡ moment
+ReturnsMoment heard.Failed moment = Unit {0}
+ReturnsMoment heard.Closed moment = Unit {0}
 
 -- whether so many bytes were taken
 abbrev pub is_taken : ℕ → Option ℕ → Bool

@@ -23,8 +23,8 @@ pub enum Heard {
 /// An end of a network: it receives and sends datagrams.
 ///
 /// Where an end tells, `delivered` and `taken` of its state are all that it delivered and took. Of an end that does not
-/// tell, these two say nothing; whether it has returned Closed, and its counts, are said of every end. An end that keeps
-/// time says the latest moment that it has returned; of one that keeps none, nothing is said of its moments.
+/// tell, these two say nothing; whether it has returned Closed, and its counts, are said of every end. An end that
+/// keeps time says the latest moment that it has returned; of one that keeps none, nothing is said of its moments.
 pub trait End {
     /// What the end says of itself.
     ghost state: { Self → EndState };

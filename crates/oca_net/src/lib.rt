@@ -10,6 +10,7 @@ mod descriptors;
 mod end;
 mod memory;
 mod moments;
+mod reason;
 mod refusal;
 mod sleep;
 mod socket;

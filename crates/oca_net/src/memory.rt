@@ -1,7 +1,9 @@
 //! An end in memory, for tests and for running a link without a network.
-ghost use Rattle.std.specs.Prelude.{◌≡◌, ◌+◌, ◌<◌, ◌≤◌, [], ◌∷◌, ◌++◌, length, IfOk, IsTrue, true, vec_len, vec_capacity};
+ghost use Rattle.std.specs.Prelude.{◌≡◌, ◌+◌, ◌<◌, ◌≤◌, [], ◌∷◌, ◌++◌, length, IfOk, IsTrue, true, vec_len};
+ghost use Rattle.std.specs.Prelude.{vec_capacity};
 ghost use Rattle.oca_net.specs.Ends.{largest_datagram};
-ghost use Rattle.oca_net.specs.Memory.{delivery_of, deliveries_of, heard_of, bytes_of, sent_packets, new_memory, next_heard, next_bytes, after_receive, takes, after_send, state_of_memory};
+ghost use Rattle.oca_net.specs.Memory.{delivery_of, deliveries_of, heard_of, bytes_of, sent_packets, new_memory};
+ghost use Rattle.oca_net.specs.Memory.{next_heard, next_bytes, after_receive, takes, after_send, state_of_memory};
 
 use crate::count::step;
 use crate::end::{End, Heard};
@@ -59,7 +61,8 @@ impl Model for MemoryEnd {
       receives = a.receives;
     } };
 
-    ghost invariant = { λ a. (a.next ≤ length a.script.items) × (length a.taken.items ≤ a.room) × (a.room ≤ vec_capacity a.taken) };
+    ghost invariant = { λ a. (a.next ≤ length a.script.items) × (length a.taken.items ≤ a.room)
+        × (a.room ≤ vec_capacity a.taken) };
 }
 
 impl MemoryEnd {
@@ -174,7 +177,8 @@ fn hear(entry: &Scripted, packet: &mut Packet) -> Heard
 fn put(taken: &mut Vec<(Peer, Packet)>, to: Peer, bytes: &[u8])
     requires size { length bytes.now ≤ largest_datagram }
     requires room { vec_len taken.old < vec_capacity taken.old }
-    ensures items { sent_packets taken.new.items ≡ sent_packets taken.old.items ++ (record { to = to; bytes = bytes.now }) ∷ [] }
+    ensures items { sent_packets taken.new.items
+        ≡ sent_packets taken.old.items ++ (record { to = to; bytes = bytes.now }) ∷ [] }
     ensures len { vec_len taken.new ≡ vec_len taken.old + 1 }
     ensures capacity { vec_capacity taken.old ≤ vec_capacity taken.new }
 {

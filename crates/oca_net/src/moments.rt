@@ -18,18 +18,21 @@ impl<'a, C: Clock> Socket<'a, C> {
 
     /// Looks at the clock: the present moment, which is not noted.
     pub(crate) fn look(&mut self) -> u64
-        ensures fresh { IsFresh result self.new.latest (milliseconds_of self.new.system.reading) self.new.system.looked self.new.system.calls }
+        ensures fresh { IsFresh result self.new.latest (milliseconds_of self.new.system.reading)
+            self.new.system.looked self.new.system.calls }
         ensures later { self.old.latest ≤ result }
         ensures latest { self.new.latest ≡ self.old.latest }
         ensures until { self.new.until ≡ self.old.until }
         ensures taken { self.new.system.taken ≡ self.old.system.taken }
+        ensures fault { self.new.fault ≡ self.old.fault }
+        ensures calls { self.new.system.calls ≡ one_more self.old.system.calls }
     {
         milliseconds(self.system.look()).max(self.latest)
     }
 
-    /// Looks at the clock, tells the present moment and notes it, so that no later call gives an earlier one.
-    pub(crate) fn tell(&mut self) -> u64
-        ensures told { result ≡ self.new.latest }
+    /// Looks at the clock, returns the present moment and notes it, so that no later call returns an earlier one.
+    pub(crate) fn note_moment(&mut self) -> u64
+        ensures moment { result ≡ self.new.latest }
         ensures later { self.new.latest ≡ max self.old.latest (milliseconds_of self.new.system.reading) }
         ensures looked { self.new.system.looked ≡ self.new.system.calls }
         ensures behind { self.new.system.looked ≡ one_more self.old.system.calls }

@@ -1,8 +1,8 @@
 //! A UDP socket of IPv4, and how long its calls wait.
-ghost use Rattle.std.specs.Prelude.{◌≡◌, ◌≢◌, ◌≤◌, ◌-◌, IfOk, IfErr, IsOk, OnOk, Some, None, length, true, false};
-ghost use Rattle.oca_net.specs.Ends.{one_more};
+ghost use Rattle.std.specs.Prelude.{◌≡◌, ◌≢◌, ◌≤◌, ◌-◌, IfOk, IfErr, IsOk, OnOk, Some, None, length, min, true, false};
+ghost use Rattle.oca_net.specs.Ends.{last_u64, one_more};
 ghost use Rattle.oca_net.specs.PrivateMoments.{IsFresh, milliseconds_of, wait_of};
-ghost use Rattle.oca_net.specs.Sockets.{IsBoundAt, is_taken};
+ghost use Rattle.oca_net.specs.Sockets.{IsBoundAt, is_interrupted, is_taken, reason_of, signals_after};
 
 use crate::system;
 use crate::system::System;
@@ -44,6 +44,8 @@ impl<'a, C: Clock> Socket<'a, C> {
         ensures reading { IfOk result (λ r. milliseconds_of r.0.system.reading ≡ 0) }
         ensures received { IfOk result (λ r. r.0.system.received ≡ 0) }
         ensures taken { IfOk result (λ r. r.0.system.taken ≡ None) }
+        ensures refused { IfOk result (λ r. r.0.system.refused ≡ None) }
+        ensures signals { IfOk result (λ r. r.0.system.signals ≡ 0) }
     {
         let mut system = System::open(rt, SocketAddrV4::from(asked))?;
         system.set_timeout(wait)?;
@@ -65,7 +67,12 @@ impl<'a, C: Clock> Socket<'a, C> {
     /// Lets a receive wait so many milliseconds.
     fn set_wait(&mut self, wait: u64) -> io::Result<()>
         ensures waits { IfOk result (λ _. wait_of self.new.system.blocking self.new.system.timeout ≡ wait) }
-        ensures same { self.new ≡ record self.old { system = record self.old.system { blocking = self.new.system.blocking; timeout = self.new.system.timeout } } }
+        ensures same { self.new ≡ record self.old {
+          system = record self.old.system {
+            blocking = self.new.system.blocking;
+            timeout = self.new.system.timeout;
+          };
+        } }
     {
         if wait == 0 {
             return self.set_blocking(false);
@@ -79,7 +86,8 @@ impl<'a, C: Clock> Socket<'a, C> {
     /// Lets a receive wait, or not.
     fn set_blocking(&mut self, blocking: bool) -> io::Result<()>
         ensures blocking { IfOk result (λ _. self.new.system.blocking ≡ blocking) }
-        ensures same { self.new ≡ record self.old { system = record self.old.system { blocking = self.new.system.blocking } } }
+        ensures same { self.new
+            ≡ record self.old { system = record self.old.system { blocking = self.new.system.blocking } } }
     {
         if self.system.is_blocking() == blocking {
             return Ok(());
@@ -90,7 +98,8 @@ impl<'a, C: Clock> Socket<'a, C> {
     /// Receives a datagram until the moment that receives are to wait for: its length, cut to the buffer's, and its
     /// sender. The present moment is that of a look at the clock right before.
     pub(crate) fn receive(&mut self, buffer: &mut [u8], now: u64) -> io::Result<(usize, Peer)>
-        requires fresh { IsFresh now self.old.latest (milliseconds_of self.old.system.reading) self.old.system.looked self.old.system.calls }
+        requires fresh { IsFresh now self.old.latest (milliseconds_of self.old.system.reading)
+            self.old.system.looked self.old.system.calls }
         ensures length { IfOk result (λ d. d.0 ≤ length buffer.new) }
         ensures waited { IfOk result (λ d. self.new.system.waited ≡ self.old.until - now) }
         ensures received { IfOk result (λ d. self.new.system.received ≡ self.new.system.calls) }
@@ -100,6 +109,7 @@ impl<'a, C: Clock> Socket<'a, C> {
         ensures until { self.new.until ≡ self.old.until }
         ensures reading { self.new.system.reading ≡ self.old.system.reading }
         ensures taken { self.new.system.taken ≡ self.old.system.taken }
+        ensures calls { min self.old.system.calls last_u64 ≤ self.new.system.calls }
     {
         let received = self.try_receive(buffer, self.until.saturating_sub(now));
         if let Err(reason) = &received {
@@ -109,6 +119,7 @@ impl<'a, C: Clock> Socket<'a, C> {
     }
 
     /// Receives a datagram within so many milliseconds.
+    #[tactic(auto, using(crate::proofs::Counting::kept, crate::proofs::Counting::kept_or_more))]
     fn try_receive(&mut self, buffer: &mut [u8], wait: u64) -> io::Result<(usize, Peer)>
         ensures length { IfOk result (λ d. d.0 ≤ length buffer.new) }
         ensures waited { IfOk result (λ d. self.new.system.waited ≡ wait) }
@@ -118,6 +129,7 @@ impl<'a, C: Clock> Socket<'a, C> {
         ensures until { self.new.until ≡ self.old.until }
         ensures reading { self.new.system.reading ≡ self.old.system.reading }
         ensures taken { self.new.system.taken ≡ self.old.system.taken }
+        ensures calls { min self.old.system.calls last_u64 ≤ self.new.system.calls }
     {
         self.set_wait(wait)?;
         let (n, from) = self.system.receive(buffer)?;
@@ -129,7 +141,14 @@ impl<'a, C: Clock> Socket<'a, C> {
         ensures ok { IfOk result (λ _. is_taken (length bytes.now) self.new.system.taken ≡ true) }
         ensures err { IfErr result (λ e. is_taken (length bytes.now) self.new.system.taken ≡ false) }
         ensures fault { IfErr result (λ e. self.new.fault ≡ Some e) }
-        ensures calls { self.new.system ≡ record self.old.system { calls = one_more self.old.system.calls; taken = self.new.system.taken } }
+        ensures reason { is_interrupted (reason_of result) ≡ is_interrupted self.new.system.refused }
+        ensures calls { self.new.system
+            ≡ record self.old.system {
+              calls = one_more self.old.system.calls;
+              taken = self.new.system.taken;
+              refused = self.new.system.refused;
+              signals = signals_after self.new.system.refused self.old.system.signals;
+            } }
         ensures latest { self.new.latest ≡ self.old.latest }
         ensures until { self.new.until ≡ self.old.until }
     {
@@ -160,6 +179,7 @@ fn whole(sent: io::Result<usize>, bytes: usize) -> io::Result<()>
     ensures ok { IfOk result (λ _. IfOk sent (λ n. n ≡ bytes)) }
     ensures sent { OnOk result (IsOk sent) }
     ensures err { IfErr result (λ e. IfOk sent (λ n. n ≢ bytes)) }
+    ensures reason { is_interrupted (reason_of result) ≡ is_interrupted (reason_of sent) }
 {
     let n = sent?;
     if n == bytes {

@@ -1,9 +1,12 @@
 //! Calls of the system whose doing no clause tells. Each function does one of them, and decides nothing.
-ghost use Rattle.std.specs.Prelude.{◌≡◌, ◌≤◌, IfOk, IfErr, None, Some, length};
+ghost use Rattle.std.specs.Prelude.{◌≡◌, ◌≤◌, IfOk, IfErr, IsSome, None, Some, length};
+ghost use Rattle.std.specs.IoError.{raw_os_error};
 ghost use Rattle.oca_net.specs.Ends.{one_more};
 ghost use Rattle.oca_net.specs.PrivateMoments.{milliseconds_of, wait_of};
+ghost use Rattle.oca_net.specs.Sockets.{signals_after};
 
 use crate::count::step;
+use crate::reason::{is_interrupted, reason_of};
 use libc::clock_gettime;
 use libc::net::{
     AF_INET, MSG_DONTWAIT, MSG_NOSIGNAL, SO_SNDBUF, SOL_SOCKET, getsockopt, sendto, setsockopt,
@@ -41,6 +44,10 @@ pub(crate) struct System<'a, C: Clock> {
     waited: u64,
     /// How many bytes of the last datagram that was handed over were taken, where it was.
     taken: Option<usize>,
+    /// Why the last receive or send failed, where it did.
+    refused: Option<io::Error>,
+    /// How many receives and sends a signal interrupted.
+    signals: u64,
 }
 
 impl<'a, C: Clock> System<'a, C> {
@@ -53,6 +60,8 @@ impl<'a, C: Clock> System<'a, C> {
         ensures reading { IfOk result (λ s. milliseconds_of s.reading ≡ 0) }
         ensures received { IfOk result (λ s. s.received ≡ 0) }
         ensures taken { IfOk result (λ s. s.taken ≡ None) }
+        ensures refused { IfOk result (λ s. s.refused ≡ None) }
+        ensures signals { IfOk result (λ s. s.signals ≡ 0) }
     {
         let socket = UdpSocket::bind(rt, address)?;
         let start = Instant::now(rt)?;
@@ -68,6 +77,8 @@ impl<'a, C: Clock> System<'a, C> {
             received: 0,
             waited: 0,
             taken: None,
+            refused: None,
+            signals: 0,
         })
     }
 
@@ -78,8 +89,12 @@ impl<'a, C: Clock> System<'a, C> {
 
     /// Looks at the clock: the time since the start.
     pub(crate) fn look(&mut self) -> Duration
-        ensures told { result ≡ self.new.reading }
-        ensures new { self.new ≡ record self.old { calls = one_more self.old.calls; looked = one_more self.old.calls; reading = self.new.reading } }
+        ensures returned { result ≡ self.new.reading }
+        ensures new { self.new ≡ record self.old {
+          calls = one_more self.old.calls;
+          looked = one_more self.old.calls;
+          reading = self.new.reading;
+        } }
     {
         self.reading = self.peek();
         step(&mut self.calls);
@@ -134,20 +149,37 @@ impl<'a, C: Clock> System<'a, C> {
 
     /// Receives a datagram: its length, cut to the buffer's, and its sender.
     pub(crate) fn receive(&mut self, buffer: &mut [u8]) -> io::Result<(usize, SocketAddr)>
-        ensures new { self.new ≡ record self.old { calls = one_more self.old.calls; received = one_more self.old.calls; waited = wait_of self.old.blocking self.old.timeout } }
+        ensures new { self.new ≡ record self.old {
+          calls = one_more self.old.calls;
+          received = one_more self.old.calls;
+          waited = wait_of self.old.blocking self.old.timeout;
+          refused = self.new.refused;
+          signals = signals_after self.new.refused self.old.signals;
+        } }
         ensures length { IfOk result (λ d. d.0 ≤ length buffer.new) }
+        ensures gave { IfOk result (λ d. self.new.refused ≡ None) }
+        ensures refused { IfErr result (λ e. self.new.refused ≡ Some e) }
     {
         step(&mut self.calls);
         self.received = self.calls;
         self.waited = if self.blocking { self.timeout } else { 0 };
-        self.socket.recv_from(buffer)
+        let received = self.socket.recv_from(buffer);
+        self.note(reason_of(&received));
+        received
     }
 
     /// Hands a datagram over, and does not wait for room: how many of its bytes were taken.
     pub(crate) fn send(&mut self, bytes: &[u8], to: SocketAddrV4) -> io::Result<usize>
         ensures taken { IfOk result (λ n. self.new.taken ≡ Some n) }
         ensures failed { IfErr result (λ _. self.new.taken ≡ None) }
-        ensures new { self.new ≡ record self.old { calls = one_more self.old.calls; taken = self.new.taken } }
+        ensures refused { IfErr result (λ e. self.new.refused ≡ Some e) }
+        ensures gave { IfOk result (λ n. self.new.refused ≡ None) }
+        ensures new { self.new ≡ record self.old {
+          calls = one_more self.old.calls;
+          taken = self.new.taken;
+          refused = self.new.refused;
+          signals = signals_after self.new.refused self.old.signals;
+        } }
     {
         step(&mut self.calls);
         let sent = send_now(self.socket.as_raw_fd(), bytes, to);
@@ -155,7 +187,18 @@ impl<'a, C: Clock> System<'a, C> {
             Ok(count) => Some(*count),
             Err(_) => None,
         };
+        self.note(reason_of(&sent));
         sent
+    }
+
+    /// Notes why a receive or a send failed, where it did, and counts it where a signal interrupted it.
+    fn note(&mut self, reason: Option<io::Error>)
+        ensures { self.new ≡ record self.old { refused = reason; signals = signals_after reason self.old.signals } }
+    {
+        self.refused = reason;
+        if is_interrupted(reason) {
+            step(&mut self.signals);
+        }
     }
 }
 
@@ -192,7 +235,8 @@ pub(crate) fn send_buffer(socket: RawFd) -> io::Result<u32> {
 
 /// Hands a datagram to the system, and does not wait for room: how many of its bytes were taken.
 fn send_now(socket: RawFd, bytes: &[u8], to: SocketAddrV4) -> io::Result<usize>
-    ensures { IfOk result (λ n. n ≤ length bytes.now) }
+    ensures most { IfOk result (λ n. n ≤ length bytes.now) }
+    ensures reason { IfErr result (λ e. IsSome (raw_os_error e)) }
 {
     let address = address_for_c(to);
     let taken = unsafe { sendto(socket, bytes, MSG_NOSIGNAL | MSG_DONTWAIT, &address, 16) };

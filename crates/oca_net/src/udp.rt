@@ -1,11 +1,15 @@
 //! An end at a UDP socket.
-ghost use Rattle.std.specs.Prelude.{◌≡◌, ◌≤◌, ◌+◌, ◌-◌, [], IfOk, IfErr, IfSome, Some, false, true, length, max, min};
+ghost use Rattle.std.specs.Prelude.{◌≡◌, ◌≤◌, ◌<◌, ◌+◌, ◌-◌, [], IfOk, IfErr, IfNone, IfSome, None, Some, false, true};
+ghost use Rattle.std.specs.Prelude.{length, max, min};
 ghost use Rattle.oca_net.specs.Ends.{HoldsOnlyADatagram, is_closed, is_failed, largest_datagram, last_u64, one_more};
-ghost use Rattle.oca_net.specs.Sockets.{IsBoundAt, LooksBehind, SaysMoment, after_heard, after_sent, fault_of, is_taken, new_socket, state_of_socket};
+ghost use Rattle.oca_net.specs.Sockets.{IsBegunAgain, IsBoundAt, IsWhy, ReadsClockAfter, ReturnsMoment};
+ghost use Rattle.oca_net.specs.Sockets.{after_heard, after_sent, fault_of, is_interrupted, is_taken, most_tries};
+ghost use Rattle.oca_net.specs.Sockets.{new_socket, says_none, state_of_socket};
 ghost use Rattle.oca_net.specs.PrivateMoments.{IsFresh, milliseconds_of, until_at_most};
 
 use crate::count::step;
 use crate::end::{End, Heard};
+use crate::reason::{is_interrupted, is_signal, reason_of, says_none_came};
 use crate::socket::Socket;
 use oca_types::{MOST_BYTES, Packet, Peer};
 use std::alloc::Global;
@@ -106,6 +110,8 @@ impl<'a, C: Clock> Model for UdpEnd<'a, C> {
         reading = milliseconds_of a.socket.system.reading;
         received = a.socket.system.received;
         taken = a.socket.system.taken;
+        refused = a.socket.system.refused;
+        signals = a.socket.system.signals;
       };
       until = a.socket.until;
       fault = a.socket.fault;
@@ -201,10 +207,11 @@ impl<'a, C: Clock> UdpEnd<'a, C> {
     pub fn receive_by(&mut self, packet: &mut Packet, moment: u64) -> Heard
         ensures packet { HoldsOnlyADatagram result packet.new.items }
         ensures open { is_closed result ≡ false }
-        ensures said { SaysMoment result self.new.moment }
+        ensures said { ReturnsMoment result self.new.moment }
         ensures later { self.old.moment ≤ self.new.moment }
         ensures end { self.new ≡ after_heard result self.new.system self.new.until self.new.fault self.old }
-        ensures behind { LooksBehind result self.new.system }
+        ensures behind { ReadsClockAfter result self.new.system }
+        ensures why { IsWhy result self.new.fault }
         ensures most { self.new.until ≤ moment }
         ensures least { until_at_most self.old.moment moment ≤ self.new.until }
     {
@@ -213,14 +220,17 @@ impl<'a, C: Clock> UdpEnd<'a, C> {
     }
 
     /// Receives once, until this moment at most. The present moment is that of a look at the clock right before.
+    #[tactic(auto, using(crate::proofs::Hearing::why_heard))]
     fn hear(&mut self, packet: &mut Packet, now: u64, until: u64) -> Heard
-        requires fresh { IsFresh now self.old.moment self.old.system.reading self.old.system.looked self.old.system.calls }
+        requires fresh { IsFresh now self.old.moment self.old.system.reading self.old.system.looked
+            self.old.system.calls }
         ensures packet { HoldsOnlyADatagram result packet.new.items }
         ensures open { is_closed result ≡ false }
-        ensures said { SaysMoment result self.new.moment }
+        ensures said { ReturnsMoment result self.new.moment }
         ensures later { self.old.moment ≤ self.new.moment }
         ensures end { self.new ≡ after_heard result self.new.system self.new.until self.new.fault self.old }
-        ensures behind { LooksBehind result self.new.system }
+        ensures behind { ReadsClockAfter result self.new.system }
+        ensures why { IsWhy result self.new.fault }
         ensures until { self.new.until ≡ until }
     {
         packet.clear();
@@ -228,10 +238,10 @@ impl<'a, C: Clock> UdpEnd<'a, C> {
         let buffer = self.buffer.as_mut_slice();
         match wait(&mut self.socket, buffer, now, until) {
             Ok(None) => Heard::Quiet {
-                now: self.socket.tell(),
+                now: self.socket.note_moment(),
             },
             Ok(Some((n, from))) => {
-                let now = self.socket.tell();
+                let now = self.socket.note_moment();
                 fill(packet, &self.buffer[..n], from, now)
             }
             Err(reason) => {
@@ -252,10 +262,11 @@ impl<'a, C: Clock> End for UdpEnd<'a, C> {
     fn receive(&mut self, packet: &mut Packet) -> Heard
         ensures packet { HoldsOnlyADatagram result packet.new.items }
         ensures open { is_closed result ≡ false }
-        ensures said { SaysMoment result self.new.moment }
+        ensures said { ReturnsMoment result self.new.moment }
         ensures later { self.old.moment ≤ self.new.moment }
         ensures end { self.new ≡ after_heard result self.new.system self.new.until self.new.fault self.old }
-        ensures behind { LooksBehind result self.new.system }
+        ensures behind { ReadsClockAfter result self.new.system }
+        ensures why { IsWhy result self.new.fault }
         ensures least { min (self.old.moment + 50) last_u64 ≤ self.new.until }
     {
         let now = self.socket.look();
@@ -266,10 +277,11 @@ impl<'a, C: Clock> End for UdpEnd<'a, C> {
     fn receive_by(&mut self, packet: &mut Packet, moment: u64) -> Heard
         ensures packet { HoldsOnlyADatagram result packet.new.items }
         ensures open { is_closed result ≡ false }
-        ensures said { SaysMoment result self.new.moment }
+        ensures said { ReturnsMoment result self.new.moment }
         ensures later { self.old.moment ≤ self.new.moment }
         ensures end { self.new ≡ after_heard result self.new.system self.new.until self.new.fault self.old }
-        ensures behind { LooksBehind result self.new.system }
+        ensures behind { ReadsClockAfter result self.new.system }
+        ensures why { IsWhy result self.new.fault }
         ensures most { self.new.until ≤ moment }
         ensures least { until_at_most self.old.moment moment ≤ self.new.until }
     {
@@ -288,8 +300,10 @@ impl<'a, C: Clock> End for UdpEnd<'a, C> {
         requires { length bytes.now ≤ largest_datagram }
         ensures end { self.new ≡ after_sent result self.new.system self.new.fault self.old }
         ensures taken { result ≡ is_taken (length bytes.now) self.new.system.taken }
+        ensures again { IsBegunAgain self.new.system.refused self.old.system.calls self.new.system.calls
+            self.old.system.signals self.new.system.signals }
     {
-        match hand_over(&mut self.socket, to, bytes) {
+        match send_datagram(&mut self.socket, to, bytes) {
             Ok(()) => true,
             Err(reason) => {
                 step(&mut self.failures);
@@ -321,8 +335,8 @@ fn end_of_wait(now: u64, moment: u64) -> u64
     moment.min(now.saturating_add(LONGEST_WAIT_MS))
 }
 
-/// Until when a receive that failed at this moment pauses: as long as one in which no datagram comes, and no longer than
-/// it was to wait.
+/// Until when a receive that failed at this moment pauses: as long as one in which no datagram comes, and no longer
+/// than it was to wait.
 fn end_of_pause(now: u64, until: u64) -> u64
     ensures { result ≡ min until (min (now + 50) last_u64) }
 {
@@ -330,19 +344,26 @@ fn end_of_pause(now: u64, until: u64) -> u64
 }
 
 /// Waits for a datagram until this moment at most, and returns its length, cut to the buffer's, and its sender; nothing
-/// where none has come. A wait that a signal interrupts goes on for what is left: before each receive of the system there
-/// is a look at the clock, here the caller's before the first.
+/// where none has come. A wait that a signal interrupts goes on for what is left: before each receive of the system
+/// there is a look at the clock, here the caller's before the first.
 fn wait<C: Clock>(
     socket: &mut Socket<'_, C>,
     buffer: &mut [u8],
     begun: u64,
     until: u64,
 ) -> io::Result<Option<(usize, Peer)>>
-    requires fresh { IsFresh begun socket.old.latest (milliseconds_of socket.old.system.reading) socket.old.system.looked socket.old.system.calls }
+    requires fresh { IsFresh begun socket.old.latest (milliseconds_of socket.old.system.reading)
+        socket.old.system.looked socket.old.system.calls }
     ensures length { IfOk result (λ o. IfSome o (λ d. d.0 ≤ length buffer.new)) }
     ensures received { IfOk result (λ o. IfSome o (λ d. socket.new.system.received ≡ socket.new.system.calls)) }
-    ensures waited { IfOk result (λ o. IfSome o (λ d. socket.new.system.waited ≡ until - max socket.new.latest (milliseconds_of socket.new.system.reading))) }
+    ensures waited { IfOk result (λ o. IfSome o
+        (λ d. socket.new.system.waited ≡ until - max socket.new.latest (milliseconds_of socket.new.system.reading))) }
     ensures fault { IfErr result (λ e. socket.new.fault ≡ Some e) }
+    ensures failed { IfErr result (λ e. says_none socket.new.fault ≡ false) }
+    ensures none { IfOk result (λ o. IfNone o (says_none socket.new.fault ≡ true)) }
+    ensures over { IfOk result (λ o. IfNone o (is_interrupted socket.new.fault ≡ true
+        → max socket.new.latest (milliseconds_of socket.new.system.reading) < until
+        → min (socket.old.system.calls + most_tries) last_u64 ≤ socket.new.system.calls)) }
     ensures latest { socket.new.latest ≡ socket.old.latest }
     ensures until { socket.new.until ≡ until }
     ensures taken { socket.new.system.taken ≡ socket.old.system.taken }
@@ -352,11 +373,9 @@ fn wait<C: Clock>(
     for _try in 0..TRIES {
         match socket.receive(buffer, now) {
             Ok(found) => return Ok(Some(found)),
-            Err(e) => match e.kind() {
-                io::ErrorKind::WouldBlock | io::ErrorKind::TimedOut => return Ok(None),
-                io::ErrorKind::Interrupted => {}
-                _ => return Err(e),
-            },
+            Err(reason) if !says_none_came(&reason) => return Err(reason),
+            Err(reason) if !is_signal(&reason) => return Ok(None),
+            Err(_) => {}
         }
         now = socket.look();
         if until <= now {
@@ -372,7 +391,8 @@ fn fill(packet: &mut Packet, bytes: &[u8], from: Peer, now: u64) -> Heard
     ensures packet { HoldsOnlyADatagram result packet.new.items }
     ensures open { is_closed result ≡ false }
     ensures failed { is_failed result ≡ false }
-    ensures said { SaysMoment result now }
+    ensures said { ReturnsMoment result now }
+    ensures why { IsWhy result None }
 {
     match packet.try_extend_from_slice(bytes) {
         Ok(()) => Heard::Datagram { from, now },
@@ -380,18 +400,20 @@ fn fill(packet: &mut Packet, bytes: &[u8], from: Peer, now: u64) -> Heard
     }
 }
 
-/// Hands a datagram to the system, once more where a signal interrupts it.
-fn hand_over<C: Clock>(socket: &mut Socket<'_, C>, to: Peer, bytes: &[u8]) -> io::Result<()>
+/// Hands a datagram to the system, and once more where a signal interrupts it, and only there.
+fn send_datagram<C: Clock>(socket: &mut Socket<'_, C>, to: Peer, bytes: &[u8]) -> io::Result<()>
     ensures ok { IfOk result (λ _. is_taken (length bytes.now) socket.new.system.taken ≡ true) }
     ensures err { IfErr result (λ e. is_taken (length bytes.now) socket.new.system.taken ≡ false) }
     ensures fault { IfErr result (λ e. socket.new.fault ≡ Some e) }
+    ensures again { IsBegunAgain socket.new.system.refused socket.old.system.calls socket.new.system.calls
+        socket.old.system.signals socket.new.system.signals }
     ensures latest { socket.new.latest ≡ socket.old.latest }
     ensures until { socket.new.until ≡ socket.old.until }
 {
     for _try in 1..TRIES {
-        match socket.send(to, bytes) {
-            Err(e) if e.kind() == io::ErrorKind::Interrupted => {}
-            sent => return sent,
+        let sent = socket.send(to, bytes);
+        if !is_interrupted(reason_of(&sent)) {
+            return sent;
         }
     }
     socket.send(to, bytes)

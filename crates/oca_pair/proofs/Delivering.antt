@@ -22,10 +22,10 @@ use Rattle.oca_device.specs.Notes.{Admitted, Heartbeat, Executed, Note, run, acc
 use Rattle.oca_device.specs.States.{State, noted, admits, judged_in, reply_of, after_command, after_message, after_reading, time_of}
 use Rattle.oca_device.specs.Answers.{response, answer_to_command, answers_to_messages, answers_to_reading, packets_of, packets}
 use Rattle.oca_control.specs.Answers.{AnswerFields, answer_in}
-use Rattle.oca_control.specs.Untaken.{Untaken, new_untaken, has_room, is_due, first_due, given_out, answered, answer_under, without_handle}
+use Rattle.oca_control.specs.Untaken.{Untaken, new_untaken, span_has_room, is_due, first_due, given_out, answered, answer_under, without_handle}
 use Rattle.oca_control.specs.declared.fault.ControlFault.{ControlFault}
 use Rattle.oca_control.specs.declared.fault.ControlFault.TheVariants as faults
-use Rattle.oca_control.specs.Links.{LinkState, Request, command_under, submission_under, submission, handle_after, after_submission, submitted, Decision, GivesCommand, GivesKeepAlive, GivesNothing, IsLost, decision_among, decision, after_due, gone_on, hears_content, received, taken, present}
+use Rattle.oca_control.specs.Links.{LinkState, Request, command_under, submission_under, submission, handle_after, after_submission, submitted, Decision, GivesCommand, GivesKeepAlive, GivesNothing, IsLost, decision_among, decision, after_due, gone_on, hears_content, received, taken, present_moment}
 use Rattle.oca_pair.specs.Networks.{SentDatagram, SubmittedCommand, TakenAnswer, device_address}
 use Rattle.oca_pair.specs.Steps.{sendings_in, submitted_by, given_by, content_read, taken_by}
 use Rattle.oca_pair.specs.Premises.{RequestFits}
@@ -206,7 +206,7 @@ fair_keep_alive law p next us g out back handed now f = by_room (admits g.sizes 
 
 -- ---- the link's own steps
 
-pub granted : (r : Request) (l : LinkState) (h : Handle) → submission r l ≡ Ok h → (l.next ≡ Some h.0) × (has_room l.span h.0 l.untaken ≡ true) × (length r.params ≤ 1445)
+pub granted : (r : Request) (l : LinkState) (h : Handle) → submission r l ≡ Ok h → (l.next ≡ Some h.0) × (span_has_room l.span h.0 l.untaken ≡ true) × (length r.params ≤ 1445)
 granted r l h e = by_lost l.lost e
   where
     within : (n : ℕ) → nat_lt 1445 n ≡ false → n ≤ 1445
@@ -219,17 +219,17 @@ granted r l h e = by_lost l.lost e
     by_long n true k q = cc
     by_long n false k q = (got n q, within (length r.params) k)
 
-    by_room : (n : ℕ) (b : Bool) → has_room l.span n l.untaken ≡ b →
+    by_room : (n : ℕ) (b : Bool) → span_has_room l.span n l.untaken ≡ b →
         cond b (cond (nat_lt 1445 (length r.params)) (Err faults.TooLong) (Ok (record { 0 = n }))) (Err faults.SpanFull) ≡ Ok h →
-        (n ≡ h.0) × (has_room l.span h.0 l.untaken ≡ true) × (length r.params ≤ 1445)
-    by_room n true k q = let a = by_long n (nat_lt 1445 (length r.params)) refl q in (a.0, sym (ap (λ i. has_room l.span i l.untaken) a.0) ∙ k, a.1)
+        (n ≡ h.0) × (span_has_room l.span h.0 l.untaken ≡ true) × (length r.params ≤ 1445)
+    by_room n true k q = let a = by_long n (nat_lt 1445 (length r.params)) refl q in (a.0, sym (ap (λ i. span_has_room l.span i l.untaken) a.0) ∙ k, a.1)
     by_room n false k q = cc
 
-    by_next : (o : Option ℕ) → submission_under r o l ≡ Ok h → (o ≡ Some h.0) × (has_room l.span h.0 l.untaken ≡ true) × (length r.params ≤ 1445)
+    by_next : (o : Option ℕ) → submission_under r o l ≡ Ok h → (o ≡ Some h.0) × (span_has_room l.span h.0 l.untaken ≡ true) × (length r.params ≤ 1445)
     by_next None q = cc
-    by_next (Some n) q = let a = by_room n (has_room l.span n l.untaken) refl q in (ap Some a.0, a.1, a.2)
+    by_next (Some n) q = let a = by_room n (span_has_room l.span n l.untaken) refl q in (ap Some a.0, a.1, a.2)
 
-    by_lost : (b : Bool) → cond b (Err faults.Lost) (submission_under r l.next l) ≡ Ok h → (l.next ≡ Some h.0) × (has_room l.span h.0 l.untaken ≡ true) × (length r.params ≤ 1445)
+    by_lost : (b : Bool) → cond b (Err faults.Lost) (submission_under r l.next l) ≡ Ok h → (l.next ≡ Some h.0) × (span_has_room l.span h.0 l.untaken ≡ true) × (length r.params ≤ 1445)
     by_lost true q = cc
     by_lost false q = by_next l.next q
 
@@ -395,13 +395,13 @@ given_out_is p now l g a = by_lost l.lost
     by_quiet true = ((λ same. inr refl), tt)
     by_quiet false = tt
 
-    by_first : (o : Option Untaken) → first_due (present now l) l.untaken ≡ o → Outs p g (decision_among (present now l) l.sent o)
-    by_first None e = by_quiet (nat_le 2500 (present now l - l.sent))
-    by_first (Some u) e = by_many u (submitted_due p g (present now l) l.untaken a u e) (nat_lt u.times 20)
+    by_first : (o : Option Untaken) → first_due (present_moment now l) l.untaken ≡ o → Outs p g (decision_among (present_moment now l) l.sent o)
+    by_first None e = by_quiet (nat_le 2500 (present_moment now l - l.sent))
+    by_first (Some u) e = by_many u (submitted_due p g (present_moment now l) l.untaken a u e) (nat_lt u.times 20)
 
-    by_lost : (b : Bool) → Outs p g (cond b IsLost (decision_among (present now l) l.sent (first_due (present now l) l.untaken)))
+    by_lost : (b : Bool) → Outs p g (cond b IsLost (decision_among (present_moment now l) l.sent (first_due (present_moment now l) l.untaken)))
     by_lost true = tt
-    by_lost false = by_first (first_due (present now l) l.untaken) refl
+    by_lost false = by_first (first_due (present_moment now l) l.untaken) refl
 
 pub fair_gone_on : (p : Peer) (now : ℕ) (l : LinkState) (g : Past) (out back : List SentDatagram) (handed : List TakenAnswer) → Fair p l.next l.untaken g out back handed →
     Fair p (gone_on now l).next (gone_on now l).untaken g (out ++ sendings_in p (given_by (decision now l))) back handed
@@ -412,8 +412,8 @@ fair_gone_on p now l g out back handed f = by_decision (decision now l) (given_o
     with_untaken us more a new = record { fits = f.fits; own = f.own; outgoing = each_append _ out more f.outgoing new; incoming = f.incoming; untaken = a; was_taken = f.was_taken; sendable = f.sendable; unique = f.unique; rising = f.rising }
 
     by_decision : (d : Decision) → AllByRecursion (λ (x : SentDatagram). x.peer ≡ p → IsOut p g.submitted x.bytes) (sendings_in p (given_by d)) →
-        Fair p (after_due d (present now l) l).next (after_due d (present now l) l).untaken g (out ++ sendings_in p (given_by d)) back handed
-    by_decision (GivesCommand c) new = with_untaken (map (given_out (present now l) c.handle) l.untaken) (sendings_in p (given_by (GivesCommand c))) (fair_given_out p g (present now l) c.handle l.untaken f.untaken) new
+        Fair p (after_due d (present_moment now l) l).next (after_due d (present_moment now l) l).untaken g (out ++ sendings_in p (given_by d)) back handed
+    by_decision (GivesCommand c) new = with_untaken (map (given_out (present_moment now l) c.handle) l.untaken) (sendings_in p (given_by (GivesCommand c))) (fair_given_out p g (present_moment now l) c.handle l.untaken f.untaken) new
     by_decision GivesKeepAlive new = with_untaken l.untaken (sendings_in p (given_by GivesKeepAlive)) f.untaken new
     by_decision GivesNothing new = with_untaken l.untaken [] f.untaken new
     by_decision IsLost new = with_untaken l.untaken [] f.untaken new

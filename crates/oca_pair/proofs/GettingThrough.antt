@@ -18,11 +18,11 @@ use Rattle.oca_control.specs.declared.fault.ControlFault.{ControlFault}
 use Rattle.oca_control.specs.Answers.{AnswerFields}
 use Rattle.oca_control.specs.Untaken.{Untaken, answer_under, holds}
 use Rattle.oca_control.specs.Links.{LinkState, Request, command_under, submission, after_submission, Decision, GivesCommand, GivesKeepAlive, GivesNothing, IsLost as LosesLink, decision, due_answer, due_bytes, gone_on, reception, received, taken}
-use Rattle.oca_control.specs.Histories.{Call, Submits, GivesOut, Receives, TakesAnswer, clock, commands, command_of, Sending, sending_of, sendings, answers_to, first_of, is_untaken, is_lost, IsCopy}
+use Rattle.oca_control.specs.Histories.{Call, Submits, GivesOut, Receives, TakesAnswer, clock_of_calls, commands, command_accepted, Sending, sending_of, sendings, answers_to, first_of, is_untaken, is_lost, IsCopy}
 use Rattle.oca_control.specs.Answering.{IsAskedEvery, IsInFlight}
 use Rattle.oca_control.proofs.Calls.{answer_is}
 use Rattle.oca_control.proofs.Following.{each_both, IsSent}
-use Rattle.oca_control.proofs.Histories.{IsMade, IsMadeBy, Stands as StandsBy, stands_made}
+use Rattle.oca_control.proofs.Histories.{IsMade, IsMadeBy, HoldsAfter, holds_after_calls}
 use Rattle.oca_control.proofs.InTime.{clock_from, sent_from, in_time_made}
 use Rattle.oca_pair.specs.declared.outcome.Outcome.TheVariants as outcomes
 use Rattle.oca_pair.specs.declared.start.Start.{Start}
@@ -137,11 +137,11 @@ runs_step first s i p calls step n g = one step
         (refl, refl) (λ same h a. a) g
 
     gives : (l : PeerLink) (now : ℕ) (d : Decision) → l.peer ≡ p → (h : ℕ) → AreSentBy p (n.to_device ++ steps.sendings_in l.peer (given_by d)) (sendings 0 h calls) →
-        AreSentBy p (n.to_device ++ steps.sendings_in l.peer (given_by d)) (sending_of h (due_answer d) (record { at = max (clock 0 calls) now; bytes = due_bytes d }) (sendings 0 h calls))
+        AreSentBy p (n.to_device ++ steps.sendings_in l.peer (given_by d)) (sending_of h (due_answer d) (record { at = max (clock_of_calls 0 calls) now; bytes = due_bytes d }) (sendings 0 h calls))
     gives l now (GivesCommand c) same h a = by_test (nat_eq h c.handle)
       where
         by_test : (b : Bool) → AreSentBy p (n.to_device ++ steps.sendings_in l.peer (given_by (GivesCommand c)))
-            (cond b ((let x : Sending = record { at = max (clock 0 calls) now; bytes = due_bytes (GivesCommand c) } in x) ∷ sendings 0 h calls) (sendings 0 h calls))
+            (cond b ((let x : Sending = record { at = max (clock_of_calls 0 calls) now; bytes = due_bytes (GivesCommand c) } in x) ∷ sendings 0 h calls) (sendings 0 h calls))
         by_test true = (in_behind _ n.to_device (steps.sendings_in l.peer (given_by (GivesCommand c))) (inl (ap (λ (q : Peer). let d : SentDatagram = record { peer = q; bytes = due_bytes (GivesCommand c) } in d) same)), a)
         by_test false = a
     gives l now GivesKeepAlive same h a = a
@@ -261,7 +261,7 @@ module _ (s first i : ℕ) (some : 0 < s) (p : Peer) (before : List Call) (r : R
   base = Submits r now (Ok h) ∷ before
 
   abbrev since : ℕ
-  since = max (clock 0 before) now
+  since = max (clock_of_calls 0 before) now
 
   abbrev all : List Call
   all = calls ++ base
@@ -322,10 +322,10 @@ module _ (s first i : ℕ) (some : 0 < s) (p : Peer) (before : List Call) (r : R
       of : LinkSound s n g.link
       of = each_at (LinkSound s n) n.links i g.link sound.each g.there
 
-      b : StandsBy device_address first 0 s all g.link.link
-      b = stands_made device_address first 0 s all g.link.link some g.made
+      b : HoldsAfter device_address first 0 s all g.link.link
+      b = holds_after_calls device_address first 0 s all g.link.link some g.made
 
-      clock_is : clock 0 all ≡ clock since calls
+      clock_is : clock_of_calls 0 all ≡ clock_of_calls since calls
       clock_is = clock_from device_address first 0 s some before r now ms h calls
 
       sent_is : sendings 0 h.0 all ≡ sendings since h.0 calls
@@ -338,11 +338,11 @@ module _ (s first i : ℕ) (some : 0 < s) (p : Peer) (before : List Call) (r : R
       command_is = of.fair.unique u.0.command c (each_in (IsFair g.link.peer (past n)) u.0 g.link.link.untaken of.fair.untaken u.1).0
           (subst (λ (q : Peer). IsSubmitted q c n.submitted) (sym g.peer) sub) u.2
 
-      accepted : command_of h.0 (commands all) ≡ Some c
+      accepted : command_accepted h.0 (commands all) ≡ Some c
       accepted = under u.0.command u.0.times u.0.last (each_in _ u.0 g.link.link.untaken b.now.are_sent u.1) command_is
         where
-          under : (d : CommandFields) (times last : ℕ) → IsSent s (first + length (commands all)) (commands all) (λ y. sendings 0 y all) d times last → d ≡ c → command_of h.0 (commands all) ≡ Some c
-          under d times last q e = ap (λ (y : CommandFields). command_of y.handle (commands all)) (sym e) ∙ q.command ∙ ap Some e
+          under : (d : CommandFields) (times last : ℕ) → IsSent s (first + length (commands all)) (commands all) (λ y. sendings 0 y all) d times last → d ≡ c → command_accepted h.0 (commands all) ≡ Some c
+          under d times last q e = ap (λ (y : CommandFields). command_accepted y.handle (commands all)) (sym e) ∙ q.command ∙ ap Some e
 
       copy : (y : Sending) → IsSentBy p y.bytes n.to_device → IsCopy h.0 (commands all) y.bytes → WasSent p c y.bytes n
       copy y there q =
@@ -356,8 +356,8 @@ module _ (s first i : ℕ) (some : 0 < s) (p : Peer) (before : List Call) (r : R
 pub gets_through : WrittenIsReadBack → (w : DeviceSizes) (s : ℕ) (tree : List Object) (starts : List Start) (before later : List Step) (i : ℕ) (x : Start) (r : Request) (now ms : ℕ) (h : Handle) →
     0 < s → 2 * s ≤ w.window + 1 → are_apart starts ≡ true → Fit starts (before ++ Submit i r now ∷ later) → slice_get starts i ≡ Some x →
     outcome_of (Submit i r now) (after_steps before (opening w s tree starts)) ≡ outcomes.Submitted h ∷ [] →
-    IsAskedEvery ms (max (clock 0 (calls_in i before (opening w s tree starts))) now) (calls_in i later (after_step (Submit i r now) (after_steps before (opening w s tree starts)))) →
-    GetsThrough ms (max (clock 0 (calls_in i before (opening w s tree starts))) now) i (command_under h.0 r) x.peer
+    IsAskedEvery ms (max (clock_of_calls 0 (calls_in i before (opening w s tree starts))) now) (calls_in i later (after_step (Submit i r now) (after_steps before (opening w s tree starts)))) →
+    GetsThrough ms (max (clock_of_calls 0 (calls_in i before (opening w s tree starts))) now) i (command_under h.0 r) x.peer
     (calls_in i later (after_step (Submit i r now) (after_steps before (opening w s tree starts))))
     (after_steps later (after_step (Submit i r now) (after_steps before (opening w s tree starts))))
 gets_through law w s tree starts before later i x r now ms h some wide apart fit begins outcome asked = by_lost (is_lost all) refl
@@ -433,14 +433,14 @@ gets_through law w s tree starts before later i x r now ms h some wide apart fit
         let grown = grown_steps later new in
         subst (IsSubmitted p c) (sym grown.submitted) (in_more _ new.submitted grown.more (subst (IsSubmitted p c) (sym submitted_is) (in_last _ old.submitted)))
 
-    at_submit : StandsBy device_address f 0 s (Submits r now (Ok h) ∷ earlier) runs_new.link.link
-    at_submit = stands_made device_address f 0 s (Submits r now (Ok h) ∷ earlier) runs_new.link.link some runs_new.made
+    at_submit : HoldsAfter device_address f 0 s (Submits r now (Ok h) ∷ earlier) runs_new.link.link
+    at_submit = holds_after_calls device_address f 0 s (Submits r now (Ok h) ∷ earlier) runs_new.link.link some runs_new.made
 
-    at_end : StandsBy device_address f 0 s all runs.link.link
-    at_end = stands_made device_address f 0 s all runs.link.link some runs.made
+    at_end : HoldsAfter device_address f 0 s all runs.link.link
+    at_end = holds_after_calls device_address f 0 s all runs.link.link some runs.made
 
     none : sendings 0 h.0 earlier ≡ []
-    none = (stands_made device_address f 0 s earlier l.link some runs_old.made).now.fresh h.0 (at_least (f + length (commands earlier)) h.0 at_submit.now.handles.0)
+    none = (holds_after_calls device_address f 0 s earlier l.link some runs_old.made).now.fresh h.0 (at_least (f + length (commands earlier)) h.0 at_submit.now.handles.0)
       where
         at_least : (a b : ℕ) → b ≡ a → a ≤ b
         at_least a b e = omega arith
@@ -461,17 +461,17 @@ gets_through law w s tree starts before later i x r now ms h some wide apart fit
     same_link = same_Some stands.link runs.link (sym stands.there ∙ runs.there)
 
     by_answer : is_lost all ≡ false → is_untaken h.0 all ≡ true → (o : Option AnswerFields) → first_of (answers_to device_address h.0 all) ≡ o →
-        GotItsAnswer i c p n ⊎ (IsLost i n ⊎ IsUnderWay ms (max (clock 0 earlier) now) i c p calls n)
+        GotItsAnswer i c p n ⊎ (IsLost i n ⊎ IsUnderWay ms (max (clock_of_calls 0 earlier) now) i c p calls n)
     by_answer kept untaken (Some a) e = inl (has s f i some p earlier r now ms h calls n a runs sound sub
         (answer_is h.0 (λ y. answers_to device_address y all) runs.link.link.untaken at_end.now.are_answered
         ∙ ap (λ (b : Bool). cond b (first_of (answers_to device_address h.0 all)) None) (at_end.now.held h.0 ∙ untaken) ∙ e))
     by_answer kept untaken None e = inr (inr (waits s f i some p earlier r now ms h calls n runs sound sub trips none asked (record { untaken = untaken; unanswered = e; not_lost = kept })))
 
-    by_untaken : is_lost all ≡ false → (b : Bool) → is_untaken h.0 all ≡ b → GotItsAnswer i c p n ⊎ (IsLost i n ⊎ IsUnderWay ms (max (clock 0 earlier) now) i c p calls n)
+    by_untaken : is_lost all ≡ false → (b : Bool) → is_untaken h.0 all ≡ b → GotItsAnswer i c p n ⊎ (IsLost i n ⊎ IsUnderWay ms (max (clock_of_calls 0 earlier) now) i c p calls n)
     by_untaken kept true e = by_answer kept e (first_of (answers_to device_address h.0 all)) refl
     by_untaken kept false e = inl (gave s f i some p earlier r now ms h calls n stands sound sub
         (ap (λ (y : PeerLink). holds h.0 y.link.untaken) same_link ∙ at_end.now.held h.0 ∙ e))
 
-    by_lost : (b : Bool) → is_lost all ≡ b → GotItsAnswer i c p n ⊎ (IsLost i n ⊎ IsUnderWay ms (max (clock 0 earlier) now) i c p calls n)
-    by_lost true e = inr (inl (record { link = runs.link; there = runs.there; lost = at_end.rests.lost_is ∙ e }))
+    by_lost : (b : Bool) → is_lost all ≡ b → GotItsAnswer i c p n ⊎ (IsLost i n ⊎ IsUnderWay ms (max (clock_of_calls 0 earlier) now) i c p calls n)
+    by_lost true e = inr (inl (record { link = runs.link; there = runs.there; lost = at_end.others_are.lost_is ∙ e }))
     by_lost false e = by_untaken e (is_untaken h.0 all) refl

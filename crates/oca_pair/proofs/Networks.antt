@@ -18,7 +18,7 @@ use Rattle.oca_device.specs.Answers.{packets}
 use Rattle.oca_control.specs.declared.fault.ControlFault.{ControlFault}
 use Rattle.oca_control.specs.Answers.{AnswerFields, answer_in}
 use Rattle.oca_control.specs.Untaken.{Untaken, answer_under, without_handle}
-use Rattle.oca_control.specs.Links.{Request, submission, after_submission, Decision, GivesCommand, GivesKeepAlive, GivesNothing, IsLost, decision, after_due, gone_on, hears_content, received, taken, present}
+use Rattle.oca_control.specs.Links.{Request, submission, after_submission, Decision, GivesCommand, GivesKeepAlive, GivesNothing, IsLost, decision, after_due, gone_on, hears_content, received, taken, present_moment}
 use Rattle.oca_pair.specs.declared.start.Start.{Start}
 use Rattle.oca_pair.specs.Networks.{Network, PeerLink, SentDatagram, SubmittedCommand, TakenAnswer, device_address, started, opening}
 use Rattle.oca_pair.specs.Steps.{Step, Submit, Due, ToDevice, ToLink, Other, Take, has_link, sendings_in, submitted_by, after_submit, given_by, after_due_step, after_delivery, content_read, hears_datagram, after_reception, after_take, after_step, after_steps}
@@ -168,15 +168,15 @@ sound_due s i now n g (Some l) e = record {
       good = w.good;
     }
 
-    span_kept : (d : Decision) → (after_due d (present now l.link) l.link).span ≡ l.link.span
+    span_kept : (d : Decision) → (after_due d (present_moment now l.link) l.link).span ≡ l.link.span
     span_kept (GivesCommand c) = refl
     span_kept GivesKeepAlive = refl
     span_kept GivesNothing = refl
     span_kept IsLost = refl
 
     good_kept : (f : ℕ) (d : Decision) → Good s f l.peer l.link.next l.link.untaken n.submitted (accepted_by l.peer (past n)) →
-        Good s f l.peer (after_due d (present now l.link) l.link).next (after_due d (present now l.link) l.link).untaken n.submitted (accepted_by l.peer (past n))
-    good_kept f (GivesCommand c) w = good_given_out s f l.peer l.link.next l.link.untaken n.submitted (accepted_by l.peer (past n)) (present now l.link) c.handle w
+        Good s f l.peer (after_due d (present_moment now l.link) l.link).next (after_due d (present_moment now l.link) l.link).untaken n.submitted (accepted_by l.peer (past n))
+    good_kept f (GivesCommand c) w = good_given_out s f l.peer l.link.next l.link.untaken n.submitted (accepted_by l.peer (past n)) (present_moment now l.link) c.handle w
     good_kept f GivesKeepAlive w = w
     good_kept f GivesNothing w = w
     good_kept f IsLost w = w

@@ -21,7 +21,7 @@ use Rattle.oca_device.specs.Answers.{packets, response}
 use Rattle.oca_control.specs.declared.fault.ControlFault.{ControlFault}
 use Rattle.oca_control.specs.Answers.{AnswerFields, answer_in}
 use Rattle.oca_control.specs.Untaken.{Untaken, new_untaken, answered, hears_all, answer_under, without_handle, holds}
-use Rattle.oca_control.specs.Links.{LinkState, Request, command_under, submission, after_submission, Decision, GivesCommand, GivesKeepAlive, GivesNothing, IsLost, decision, after_due, gone_on, hears_content, received, taken, present}
+use Rattle.oca_control.specs.Links.{LinkState, Request, command_under, submission, after_submission, Decision, GivesCommand, GivesKeepAlive, GivesNothing, IsLost, decision, after_due, gone_on, hears_content, received, taken, present_moment}
 use Rattle.oca_pair.specs.declared.start.Start.{Start}
 use Rattle.oca_pair.specs.Networks.{Network, PeerLink, SentDatagram, SubmittedCommand, TakenAnswer, device_address, started, opening}
 use Rattle.oca_pair.specs.Steps.{Step, Submit, Due, ToDevice, ToLink, Other, Take, has_link, sendings_in, with_link, submitted_by, after_submit, after_due_step, after_delivery, messages_read, content_read, hears_datagram, after_reception, taken_by, after_take, after_step, after_steps}
@@ -142,7 +142,7 @@ to_device_step step n a = one step
 
     by_due : (i now : ℕ) (o : Option PeerLink) → slice_get n.links i ≡ o → AreToDevice (after_due_step i now o n).links
     by_due i now None e = a
-    by_due i now (Some l) e = put i l (gone_on now l.link) e (by_decision l.link (present now l.link) (decision now l.link))
+    by_due i now (Some l) e = put i l (gone_on now l.link) e (by_decision l.link (present_moment now l.link) (decision now l.link))
 
     by_delivery : (now : ℕ) (o : Option SentDatagram) → AreToDevice (after_delivery now o n).links
     by_delivery now None = a
@@ -277,7 +277,7 @@ stands_step i h p step n g = one step
     by_due k now None e = g
     by_due k now (Some l) e =
         let state = gone_on now l.link in
-        as_before i h p (with_link k l state n.links) n.taken (stands_put i k h p l state n.links n.taken [] e (λ q s. inl (by_decision l.link (present now l.link) (decision now l.link) q)) g)
+        as_before i h p (with_link k l state n.links) n.taken (stands_put i k h p l state n.links n.taken [] e (λ q s. inl (by_decision l.link (present_moment now l.link) (decision now l.link) q)) g)
 
     by_delivery : (now : ℕ) (o : Option SentDatagram) → Stands i p h (after_delivery now o n).links (after_delivery now o n).taken
     by_delivery now None = g

@@ -11,7 +11,7 @@ use Rattle.oca_types.specs.declared.words.Peer.{Peer}
 use Rattle.oca_types.specs.Peers.{CommandFields}
 use Rattle.oca_session.specs.Accepted.{Entry, window, has_handle, entry_under, asks_the_same, judgement}
 use Rattle.oca_control.specs.Answers.{AnswerFields}
-use Rattle.oca_control.specs.Untaken.{Untaken, new_untaken, has_room, given_out, answered, without_handle, holds}
+use Rattle.oca_control.specs.Untaken.{Untaken, new_untaken, span_has_room, given_out, answered, without_handle, holds}
 use Rattle.oca_control.specs.Links.{Request, command_under, handle_after}
 use Rattle.oca_pair.specs.Networks.{SubmittedCommand}
 use Rattle.oca_pair.proofs.Core.{has, Ordered, each_map, each_both, each_append, either_false, below_all, never_old, IsServed}
@@ -34,9 +34,9 @@ pub record Good (s f : ℕ) (p : Peer) (next : Option ℕ) (us : List Untaken) (
 
 -- ---- the link submits
 
-room_each : (s h : ℕ) (us : List Untaken) → has_room s h us ≡ true → AllByRecursion (λ u. h < u.command.handle + s) us
+room_each : (s h : ℕ) (us : List Untaken) → span_has_room s h us ≡ true → AllByRecursion (λ u. h < u.command.handle + s) us
 room_each s h [] e = tt
-room_each s h (u ∷ us) e = let p = parts (nat_lt h (u.command.handle + s)) (has_room s h us) e in (lower h (u.command.handle + s) p.0, room_each s h us p.1)
+room_each s h (u ∷ us) e = let p = parts (nat_lt h (u.command.handle + s)) (span_has_room s h us) e in (lower h (u.command.handle + s) p.0, room_each s h us p.1)
   where
     parts : (a b : Bool) → (a && b) ≡ true → (a ≡ true) × (b ≡ true)
     parts true b q = (refl, q)
@@ -46,7 +46,7 @@ room_each s h (u ∷ us) e = let p = parts (nat_lt h (u.command.handle + s)) (ha
     lower a b p = grind (arith, nat_tests)
 
 pub good_submit : (s f : ℕ) (p : Peer) (next : Option ℕ) (us : List Untaken) (submitted : List SubmittedCommand) (A : List Entry) (h : ℕ) (r : Request) → 0 < s →
-    next ≡ Some h → has_room s h us ≡ true → Good s f p next us submitted A →
+    next ≡ Some h → span_has_room s h us ≡ true → Good s f p next us submitted A →
     let new : SubmittedCommand = record { peer = p; command = command_under h r } in
     Good s f p (handle_after h) (us ++ new_untaken (command_under h r) ∷ []) (submitted ++ new ∷ []) A
 good_submit s f p next us submitted A h r some next_is room g =

@@ -14,7 +14,7 @@ use Rattle.oca_tree.specs.declared.object.Object.{Object}
 use Rattle.oca_control.specs.Untaken.{answer_under}
 use Rattle.oca_control.specs.Links.{LinkState, Request, command_under, submission, decision, due_answer, due_bytes}
 use Rattle.oca_control.specs.Links.{reception}
-use Rattle.oca_control.specs.Histories.{Call, Submits, GivesOut, Receives, TakesAnswer, clock, sendings}
+use Rattle.oca_control.specs.Histories.{Call, Submits, GivesOut, Receives, TakesAnswer, clock_of_calls, sendings}
 use Rattle.oca_control.specs.Answering.{IsAskedEvery, IsGivenOutInTime}
 use Rattle.oca_pair.specs.declared.outcome.Outcome.TheVariants as outcomes
 use Rattle.oca_pair.specs.declared.start.Start.{Start}
@@ -85,7 +85,7 @@ pub record WasSent (p : Peer) (c : CommandFields) (bytes : List ℕ) (n : Networ
 
 -- The command waits for its answer. By the calls since its submit it was given out in time, each time as a copy.
 pub record IsUnderWay (ms since i : ℕ) (c : CommandFields) (p : Peer) (calls : List Call) (n : Network) : Type 0 where
-  pub in_time : IsGivenOutInTime ms since (clock since calls) (sendings since c.handle calls)
+  pub in_time : IsGivenOutInTime ms since (clock_of_calls since calls) (sendings since c.handle calls)
   pub copies : AllByRecursion (λ x. WasSent p c x.bytes n) (sendings since c.handle calls)
   -- One copy that is delivered now, under the premises of the law of untaken commands, and the one datagram that the
   -- device then sends, whenever that is delivered, are enough: the round trip of `ComesBack`.
@@ -107,7 +107,7 @@ EveryCommandGetsThrough =
     let start : Network = opening w s tree starts in
     let old : Network = after_steps before start in
     let new : Network = after_step (Submit i request now) old in
-    let since : ℕ = max (clock 0 (calls_in i before start)) now in
+    let since : ℕ = max (clock_of_calls 0 (calls_in i before start)) now in
     0 < s → 2 * s ≤ w.window + 1 → are_apart starts ≡ true → Fit starts (before ++ Submit i request now ∷ later) →
     slice_get starts i ≡ Some x → outcome_of (Submit i request now) old ≡ outcomes.Submitted h ∷ [] →
     IsAskedEvery ms since (calls_in i later new) →

@@ -31,6 +31,7 @@ impl PairFault {
 }
 
 impl fmt::Display for PairFault {
+    /// Writes why the run was refused, in words.
     fn fmt<W: fmt::Write>(&self, f: &mut fmt::Formatter<W>) -> fmt::Result {
         match self {
             PairFault::NoMemory => write!(f, "no memory"),

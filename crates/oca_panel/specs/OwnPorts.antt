@@ -1,5 +1,7 @@
 -- A port of one's own and a first handle, by the time of day (*profile*).
 use Rattle.std.specs.Prelude.{◌≡◌, ◌≤◌, ◌<◌, ◌+◌, ◌*◌, ◌/◌, ◌%◌, ◌==◌, ℕ, if◌then◌else◌}
+use Rattle.std.specs.Time.{FitsClock}
+use Rattle.oca_panel.specs.declared.own_port.OwnPort.{OwnPort}
 
 -- Handles by the clock rise by 100,000 a second, and begin anew at 2^31, each 21,474.83648 seconds: a turn.
 abbrev pub handles_since : (seconds microseconds : ℕ) → ℕ
@@ -25,6 +27,19 @@ port_at seconds microseconds = port_of_turn (handles_since seconds microseconds 
 -- the port whose turn it is not
 abbrev pub other_port : ℕ → ℕ
 other_port port = if port == 65001 then 65002 else 65001
+
+-- THE PORT OF A MOMENT, so many nanoseconds after the beginning of 1970: the port whose turn it is, the other one, and
+-- the first handle there, by the whole seconds and the whole microseconds beyond them.
+pub record IsPortAt (nanoseconds : ℕ) (own : OwnPort) : Type 0 where
+  pub port : own.port ≡ port_at (nanoseconds / 1000000000) (nanoseconds % 1000000000 / 1000)
+  pub other : own.other ≡ other_port own.port
+  pub handle : own.first_handle.0 ≡ first_handle_at (nanoseconds / 1000000000) (nanoseconds % 1000000000 / 1000)
+
+-- the port of a moment that a clock can read
+pub record IsPortByClock (own : OwnPort) : Type 0 where
+  pub nanoseconds : ℕ
+  pub fits : FitsClock nanoseconds
+  pub at : IsPortAt nanoseconds own
 
 -- A PORT'S HANDLES RISE, OR IT RESTED. Of two runs that begin one behind the other in turns of one port, the later
 -- one's first handle is above the earlier's, or more than a turn lies between them: 21,474 seconds, where a device

@@ -33,11 +33,11 @@ pub record IsOpened (device : Peer) (first span turns : ℕ) (before : EndState)
   }
 
 -- no answer came
-abbrev pub came_to_nothing : Outcome → Bool
-came_to_nothing (outcomes.Answered a) = false
-came_to_nothing (outcomes.Refused fault) = false
-came_to_nothing outcomes.Lost = true
-came_to_nothing outcomes.Unanswered = true
+abbrev pub is_lost_or_unanswered : Outcome → Bool
+is_lost_or_unanswered (outcomes.Answered a) = false
+is_lost_or_unanswered (outcomes.Refused fault) = false
+is_lost_or_unanswered outcomes.Lost = true
+is_lost_or_unanswered outcomes.Unanswered = true
 
 -- The request was begun: it got its handle and what was due was sent, or it was refused, which changes nothing.
 pub record BeginsIn (request : RequestFields) (returned : Result Handle ControlFault)
@@ -50,14 +50,14 @@ pub record BeginsIn (request : RequestFields) (returned : Result Handle ControlF
 pub record FinishesIn (handle : ℕ) (old new : PanelState) (outcome : Outcome) : Type 0 where
   pub waits : Waits handle old.turns old.link outcome new.link old.end_state new.end_state
   pub turns : new.turns ≡ old.turns
-  pub unanswered : new.unanswered ≡ (old.unanswered || came_to_nothing outcome)
+  pub unanswered : new.unanswered ≡ (old.unanswered || is_lost_or_unanswered outcome)
 
 -- How the command under this handle came out was looked up, without a turn: the answer is taken where it is there, else
 -- the link is lost.
 pub record SettlesIn (handle : ℕ) (old new : PanelState) (outcome : Outcome) : Type 0 where
   pub waits : Waits handle 0 old.link outcome new.link old.end_state new.end_state
   pub turns : new.turns ≡ old.turns
-  pub unanswered : new.unanswered ≡ (old.unanswered || came_to_nothing outcome)
+  pub unanswered : new.unanswered ≡ (old.unanswered || is_lost_or_unanswered outcome)
 
 -- Nothing is known yet: no answer is there, the link is not lost, and nothing changed.
 abbrev pub MaySettle : Option Outcome → ℕ → PanelState → PanelState → Type 0

@@ -106,13 +106,13 @@ pub record VisitsNext (old : WalkState) (before after : PanelState) (visit : Vis
   pub finds : Finds (is_visited visit.place.ono old.visited) visit.place.ono rest before after visit.found new.waiting
 
 -- No place is left, or so many were visited: nothing was asked.
-pub record Ends (old : WalkState) (before after : PanelState) (new : WalkState) : Type 0 where
+pub record WalkEnds (old : WalkState) (before after : PanelState) (new : WalkState) : Type 0 where
   pub left : (old.waiting ≡ []) ⊎ (most_places ≤ length old.visited)
   pub same : new ≡ old
   pub panel : after ≡ before
 
 abbrev pub StepsTo : WalkState → PanelState → PanelState → Option Visit → WalkState → Type 0
-StepsTo old before after None new = Ends old before after new
+StepsTo old before after None new = WalkEnds old before after new
 StepsTo old before after (Some visit) new = VisitsNext old before after visit new
 
 -- THE NEXT PLACE WAS VISITED, also where its object was visited before, and this was found there: nothing was set.
@@ -123,5 +123,5 @@ pub record VisitsPlace (old : WalkState) (before after : PanelState) (visit : Vi
   pub finds : Finds false visit.place.ono rest before after visit.found new.waiting
 
 abbrev pub StepsToPlace : WalkState → PanelState → PanelState → Option Visit → WalkState → Type 0
-StepsToPlace old before after None new = Ends old before after new
+StepsToPlace old before after None new = WalkEnds old before after new
 StepsToPlace old before after (Some visit) new = VisitsPlace old before after visit new

@@ -1,6 +1,7 @@
 //! A port of a panel's own and a first handle, by the time of day.
 ghost use Rattle.std.specs.Prelude.{◌≡◌, ◌<◌};
-ghost use Rattle.oca_panel.specs.OwnPorts.{HandlesRiseOrRest, handles_since};
+ghost use Rattle.std.specs.Time.{system_time_nanos};
+ghost use Rattle.oca_panel.specs.OwnPorts.{HandlesRiseOrRest, IsPortAt, handles_since};
 
 use oca_types::Handle;
 use std::rt::Clock;
@@ -25,22 +26,21 @@ pub struct OwnPort {
 }
 
 impl OwnPort {
-    ghost use Rattle.oca_panel.specs.OwnPorts.{first_handle_at, other_port, port_at};
+    ghost use Rattle.oca_panel.specs.OwnPorts.{IsPortByClock, first_handle_at, other_port, port_at};
 
-    /// The port and the first handle by the clock: those of the beginning of 1970 where it can't be read.
+    /// The port and the first handle of the moment that the clock reads, or of the beginning of 1970 where it can't be
+    /// read.
     ///
     /// The handle rises by 100,000 a second, faster than commands are answered, so that a session that is used again
     /// goes on rising. It begins anew at 2,147,483,648, each six hours; the port is then the other one, whose session
     /// is forgotten by then, since it was silent for a whole turn.
     pub fn now<C: Clock>(clock: &C) -> OwnPort
-        ensures { result.first_handle.0 < 2147483648 }
+        ensures clock { IsPortByClock result }
+        ensures below { result.first_handle.0 < 2147483648 }
     {
-        let Ok(now) = SystemTime::now(clock) else {
-            return OwnPort::at(0, 0);
-        };
-        match now.duration_since(UNIX_EPOCH) {
-            Ok(since) => OwnPort::at(since.as_secs(), since.subsec_micros()),
-            Err(_) => OwnPort::at(0, 0),
+        match SystemTime::now(clock) {
+            Ok(now) => port_at_moment(now),
+            Err(_) => port_at_moment(UNIX_EPOCH),
         }
     }
 
@@ -63,6 +63,17 @@ impl OwnPort {
             other,
             first_handle: Handle((since % HANDLES) as u32),
         }
+    }
+}
+
+/// The port and the first handle of a moment.
+fn port_at_moment(moment: SystemTime) -> OwnPort
+    ensures moment { IsPortAt (system_time_nanos moment) result }
+    ensures below { result.first_handle.0 < 2147483648 }
+{
+    match moment.duration_since(UNIX_EPOCH) {
+        Ok(since) => OwnPort::at(since.as_secs(), since.subsec_micros()),
+        Err(_) => OwnPort::at(0, 0),
     }
 }
 

@@ -1,6 +1,6 @@
 //! A panel: a link to a device, driven over an end, and commands one at a time or several in flight.
 ghost use Rattle.std.specs.Prelude.{◌≡◌};
-ghost use Rattle.oca_panel.specs.Panels.{came_to_nothing};
+ghost use Rattle.oca_panel.specs.Panels.{is_lost_or_unanswered};
 
 use oca_control::{ControlFault, Link, Outcome, begin, is_late, turn, wait_for};
 use oca_net::End;
@@ -184,7 +184,7 @@ impl<E: End> Panel<E> {
 
 /// Whether no answer came.
 fn is_nothing(outcome: &Outcome) -> bool
-    ensures { result ≡ came_to_nothing outcome.now }
+    ensures { result ≡ is_lost_or_unanswered outcome.now }
 {
     match outcome {
         Outcome::Answered(_) | Outcome::Refused(_) => false,

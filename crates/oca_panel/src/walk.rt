@@ -130,7 +130,8 @@ fn step<E: End>(
     panel: &mut Panel<E>,
 ) -> Result<Option<Visit>, NoMemory>
     ensures { IfOk result
-        (λ found. StepsTo (record { waiting = waiting.old.items; visited = visited.old.items }) panel.old panel.new found
+        (λ found. StepsTo (record { waiting = waiting.old.items; visited = visited.old.items })
+        panel.old panel.new found
         (record { waiting = waiting.new.items; visited = visited.new.items })) }
 {
     if visited.len() >= MOST_PLACES {

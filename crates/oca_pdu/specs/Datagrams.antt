@@ -17,4 +17,5 @@ datagram_messages d = read_or_none (read_datagram d.bytes.now)
 
 -- the messages that are left: those of the PDU that was begun, and those of the PDUs after it
 abbrev pub messages_left : Messages → List Msg
-messages_left it = read_or_none (messages_at it.kind it.left 0 0 it.inside.now) ++ read_or_none (pdus_at (length it.rest.now) 0 it.rest.now)
+messages_left it = read_or_none (messages_at it.kind it.left 0 0 it.inside.now)
+    ++ read_or_none (pdus_at (length it.rest.now) 0 it.rest.now)

@@ -23,13 +23,15 @@ response_head = 10
 -- a command: CommandSize, which counts all its bytes (17 of the fields and the parameters), handle, target ONo,
 -- DefLevel, MethodIndex, ParamCount, parameters
 abbrev pub command_encoding : CommandFields → List ℕ
-command_encoding c = unsigned_encoding w32 (command_head + length c.params) ++ unsigned_encoding w32 c.handle ++ unsigned_encoding w32 c.target
+command_encoding c = unsigned_encoding w32 (command_head + length c.params) ++ unsigned_encoding w32 c.handle
+    ++ unsigned_encoding w32 c.target
     ++ unsigned_encoding w16 c.level ++ unsigned_encoding w16 c.index ++ c.count ∷ c.params
 
 -- a response: ResponseSize, which counts all its bytes (10 of the fields and the parameters), handle, status,
 -- ParamCount, parameters
 abbrev pub response_encoding : ResponseFields → List ℕ
-response_encoding r = unsigned_encoding w32 (response_head + length r.params) ++ unsigned_encoding w32 r.handle ++ r.status ∷ r.count ∷ r.params
+response_encoding r = unsigned_encoding w32 (response_head + length r.params) ++ unsigned_encoding w32 r.handle
+    ++ r.status ∷ r.count ∷ r.params
 
 -- a keep-alive: its time
 abbrev pub keep_alive_encoding : Form → List ℕ
@@ -39,7 +41,8 @@ keep_alive_encoding (Millis n) = unsigned_encoding w32 n
 -- a PDU of this PduType, MessageCount and messages: sync, ProtocolVersion 1, PduSize, which counts all bytes but the
 -- sync (9 of the header and the messages), PduType, MessageCount, messages
 abbrev pub pdu_frame : ℕ → ℕ → List ℕ → List ℕ
-pdu_frame type count body = sync_value ∷ unsigned_encoding w16 1 ++ unsigned_encoding w32 (9 + length body) ++ type ∷ unsigned_encoding w16 count ++ body
+pdu_frame type count body = sync_value ∷ unsigned_encoding w16 1 ++ unsigned_encoding w32 (9 + length body)
+    ++ type ∷ unsigned_encoding w16 count ++ body
 
 -- commands are of type 1 where they ask for responses, and else of type 0
 abbrev pub command_type : Bool → ℕ
@@ -75,8 +78,10 @@ FormFits (Millis n) = n < 2 ^ 32
 
 -- A PDU has at least one message, and a keep-alive PDU has one (profile); the counts and sizes fit their fields.
 abbrev pub PduFits : Pdu → Type 0
-PduFits (Commands respond cs) = (0 < length cs) × (length cs < 2 ^ 16) × AllByRecursion CommandFits cs × (9 + length (flat_map command_encoding cs) < 2 ^ 32)
-PduFits (Responses rs) = (0 < length rs) × (length rs < 2 ^ 16) × AllByRecursion ResponseFits rs × (9 + length (flat_map response_encoding rs) < 2 ^ 32)
+PduFits (Commands respond cs) = (0 < length cs) × (length cs < 2 ^ 16) × AllByRecursion CommandFits cs
+    × (9 + length (flat_map command_encoding cs) < 2 ^ 32)
+PduFits (Responses rs) = (0 < length rs) × (length rs < 2 ^ 16) × AllByRecursion ResponseFits rs
+    × (9 + length (flat_map response_encoding rs) < 2 ^ 32)
 PduFits (OneKeepAlive form) = FormFits form
 
 -- The bytes are the encodings of these PDUs, one or more (AES70-3), and at most 1,472 (profile).

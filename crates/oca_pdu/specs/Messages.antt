@@ -35,10 +35,20 @@ messages_of (OneKeepAlive form) = KeepAlive form ∷ []
 
 -- the response that carries this reply
 abbrev pub response_with : Handle → Reply → ResponseFields
-response_with handle reply = record { handle = handle.0; status = status_number reply.status; count = reply.count; params = reply.params.items }
+response_with handle reply = record {
+  handle = handle.0;
+  status = status_number reply.status;
+  count = reply.count;
+  params = reply.params.items;
+}
 
 -- a message that the iterator gives
 abbrev pub msg_of : Message → Msg
 msg_of (messages.Command respond command) = Command respond (fields_of command)
-msg_of (messages.Response handle status count params) = Response (record { handle = handle.0; status = status; count = count; params = params.now })
+msg_of (messages.Response handle status count params) = Response (record {
+  handle = handle.0;
+  status = status;
+  count = count;
+  params = params.now;
+})
 msg_of (messages.KeepAlive form) = KeepAlive form

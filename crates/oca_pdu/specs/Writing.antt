@@ -7,7 +7,8 @@ use Rattle.oca_pdu.specs.Encoding.{PduFits, pdu_encoding, IsDatagram}
 -- Where the old bytes are the encodings of PDUs, none or more, the new bytes are a datagram of those and this one after
 -- them.
 abbrev pub AddsPdu : Pdu → List ℕ → List ℕ → Type 0
-AddsPdu p old new = (ps : List Pdu) → AllByRecursion PduFits ps → old ≡ flat_map pdu_encoding ps → IsDatagram (ps ++ p ∷ []) new
+AddsPdu p old new = (ps : List Pdu) → AllByRecursion PduFits ps → old ≡ flat_map pdu_encoding ps →
+    IsDatagram (ps ++ p ∷ []) new
 
 -- The bytes are one PDU of these responses.
 abbrev pub IsResponses : List ResponseFields → List ℕ → Type 0

@@ -5,7 +5,8 @@ ghost use Rattle.oca_types.specs.Sizes.{largest_datagram};
 ghost use Rattle.oca_pdu.specs.Messages.{Pdu, messages_of};
 ghost use Rattle.oca_pdu.specs.Encoding.{IsDatagram};
 ghost use Rattle.oca_pdu.specs.FirstFault.{IsFirstFault};
-ghost use Rattle.oca_pdu.specs.Reading.{read_datagram, pdus_at, pdu_at, inside_at, keep_alive_at, messages_at, message_at};
+ghost use Rattle.oca_pdu.specs.Reading.{read_datagram, pdus_at, pdu_at, inside_at, keep_alive_at, messages_at};
+ghost use Rattle.oca_pdu.specs.Reading.{message_at};
 ghost use Rattle.oca_pdu.specs.Datagrams.{datagram_messages};
 ghost use Rattle.oca_pdu.specs.Checking.{Agrees, Leaves};
 
@@ -155,10 +156,13 @@ fn check_all(bytes: &[u8]) -> Result<(), PduFault>
 /// the number of bytes; in each PDU sync, ProtocolVersion, PduSize, PduType and MessageCount; then the sizes of its
 /// messages.
 pub fn check(bytes: &[u8]) -> Result<Datagram<'_>, PduFault>
-    ensures found { IfOk result (λ d. (ps : List Pdu) × IsDatagram ps bytes.now × (datagram_messages d ≡ flat_map messages_of ps)) }
-    ensures only { (ps : List Pdu) → IsDatagram ps bytes.now → IsOkAnd result (λ d. datagram_messages d ≡ flat_map messages_of ps) }
+    ensures found { IfOk result
+        (λ d. (ps : List Pdu) × IsDatagram ps bytes.now × (datagram_messages d ≡ flat_map messages_of ps)) }
+    ensures only { (ps : List Pdu) → IsDatagram ps bytes.now →
+        IsOkAnd result (λ d. datagram_messages d ≡ flat_map messages_of ps) }
     ensures fault { IfErr result (λ f. IsFirstFault bytes.now f) }
-    ensures reads { MatchResult result (λ d. read_datagram bytes.now ≡ Ok (datagram_messages d)) (λ f. read_datagram bytes.now ≡ Err f) }
+    ensures reads { MatchResult result (λ d. read_datagram bytes.now ≡ Ok (datagram_messages d))
+        (λ f. read_datagram bytes.now ≡ Err f) }
 {
     check_all(bytes)?;
     Ok(Datagram { bytes })

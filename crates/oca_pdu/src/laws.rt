@@ -1,5 +1,6 @@
 //! Laws of the encodings, of the first fault and of reading. Nothing here runs: each contract is its law.
-ghost use Rattle.oca_pdu.specs.Laws.{OneListOfMessages, OneFirstFault, NoFaultOfADatagram, DatagramOrFault, ReadingIsExact, WrittenIsReadBack};
+ghost use Rattle.oca_pdu.specs.Laws.{OneListOfMessages, OneFirstFault, NoFaultOfADatagram, DatagramOrFault};
+ghost use Rattle.oca_pdu.specs.Laws.{ReadingIsExact, WrittenIsReadBack};
 
 /// Bytes are the encodings of one list of messages at most.
 pub fn law_one_list_of_messages()

@@ -45,7 +45,8 @@ impl<'a> Messages<'a> {
         requires some { 0 < length self.old.rest.now }
         ensures begun { IfNone result (0 < self.new.left) }
         ensures messages { IfNone result (messages_left self.old ≡ messages_left self.new) }
-        ensures keep_alive { IfSome result (λ form. messages_left self.old ≡ msg_of (Message.KeepAlive form) ∷ messages_left self.new) }
+        ensures keep_alive { IfSome result
+            (λ form. messages_left self.old ≡ msg_of (Message.KeepAlive form) ∷ messages_left self.new) }
     {
         let size = fields::u32_in(&self.rest[3..7]) as usize;
         let (pdu, rest) = self.rest.split_at(1 + size);

@@ -1,12 +1,14 @@
 //! Writing PDUs to a packet: behind what it holds, or in its place.
-ghost use Rattle.std.specs.Prelude.{◌≡◌, ◌+◌, ◌^◌, ◌≤◌, ◌<◌, List, ◌∷◌, ◌++◌, ◌↔◌, [], length, take, drop, slice_index, IsOk, OnOk, OnErr};
+ghost use Rattle.std.specs.Prelude.{◌≡◌, ◌+◌, ◌^◌, ◌≤◌, ◌<◌, List, ◌∷◌, ◌++◌, ◌↔◌, [], length, take, drop, slice_index};
+ghost use Rattle.std.specs.Prelude.{IsOk, OnOk, OnErr};
 ghost use Rattle.std.specs.Int.{w16, w32};
 ghost use Rattle.arrayvec.specs.ArrayVec.{array_vec_len};
 ghost use Rattle.oca_types.specs.Numbers.{unsigned_encoding};
 ghost use Rattle.oca_types.specs.Peers.{fields_of};
 ghost use Rattle.oca_types.specs.Sizes.{largest_datagram};
 ghost use Rattle.oca_pdu.specs.Messages.{ResponseFields, Pdu, Commands, Responses, OneKeepAlive, response_with};
-ghost use Rattle.oca_pdu.specs.Encoding.{response_encoding, pdu_encoding, CommandFits, ResponseFits, FormFits, IsDatagram};
+ghost use Rattle.oca_pdu.specs.Encoding.{response_encoding, pdu_encoding, CommandFits, ResponseFits, FormFits};
+ghost use Rattle.oca_pdu.specs.Encoding.{IsDatagram};
 ghost use Rattle.oca_pdu.specs.Reading.{number_at};
 ghost use Rattle.oca_pdu.specs.Writing.{AddsPdu, IsResponses, HoldsResponses, is_of_responses, responses_size};
 
@@ -172,7 +174,8 @@ fn response_front(handle: Handle, reply: &Reply) -> [u8; 20]
 fn raise_header(pdu: &mut [u8], size: u32)
     requires long { 10 ≤ length pdu.old }
     requires count { number_at w16 8 pdu.old + 1 < 2 ^ 16 }
-    ensures { pdu.new ≡ take 3 pdu.old ++ unsigned_encoding w32 size ++ slice_index pdu.old 7 ∷ unsigned_encoding w16 (number_at w16 8 pdu.old + 1) ++ drop 10 pdu.old }
+    ensures { pdu.new ≡ take 3 pdu.old ++ unsigned_encoding w32 size
+        ++ slice_index pdu.old 7 ∷ unsigned_encoding w16 (number_at w16 8 pdu.old + 1) ++ drop 10 pdu.old }
 {
     let count = fields::u16_in(&pdu[8..10]) + 1;
     pdu[3..7].copy_from_slice(&size.to_be_bytes());
@@ -193,7 +196,8 @@ pub fn holds_responses(packet: &Packet) -> bool
 #[inline(always)]
 pub fn extend_response(packet: &mut Packet, handle: Handle, reply: &Reply) -> Result<(), WriteFault>
     requires { HoldsResponses packet.old.items }
-    ensures room { IsOk result ↔ (length packet.old.items + length (response_encoding (response_with handle reply.now)) ≤ largest_datagram) }
+    ensures room { IsOk result
+        ↔ (length packet.old.items + length (response_encoding (response_with handle reply.now)) ≤ largest_datagram) }
     ensures size { (rs : List ResponseFields) → IsResponses rs packet.old.items →
         (IsOk result ↔ (responses_size (rs ++ response_with handle reply.now ∷ []) ≤ largest_datagram)) }
     ensures ok { (rs : List ResponseFields) → IsResponses rs packet.old.items →
@@ -217,7 +221,8 @@ pub fn extend_response(packet: &mut Packet, handle: Handle, reply: &Reply) -> Re
 /// Appends a PDU of one keep-alive (AES70-3). Refusal: `TooLong` where the packet would pass 1,472 bytes, and the
 /// packet is unchanged.
 pub fn write_keepalive(packet: &mut Packet, form: Form) -> Result<(), WriteFault>
-    ensures room { IsOk result ↔ (length packet.old.items + length (pdu_encoding (OneKeepAlive form)) ≤ largest_datagram) }
+    ensures room { IsOk result
+        ↔ (length packet.old.items + length (pdu_encoding (OneKeepAlive form)) ≤ largest_datagram) }
     ensures ok { OnOk result (packet.new.items ≡ packet.old.items ++ pdu_encoding (OneKeepAlive form)) }
     ensures adds { OnOk result (AddsPdu (OneKeepAlive form) packet.old.items packet.new.items) }
     ensures err { OnErr result (packet.new ≡ packet.old) }

@@ -8,7 +8,7 @@ use Rattle.clap.specs.declared.parser.matches.ArgMatches.{ArgMatches}
 use Rattle.clap.specs.Faults.{fault_of}
 use Rattle.clap.specs.Kinds.{HasKind}
 use Rattle.clap.specs.Matches.{found_of, has_subcommand, subcommand_name_of}
-use Rattle.clap.specs.Simple.{App, Shape, HasMatchesOf, app_of, matches_of, new_rule, new_shape, with_rule}
+use Rattle.clap.specs.Simple.{App, Shape, app_of, matches_of, new_rule, new_shape, with_rule}
 use Rattle.clap.specs.Simple.{subcommand_of, subcommand_rows_of}
 use Rattle.clap.specs.Walk.{Rule, rows_of}
 
@@ -49,10 +49,6 @@ pub record IsMatchOf (app : App) (words : List (List ℕ)) (matches : ArgMatches
 abbrev pub MatchingGives : App → List (List ℕ) → Result ArgMatches Error → Type 0
 MatchingGives app words (Ok matches) = IsMatchOf app words matches
 MatchingGives app words (Err error) = HasKind (fault_of app words) error
-
--- these are the words, matched with what some command of clap's takes
-abbrev pub AreMatchesOf : List (List ℕ) → ArgMatches → Type 0
-AreMatchesOf words matches = (command : Command) × HasMatchesOf (app_of command) words matches
 
 -- ---- the command
 

@@ -89,7 +89,7 @@ impl Failure {
     }
 }
 
-/// Prints why a run fails, and hands it on: a line that begins with `note: ` where more is known (one of more than
+/// Prints why a run fails, and flushes it: a line that begins with `note: ` where more is known (one of more than
 /// 1,000 bytes is left out), and then the fault's own, which is the last. Returns the exit status, also where that
 /// can't be written.
 pub fn report<F: Sink>(failure: &Failure, faults: &mut Printer<F>) -> u8
@@ -100,7 +100,7 @@ pub fn report<F: Sink>(failure: &Failure, faults: &mut Printer<F>) -> u8
     failure.fault.status()
 }
 
-/// Prints a line that begins with `note: `, the first of the text, and hands it on, as far as the writes go. One of
+/// Prints a line that begins with `note: `, the first of the text, and flushes it, as far as the writes go. One of
 /// more than 1,000 bytes is left out.
 pub fn print_note<F: Sink>(note: &str, faults: &mut Printer<F>)
     ensures { (written : Result Unit Failed) × WritesOut written faults.old faults.new (note_text note.now) }

@@ -140,9 +140,9 @@ fn note_of(alloc: Global, rule: Rule, value: &str) -> Result<String, AllocError>
     let form = words_for(alloc, rule.form)?;
     let form = form.as_str();
     if value.len() > MOST_SHOWN {
-        return format!(in alloc; "--{name} is not of its form: {form}");
+        return format!(in alloc; "--{name} is not valid: it must be {form}");
     }
-    format!(in alloc; "--{name} {value} is not of its form: {form}")
+    format!(in alloc; "--{name} {value} is not valid: it must be {form}")
 }
 
 /// A form in words.
@@ -152,14 +152,14 @@ fn words_for(alloc: Global, form: Form) -> Result<String, AllocError> {
             digits,
             least,
             largest,
-        } => format!(in alloc; "1 to {digits} digits, {least} to {largest}"),
+        } => format!(in alloc; "a number from {least} to {largest}, of 1 to {digits} digits"),
         Form::Host => String::from_str(
             alloc,
-            "A.B.C.D:PORT, the address of one host, 1.0.0.0 to 223.255.255.255, and a port from 1 to 65535",
+            "A.B.C.D:PORT, the address of one host (1.0.0.0 to 223.255.255.255) and a port from 1 to 65535",
         ),
         Form::Own => String::from_str(
             alloc,
-            "A.B.C.D, the address of one host, 1.0.0.0 to 223.255.255.255, or 0.0.0.0",
+            "A.B.C.D, the address of one host (1.0.0.0 to 223.255.255.255), or 0.0.0.0",
         ),
         Form::AnyPeer => String::from_str(alloc, "A.B.C.D:PORT"),
         Form::Bytes => String::from_str(

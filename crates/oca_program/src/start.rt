@@ -20,5 +20,5 @@ fn unread(alloc: Global, kind: io::ErrorKind) -> Failure {
     if kind == io::ErrorKind::OutOfMemory {
         return Failure::from(RunFault::NoMemory);
     }
-    Failure::told(alloc, RunFault::BadWords, "a word is not UTF-8")
+    Failure::told(alloc, RunFault::BadWords, "an argument is not UTF-8")
 }

@@ -6,12 +6,12 @@ use Rattle.std.proofs.lemmas.Bool.Decides.{nat_tests}
 use Rattle.std.proofs.lemmas.Grind.{flat_map-append}
 use Rattle.std.proofs.lemmas.Str.{encodes-chars, encodes-append, length-le-encodes, chars-encodes, scalars-chars, encode_ascii, digit_value-digit_char}
 use Rattle.std.proofs.Math.Utf8.{scalars, scalar, low_scalar}
-use Rattle.oca_script.specs.Escapes.{is_hidden, letter_for, two_digits, digits_of, escape_by, escape, escaped, letter_said, unescape, unescaped}
+use Rattle.oca_script.specs.Escapes.{is_hidden, letter_for, two_digits, digits_of, escape_by, escape, escaped, character_for, unescape, unescaped}
 use Rattle.oca_script.specs.Escapes.Reading.{Before, Within}
 
 -- ---- what is read back
 
-letter_ok : (c l : ℕ) → letter_for c ≡ Some l → ((l == 117) ≡ false) × (letter_said l ≡ c)
+letter_ok : (c l : ℕ) → letter_for c ≡ Some l → ((l == 117) ≡ false) × (character_for l ≡ c)
 letter_ok c l e = grind (arith, nat_tests)
 
 digit_apart : (d : ℕ) → d < 16 → ((digit_char d == 123) ≡ false) × ((digit_char d == 125) ≡ false)

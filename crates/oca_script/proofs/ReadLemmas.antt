@@ -11,12 +11,12 @@ use Rattle.oca_script.specs.declared.progress.Progress.{Progress}
 use Rattle.oca_script.specs.Ends.{Input, Output}
 use Rattle.oca_script.specs.Printing.{Prints, PrintsAll, PrintsPart, WritesFront}
 use Rattle.oca_script.specs.PrivateScript.{script_from}
-use Rattle.oca_script.specs.Script.{Script, script, behind, ends_by, line_then, parsed}
-use Rattle.oca_script.specs.Replaying.{Runs, NoneLeft, Awaited, BeginsWith, Ends, known_bytes, Outcome, Replays, ReadFails, Writes}
+use Rattle.oca_script.specs.Script.{Script, script, after_requests, ends_by, line_then, parsed}
+use Rattle.oca_script.specs.Replaying.{Runs, NoneLeft, Awaited, BeginsWithRequests, Ends, known_bytes, Outcome, Replays, ReadFails, Writes}
 use Rattle.oca_script.specs.PrivateSteps.{Printed, PrintedAtEnd, AccountsFor, Step, Performs, Performance, is_end_failure}
 use Rattle.oca_script.proofs.PrintLemmas.{PrintsAll-nil, PrintsPart-then, whole, written, front}
 use Rattle.oca_script.proofs.ScriptLemmas.{script-from, script_from-end, script_from-too_much}
-use Rattle.oca_script.proofs.StepLemmas.{Runs-then, Runs-on, Printed-then, Step-then, Step-at, Step-as, Step-nothing, Step-unread, behind-behind}
+use Rattle.oca_script.proofs.StepLemmas.{Runs-then, Runs-on, Printed-then, Step-then, Step-at, Step-as, Step-nothing, Step-unread, after_requests-twice}
 
 known-end : (o : Option (List ℕ)) → IsAtEnd o → known_bytes o ≡ []
 known-end None h = refl
@@ -185,7 +185,7 @@ module _ {S R : Type 0} (asked : List (List ℕ) → Result R LineFault) (serves
       text = h.step.text ++ text;
       runs = Runs-then serves idles a b c h.step.requests [] h.step.text text h.step.runs on;
       prints = PrintsPart-then u v w h.step.text text h.step.prints e;
-      ends = subst (λ (l : List R). BeginsWith l (script asked (h.taken ++ known_bytes has.remaining))) (sym (append-nil h.step.requests))
+      ends = subst (λ (l : List R). BeginsWithRequests l (script asked (h.taken ++ known_bytes has.remaining))) (sym (append-nil h.step.requests))
           (script_from asked p.number p.line left (known_bytes has.remaining), h.step.accounts (known_bytes has.remaining));
     },
   )
@@ -206,7 +206,7 @@ module _ {S R : Type 0} (asked : List (List ℕ) → Result R LineFault) (serves
       fails a b b u v v had has after p left (x ∷ xs) TooMuch (λ more. script_from asked p.number p.line left more) h k f (omega arith)
       (Step-nothing serves idles b v (Err TooMuch) _ _ (PrintsAll-nil v) (λ more. ap (λ n. script_from asked p.number p.line n (x ∷ (xs ++ more))) none ∙ script_from-too_much asked p.number p.line x (xs ++ more) short))
 
-  last-ends : (r : Result Unit ReplayFault) (k : ℕ) (line : List ℕ) (xs ys : List R) (s : Script R) (left : ℕ) → s ≡ behind xs (script_from asked k line left [])
+  last-ends : (r : Result Unit ReplayFault) (k : ℕ) (line : List ℕ) (xs ys : List R) (s : Script R) (left : ℕ) → s ≡ after_requests xs (script_from asked k line left [])
       → AccountsFor {X = Script R} r (λ s. line_then k (parsed asked line) s) (λ s. s) ys → Ends r s (xs ++ ys)
   last-ends r k line xs ys s left e h = shown r h
     where
@@ -216,15 +216,15 @@ module _ {S R : Type 0} (asked : List (List ℕ) → Result R LineFault) (serves
       last : Script R
       last = ends_by (Ok tt)
 
-      from_end : s ≡ behind xs (line_then k (parsed asked line) last)
-      from_end = e ∙ ap (behind xs) (script_from-end asked k line left)
+      from_end : s ≡ after_requests xs (line_then k (parsed asked line) last)
+      from_end = e ∙ ap (after_requests xs) (script_from-end asked k line left)
 
       shown : (r : Result Unit ReplayFault) → AccountsFor {X = Script R} r (λ s. line_then k (parsed asked line) s) (λ s. s) ys → Ends r s (xs ++ ys)
-      shown (Ok u) h = from_end ∙ ap (behind xs) (h last) ∙ behind-behind xs ys last ∙ ap (λ (l : List R). ended l) (append-nil (xs ++ ys))
-      shown (Err (Line n w)) h = from_end ∙ ap (behind xs) (h last)
-      shown (Err Read) h = let k = h last in (k.0, from_end ∙ ap (behind xs) k.1 ∙ behind-behind xs ys k.0)
-      shown (Err Write) h = let k = h last in (k.0, from_end ∙ ap (behind xs) k.1 ∙ behind-behind xs ys k.0)
-      shown (Err TooMuch) h = from_end ∙ ap (behind xs) (h last)
+      shown (Ok u) h = from_end ∙ ap (after_requests xs) (h last) ∙ after_requests-twice xs ys last ∙ ap (λ (l : List R). ended l) (append-nil (xs ++ ys))
+      shown (Err (Line n w)) h = from_end ∙ ap (after_requests xs) (h last)
+      shown (Err Read) h = let k = h last in (k.0, from_end ∙ ap (after_requests xs) k.1 ∙ after_requests-twice xs ys k.0)
+      shown (Err Write) h = let k = h last in (k.0, from_end ∙ ap (after_requests xs) k.1 ∙ after_requests-twice xs ys k.0)
+      shown (Err TooMuch) h = from_end ∙ ap (after_requests xs) (h last)
 
   -- the end of the input, and the last line
   ends : (a b c : S) (u v w : Output) (had has after : Input) (p : Progress) (left : ℕ) (line : List ℕ) (r : Result Unit ReplayFault) → Reading a b u v had has p left
@@ -246,7 +246,7 @@ module _ {S R : Type 0} (asked : List (List ℕ) → Result R LineFault) (serves
           runs = Runs-then serves idles a b c h.step.requests d.requests h.step.text d.text h.step.runs d.runs;
           prints = at_end r u w (h.step.text ++ d.text) (Printed-then r u v w h.step.text d.text h.step.prints d.prints);
           ends = last-ends r p.number p.line h.step.requests d.requests (script asked (h.taken ++ known_bytes after.remaining)) left
-              (h.step.accounts (known_bytes after.remaining) ∙ ap (λ (l : List ℕ). behind h.step.requests (script_from asked p.number p.line left l)) (known-end after.remaining end)) accounts;
+              (h.step.accounts (known_bytes after.remaining) ∙ ap (λ (l : List ℕ). after_requests h.step.requests (script_from asked p.number p.line left l)) (known-end after.remaining end)) accounts;
         },
       )
     where
@@ -266,7 +266,7 @@ module _ {S R : Type 0} (asked : List (List ℕ) → Result R LineFault) (serves
 
   -- ---- the whole
 
-  begins : (r : Result Unit ReplayFault) (s : Script R) (requests : List R) → Ends r s requests → BeginsWith requests s
+  begins : (r : Result Unit ReplayFault) (s : Script R) (requests : List R) → Ends r s requests → BeginsWithRequests requests s
   begins (Ok u) s requests h = (ends_by (Ok tt), h ∙ ap (λ (l : List R). ended l) (sym (append-nil requests)))
     where
       ended : List R → Script R

@@ -8,7 +8,7 @@ use Rattle.oca_script.specs.declared.fault.LineFault.{LineFault}
 use Rattle.oca_script.specs.declared.fault.LineFault.TheVariants.{TooLong}
 use Rattle.oca_script.specs.declared.fault.ReplayFault.{ReplayFault}
 use Rattle.oca_script.specs.declared.fault.ReplayFault.TheVariants.{Line, TooMuch}
-use Rattle.oca_script.specs.Script.{lines, counted, script_of, script, line_then, ends_by, parsed, parsed_by, asks}
+use Rattle.oca_script.specs.Script.{lines, counted_lines, script_of, script, line_then, ends_by, parsed, parsed_by, asks}
 use Rattle.oca_script.specs.PrivateScript.{onto_line, script_from}
 
 leb-suc : (a b : ℕ) → leb (suc a) (suc b) ≡ leb a b
@@ -28,8 +28,8 @@ onto_line-nil : (text : List ℕ) → onto_line [] (lines text) ≡ lines text
 onto_line-nil text = let h = lines-some text in ap (onto_line []) h.2 ∙ sym h.2
 
 -- where a line is ended it counts
-counted-more : (line : List ℕ) (text : List ℕ) → counted (line ∷ lines text) ≡ line ∷ counted (lines text)
-counted-more line text = let h = lines-some text in ap (λ ls. counted (line ∷ ls)) h.2 ∙ ap (λ ls. line ∷ counted ls) (sym h.2)
+counted-more : (line : List ℕ) (text : List ℕ) → counted_lines (line ∷ lines text) ≡ line ∷ counted_lines (lines text)
+counted-more line text = let h = lines-some text in ap (λ ls. counted_lines (line ∷ ls)) h.2 ∙ ap (λ ls. line ∷ counted_lines ls) (sym h.2)
 
 onto_line-byte : (line : List ℕ) (b : ℕ) (text : List ℕ) → onto_line line (onto_first b (lines text)) ≡ onto_line (line ++ b ∷ []) (lines text)
 onto_line-byte line b text =
@@ -40,11 +40,11 @@ onto_line-first : (line text : List ℕ) → (rest : List ℕ) × (more : List (
 onto_line-first line text = let h = lines-some text in (h.0, h.1, ap (onto_line line) h.2)
 
 -- a first line that is too long counts
-counted-long : (line : List ℕ) (ls : List (List ℕ)) → 4096 < length line → (more : List (List ℕ)) × (counted (line ∷ ls) ≡ line ∷ more)
+counted-long : (line : List ℕ) (ls : List (List ℕ)) → 4096 < length line → (more : List (List ℕ)) × (counted_lines (line ∷ ls) ≡ line ∷ more)
 counted-long line [] long =
     let test : ltb 4096 (length line) ≡ true = grind (arith, nat_tests) in
     ([], rw test refl)
-counted-long line (next ∷ ls) long = (counted (next ∷ ls), refl)
+counted-long line (next ∷ ls) long = (counted_lines (next ∷ ls), refl)
 
 -- a line that is too long has that fault
 pub asks-long : (line : List ℕ) → 4096 < length line → asks line ≡ Err TooLong
@@ -87,14 +87,14 @@ module _ {R : Type 0} (asked : List (List ℕ) → Result R LineFault) where
   script_from-line_feed k line left more =
       rw (leb-suc (length more) left)
       (elim (leb (length more) left) as (λ v.
-      cond v (script_of asked k ((line ++ []) ∷ lines more) (Ok tt)) (script_of asked k (counted ((line ++ []) ∷ lines (take left more))) (Err TooMuch))
+      cond v (script_of asked k ((line ++ []) ∷ lines more) (Ok tt)) (script_of asked k (counted_lines ((line ++ []) ∷ lines (take left more))) (Err TooMuch))
       ≡ line_then k (parsed asked line) (cond v (script_of asked (k + 1) (onto_line [] (lines more)) (Ok tt))
-      (script_of asked (k + 1) (counted (onto_line [] (lines (take left more)))) (Err TooMuch)))) [
+      (script_of asked (k + 1) (counted_lines (onto_line [] (lines (take left more)))) (Err TooMuch)))) [
         | true ↦ ap (λ (l : List ℕ). script_of asked k (l ∷ lines more) (Ok tt)) (append-nil line)
             ∙ ap (λ ls. line_then k (parsed asked line) (script_of asked (k + 1) ls (Ok tt))) (sym (onto_line-nil more))
-        | false ↦ ap (λ (l : List ℕ). script_of asked k (counted (l ∷ lines (take left more))) (Err TooMuch)) (append-nil line)
+        | false ↦ ap (λ (l : List ℕ). script_of asked k (counted_lines (l ∷ lines (take left more))) (Err TooMuch)) (append-nil line)
             ∙ ap (λ ls. script_of asked k ls (Err TooMuch)) (counted-more line (take left more))
-            ∙ ap (λ ls. line_then k (parsed asked line) (script_of asked (k + 1) (counted ls) (Err TooMuch))) (sym (onto_line-nil (take left more)))
+            ∙ ap (λ ls. line_then k (parsed asked line) (script_of asked (k + 1) (counted_lines ls) (Err TooMuch))) (sym (onto_line-nil (take left more)))
       ])
 
   -- another byte
@@ -130,10 +130,10 @@ module _ {R : Type 0} (asked : List (List ℕ) → Result R LineFault) where
       let longer : 4096 < length (line ++ short.0) = omega (arith, length-append line short.0) in
       let counts = counted-long (line ++ short.0) short.1 longer in
       elim (leb (length more) left) as (λ v.
-      cond v (script_of asked k (onto_line line (lines more)) (Ok tt)) (script_of asked k (counted (onto_line line (lines (take left more)))) (Err TooMuch))
+      cond v (script_of asked k (onto_line line (lines more)) (Ok tt)) (script_of asked k (counted_lines (onto_line line (lines (take left more)))) (Err TooMuch))
       ≡ ends_by (Err (Line k TooLong))) [
         | true ↦ script_of-long k line h.0 h.1 _ _ long h.2
-        | false ↦ script_of-long k line short.0 counts.0 _ _ long (ap counted short.2 ∙ counts.1)
+        | false ↦ script_of-long k line short.0 counts.0 _ _ long (ap counted_lines short.2 ∙ counts.1)
       ]
 
   -- a line's last bytes, its line feed, and the rest

@@ -9,7 +9,7 @@ use Rattle.oca_script.specs.declared.fault.Stop.{Stop}
 use Rattle.oca_script.specs.declared.fault.Stop.TheVariants as stop
 use Rattle.oca_script.specs.Ends.{Output}
 use Rattle.oca_script.specs.Printing.{Prints, PrintsAll}
-use Rattle.oca_script.specs.Script.{Script, behind, ends_by, line_then, parsed, parsed_by}
+use Rattle.oca_script.specs.Script.{Script, after_requests, ends_by, line_then, parsed, parsed_by}
 use Rattle.oca_script.specs.Replaying.{Runs, NoneLeft, OneServed, OneIdled, GoesOn, Awaited, ServesLine}
 use Rattle.oca_script.specs.PrivateSteps.{Printed, AccountsFor, Step}
 use Rattle.oca_script.proofs.PrintLemmas.{PrintsAll-nil, PrintsAll-then, PrintsPart-then, prints-then, not-printed}
@@ -51,8 +51,8 @@ module _ {S R : Type 0} (serves : S → R → S → List ℕ → Type 0) (idles 
   awaited-not a u v r e f is h = record { text = []; goes_on = inl (refl, refl); prints = not-printed r e f u v [] is h }
 
 -- requests in front of requests
-pub behind-behind : {R : Type 0} (xs ys : List R) (s : Script R) → behind xs (behind ys s) ≡ behind (xs ++ ys) s
-behind-behind {R} xs ys s = ap behind_as (sym (append_assoc xs ys s.requests))
+pub after_requests-twice : {R : Type 0} (xs ys : List R) (s : Script R) → after_requests xs (after_requests ys s) ≡ after_requests (xs ++ ys) s
+after_requests-twice {R} xs ys s = ap behind_as (sym (append_assoc xs ys s.requests))
   where
     behind_as : List R → Script R
     behind_as l = record { requests = l; ending = s.ending }
@@ -60,12 +60,12 @@ behind-behind {R} xs ys s = ap behind_as (sym (append_assoc xs ys s.requests))
 -- ---- what was asked
 
 pub AccountsFor-then : {R X : Type 0} (r : Result Unit ReplayFault) (asks mid rest : X → Script R) (xs ys : List R)
-    → ((x : X) → asks x ≡ behind xs (mid x)) → AccountsFor r mid rest ys → AccountsFor r asks rest (xs ++ ys)
-AccountsFor-then (Ok u) asks mid rest xs ys h k = λ x. h x ∙ ap (behind xs) (k x) ∙ behind-behind xs ys (rest x)
-AccountsFor-then (Err (Line n w)) asks mid rest xs ys h k = λ x. h x ∙ ap (behind xs) (k x)
-AccountsFor-then (Err Read) asks mid rest xs ys h k = λ x. ((k x).0, h x ∙ ap (behind xs) (k x).1 ∙ behind-behind xs ys (k x).0)
-AccountsFor-then (Err Write) asks mid rest xs ys h k = λ x. ((k x).0, h x ∙ ap (behind xs) (k x).1 ∙ behind-behind xs ys (k x).0)
-AccountsFor-then (Err TooMuch) asks mid rest xs ys h k = λ x. h x ∙ ap (behind xs) (k x)
+    → ((x : X) → asks x ≡ after_requests xs (mid x)) → AccountsFor r mid rest ys → AccountsFor r asks rest (xs ++ ys)
+AccountsFor-then (Ok u) asks mid rest xs ys h k = λ x. h x ∙ ap (after_requests xs) (k x) ∙ after_requests-twice xs ys (rest x)
+AccountsFor-then (Err (Line n w)) asks mid rest xs ys h k = λ x. h x ∙ ap (after_requests xs) (k x)
+AccountsFor-then (Err Read) asks mid rest xs ys h k = λ x. ((k x).0, h x ∙ ap (after_requests xs) (k x).1 ∙ after_requests-twice xs ys (k x).0)
+AccountsFor-then (Err Write) asks mid rest xs ys h k = λ x. ((k x).0, h x ∙ ap (after_requests xs) (k x).1 ∙ after_requests-twice xs ys (k x).0)
+AccountsFor-then (Err TooMuch) asks mid rest xs ys h k = λ x. h x ∙ ap (after_requests xs) (k x)
 
 AccountsFor-at : {R X Y : Type 0} (f : Y → X) (r : Result Unit ReplayFault) (asks rest : X → Script R) (xs : List R)
     → AccountsFor r asks rest xs → AccountsFor r (λ y. asks (f y)) (λ y. rest (f y)) xs
@@ -77,7 +77,7 @@ AccountsFor-at f (Err TooMuch) asks rest xs h = λ y. h (f y)
 
 AccountsFor-as : {R X : Type 0} (r : Result Unit ReplayFault) (asks asks' rest rest' : X → Script R) (xs : List R)
     → ((x : X) → asks' x ≡ asks x) → ((x : X) → rest x ≡ rest' x) → AccountsFor r asks rest xs → AccountsFor r asks' rest' xs
-AccountsFor-as (Ok u) asks asks' rest rest' xs e f h = λ x. e x ∙ h x ∙ ap (behind xs) (f x)
+AccountsFor-as (Ok u) asks asks' rest rest' xs e f h = λ x. e x ∙ h x ∙ ap (after_requests xs) (f x)
 AccountsFor-as (Err (Line n w)) asks asks' rest rest' xs e f h = λ x. e x ∙ h x
 AccountsFor-as (Err Read) asks asks' rest rest' xs e f h = λ x. ((h x).0, e x ∙ (h x).1)
 AccountsFor-as (Err Write) asks asks' rest rest' xs e f h = λ x. ((h x).0, e x ∙ (h x).1)

@@ -1,6 +1,7 @@
 -- How a text of a peer is printed, so that no character of it ends a line, moves a cursor or changes the direction of
 -- what stands beside it (*profile*).
-use Rattle.std.specs.Prelude.{◌≡◌, ℕ, ◌+◌, ◌*◌, ◌/◌, ◌%◌, ◌==◌, ◌&&◌, ◌||◌, nat_le, nat_lt, Bool, if◌then◌else◌, List, [], ◌∷◌, ◌++◌, codes, Option, Some, None, encode_utf8_all, IsUtf8}
+use Rattle.std.specs.Prelude.{◌≡◌, ℕ, ◌+◌, ◌*◌, ◌/◌, ◌%◌, ◌==◌, ◌&&◌, ◌||◌, nat_le, nat_lt, Bool, if◌then◌else◌, List}
+use Rattle.std.specs.Prelude.{[], ◌∷◌, ◌++◌, codes, Option, Some, None, encode_utf8_all, IsUtf8}
 use Rattle.std.specs.List.{flat_map, list_any}
 use Rattle.std.specs.Str.{chars}
 use Rattle.std.specs.Char.{digit_char, digit_value}
@@ -16,7 +17,8 @@ is_hidden c =
 
 -- what stands behind a backslash for a line feed, a carriage return, a tab and a backslash
 abbrev pub letter_for : ℕ → Option ℕ
-letter_for c = if c == 10 then Some 110 else if c == 13 then Some 114 else if c == 9 then Some 116 else if c == 92 then Some 92 else None
+letter_for c = if c == 10 then Some 110 else if c == 13 then Some 114 else if c == 9 then Some 116
+    else if c == 92 then Some 92 else None
 
 -- a byte in two hexadecimal digits of lower case
 abbrev pub two_digits : ℕ → List ℕ
@@ -30,7 +32,8 @@ abbrev pub escape_by : Option ℕ → ℕ → List ℕ
 escape_by (Some letter) c = 92 ∷ letter ∷ []
 escape_by None c = if is_hidden c then codes "\\u{" ++ digits_of c ++ codes "}" else c ∷ []
 
--- The characters that are printed for a character: \n, \r, \t, \\, of another hidden one \u{..}, and of any other itself.
+-- The characters that are printed for a character: \n, \r, \t, \\, of another hidden one \u{..}, and of any other
+-- itself.
 unfoldable pub escape : ℕ → List ℕ
 escape c = escape_by (letter_for c) c
 
@@ -50,14 +53,15 @@ pub data Reading : Type 0 where
   Behind : Reading
   Within : ℕ → Reading
 
-abbrev pub letter_said : ℕ → ℕ
-letter_said c = if c == 110 then 10 else if c == 114 then 13 else if c == 116 then 9 else c
+-- the character that a letter behind a backslash stands for
+abbrev pub character_for : ℕ → ℕ
+character_for c = if c == 110 then 10 else if c == 114 then 13 else if c == 116 then 9 else c
 
 -- the characters that printed ones say
 abbrev pub unescape : Reading → List ℕ → List ℕ
 unescape r [] = []
 unescape Before (c ∷ cs) = if c == 92 then unescape Behind cs else c ∷ unescape Before cs
-unescape Behind (c ∷ cs) = if c == 117 then unescape (Within 0) cs else letter_said c ∷ unescape Before cs
+unescape Behind (c ∷ cs) = if c == 117 then unescape (Within 0) cs else character_for c ∷ unescape Before cs
 unescape (Within n) (c ∷ cs) =
     if c == 123 then unescape (Within 0) cs
     else if c == 125 then n ∷ unescape Before cs

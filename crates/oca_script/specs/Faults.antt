@@ -13,8 +13,8 @@ fault_word Number = codes "number"
 fault_word Peer = codes "peer"
 fault_word Hex = codes "hex"
 
-abbrev pub fault_number : ReplayFault → ℕ
-fault_number (Line number fault) = 1
-fault_number Read = 2
-fault_number Write = 3
-fault_number TooMuch = 4
+abbrev pub script_fault_number : ReplayFault → ℕ
+script_fault_number (Line number fault) = 1
+script_fault_number Read = 2
+script_fault_number Write = 3
+script_fault_number TooMuch = 4

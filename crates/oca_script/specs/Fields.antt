@@ -1,5 +1,6 @@
 -- The fields of a script's line, and the values that they encode (profile).
-use Rattle.std.specs.Prelude.{ℕ, ◌+◌, ◌-◌, ◌*◌, ◌^◌, ◌==◌, ◌&&◌, ◌||◌, nat_le, nat_lt, if◌then◌else◌, List, [], ◌∷◌, length, codes, Option, Some, None}
+use Rattle.std.specs.Prelude.{ℕ, ◌+◌, ◌-◌, ◌*◌, ◌^◌, ◌==◌, ◌&&◌, ◌||◌, nat_le, nat_lt, if◌then◌else◌, List, [], ◌∷◌}
+use Rattle.std.specs.Prelude.{length, codes, Option, Some, None}
 use Rattle.std.specs.Option.{option_map}
 use Rattle.std.specs.Result.{result_ok}
 use Rattle.std.specs.Str.{bytes_eq}
@@ -16,7 +17,8 @@ onto_first b (p ∷ ps) = (b ∷ p) ∷ ps
 -- what stands between separators, empty parts included
 abbrev pub split_on : ℕ → List ℕ → List (List ℕ)
 split_on separator [] = [] ∷ []
-split_on separator (b ∷ bs) = if b == separator then [] ∷ split_on separator bs else onto_first b (split_on separator bs)
+split_on separator (b ∷ bs) =
+    if b == separator then [] ∷ split_on separator bs else onto_first b (split_on separator bs)
 
 -- the fields of a line: what stands between single spaces
 abbrev pub fields : List ℕ → List (List ℕ)
@@ -30,7 +32,8 @@ fields_after (Some text) = fields text
 -- what stands before and after the first such byte
 abbrev pub split_at : ℕ → List ℕ → Option (List ℕ × List ℕ)
 split_at separator [] = None
-split_at separator (b ∷ bs) = if b == separator then Some ([], bs) else option_map (λ p. (b ∷ p.0, p.1)) (split_at separator bs)
+split_at separator (b ∷ bs) =
+    if b == separator then Some ([], bs) else option_map (λ p. (b ∷ p.0, p.1)) (split_at separator bs)
 
 abbrev pub then_in : {A B : Type 0} → Option A → (A → Option B) → Option B
 then_in None f = None

@@ -1,5 +1,6 @@
 -- What a script asks for, as a function of its bytes (profile).
-use Rattle.std.specs.Prelude.{ℕ, ◌+◌, ◌==◌, Bool, true, false, if◌then◌else◌, nat_le, nat_lt, List, [], ◌∷◌, ◌++◌, length, take, Option, Some, None, Result, Ok, Err}
+use Rattle.std.specs.Prelude.{ℕ, ◌+◌, ◌==◌, Bool, true, false, if◌then◌else◌, nat_le, nat_lt, List, [], ◌∷◌, ◌++◌}
+use Rattle.std.specs.Prelude.{length, take, Option, Some, None, Result, Ok, Err}
 use Rattle.std.specs.List.{list_all}
 use Rattle.oca_script.specs.Fields.{split_on, fields}
 use Rattle.oca_script.specs.declared.fault.LineFault.{LineFault}
@@ -48,10 +49,10 @@ abbrev pub lines : List ℕ → List (List ℕ)
 lines text = split_on 10 text
 
 -- The lines that count where more bytes follow: those that a line feed ends, and the last where it is too long already.
-abbrev pub counted : List (List ℕ) → List (List ℕ)
-counted [] = []
-counted (line ∷ []) = if nat_lt longest_line (length line) then line ∷ [] else []
-counted (line ∷ next ∷ more) = line ∷ counted (next ∷ more)
+abbrev pub counted_lines : List (List ℕ) → List (List ℕ)
+counted_lines [] = []
+counted_lines (line ∷ []) = if nat_lt longest_line (length line) then line ∷ [] else []
+counted_lines (line ∷ next ∷ more) = line ∷ counted_lines (next ∷ more)
 
 -- ---- the whole script
 
@@ -61,8 +62,8 @@ pub record Script (R : Type 0) : Type 0 where
   pub ending : Result Unit ReplayFault
 
 -- a script that begins with these requests
-abbrev pub behind : {R : Type 0} → List R → Script R → Script R
-behind requests s = record { requests = requests ++ s.requests; ending = s.ending }
+abbrev pub after_requests : {R : Type 0} → List R → Script R → Script R
+after_requests requests s = record { requests = requests ++ s.requests; ending = s.ending }
 
 -- no request, and that ending
 abbrev pub ends_by : {R : Type 0} → Result Unit ReplayFault → Script R
@@ -72,16 +73,18 @@ ends_by ending = record { requests = []; ending = ending }
 abbrev pub line_then : {R : Type 0} → ℕ → Result (Option R) LineFault → Script R → Script R
 line_then number (Err fault) s = ends_by (Err (Line number fault))
 line_then number (Ok None) s = s
-line_then number (Ok (Some request)) s = behind (request ∷ []) s
+line_then number (Ok (Some request)) s = after_requests (request ∷ []) s
 
 -- the script of these lines, numbered from `number`
-abbrev pub script_of : {R : Type 0} → (List (List ℕ) → Result R LineFault) → ℕ → List (List ℕ) → Result Unit ReplayFault → Script R
+abbrev pub script_of : {R : Type 0} → (List (List ℕ) → Result R LineFault) → ℕ → List (List ℕ) →
+    Result Unit ReplayFault → Script R
 script_of asked number [] ending = ends_by ending
-script_of asked number (line ∷ lines) ending = line_then number (parsed asked line) (script_of asked (number + 1) lines ending)
+script_of asked number (line ∷ lines) ending =
+    line_then number (parsed asked line) (script_of asked (number + 1) lines ending)
 
 -- What a script asks for, by its lines, which are numbered from 1. Of more than 16,777,216 bytes only the first
 -- 16,777,216 count.
 unfoldable pub script : {R : Type 0} → (List (List ℕ) → Result R LineFault) → List ℕ → Script R
 script asked bytes =
     if nat_le (length bytes) 16777216 then script_of asked 1 (lines bytes) (Ok tt)
-    else script_of asked 1 (counted (lines (take 16777216 bytes))) (Err TooMuch)
+    else script_of asked 1 (counted_lines (lines (take 16777216 bytes))) (Err TooMuch)

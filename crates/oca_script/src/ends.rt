@@ -123,7 +123,7 @@ impl<R: Read> Source for FromReader<R> {
     fn await_input(&mut self, beside: Option<RawFd>, milliseconds: u64) -> bool {
         if let Some(descriptor) = self.descriptor {
             let asked = readable(descriptor, self.is_terminal);
-            self.ready = says_ready(wait_for(asked, beside, milliseconds));
+            self.ready = is_ready(wait_for(asked, beside, milliseconds));
         }
         self.ready
     }
@@ -142,11 +142,11 @@ impl<R: Read> Source for FromReader<R> {
 }
 
 /// Whether a read does not wait, by what the system said.
-fn says_ready(said: io::Result<Ready>) -> bool
-    ensures told { IfOk said (λ ready. result ≡ ready.input) }
-    ensures untold { OnErr said (result ≡ true) }
+fn is_ready(answer: io::Result<Ready>) -> bool
+    ensures known { IfOk answer (λ ready. result ≡ ready.input) }
+    ensures unknown { OnErr answer (result ≡ true) }
 {
-    match said {
+    match answer {
         Ok(ready) => ready.input,
         Err(_) => true,
     }

@@ -1,8 +1,9 @@
-//! Texts of peers as they are printed: no character of them ends a line, moves a cursor or changes the direction of what
-//! stands beside it (profile).
+//! Texts of peers as they are printed: no character of them ends a line, moves a cursor or changes the direction of
+//! what stands beside it (profile).
 ghost use Rattle.std.specs.Prelude.{◌≡◌, ◌≤◌, ◌+◌, ◌++◌, length, encode_utf8_all, IsTrue};
 ghost use Rattle.std.specs.Char.{digit_char};
-ghost use Rattle.oca_script.specs.Escapes.{is_hidden as is_hidden_char, letter_for, two_digits, digits_of, escape, escaped, has_hidden as has_hidden_char, LawOfEscapes};
+ghost use Rattle.oca_script.specs.Escapes.{is_hidden as is_hidden_char, letter_for, two_digits, digits_of, escape};
+ghost use Rattle.oca_script.specs.Escapes.{escaped, has_hidden as has_hidden_char, LawOfEscapes};
 
 use super::buffer::Buffer;
 use std::marker::Model;

@@ -1,6 +1,6 @@
 //! Why a line, or a replay, is refused.
 ghost use Rattle.std.specs.Prelude.{◌≡◌};
-ghost use Rattle.oca_script.specs.Faults.{fault_word, fault_number};
+ghost use Rattle.oca_script.specs.Faults.{fault_word, script_fault_number};
 
 use thiserror::Error;
 
@@ -63,7 +63,7 @@ pub enum ReplayFault {
 impl ReplayFault {
     /// The number of the fault, 1 to 4.
     pub fn number(self) -> u8
-        ensures { result ≡ fault_number self }
+        ensures { result ≡ script_fault_number self }
     {
         match self {
             ReplayFault::Line(_, _) => 1,

@@ -1,7 +1,8 @@
 //! The fields of a line.
 ghost use Rattle.std.specs.Prelude.{◌≡◌, ◌+◌, ◌*◌, ◌≤◌, ◌<◌, ◌⊎◌, IfSome, OnSome, [], ◌∷◌, length};
 ghost use Rattle.std.specs.Option.{option_copied};
-ghost use Rattle.oca_script.specs.Fields.{number_of, moment_of, split_at, read_before, octet_of, address_of, peer_of, fields, fields_after, hex_of};
+ghost use Rattle.oca_script.specs.Fields.{number_of, moment_of, split_at, read_before, octet_of, address_of, peer_of};
+ghost use Rattle.oca_script.specs.Fields.{fields, fields_after, hex_of};
 ghost use Rattle.oca_script.specs.FieldAnswers.{split_view, read_view, given_bytes};
 
 use oca_types::Peer;

@@ -54,6 +54,7 @@ pub trait Language {
         requires { printer.old.held ≡ [] }
         ensures awaited { Awaited idles state.old state.new result printer.old printer.new }
         ensures empty { OnOk result (printer.new.held ≡ []) }
-        ensures source { input (R.remaining reader.new) (R.failed reader.new) ≡ input (R.remaining reader.old) (R.failed reader.old) }
+        ensures source { input (R.remaining reader.new) (R.failed reader.new)
+            ≡ input (R.remaining reader.old) (R.failed reader.old) }
         ensures rests { OnOk result (R.ready reader.new ≡ false → rests state.new) };
 }

@@ -1,11 +1,13 @@
 //! Lines in, lines out: the lines of a source are read in any pieces, served one after another, and what they print is
 //! written.
-ghost use Rattle.std.specs.Prelude.{◌≡◌, ◌+◌, ◌<◌, ◌≤◌, ◌++◌, [], ℕ, List, length, IsTrue, OnOk, OnErr, IfOk, IfErr, IfSome};
+ghost use Rattle.std.specs.Prelude.{◌≡◌, ◌+◌, ◌<◌, ◌≤◌, ◌++◌, [], ℕ, List, length, IsTrue, OnOk, OnErr, IfOk, IfErr};
+ghost use Rattle.std.specs.Prelude.{IfSome};
 ghost use Rattle.std.specs.Prelude.{true, false, Ok as ok};
 ghost use Rattle.std.specs.Io.KnownBytes.{Consumes, Keeps, IsAtEnd};
 ghost use Rattle.oca_script.specs.Ends.{input, Remembers};
 ghost use Rattle.oca_script.specs.Fields.{fields};
-ghost use Rattle.oca_script.specs.Script.{longest_line, Script, is_skipped as skipped_line, is_ascii as ascii_line, asks, parsed, parsed_by, line_then};
+ghost use Rattle.oca_script.specs.Script.{longest_line, Script, is_skipped as skipped_line, is_ascii as ascii_line};
+ghost use Rattle.oca_script.specs.Script.{asks, parsed, parsed_by, line_then};
 ghost use Rattle.oca_script.specs.PrivateScript.{script_from};
 ghost use Rattle.oca_script.specs.Replaying.{Awaited, Outcome, Replays};
 ghost use Rattle.oca_script.specs.PrivateSteps.{Step, Performance, is_end_failure};
@@ -126,7 +128,8 @@ fn serve_ended<L: Language, W: Sink>(
 ) -> Result<(), ReplayFault>
     requires { IsTrue ascii → ascii_line end.now ≡ true }
     ensures step { Step L.serves L.idles state.old state.new printer.old printer.new result
-        (λ (s : Script L.Request). line_then progress.old.number (parsed L.asked (progress.old.line ++ end.now)) s) (λ s. s) }
+        (λ (s : Script L.Request). line_then progress.old.number (parsed L.asked (progress.old.line ++ end.now)) s)
+        (λ s. s) }
     ensures number { progress.new.number ≡ progress.old.number }
 {
     if progress.line.is_empty() {
@@ -147,7 +150,8 @@ fn serve_piece<L: Language, W: Sink>(
 ) -> Result<(), ReplayFault>
     requires number { progress.old.number + length piece.now ≤ 16777217 }
     ensures step { Step L.serves L.idles state.old state.new printer.old printer.new result
-        (λ (m : ℕ × List ℕ). script_from L.asked progress.old.number progress.old.line (length piece.now + m.0) (piece.now ++ m.1))
+        (λ (m : ℕ × List ℕ). script_from L.asked progress.old.number progress.old.line (length piece.now + m.0)
+        (piece.now ++ m.1))
         (λ m. script_from L.asked progress.new.number progress.new.line m.0 m.1) }
     ensures number { progress.new.number ≤ progress.old.number + length piece.now }
 {
@@ -178,7 +182,8 @@ pub fn serve_lines<L: Language, R: Source, W: Sink>(
     // Whatever source: there are bytes, those that it gave where it tells them, and the rest of what it had, and their
     // script was replayed.
     ensures reads { Outcome L.asked L.serves L.idles state.old state.new printer.old printer.new
-        (input (R.remaining reader.old) (R.failed reader.old)) (input (R.remaining reader.new) (R.failed reader.new)) result }
+        (input (R.remaining reader.old) (R.failed reader.old))
+        (input (R.remaining reader.new) (R.failed reader.new)) result }
     // Where the bytes that it had are known, their script was.
     ensures known { IfSome (R.remaining reader.old) (λ given.
         Replays L.asked L.serves L.idles state.old state.new printer.old printer.new result given) }
@@ -194,7 +199,8 @@ fn serve_script<L: Language, R: Source, W: Sink>(
     printer: &mut Printer<W>,
 ) -> Result<(), ReplayFault>
     ensures { Outcome L.asked L.serves L.idles state.old state.new printer.old printer.new
-        (input (R.remaining reader.old) (R.failed reader.old)) (input (R.remaining reader.new) (R.failed reader.new)) result }
+        (input (R.remaining reader.old) (R.failed reader.old))
+        (input (R.remaining reader.new) (R.failed reader.new)) result }
 {
     let ended = read_script::<L, R, W>(state, room, reader, printer);
     if failed_at_an_end(ended) {
@@ -221,7 +227,8 @@ fn read_script<L: Language, R: Source, W: Sink>(
     printer: &mut Printer<W>,
 ) -> Result<(), ReplayFault>
     ensures { Performance L.asked L.serves L.idles state.old state.new printer.old printer.new
-        (input (R.remaining reader.old) (R.failed reader.old)) (input (R.remaining reader.new) (R.failed reader.new)) result }
+        (input (R.remaining reader.old) (R.failed reader.old))
+        (input (R.remaining reader.new) (R.failed reader.new)) result }
 {
     let mut progress = Progress::new();
     let mut left = LONGEST_SCRIPT;
@@ -258,7 +265,8 @@ fn await_read<L: Language, R: Source, W: Sink>(
 ) -> Result<(), WriteFailed>
     ensures awaited { Awaited L.idles state.old state.new result printer.old printer.new }
     ensures empty { OnOk result (printer.new.held ≡ []) }
-    ensures source { input (R.remaining reader.new) (R.failed reader.new) ≡ input (R.remaining reader.old) (R.failed reader.old) }
+    ensures source { input (R.remaining reader.new) (R.failed reader.new)
+        ≡ input (R.remaining reader.old) (R.failed reader.old) }
     ensures rests { OnOk result (R.ready reader.new ≡ false → L.rests state.new) }
 {
     printer.flush()?;

@@ -58,7 +58,7 @@ impl<W: Sink> Printer<W> {
         ensures prints { Prints result self.old self.new [] }
         ensures empty { OnOk result (self.new.held ≡ []) }
     {
-        hand_on(&mut self.sink, &mut self.held)
+        write_held(&mut self.sink, &mut self.held)
     }
 
     /// Makes room for so many bytes: where fewer are free, what is held is handed to the sink. `WriteFailed` as for
@@ -109,7 +109,8 @@ impl<W: Sink> Printer<W> {
 
 /// Writes all of the bytes. `WriteFailed` where a write failed: a front of them was written.
 pub fn write_bytes<W: Sink>(sink: &mut W, bytes: &[u8]) -> Result<(), WriteFailed>
-    ensures { WritesBytes result (output (W.contents sink.old) [] (W.failed sink.old)) (output (W.contents sink.new) [] (W.failed sink.new)) bytes.now }
+    ensures { WritesBytes result (output (W.contents sink.old) [] (W.failed sink.old))
+        (output (W.contents sink.new) [] (W.failed sink.new)) bytes.now }
 {
     let mut done = 0;
     while done < bytes.len() {
@@ -118,9 +119,10 @@ pub fn write_bytes<W: Sink>(sink: &mut W, bytes: &[u8]) -> Result<(), WriteFaile
     Ok(())
 }
 
-/// `flush` over the fields, whose goals are then ordinary ones: hands what is held to the sink.
-fn hand_on<W: Sink>(sink: &mut W, held: &mut Buffer<CAPACITY>) -> Result<(), WriteFailed>
-    ensures prints { Prints result (output (W.contents sink.old) held.old (W.failed sink.old)) (output (W.contents sink.new) held.new (W.failed sink.new)) [] }
+/// `flush` over the fields, whose goals are then ordinary ones: writes what is held to the sink.
+fn write_held<W: Sink>(sink: &mut W, held: &mut Buffer<CAPACITY>) -> Result<(), WriteFailed>
+    ensures prints { Prints result (output (W.contents sink.old) held.old (W.failed sink.old))
+        (output (W.contents sink.new) held.new (W.failed sink.new)) [] }
     ensures empty { OnOk result (held.new ≡ []) }
 {
     write_bytes(sink, held.as_slice())?;
@@ -131,11 +133,12 @@ fn hand_on<W: Sink>(sink: &mut W, held: &mut Buffer<CAPACITY>) -> Result<(), Wri
 /// `make_room` over the fields, likewise: makes room for so many bytes.
 fn free<W: Sink>(sink: &mut W, held: &mut Buffer<CAPACITY>, room: usize) -> Result<(), WriteFailed>
     requires { room ≤ 8192 }
-    ensures prints { Prints result (output (W.contents sink.old) held.old (W.failed sink.old)) (output (W.contents sink.new) held.new (W.failed sink.new)) [] }
+    ensures prints { Prints result (output (W.contents sink.old) held.old (W.failed sink.old))
+        (output (W.contents sink.new) held.new (W.failed sink.new)) [] }
     ensures room { OnOk result (length held.new + room ≤ 8192) }
 {
     if CAPACITY - held.len() < room {
-        return hand_on(sink, held);
+        return write_held(sink, held);
     }
     Ok(())
 }
@@ -147,13 +150,14 @@ fn hold_or_write<W: Sink>(
     held: &mut Buffer<CAPACITY>,
     bytes: &[u8],
 ) -> Result<(), WriteFailed>
-    ensures { Prints result (output (W.contents sink.old) held.old (W.failed sink.old)) (output (W.contents sink.new) held.new (W.failed sink.new)) bytes.now }
+    ensures { Prints result (output (W.contents sink.old) held.old (W.failed sink.old))
+        (output (W.contents sink.new) held.new (W.failed sink.new)) bytes.now }
 {
     if bytes.len() <= CAPACITY - held.len() {
         held.put(bytes);
         return Ok(());
     }
-    hand_on(sink, held)?;
+    write_held(sink, held)?;
     if bytes.len() <= CAPACITY {
         held.put(bytes);
         return Ok(());

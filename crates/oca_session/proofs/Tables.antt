@@ -11,7 +11,7 @@ use Rattle.std.proofs.lemmas.Bool.{ltb-true}
 use Rattle.std.proofs.lemmas.Bool.Decides.{nat_tests}
 use Rattle.oca_types.specs.declared.words.Peer.{Peer}
 use Rattle.oca_types.specs.Peers.{same_peer}
-use Rattle.oca_session.specs.Accepted.{Entry, Agrees}
+use Rattle.oca_session.specs.Accepted.{Entry, AgreesWithAccepted}
 use Rattle.oca_session.specs.Table.{Session, is_of, session_of, peers_of, changed, opened_session, heard_at, with_heartbeat, with_entry, with_accepted, is_lapsed, lapsed, stays, staying, forgotten, AgreesAt}
 use Rattle.oca_session.specs.Sound.{IsSession, IsOnePerPeer}
 use Rattle.oca_session.specs.PrivateQuiet.{IsQuietUntil}
@@ -256,7 +256,7 @@ changed_agreed p w A e [] one h = refl
 changed_agreed p w A e (s ∷ ss) one h =
     by_test (is_of p s) refl h (changed_agreed p w A e ss (IsOnePerPeer-tail s ss one))
   where
-    by_test : (b : Bool) → is_of p s ≡ b → IfSome (cond b (Some s) (session_of p ss)) (λ x. Agrees w A x.retained) →
+    by_test : (b : Bool) → is_of p s ≡ b → IfSome (cond b (Some s) (session_of p ss)) (λ x. AgreesWithAccepted w A x.retained) →
         (AgreesAt p w A ss → changed p (with_entry e) ss ≡ changed p (with_accepted w (A ++ e ∷ [])) ss) →
         (cond b (with_entry e s) s ∷ changed p (with_entry e) ss)
         ≡ (cond b (with_accepted w (A ++ e ∷ []) s) s ∷ changed p (with_accepted w (A ++ e ∷ [])) ss)

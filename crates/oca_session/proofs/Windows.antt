@@ -7,7 +7,7 @@ use Rattle.std.proofs.lemmas.List.Folds.{list_any-append}
 use Rattle.std.proofs.lemmas.Bool.Decides.{nat_tests}
 use Rattle.std.proofs.Math.Seq.{take-append-add, drop-append-add}
 use Rattle.oca_types.specs.Peers.{CommandFields}
-use Rattle.oca_session.specs.Accepted.{Entry, window, outside, has_handle, is_below, accepts, entry_under, Fresh, judge_unaccepted, judgement, higher_of, greatest, Retained, retained_of, Agrees}
+use Rattle.oca_session.specs.Accepted.{Entry, window, outside, has_handle, is_below, accepts, entry_under, Fresh, judge_unaccepted, judgement, higher_of, greatest, Retained, retained_of, AgreesWithAccepted}
 use Rattle.oca_session.specs.Judging.{is_above, judge_entry, judgement_by_window, retained_after}
 
 max_assoc : (a b c : ℕ) → max (max a b) c ≡ max a (max b c)
@@ -107,7 +107,7 @@ judgement_by_window-retained_of w A c =
     ∙ ap (λ b. cond b Fresh (judge_unaccepted (entry_under h kept) c)) same
 
 -- where the window agrees with the accepted commands, it judges as they do
-pub judgement_by_window_agreed : (w : ℕ) (A : List Entry) (k : Retained) (c : CommandFields) → Agrees w A k → judgement_by_window k c ≡ judgement w A c
+pub judgement_by_window_agreed : (w : ℕ) (A : List Entry) (k : Retained) (c : CommandFields) → AgreesWithAccepted w A k → judgement_by_window k c ≡ judgement w A c
 judgement_by_window_agreed w A k c e = ap (λ x. judgement_by_window x c) e ∙ judgement_by_window-retained_of w A c
 
 -- What was pushed out stays out as the rest grows, and the window looks at the rest alone.
@@ -160,5 +160,5 @@ retained_after-retained_of w A e =
     pair {X} {Y} {a} {b} {c} {d} p q = ap (λ x. (x, c)) p ∙ ap (λ y. (b, y)) q
 
 -- and it agrees after one more
-pub retained_after_agreed : (w : ℕ) (A : List Entry) (k : Retained) (e : Entry) → Agrees w A k → Agrees w (A ++ e ∷ []) (retained_after k e)
+pub retained_after_agreed : (w : ℕ) (A : List Entry) (k : Retained) (e : Entry) → AgreesWithAccepted w A k → AgreesWithAccepted w (A ++ e ∷ []) (retained_after k e)
 retained_after_agreed w A k e h = ap (λ x. retained_after x e) h ∙ retained_after-retained_of w A e

@@ -1,6 +1,7 @@
 -- The accepted commands of a session, a list that is never cut, and what a reply window of size w retains of them
 -- (profile). In each list of commands the latest stands last.
-use Rattle.std.specs.Prelude.{◌≡◌, ℕ, ◌-◌, ◌==◌, nat_eq, nat_lt, max, Bool, not, ◌&&◌, if◌then◌else◌, List, [], ◌∷◌, take, drop, length, Option, Some, None}
+use Rattle.std.specs.Prelude.{◌≡◌, ℕ, ◌-◌, ◌==◌, nat_eq, nat_lt, max, Bool, not, ◌&&◌, if◌then◌else◌, List, [], ◌∷◌}
+use Rattle.std.specs.Prelude.{take, drop, length, Option, Some, None}
 use Rattle.std.specs.List.{list_any, list_all, find}
 use Rattle.std.specs.Cmp.Lexicographic.{pointwise}
 use Rattle.oca_types.specs.declared.words.Reply.{Reply}
@@ -89,5 +90,5 @@ abbrev pub retained_of : ℕ → List Entry → Retained
 retained_of w A = record { size = w; entries = window w A; floor = greatest (outside w A) }
 
 -- what is retained is that of the accepted commands A (profile)
-abbrev pub Agrees : ℕ → List Entry → Retained → Type 0
-Agrees w A k = k ≡ retained_of w A
+abbrev pub AgreesWithAccepted : ℕ → List Entry → Retained → Type 0
+AgreesWithAccepted w A k = k ≡ retained_of w A

@@ -4,7 +4,8 @@ use Rattle.std.specs.Prelude.{ℕ, nat_lt, Bool, true, if◌then◌else◌, [], 
 use Rattle.oca_types.specs.Peers.{CommandFields}
 use Rattle.oca_session.specs.declared.window.Judged.{Judged}
 use Rattle.oca_session.specs.declared.window.Judged.TheVariants as judged
-use Rattle.oca_session.specs.Accepted.{Entry, Judgement, Fresh, Duplicate, Reused, Old, Retained, duplicate_or_reused, entry_under, window, outside, higher_of, greatest}
+use Rattle.oca_session.specs.Accepted.{Entry, Judgement, Fresh, Duplicate, Reused, Old, Retained, duplicate_or_reused}
+use Rattle.oca_session.specs.Accepted.{entry_under, window, outside, higher_of, greatest}
 
 -- the judgement that the result of `judge` tells (profile)
 abbrev pub as_judgement : Judged → Judgement

@@ -1,5 +1,6 @@
 -- What a window keeps (private contracts alone cite it): of each command a handle and a cell (profile).
-use Rattle.std.specs.Prelude.{◌≡◌, ℕ, zero, suc, ◌<◌, ◌==◌, Bool, false, List, [], ◌∷◌, ◌++◌, length, slice_get, filter_map, option_map, Option, Some, None, All, AllPairs}
+use Rattle.std.specs.Prelude.{◌≡◌, ℕ, zero, suc, ◌<◌, ◌==◌, Bool, false, List, [], ◌∷◌, ◌++◌, length, slice_get}
+use Rattle.std.specs.Prelude.{filter_map, option_map, Option, Some, None, All, AllPairs}
 use Rattle.oca_types.specs.declared.words.Handle.{Handle}
 use Rattle.oca_types.specs.Peers.{CommandFields}
 use Rattle.oca_session.specs.declared.cell.Cell.{Cell}
@@ -10,7 +11,14 @@ use Rattle.oca_session.specs.Accepted.{Entry, Judgement, duplicate_or_reused}
 abbrev pub entry_in : Handle → Cell → Entry
 entry_in x a =
     record {
-      command = record { handle = x.0; target = a.target.0; level = a.method.level; index = a.method.index; count = a.count; params = a.params.items };
+      command = record {
+        handle = x.0;
+        target = a.target.0;
+        level = a.method.level;
+        index = a.method.index;
+        count = a.count;
+        params = a.params.items;
+      };
       reply = a.reply;
     }
 

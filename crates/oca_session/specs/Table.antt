@@ -1,13 +1,14 @@
 -- The sessions in order of opening, the latest last, and what each call makes of them (profile). Moments and times are
 -- in milliseconds.
-use Rattle.std.specs.Prelude.{◌≡◌, ℕ, ◌*◌, ◌-◌, ◌<◌, ◌≤◌, nat_lt, nat_le, max, Bool, not, if◌then◌else◌, List, [], ◌∷◌, ◌++◌, map, filter, length, Option, None, IfSome, IsSome}
+use Rattle.std.specs.Prelude.{◌≡◌, ℕ, ◌*◌, ◌-◌, ◌<◌, ◌≤◌, nat_lt, nat_le, max, Bool, not, if◌then◌else◌, List, [], ◌∷◌}
+use Rattle.std.specs.Prelude.{◌++◌, map, filter, length, Option, None, IfSome, IsSome}
 use Rattle.std.specs.List.{find}
 use Rattle.oca_types.specs.declared.words.Peer.{Peer}
 use Rattle.oca_types.specs.Peers.{same_peer}
 use Rattle.oca_types.specs.Sizes.{DeviceSizes}
 use Rattle.oca_session.specs.declared.sessions.Admission.{Admission}
 use Rattle.oca_session.specs.declared.sessions.Admission.TheVariants as admissions
-use Rattle.oca_session.specs.Accepted.{Entry, Retained, retained_of, Agrees}
+use Rattle.oca_session.specs.Accepted.{Entry, Retained, retained_of, AgreesWithAccepted}
 use Rattle.oca_session.specs.Judging.{retained_after}
 use Rattle.oca_session.specs.Limits.{longest_silence, first_heartbeat, within_heartbeats}
 
@@ -54,7 +55,12 @@ changed p f ss = map (λ s. if is_of p s then f s else s) ss
 
 -- an opened session: the heartbeat 5,000, an empty window and no floor (profile)
 abbrev pub opened_session : ℕ → Peer → ℕ → Session
-opened_session w p moment = record { peer = p; heard = moment; heartbeat = first_heartbeat; retained = retained_of w [] }
+opened_session w p moment = record {
+  peer = p;
+  heard = moment;
+  heartbeat = first_heartbeat;
+  retained = retained_of w [];
+}
 
 -- the session where its peer was last heard at this moment (profile)
 abbrev pub heard_at : ℕ → Session → Session
@@ -99,12 +105,14 @@ forgotten moment ss = filter (λ s. not (stays moment s)) ss
 -- that moment (profile).
 abbrev pub Hears : Peer → ℕ → Table → Admission → Table → Type 0
 Hears p moment old admissions.Known new =
-    IsSome (session_of p old.sessions) × (new ≡ with_moment_and_sessions old moment (changed p (heard_at moment) old.sessions))
+    IsSome (session_of p old.sessions)
+    × (new ≡ with_moment_and_sessions old moment (changed p (heard_at moment) old.sessions))
 Hears p moment old admissions.Opened new =
     (session_of p old.sessions ≡ None) × (length old.sessions < old.sizes.peers)
     × (new ≡ with_moment_and_sessions old moment (old.sessions ++ opened_session old.sizes.window p moment ∷ []))
 Hears p moment old admissions.NoRoom new =
-    (session_of p old.sessions ≡ None) × (old.sizes.peers ≤ length old.sessions) × (new ≡ with_moment_and_sessions old moment old.sessions)
+    (session_of p old.sessions ≡ None) × (old.sizes.peers ≤ length old.sessions)
+    × (new ≡ with_moment_and_sessions old moment old.sessions)
 
 -- who has a session after it (profile)
 abbrev pub IsKnownAfter : Admission → Peer → List Session → Type 0
@@ -114,4 +122,4 @@ IsKnownAfter admissions.NoRoom p ss = session_of p ss ≡ None
 
 -- the session of the peer retains what is that of the accepted commands A (profile)
 abbrev pub AgreesAt : Peer → ℕ → List Entry → List Session → Type 0
-AgreesAt p w A ss = IfSome (session_of p ss) (λ s. Agrees w A s.retained)
+AgreesAt p w A ss = IfSome (session_of p ss) (λ s. AgreesWithAccepted w A s.retained)

@@ -1,5 +1,6 @@
 //! The sessions of all peers.
-ghost use Rattle.std.specs.Prelude.{◌≡◌, ℕ, ◌<◌, ◌≤◌, List, [], ◌∷◌, ◌++◌, length, IfOk, IsSome, IfSome, is_some, Some, vec_len, take, position, All, Contains, ◌==◌};
+ghost use Rattle.std.specs.Prelude.{◌≡◌, ℕ, ◌<◌, ◌≤◌, List, [], ◌∷◌, ◌++◌, length, IfOk, IsSome, IfSome, is_some, Some};
+ghost use Rattle.std.specs.Prelude.{vec_len, take, position, All, Contains, ◌==◌};
 ghost use Rattle.oca_types.specs.declared.words.Peer.{Peer};
 ghost use Rattle.oca_types.specs.Peers.{fields_of};
 ghost use Rattle.oca_types.specs.Sizes.{most_command_parameter_bytes, window_size, sizes_of};
@@ -65,14 +66,19 @@ impl Model for Sessions {
 }
 
 impl Sessions {
-    ghost use Rattle.oca_session.specs.Table.{with_moment_and_sessions, with_sessions, present, changed, with_heartbeat, with_entry, with_accepted, Hears, IsKnownAfter, AgreesAt};
+    ghost use Rattle.oca_session.specs.Table.{with_moment_and_sessions, with_sessions, present, changed};
+    ghost use Rattle.oca_session.specs.Table.{with_heartbeat, with_entry, with_accepted, Hears, IsKnownAfter, AgreesAt};
     ghost use Rattle.oca_session.specs.Sound.{IsTable};
 
     /// No session, at the moment 0, with room for 16. Each session will have a reply window of this size, for as long
     /// as there are these sessions. Takes all the memory that they will need, and returns `NoMemory` where that is
     /// refused.
     pub fn new(alloc: Global, window: Window) -> Result<Sessions, NoMemory>
-        ensures { IfOk result (λ t. t ≡ record { sizes = record { window = window_size window; peers = 16 }; moment = 0; sessions = [] }) }
+        ensures { IfOk result (λ t. t ≡ record {
+          sizes = record { window = window_size window; peers = 16 };
+          moment = 0;
+          sessions = [];
+        }) }
     {
         Sessions::with_sizes(
             alloc,
@@ -137,8 +143,10 @@ impl Sessions {
     pub fn advance(&mut self, now: u64) -> ArrayVec<Peer, 16>
         ensures lapsed { result.items ≡ take 16 (lapsed (present self.old now) self.old.sessions) }
         ensures all { self.old.sizes.peers ≤ 16 → result.items ≡ lapsed (present self.old now) self.old.sessions }
-        ensures staying { self.new ≡ with_moment_and_sessions self.old (present self.old now) (staying (present self.old now) self.old.sessions) }
-        ensures forgotten { self.old.sizes.peers ≤ 16 → All (Contains result.items) (peers_of (forgotten (present self.old now) self.old.sessions)) }
+        ensures staying { self.new ≡ with_moment_and_sessions self.old (present self.old now)
+            (staying (present self.old now) self.old.sessions) }
+        ensures forgotten { self.old.sizes.peers ≤ 16 →
+            All (Contains result.items) (peers_of (forgotten (present self.old now) self.old.sessions)) }
     {
         // Read so that the proof knows how many sessions were chosen.
         let _ = &self.sizes;
@@ -153,8 +161,10 @@ impl Sessions {
     /// `peers`, in order of opening, in the place of what it held.
     pub fn advance_into(&mut self, now: u64, peers: &mut ArrayVec<Peer, MOST_PEERS>)
         ensures lapsed { peers.new.items ≡ lapsed (present self.old now) self.old.sessions }
-        ensures staying { self.new ≡ with_moment_and_sessions self.old (present self.old now) (staying (present self.old now) self.old.sessions) }
-        ensures forgotten { All (Contains peers.new.items) (peers_of (forgotten (present self.old now) self.old.sessions)) }
+        ensures staying { self.new ≡ with_moment_and_sessions self.old (present self.old now)
+            (staying (present self.old now) self.old.sessions) }
+        ensures forgotten { All (Contains peers.new.items)
+            (peers_of (forgotten (present self.old now) self.old.sessions)) }
     {
         self.moment = self.moment.max(now);
         if self.moment > self.quiet_until {
@@ -211,7 +221,8 @@ impl Sessions {
         requires { IsSome (session_of peer self.old.sessions) }
         ensures heartbeat { self.new ≡ with_sessions self.old (changed peer (with_heartbeat ms) self.old.sessions) }
         ensures peers { peers_of self.new.sessions ≡ peers_of self.old.sessions }
-        ensures known { (p : Peer) → is_some (session_of p self.new.sessions) ≡ is_some (session_of p self.old.sessions) }
+        ensures known { (p : Peer) →
+            is_some (session_of p self.new.sessions) ≡ is_some (session_of p self.old.sessions) }
     {
         let at = self.index_of_known(peer);
         let slot = &mut self.slots[at];
@@ -250,7 +261,8 @@ impl Sessions {
     /// duplicate where it asks the same (target, DefLevel, MethodIndex, ParamCount and parameter bytes).
     pub fn judge(&self, peer: Peer, command: &Command<'_>) -> Judged<'_>
         requires { IsSome (session_of peer self.now.sessions) }
-        ensures retained { IfSome (session_of peer self.now.sessions) (λ s. as_judgement result ≡ judgement_by_window s.retained (fields_of command.now)) }
+        ensures retained { IfSome (session_of peer self.now.sessions)
+            (λ s. as_judgement result ≡ judgement_by_window s.retained (fields_of command.now)) }
         ensures accepted { (w : ℕ) (A : List Entry) → AgreesAt peer w A self.now.sessions →
             as_judgement result ≡ judgement w A (fields_of command.now) }
     {
@@ -262,15 +274,19 @@ impl Sessions {
     /// datagram brings.
     pub fn keep(&mut self, peer: Peer, command: &Command<'_>, reply: &Reply)
         requires known { IsSome (session_of peer self.old.sessions) }
-        requires fresh { IfSome (session_of peer self.old.sessions) (λ s. judgement_by_window s.retained (fields_of command.now) ≡ Fresh) }
+        requires fresh { IfSome (session_of peer self.old.sessions)
+            (λ s. judgement_by_window s.retained (fields_of command.now) ≡ Fresh) }
         requires room { length command.now.params.now ≤ most_command_parameter_bytes }
         ensures retained { self.new ≡ with_sessions self.old
-            (changed peer (with_entry (record { command = fields_of command.now; reply = reply.now })) self.old.sessions) }
+            (changed peer
+            (with_entry (record { command = fields_of command.now; reply = reply.now })) self.old.sessions) }
         ensures accepted { (w : ℕ) (A : List Entry) → AgreesAt peer w A self.old.sessions →
             self.new ≡ with_sessions self.old
-            (changed peer (with_accepted w (A ++ record { command = fields_of command.now; reply = reply.now } ∷ [])) self.old.sessions) }
+            (changed peer (with_accepted w (A ++ record { command = fields_of command.now; reply = reply.now } ∷ []))
+            self.old.sessions) }
         ensures peers { peers_of self.new.sessions ≡ peers_of self.old.sessions }
-        ensures known { (p : Peer) → is_some (session_of p self.new.sessions) ≡ is_some (session_of p self.old.sessions) }
+        ensures known { (p : Peer) →
+            is_some (session_of p self.new.sessions) ≡ is_some (session_of p self.old.sessions) }
     {
         self.put(peer, command, reply);
     }
@@ -305,10 +321,12 @@ impl Sessions {
     /// command of a known peer, with its reply.
     fn put(&mut self, peer: Peer, command: &Command<'_>, reply: &Reply)
         requires known { IsSome (session_of peer self.old.sessions) }
-        requires fresh { IfSome (session_of peer self.old.sessions) (λ s. judgement_by_window s.retained (fields_of command.now) ≡ Fresh) }
+        requires fresh { IfSome (session_of peer self.old.sessions)
+            (λ s. judgement_by_window s.retained (fields_of command.now) ≡ Fresh) }
         requires room { length command.now.params.now ≤ most_command_parameter_bytes }
         ensures retained { self.new ≡ with_sessions self.old
-            (changed peer (with_entry (record { command = fields_of command.now; reply = reply.now })) self.old.sessions) }
+            (changed peer
+            (with_entry (record { command = fields_of command.now; reply = reply.now })) self.old.sessions) }
         ensures one { IsTable self.old }
     {
         let at = self.index_of_known(peer);

@@ -2,10 +2,11 @@
 ghost use Rattle.std.specs.Prelude.{◌≡◌, ℕ, ◌+◌, ◌*◌, ◌<◌, ◌≤◌, not, List, length, IfOk};
 ghost use Rattle.oca_types.specs.Peers.{fields_of};
 ghost use Rattle.oca_types.specs.Sizes.{most_command_parameter_bytes};
-ghost use Rattle.oca_session.specs.Accepted.{Entry, Agrees, judgement, Fresh};
+ghost use Rattle.oca_session.specs.Accepted.{Entry, AgreesWithAccepted, judgement, Fresh};
 ghost use Rattle.oca_session.specs.Judging.{as_judgement, judgement_by_window};
 ghost use Rattle.oca_session.specs.PrivateKeys.{key_of as number_of};
-ghost use Rattle.oca_session.specs.Table.{is_of, is_lapsed, stays, heard_at, with_heartbeat, opened_session, with_entry};
+ghost use Rattle.oca_session.specs.Table.{is_of, is_lapsed, stays, heard_at, with_heartbeat, opened_session};
+ghost use Rattle.oca_session.specs.Table.{with_entry};
 ghost use Rattle.oca_types.specs.Moments.{HoldsFrom};
 
 use crate::moments::passes_from;
@@ -142,7 +143,7 @@ impl Slot {
     /// What its window says of a command.
     pub fn judge(&self, command: &Command<'_>) -> Judged<'_>
         ensures exact { as_judgement result ≡ judgement_by_window self.now.retained (fields_of command.now) }
-        ensures accepted { (w : ℕ) (A : List Entry) → Agrees w A self.now.retained →
+        ensures accepted { (w : ℕ) (A : List Entry) → AgreesWithAccepted w A self.now.retained →
             as_judgement result ≡ judgement w A (fields_of command.now) }
     {
         self.window.judge(command)

@@ -1,9 +1,11 @@
 //! The reply window of one session.
-ghost use Rattle.std.specs.Prelude.{◌≡◌, ℕ, ◌+◌, ◌<◌, ◌≤◌, max, vec_len, vec_capacity, List, [], ◌∷◌, ◌++◌, length, option_map, option_copied, IfOk, MatchOption, AllPairs, find};
+ghost use Rattle.std.specs.Prelude.{◌≡◌, ℕ, ◌+◌, ◌<◌, ◌≤◌, max, vec_len, vec_capacity, List, [], ◌∷◌, ◌++◌, length};
+ghost use Rattle.std.specs.Prelude.{option_map, option_copied, IfOk, MatchOption, AllPairs, find};
 ghost use Rattle.circular_buffer.specs.Buffer.{buffer};
 ghost use Rattle.oca_types.specs.Peers.{CommandFields, fields_of};
 ghost use Rattle.oca_types.specs.Sizes.{most_command_parameter_bytes};
-ghost use Rattle.oca_session.specs.Accepted.{Entry, retained_of, Agrees, judgement, Fresh, entry_under, duplicate_or_reused};
+ghost use Rattle.oca_session.specs.Accepted.{Entry, retained_of, AgreesWithAccepted, judgement, Fresh, entry_under};
+ghost use Rattle.oca_session.specs.Accepted.{duplicate_or_reused};
 ghost use Rattle.oca_session.specs.Judging.{as_judgement, judgement_by_window, retained_after};
 ghost use Rattle.oca_session.specs.PrivateCells.{is_under, held_in, judge_cell, AreApart, IsCellOfOldest, AddsCell};
 
@@ -63,7 +65,11 @@ impl Model for ReplyWindow {
 
     ghost Value = { Retained };
 
-    ghost view = { λ a. record { size = a.held.capacity; entries = entries_of a.held.items a.cells.items; floor = floor_before a.floor_end } };
+    ghost view = { λ a. record {
+      size = a.held.capacity;
+      entries = entries_of a.held.items a.cells.items;
+      floor = floor_before a.floor_end;
+    } };
 
     ghost invariant = { λ a. AreHeld a.held.items a.cells.items a.above × (a.floor_end ≤ a.above)
         × (length a.held.items ≤ a.held.capacity) × (0 < a.held.capacity) × (a.held.capacity ≤ 64)
@@ -99,14 +105,16 @@ impl ReplyWindow {
     /// Whether a command is fresh, a duplicate of one in the window, another under its handle, or too old.
     pub fn judge(&self, command: &Command<'_>) -> Judged<'_>
         ensures exact { as_judgement result ≡ judgement_by_window self.now (fields_of command.now) }
-        ensures accepted { (w : ℕ) (A : List Entry) → Agrees w A self.now → as_judgement result ≡ judgement w A (fields_of command.now) }
+        ensures accepted { (w : ℕ) (A : List Entry) → AgreesWithAccepted w A self.now →
+            as_judgement result ≡ judgement w A (fields_of command.now) }
     {
         self.judge_retained(command)
     }
 
     /// The cell of the command that is retained under a handle.
     fn find(&self, handle: Handle) -> Option<&Cell>
-        ensures { (c : CommandFields) → option_map (λ e. duplicate_or_reused e c) (entry_under handle.0 self.now.entries)
+        ensures { (c : CommandFields) →
+            option_map (λ e. duplicate_or_reused e c) (entry_under handle.0 self.now.entries)
             ≡ option_map (λ a. judge_cell a.now c) result }
     {
         let held = held_under(&self.held, handle)?;
@@ -142,9 +150,10 @@ impl ReplyWindow {
     pub fn keep(&mut self, command: &Command<'_>, reply: &Reply)
         requires fresh { judgement_by_window self.old (fields_of command.now) ≡ Fresh }
         requires room { length command.now.params.now ≤ most_command_parameter_bytes }
-        ensures exact { self.new ≡ retained_after self.old (record { command = fields_of command.now; reply = reply.now }) }
-        ensures accepted { (w : ℕ) (A : List Entry) → Agrees w A self.old →
-            Agrees w (A ++ record { command = fields_of command.now; reply = reply.now } ∷ []) self.new }
+        ensures exact { self.new
+            ≡ retained_after self.old (record { command = fields_of command.now; reply = reply.now }) }
+        ensures accepted { (w : ℕ) (A : List Entry) → AgreesWithAccepted w A self.old →
+            AgreesWithAccepted w (A ++ record { command = fields_of command.now; reply = reply.now } ∷ []) self.new }
     {
         self.put(command, reply);
     }
@@ -185,7 +194,8 @@ fn raise(end: &mut u64, handle: Handle)
 /// The cell of the oldest command, where the window is full: that of the next, which pushes it out.
 fn cell_of_oldest(held: &HeapCircularBuffer<Held>) -> Option<u32>
     requires { (0 < held.now.capacity) × (length held.now.items ≤ held.now.capacity) }
-    ensures { MatchOption result (length held.now.items < held.now.capacity) (IsCellOfOldest held.now.items held.now.capacity) }
+    ensures { MatchOption result (length held.now.items < held.now.capacity)
+        (IsCellOfOldest held.now.items held.now.capacity) }
 {
     if !held.is_full() {
         return None;
@@ -203,10 +213,13 @@ fn add(
     reply: &Reply,
 )
     requires params { length command.now.params.now ≤ most_command_parameter_bytes }
-    requires room { (length held.old.items < held.old.capacity) × (held.old.capacity ≤ 64) × (vec_len cells.old < vec_capacity cells.old) }
+    requires room { (length held.old.items < held.old.capacity) × (held.old.capacity ≤ 64)
+        × (vec_len cells.old < vec_capacity cells.old) }
     ensures capacity { vec_capacity cells.new ≡ vec_capacity cells.old }
-    ensures held { held.new ≡ buffer (held.old.items ++ held_in command.now.handle (length held.old.items) ∷ []) held.old.capacity }
-    ensures items { AddsCell command.now.handle (record { command = fields_of command.now; reply = reply.now }) cells.old.items cells.new.items }
+    ensures held { held.new
+        ≡ buffer (held.old.items ++ held_in command.now.handle (length held.old.items) ∷ []) held.old.capacity }
+    ensures items { AddsCell command.now.handle
+        (record { command = fields_of command.now; reply = reply.now }) cells.old.items cells.new.items }
 {
     let cell = held.len() as u32;
     held.push_back(Held {

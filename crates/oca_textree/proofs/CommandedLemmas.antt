@@ -1,12 +1,11 @@
--- What commands leave: the texts that they set are in UTF-8 and of at most 64 bytes, and no role and no number changes.
-use Rattle.std.proofs.Common.{◌≡◌, ℕ, zero, suc, ◌+◌, ◌<◌, ◌≤◌, ◌==◌, Bool, true, false, cond, ◌&&◌, List, [], ◌∷◌, ◌++◌, length, map, take, drop, Option, Some, None, refl, sym, ap, ◌∙◌, subst, arith, IsUtf8, eqb-true}
-use Rattle.std.specs.Prelude.{nat_lt, nat_le, slice_set, codes}
+-- What commands and the front panel leave: the texts that they set are in UTF-8 and of at most 64 bytes, and no role and no number changes.
+use Rattle.std.proofs.Common.{◌≡◌, ℕ, zero, suc, ◌+◌, ◌<◌, ◌≤◌, ◌==◌, Bool, true, false, cond, ◌&&◌, List, [], ◌∷◌, length, map, take, drop, Option, Some, None, refl, sym, ap, ◌∙◌, subst, arith, eqb-true}
 use Rattle.std.specs.List.{All, find, range_with_len}
 use Rattle.std.specs.Option.{option_map, option_and_then}
 use Rattle.std.specs.Str.{chars, is_utf8}
-use Rattle.std.specs.Int.{w8, w16}
+use Rattle.std.specs.Int.{w16}
 use Rattle.std.proofs.lemmas.Bool.{and_parts, both_ways, eq-eqb}
-use Rattle.std.proofs.lemmas.List.Elements.{All-nil, All-cons, All-head, All-tail, All-set, All-map, All-weaker}
+use Rattle.std.proofs.lemmas.List.Elements.{All-cons, All-head, All-tail, All-set, All-map, All-weaker}
 use Rattle.std.proofs.lemmas.Str.{IsUtf8-from_is_utf8}
 use Rattle.oca_types.specs.declared.class.Method.{Method}
 use Rattle.oca_types.specs.declared.class.Method.TheVariants as methods
@@ -16,7 +15,9 @@ use Rattle.oca_types.specs.declared.status.Status.{Status}
 use Rattle.oca_types.specs.declared.status.Status.TheVariants as status
 use Rattle.oca_types.specs.declared.words.Peer.{Peer}
 use Rattle.oca_types.specs.Peers.{CommandFields}
-use Rattle.oca_types.specs.Reading.{unsigned_at, bool_at, is_text_of, text_front, text_at}
+use Rattle.oca_types.specs.Reading.{unsigned_at, is_text_of, text_front, text_at}
+use Rattle.oca_model.specs.declared.value.Value.{Value as Setting}
+use Rattle.oca_model.specs.declared.value.Value.TheVariants as settings
 use Rattle.oca_tree.specs.declared.object.Object.{Object}
 use Rattle.oca_tree.specs.declared.object.Switch.{Switch}
 use Rattle.oca_tree.specs.declared.object.Value.{Value}
@@ -25,10 +26,11 @@ use Rattle.oca_tree.specs.declared.request.Request.{Request}
 use Rattle.oca_tree.specs.declared.request.Request.TheVariants as requests
 use Rattle.oca_tree.specs.declared.request.SwitchRequest.{SwitchRequest}
 use Rattle.oca_tree.specs.declared.request.SwitchRequest.TheVariants as switches
-use Rattle.oca_tree.specs.Kinds.{number_at}
 use Rattle.oca_model.specs.Parameters.{whole, pair_at, items_at, list_at}
-use Rattle.oca_tree.specs.Requests.{positions, with_parameters, without_parameters, setting_request, position_names_request, position_enableds_request, request_of}
+use Rattle.oca_tree.specs.Requests.{positions, with_parameters, without_parameters, setting_request, request_of}
 use Rattle.oca_tree.specs.Execution.{changed, changed_value, changed_switch, changed_positions, Execution, execution, request_at, kind_at, status_of, by_status}
+use Rattle.oca_tree.specs.declared.setting.SetFault.{SetFault}
+use Rattle.oca_tree.specs.Settings.{request_for, front, set_fault, set_where, after_set}
 use Rattle.oca_tree.specs.Objects.{has_number, object_of, with_object}
 use Rattle.oca_tree.specs.Locks.{without_lock_of, is_held_by, released}
 use Rattle.oca_tree.specs.Copies.{names_in}
@@ -315,6 +317,35 @@ command-kept tree peer c = by (object_of tree c.target) refl
     by (Some o) at =
         by-status tree peer c.target (Some o) (request_at (Some o) (kind_at (Some o) c) c) (status_of tree peer (Some o) c) at
         (λ x q e f. request-short o (kind_at (Some o) c) c q f)
+
+-- ---- what the front panel sets
+
+-- no value is a text
+setting-short : (value : Setting) → SetsShort (request_for value)
+unfolding SetsShort
+setting-short (settings.Mute state) = tt
+setting-short (settings.Polarity state) = tt
+setting-short (settings.Switch position) = tt
+setting-short (settings.Boolean truth) = tt
+setting-short (settings.Int8 setting) = tt
+setting-short (settings.Int16 setting) = tt
+setting-short (settings.Int32 setting) = tt
+setting-short (settings.Int64 setting) = tt
+setting-short (settings.Uint8 setting) = tt
+setting-short (settings.Uint16 setting) = tt
+setting-short (settings.Uint32 setting) = tt
+setting-short (settings.Uint64 setting) = tt
+
+by-fault : (tree : List Object) (n : ℕ) (fault : Option SetFault) (o : Option Object) (value : Setting) → object_of tree n ≡ o → Rooted tree → All IsNamed tree
+    → Rooted (set_where fault tree o value) × All IsNamed (set_where fault tree o value)
+by-fault tree n None (Some o) value at root named = carried tree front n o (request_for value) at (setting-short value) root named
+by-fault tree n None None value at root named = (root, named)
+by-fault tree n (Some fault) o value at root named = (root, named)
+
+-- Setting an object at the front panel leaves them so too.
+pub set-kept : (tree : List Object) (number : ℕ) (value : Setting) → Rooted tree → All IsNamed tree → Rooted (after_set tree number value) × All IsNamed (after_set tree number value)
+unfolding after_set
+set-kept tree number value = by-fault tree number (set_fault tree number value) (object_of tree number) value refl
 
 -- ---- locks that are released
 

@@ -22,14 +22,14 @@ use Rattle.oca_script.proofs.PartLemmas.{Free, free-after}
 use Rattle.oca_textree.specs.declared.fault.ObjectFault.{ObjectFault}
 use Rattle.oca_textree.specs.declared.fault.ObjectFault.TheVariants as fault
 use Rattle.oca_textree.specs.Lines.{Taken, field_at, then_by, some_or_fault, class_of_word, one_of, refusal, has_control}
-use Rattle.oca_textree.specs.Stored.{Said, said_at, start_at, Ending, ending_at, start_refusal, stored_with, stored_by, after_line, after_word, rooted}
+use Rattle.oca_textree.specs.Stored.{Flagged, flagged_at, start_at, Ending, ending_at, start_refusal, stored_with, stored_by, after_line, after_word, rooted}
 use Rattle.oca_textree.specs.Texts.{after_lines, go_on, line_before, lines_behind, rooted_by, from_root, objects_of_text}
 use Rattle.oca_textree.specs.Written.{lock_word, truth_word, text_field, kept_label, place_fields, object_line, root_line, line_of, text_of, IsShortText, IsNamed, IsReadBack}
 use Rattle.oca_textree.proofs.SplitLemmas.{split-more}
 use Rattle.oca_textree.proofs.Standing.{free-in, none-before}
 use Rattle.oca_textree.proofs.FieldsBack.{field-word, ono-decimal, word-decimal}
 use Rattle.oca_textree.proofs.TextsBack.{text-back, text-last, text-shown, word-shown, shown-append, shown-free}
-use Rattle.oca_textree.proofs.ValuesBack.{plain_value, said_of, read_value, fields_of, value-back, value-shown, flagged}
+use Rattle.oca_textree.proofs.ValuesBack.{plain_value, reading_of, read_value, fields_of, value-back, value-shown, flagged}
 
 -- ---- the end of a line
 
@@ -38,24 +38,24 @@ unfolding field_at
 lock-field true rest = refl
 lock-field false rest = refl
 
-lock-said : (l : Bool) → one_of (codes "lockable") true (codes "no-lock") false (lock_word l) ≡ Some l
+lock-reading : (l : Bool) → one_of (codes "lockable") true (codes "no-lock") false (lock_word l) ≡ Some l
 unfolding one_of
-lock-said true = refl
-lock-said false = refl
+lock-reading true = refl
+lock-reading false = refl
 
 truth-field : (e : Bool) (rest : List ℕ) → field_at (Some (truth_word e ++ 32 ∷ rest)) ≡ Ok (truth_word e, Some rest)
 unfolding field_at
 truth-field true rest = refl
 truth-field false rest = refl
 
-truth-said : (e : Bool) → one_of (codes "on") true (codes "off") false (truth_word e) ≡ Some e
+truth-reading : (e : Bool) → one_of (codes "on") true (codes "off") false (truth_word e) ≡ Some e
 unfolding one_of
-truth-said true = refl
-truth-said false = refl
+truth-reading true = refl
+truth-reading false = refl
 
 start-back : (e : Bool) (label : List ℕ) → IsShortText label → start_at (Some (truth_word e ++ 32 ∷ text_field label)) ≡ Ok (e, label)
 unfolding start_at
-start-back e label h = let a = truth-field e (text_field label) in let b = truth-said e in let c = text-last label h in rw (a, b, c) refl
+start-back e label h = let a = truth-field e (text_field label) in let b = truth-reading e in let c = text-last label h in rw (a, b, c) refl
 
 tail_of : Bool → List ℕ → Bool → List ℕ → List ℕ
 tail_of l role e label = lock_word l ++ 32 ∷ (text_field role ++ 32 ∷ (truth_word e ++ 32 ∷ text_field label))
@@ -65,7 +65,7 @@ ending-back : (l : Bool) (role : List ℕ) (e : Bool) (label : List ℕ) → IsS
 unfolding ending_at tail_of
 ending-back l role e label hr hl =
     let a = lock-field l (text_field role ++ 32 ∷ (truth_word e ++ 32 ∷ text_field label)) in
-    let b = lock-said l in
+    let b = lock-reading l in
     let c = text-back role (truth_word e ++ 32 ∷ text_field label) hr in
     let d = start-back e label hl in
     rw (a, b, c, d) refl
@@ -141,8 +141,8 @@ ending_of : Object → Ending
 ending_of o = record { lockable = o.lockable; role = o.role; enabled = o.enabled; label = o.label }
 
 kept : (tree : List Object) (o : Object) → Fitting tree o → IsNamed o → IsSound o
-    → stored_with tree o.container.0 o.ono.0 (said_of o.value (tail_of o.lockable o.role o.enabled o.label)) ≡ Ok (tree ++ unlocked o ∷ [])
-unfolding stored_with said_of
+    → stored_with tree o.container.0 o.ono.0 (reading_of o.value (tail_of o.lockable o.role o.enabled o.label)) ≡ Ok (tree ++ unlocked o ∷ [])
+unfolding stored_with reading_of
 kept tree o h named sound =
     let ends = ending-back o.lockable o.role o.enabled o.label named.role named.label in
     let a = taken-by tree o h named sound in
@@ -150,13 +150,13 @@ kept tree o h named sound =
     let v = flagged o.value in
     rw (ends, a, b, v) refl
 
-then-last : {B : Type 0} (f : Result Taken ObjectFault) (g : Said → Result B ObjectFault)
-    → then_by f (λ c. then_by (some_or_fault fault.Class (class_of_word c.0)) (λ k. then_by (said_at k c.1) g))
-    ≡ then_by (then_by f (λ c. then_by (some_or_fault fault.Class (class_of_word c.0)) (λ k. said_at k c.1))) g
+then-last : {B : Type 0} (f : Result Taken ObjectFault) (g : Flagged → Result B ObjectFault)
+    → then_by f (λ c. then_by (some_or_fault fault.Class (class_of_word c.0)) (λ k. then_by (flagged_at k c.1) g))
+    ≡ then_by (then_by f (λ c. then_by (some_or_fault fault.Class (class_of_word c.0)) (λ k. flagged_at k c.1))) g
 then-last (Err e) g = refl
 then-last (Ok c) g = by (class_of_word c.0)
   where
-    by : (o : Option Class) → then_by (some_or_fault fault.Class o) (λ k. then_by (said_at k c.1) g) ≡ then_by (then_by (some_or_fault fault.Class o) (λ k. said_at k c.1)) g
+    by : (o : Option Class) → then_by (some_or_fault fault.Class o) (λ k. then_by (flagged_at k c.1) g) ≡ then_by (then_by (some_or_fault fault.Class o) (λ k. flagged_at k c.1)) g
     by None = refl
     by (Some k) = refl
 
@@ -176,8 +176,8 @@ stored-back tree o h named sound =
     let d = ono-decimal o.container.0 container in
     let e = value-back o.value tail sound.value named.names in
     rw (a, b, c, d)
-    (then-last (field_at (Some behind_container)) (λ said. stored_with tree o.container.0 o.ono.0 said)
-    ∙ ap (λ (r : Result Said ObjectFault). then_by r (λ said. stored_with tree o.container.0 o.ono.0 said)) e
+    (then-last (field_at (Some behind_container)) (λ reading. stored_with tree o.container.0 o.ono.0 reading)
+    ∙ ap (λ (r : Result Flagged ObjectFault). then_by r (λ reading. stored_with tree o.container.0 o.ono.0 reading)) e
     ∙ kept tree o h named sound)
 
 short-label : (label : List ℕ) → length label ≤ 64 → kept_label label ≡ label

@@ -1,11 +1,10 @@
 -- What a text lists: each object has a role, texts in UTF-8 of at most 64 bytes and numbers of 32 bits, and no lock.
-use Rattle.std.proofs.Common.{◌≡◌, ℕ, zero, suc, ◌+◌, ◌<◌, ◌≤◌, ◌^◌, ◌==◌, Bool, true, false, cond, ◌&&◌, ◌||◌, not, ◌⊎◌, inl, inr, List, [], ◌∷◌, ◌++◌, length, Option, Some, None, Ok, Err, refl, sym, ap, ◌∙◌, subst, arith, IsUtf8}
-use Rattle.std.specs.Prelude.{codes, Result, nat_lt, nat_le, ℤ, slice_index, is_some}
+use Rattle.std.proofs.Common.{◌≡◌, ℕ, zero, suc, ◌+◌, ◌<◌, ◌≤◌, ◌^◌, ◌==◌, Bool, true, false, cond, ◌||◌, not, ◌⊎◌, inl, inr, List, [], ◌∷◌, ◌++◌, length, Option, Some, None, Ok, Err, refl, sym, ap, ◌∙◌, subst, arith, IsUtf8}
+use Rattle.std.specs.Prelude.{codes, Result, nat_lt, nat_le, ℤ, is_some}
 use Rattle.std.specs.List.{list_any, All}
 use Rattle.std.specs.Option.{option_map, option_or}
 use Rattle.std.specs.Str.{is_utf8, bytes_eq}
 use Rattle.std.proofs.lemmas.Bool.{and_parts, or_parts, cases_lt, ltb-true, ltb-false, leb-true, lt-ltb, le-ltb}
-use Rattle.std.proofs.lemmas.Bool.Decides.{nat_tests}
 use Rattle.std.proofs.lemmas.List.Elements.{All-nil, All-cons, All-head, All-tail, All-push, All-weaker}
 use Rattle.std.proofs.lemmas.Str.{IsUtf8-from_is_utf8, IsUtf8-nil}
 use Rattle.hex.specs.Hex.{IsBytes}
@@ -32,8 +31,8 @@ use Rattle.oca_textree.specs.declared.fault.ObjectFault.TheVariants as fault
 use Rattle.oca_textree.specs.declared.fault.TreeFault.{TreeFault}
 use Rattle.oca_textree.specs.Faults.{object_fault_of}
 use Rattle.oca_textree.specs.Texts.{after_lines, go_on, line_before, lines_behind, rooted_by, from_root, objects_of_text}
-use Rattle.oca_textree.specs.Lines.{then_by, some_or_fault, field_at, ono_of, class_of_word, one_of, Valued, valued, by_word, limits_of, by_limits, names_after, position_named, positions_of, by_positions, value_at, is_text, refusal, added_unless, ended, checked, last_of, added_with, added_as, added_by, is_skipped_line, has_control}
-use Rattle.oca_textree.specs.Stored.{after_line, after_word, by_kind, short, short_utf8, digits_said, text_said, is_quoted, text_at, flags_after, named_after, names_at, Positions, switch_at, Said, switch_said, said_at, start_at, Ending, ending_at, stored_object, start_refusal, stored_refusal, kept_unless, kept_by, stored_with, stored_as, stored_by, rooted}
+use Rattle.oca_textree.specs.Lines.{then_by, some_or_fault, field_at, ono_of, class_of_word, one_of, Valued, valued, by_word, limits_of, by_limits, names_after, position_named, positions_of, by_positions, value_at, is_text, refusal, added_unless, ended, checked, last_of, added_with, added_by, is_skipped_line, has_control}
+use Rattle.oca_textree.specs.Stored.{after_line, after_word, by_kind, short, short_utf8, field_text, is_quoted, text_at, flags_after, named_after, names_at, Positions, switch_at, Flagged, switch_flagged, flagged_at, start_at, Ending, ending_at, stored_object, start_refusal, kept_unless, stored_with, stored_by, rooted}
 use Rattle.oca_textree.specs.Written.{IsShortText, IsNamed, IsRoot}
 use lib.Utf8.{scalar, scalars, encode, encodes, scalar_cases}
 
@@ -135,34 +134,34 @@ ono-fits text n e = omega (arith, number-most 10 4294967295 n text e)
 is-text : (t : List ℕ) → is_text t ≡ true → IsUtf8 t
 is-text t e = IsUtf8-from_is_utf8 t (and_parts (is_utf8 t) (not (has_hidden t)) e).0
 
-short-said : (text t : List ℕ) → short text ≡ Some t → (text ≡ t) × (length t ≤ 64)
-short-said text t e = by (nat_lt 64 (length text)) refl e
+short-reading : (text t : List ℕ) → short text ≡ Some t → (text ≡ t) × (length t ≤ 64)
+short-reading text t e = by (nat_lt 64 (length text)) refl e
   where
     by : (b : Bool) → nat_lt 64 (length text) ≡ b → cond b None (Some text) ≡ Some t → (text ≡ t) × (length t ≤ 64)
     by true q h = absurd (cc)
     by false q h = let same : text ≡ t = cc in (same, subst (λ (x : List ℕ). length x ≤ 64) same (ltb-false 64 (length text) q))
 
-said-short : (text t : List ℕ) → IsUtf8 text → short text ≡ Some t → IsShortText t
-said-short text t utf8 e = let p = short-said text t e in short-text t (subst IsUtf8 p.0 utf8) p.1
+reading-short : (text t : List ℕ) → IsUtf8 text → short text ≡ Some t → IsShortText t
+reading-short text t utf8 e = let p = short-reading text t e in short-text t (subst IsUtf8 p.0 utf8) p.1
 
-quoted-said : (text t : List ℕ) (b : Bool) → is_text text ≡ b → cond b (short text) None ≡ Some t → IsShortText t
-quoted-said text t true q e = said-short text t (is-text text q) e
-quoted-said text t false q e = absurd (cc)
+quoted-reading : (text t : List ℕ) (b : Bool) → is_text text ≡ b → cond b (short text) None ≡ Some t → IsShortText t
+quoted-reading text t true q e = reading-short text t (is-text text q) e
+quoted-reading text t false q e = absurd (cc)
 
-utf8-said : (text t : List ℕ) (b : Bool) → is_utf8 text ≡ b → cond b (short text) None ≡ Some t → IsShortText t
-utf8-said text t true q e = said-short text t (IsUtf8-from_is_utf8 text q) e
-utf8-said text t false q e = absurd (cc)
+utf8-reading : (text t : List ℕ) (b : Bool) → is_utf8 text ≡ b → cond b (short text) None ≡ Some t → IsShortText t
+utf8-reading text t true q e = reading-short text t (IsUtf8-from_is_utf8 text q) e
+utf8-reading text t false q e = absurd (cc)
 
-hex-said : (o : Option (List ℕ)) (t : List ℕ) → then_in o short_utf8 ≡ Some t → IsShortText t
-hex-said None t e = absurd (cc)
-hex-said (Some text) t e = utf8-said text t (is_utf8 text) refl e
+hex-reading : (o : Option (List ℕ)) (t : List ℕ) → then_in o short_utf8 ≡ Some t → IsShortText t
+hex-reading None t e = absurd (cc)
+hex-reading (Some text) t e = utf8-reading text t (is_utf8 text) refl e
 
 digits-short : (digits t : List ℕ) (b : Bool) → cond b None (then_in (hex_of digits) short_utf8) ≡ Some t → IsShortText t
 digits-short digits t true e = absurd (cc)
-digits-short digits t false e = hex-said (hex_of digits) t e
+digits-short digits t false e = hex-reading (hex_of digits) t e
 
-text-short : (quoted : Bool) (field t : List ℕ) → text_said quoted field ≡ Some t → IsShortText t
-text-short true field t e = quoted-said field t (is_text field) refl e
+text-short : (quoted : Bool) (field t : List ℕ) → field_text quoted field ≡ Some t → IsShortText t
+text-short true field t e = quoted-reading field t (is_text field) refl e
 text-short false field t e = digits-short field t (nat_lt 128 (length field)) e
 
 abbrev value_or : {A : Type 0} → A → Result A ObjectFault → A
@@ -179,7 +178,7 @@ pub text-at-short : (rest : Option (List ℕ)) (p : List ℕ × Option (List ℕ
 unfolding text_at
 text-at-short rest p e =
     let f = then-ok (field_at rest) _ p e in
-    let t = or-ok fault.Text (text_said (is_quoted rest) f.0.0) _ p f.2 in
+    let t = or-ok fault.Text (field_text (is_quoted rest) f.0.0) _ p f.2 in
     let same : t.0 ≡ p.0 = ap (λ (x : List ℕ × Option (List ℕ)). x.0) (ok-same _ _ t.2) in
     subst IsShortText same (text-short (is_quoted rest) f.0.0 t.0 t.1)
 
@@ -201,7 +200,7 @@ names-utf8 before (n ∷ more) all h e =
 named-short : (quoted : Bool) (before more all : List (List ℕ)) → All IsShortText before → named_after quoted before more ≡ Ok all → All IsShortText all
 named-short quoted before [] all h e = subst (All IsShortText) (ok-same before all e) h
 named-short quoted before (n ∷ more) all h e =
-    let t = or-ok fault.Text (text_said quoted n) _ all e in
+    let t = or-ok fault.Text (field_text quoted n) _ all e in
     by t.0 (nat_le 16 (length before)) (named-short quoted (before ++ t.0 ∷ []) more all (All-push IsShortText before t.0 h (text-short quoted n t.0 t.1))) t.2
   where
     by : (t : List ℕ) (b : Bool) → (named_after quoted (before ++ t ∷ []) more ≡ Ok all → All IsShortText all)
@@ -425,32 +424,32 @@ positions-short rest p e =
 utf8-only : (names : List (List ℕ)) → All IsShortText names → All IsUtf8 names
 utf8-only names h = All-weaker IsShortText IsUtf8 (λ n is. is.utf8) names h
 
-said-switch : (rest : Option (List ℕ)) (said : Said) → then_by (switch_at rest) (λ p. as_ok (switch_said p)) ≡ Ok said → AreTexts said.valued
-said-switch rest said e =
-    let p = then-ok (switch_at rest) _ said e in
-    subst (λ (s : Said). AreTexts s.valued) (ok-same _ _ p.2) (switch-texts (p.0.position, p.0.names, p.0.rest) (utf8-only p.0.names (positions-short rest p.0 p.1)))
+reading-switch : (rest : Option (List ℕ)) (reading : Flagged) → then_by (switch_at rest) (λ p. as_ok (switch_flagged p)) ≡ Ok reading → AreTexts reading.valued
+reading-switch rest reading e =
+    let p = then-ok (switch_at rest) _ reading e in
+    subst (λ (s : Flagged). AreTexts s.valued) (ok-same _ _ p.2) (switch-texts (p.0.position, p.0.names, p.0.rest) (utf8-only p.0.names (positions-short rest p.0 p.1)))
 
-said-other : (k : Class) (rest : Option (List ℕ)) (said : Said)
-    → then_by (value_at k rest) (λ v. let s : Said = record { valued = v; flags = None } in as_ok s) ≡ Ok said → AreTexts said.valued
-said-other k rest said e =
-    let v = then-ok (value_at k rest) _ said e in
-    subst (λ (s : Said). AreTexts s.valued) (ok-same _ _ v.2) (value-texts k rest v.0 v.1)
+reading-other : (k : Class) (rest : Option (List ℕ)) (reading : Flagged)
+    → then_by (value_at k rest) (λ v. let s : Flagged = record { valued = v; flags = None } in as_ok s) ≡ Ok reading → AreTexts reading.valued
+reading-other k rest reading e =
+    let v = then-ok (value_at k rest) _ reading e in
+    subst (λ (s : Flagged). AreTexts s.valued) (ok-same _ _ v.2) (value-texts k rest v.0 v.1)
 
-said-texts : (k : Class) (rest : Option (List ℕ)) (said : Said) → said_at k rest ≡ Ok said → AreTexts said.valued
-unfolding said_at
-said-texts class.Switch rest said e = said-switch rest said e
-said-texts class.Block rest said e = said-other class.Block rest said e
-said-texts class.Mute rest said e = said-other class.Mute rest said e
-said-texts class.Polarity rest said e = said-other class.Polarity rest said e
-said-texts class.Boolean rest said e = said-other class.Boolean rest said e
-said-texts class.Int8 rest said e = said-other class.Int8 rest said e
-said-texts class.Int16 rest said e = said-other class.Int16 rest said e
-said-texts class.Int32 rest said e = said-other class.Int32 rest said e
-said-texts class.Int64 rest said e = said-other class.Int64 rest said e
-said-texts class.Uint8 rest said e = said-other class.Uint8 rest said e
-said-texts class.Uint16 rest said e = said-other class.Uint16 rest said e
-said-texts class.Uint32 rest said e = said-other class.Uint32 rest said e
-said-texts class.Uint64 rest said e = said-other class.Uint64 rest said e
+reading-texts : (k : Class) (rest : Option (List ℕ)) (reading : Flagged) → flagged_at k rest ≡ Ok reading → AreTexts reading.valued
+unfolding flagged_at
+reading-texts class.Switch rest reading e = reading-switch rest reading e
+reading-texts class.Block rest reading e = reading-other class.Block rest reading e
+reading-texts class.Mute rest reading e = reading-other class.Mute rest reading e
+reading-texts class.Polarity rest reading e = reading-other class.Polarity rest reading e
+reading-texts class.Boolean rest reading e = reading-other class.Boolean rest reading e
+reading-texts class.Int8 rest reading e = reading-other class.Int8 rest reading e
+reading-texts class.Int16 rest reading e = reading-other class.Int16 rest reading e
+reading-texts class.Int32 rest reading e = reading-other class.Int32 rest reading e
+reading-texts class.Int64 rest reading e = reading-other class.Int64 rest reading e
+reading-texts class.Uint8 rest reading e = reading-other class.Uint8 rest reading e
+reading-texts class.Uint16 rest reading e = reading-other class.Uint16 rest reading e
+reading-texts class.Uint32 rest reading e = reading-other class.Uint32 rest reading e
+reading-texts class.Uint64 rest reading e = reading-other class.Uint64 rest reading e
 
 label-short : (rest : Option (List ℕ)) (p : Bool × List ℕ) → start_at rest ≡ Ok p → IsShortText p.1
 unfolding start_at
@@ -511,15 +510,15 @@ unless-kept : (f : Option ObjectFault) (tree new : List Object) (o : Object) →
 unless-kept None tree new o fresh e = inr (o, fresh refl, sym (ok-same _ _ e))
 unless-kept (Some f) tree new o fresh e = absurd (cc)
 
-with-stored : (tree new : List Object) (container ono : ℕ) (said : Said) → container < 2 ^ 32 → ono < 2 ^ 32 → AreTexts said.valued → stored_with tree container ono said ≡ Ok new → Grew tree new
+with-stored : (tree new : List Object) (container ono : ℕ) (reading : Flagged) → container < 2 ^ 32 → ono < 2 ^ 32 → AreTexts reading.valued → stored_with tree container ono reading ≡ Ok new → Grew tree new
 unfolding stored_with
-with-stored tree new container ono said c n texts e =
-    let ending = then-ok (ending_at said.valued.rest) _ new e in
-    let refused = refusal tree container ono ending.0.role said.valued.bad_name said.valued.value in
-    let start = start_refusal said.valued.value ending.0.label said.flags in
-    unless-kept (option_or (option_map object_fault_of refused) start) tree new (stored_object ono container ending.0 said.valued.value said.flags)
-    (λ none. stored-fresh container ono ending.0 said.valued said.flags c n (ending-short said.valued.rest ending.0 ending.1)
-    (refused-not tree container ono ending.0.role said.valued.bad_name said.valued.value (no-fault refused start none)) texts)
+with-stored tree new container ono reading c n texts e =
+    let ending = then-ok (ending_at reading.valued.rest) _ new e in
+    let refused = refusal tree container ono ending.0.role reading.valued.bad_name reading.valued.value in
+    let start = start_refusal reading.valued.value ending.0.label reading.flags in
+    unless-kept (option_or (option_map object_fault_of refused) start) tree new (stored_object ono container ending.0 reading.valued.value reading.flags)
+    (λ none. stored-fresh container ono ending.0 reading.valued reading.flags c n (ending-short reading.valued.rest ending.0 ending.1)
+    (refused-not tree container ono ending.0.role reading.valued.bad_name reading.valued.value (no-fault refused start none)) texts)
     ending.2
 
 line-stored : (tree : List Object) (line : List ℕ) (new : List Object) → stored_by tree line ≡ Ok new → Grew tree new
@@ -531,8 +530,8 @@ line-stored tree line new e =
     let container = or-ok fault.Number (ono_of b.0.0) _ new b.2 in
     let c = then-ok (field_at b.0.1) _ new container.2 in
     let k = or-ok fault.Class (class_of_word c.0.0) _ new c.2 in
-    let said = then-ok (said_at k.0 c.0.1) _ new k.2 in
-    with-stored tree new container.0 ono.0 said.0 (ono-fits b.0.0 container.0 container.1) (ono-fits a.0.0 ono.0 ono.1) (said-texts k.0 c.0.1 said.0 said.1) said.2
+    let reading = then-ok (flagged_at k.0 c.0.1) _ new k.2 in
+    with-stored tree new container.0 ono.0 reading.0 (ono-fits b.0.0 container.0 container.1) (ono-fits a.0.0 ono.0 ono.1) (reading-texts k.0 c.0.1 reading.0 reading.1) reading.2
 
 -- ---- lines
 

@@ -1,10 +1,9 @@
 -- Objects that calls made, or that a text lists, are read back from the text that is written of them.
-use Rattle.std.proofs.Common.{◌≡◌, ℕ, ◌+◌, ◌<◌, ◌≤◌, Bool, true, false, ◌||◌, ◌==◌, cond, ◌⊎◌, inl, inr, List, [], ◌∷◌, ◌++◌, length, map, Option, Some, None, Ok, refl, sym, ap, ◌∙◌, subst, arith, IsUtf8}
+use Rattle.std.proofs.Common.{◌≡◌, ℕ, ◌+◌, Bool, true, false, ◌||◌, ◌==◌, cond, List, [], ◌∷◌, ◌++◌, length, Option, Some, None, Ok, refl, sym, ap, ◌∙◌, subst, arith, IsUtf8}
 use Rattle.std.specs.Prelude.{nat_lt, nat_le, is_some, not}
 use Rattle.std.specs.List.{list_any, All}
 use Rattle.std.specs.Option.{option_map, option_or}
-use Rattle.std.proofs.lemmas.Bool.{or_parts}
-use Rattle.std.proofs.lemmas.List.Elements.{All-nil, All-cons, All-head, All-tail, All-push, All-weaker}
+use Rattle.std.proofs.lemmas.List.Elements.{All-nil, All-cons, All-head, All-push, All-weaker}
 use Rattle.std.proofs.lemmas.Str.{IsUtf8-nil}
 use Rattle.oca_tree.specs.declared.builder.AddFault.{AddFault}
 use Rattle.oca_tree.specs.declared.builder.Kind.{Kind}
@@ -17,20 +16,20 @@ use Rattle.oca_tree.specs.declared.start.Start.{Start}
 use Rattle.oca_tree.specs.declared.start.StartFault.{StartFault}
 use Rattle.oca_tree.specs.declared.start.StartFault.TheVariants as starts
 use Rattle.oca_tree.specs.Building.{root, value_of, has_bad_name, is_long, is_bad_value, object_of_spec, add_fault}
-use Rattle.oca_tree.specs.Copies.{names_in, all_unlocked}
+use Rattle.oca_tree.specs.Copies.{names_in}
 use Rattle.oca_tree.specs.Objects.{object_of}
 use Rattle.oca_tree.specs.Places.{places, is_block, depth}
-use Rattle.oca_tree.specs.Starts.{flags_of, has_other_flags, restored, start_fault, add_with_fault}
+use Rattle.oca_tree.specs.Starts.{flags_of, has_other_flags, restored, start_fault}
 use Rattle.oca_tree.specs.Execution.{execution}
 use Rattle.oca_tree.specs.Locks.{released}
+use Rattle.oca_tree.specs.Settings.{after_set}
 use Rattle.oca_tree.specs.Trees.{IsTree}
 use Rattle.oca_textree.specs.Made.{IsTyped, IsMade, MadeIsReadBack, ListedIsReadBack}
 use Rattle.oca_textree.specs.Made as made
-use Rattle.oca_textree.specs.Texts.{objects_of_text}
-use Rattle.oca_textree.specs.Written.{text_of, IsShortText, IsNamed}
+use Rattle.oca_textree.specs.Written.{IsShortText, IsNamed}
 use Rattle.oca_textree.proofs.SplitLemmas.{any-map}
-use Rattle.oca_textree.proofs.ListedLemmas.{AreListed, IsFresh, Rooted, rooted-root, plain-root, root-fresh, root-stays, text-listed, all-unlocked, HasShortTexts, texts-tested, sixth-none, all-short, short-text, not-long-short, flags-names}
-use Rattle.oca_textree.proofs.CommandedLemmas.{command-kept, release-kept}
+use Rattle.oca_textree.proofs.ListedLemmas.{AreListed, IsFresh, Rooted, rooted-root, plain-root, root-stays, text-listed, all-unlocked, HasShortTexts, texts-tested, sixth-none, all-short, short-text, not-long-short, flags-names}
+use Rattle.oca_textree.proofs.CommandedLemmas.{command-kept, set-kept, release-kept}
 use Rattle.oca_textree.proofs.LinesBack.{tree-back}
 
 -- ---- additions
@@ -138,6 +137,9 @@ made-named _ (made.listed text tree e) = listed-named tree (text-listed text tre
 made-named _ (made.executed tree peer command h) =
     let n = made-named tree h in
     kept (execution tree peer command).tree (command-kept tree peer command n.root_first n.named)
+made-named _ (made.set_locally tree number value h) =
+    let n = made-named tree h in
+    kept (after_set tree number value) (set-kept tree number value n.root_first n.named)
 made-named _ (made.unlocked_by tree peer h) =
     let n = made-named tree h in
     kept (released tree peer) (release-kept tree peer n.root_first n.named)

@@ -116,44 +116,44 @@ names-last old ns all rest r so none e = e ∙ sym (so ∙ ap (names_after ns) (
 
 -- ---- lines, one after another
 
-abbrev pub Said : Type 0
-Said = Result (List Object) TreeFault
+abbrev pub Flagged : Type 0
+Flagged = Result (List Object) TreeFault
 
-pub lines-failed : (said : Said) (rest front after : List ℕ) (tree : List Object) (n : ℕ) (f : ObjectFault)
-    → said ≡ after_lines n tree (split_on 10 rest) → Some (front, after) ≡ split_at 10 rest → after_line tree front ≡ Err f → said ≡ Err (Line n f)
-lines-failed said rest front after tree n f so found e =
+pub lines-failed : (reading : Flagged) (rest front after : List ℕ) (tree : List Object) (n : ℕ) (f : ObjectFault)
+    → reading ≡ after_lines n tree (split_on 10 rest) → Some (front, after) ≡ split_at 10 rest → after_line tree front ≡ Err f → reading ≡ Err (Line n f)
+lines-failed reading rest front after tree n f so found e =
     so ∙ ap (after_lines n tree) (split-more 10 rest front after (sym found))
     ∙ ap (λ (r : Result (List Object) ObjectFault). go_on r n (λ t. after_lines (n + 1) t (split_on 10 after))) e
 
 -- after a line, the lines that are left
-pub lines-on : (said : Said) (rest front after : List ℕ) (tree next : List Object) (n : ℕ)
-    → said ≡ after_lines n tree (split_on 10 rest) → Some (front, after) ≡ split_at 10 rest
-    → after_line tree front ≡ Ok next → said ≡ after_lines (n + 1) next (split_on 10 after)
-lines-on said rest front after tree next n so found e =
+pub lines-on : (reading : Flagged) (rest front after : List ℕ) (tree next : List Object) (n : ℕ)
+    → reading ≡ after_lines n tree (split_on 10 rest) → Some (front, after) ≡ split_at 10 rest
+    → after_line tree front ≡ Ok next → reading ≡ after_lines (n + 1) next (split_on 10 after)
+lines-on reading rest front after tree next n so found e =
     so ∙ ap (after_lines n tree) (split-more 10 rest front after (sym found))
     ∙ ap (λ (r : Result (List Object) ObjectFault). go_on r n (λ t. after_lines (n + 1) t (split_on 10 after))) e
 
 -- the last line gives a tree, or its fault
-pub last-read : (said : Said) (rest : List ℕ) (old new : Store) (n : ℕ) (r : Result Unit TreeFault)
-    → said ≡ after_lines n old.list (split_on 10 rest) → split_at 10 rest ≡ None
-    → IsReadSoFar r old new n (after_line old.list rest) → IsRead r new.list said
-last-read said rest old new n (Ok u) so none h =
+pub last-read : (reading : Flagged) (rest : List ℕ) (old new : Store) (n : ℕ) (r : Result Unit TreeFault)
+    → reading ≡ after_lines n old.list (split_on 10 rest) → split_at 10 rest ≡ None
+    → IsReadSoFar r old new n (after_line old.list rest) → IsRead r new.list reading
+last-read reading rest old new n (Ok u) so none h =
     so ∙ ap (after_lines n old.list) (split-one 10 rest none)
     ∙ ap (λ (r : Result (List Object) ObjectFault). go_on r n (λ t. after_lines (n + 1) t [])) h.0
-last-read said rest old new n (Err (Line m f)) so none h =
+last-read reading rest old new n (Err (Line m f)) so none h =
     so ∙ ap (after_lines n old.list) (split-one 10 rest none)
     ∙ ap (λ (r : Result (List Object) ObjectFault). go_on r n (λ t. after_lines (n + 1) t [])) h.0
     ∙ ap (λ (k : ℕ). Err (Line k f)) (sym h.1)
-last-read said rest old new n (Err NoMemory) so none h = absurd h
+last-read reading rest old new n (Err NoMemory) so none h = absurd h
 
 -- an earlier line has a fault
-pub first-fault : (said : Said) (rest front after : List ℕ) (old new : Store) (n : ℕ) (r : Result Unit TreeFault) (e : TreeFault)
-    → r ≡ Err e → said ≡ after_lines n old.list (split_on 10 rest) → Some (front, after) ≡ split_at 10 rest
-    → IsReadSoFar (Err e) old new n (after_line old.list front) → IsRead r new.list said
-first-fault said rest front after old new n r (Line m f) is so found h =
-    subst (λ (x : Result Unit TreeFault). IsRead x new.list said) (sym is)
-    (lines-failed said rest front after old.list n f so found h.0 ∙ ap (λ (k : ℕ). Err (Line k f)) (sym h.1))
-first-fault said rest front after old new n r NoMemory is so found h = absurd h
+pub first-fault : (reading : Flagged) (rest front after : List ℕ) (old new : Store) (n : ℕ) (r : Result Unit TreeFault) (e : TreeFault)
+    → r ≡ Err e → reading ≡ after_lines n old.list (split_on 10 rest) → Some (front, after) ≡ split_at 10 rest
+    → IsReadSoFar (Err e) old new n (after_line old.list front) → IsRead r new.list reading
+first-fault reading rest front after old new n r (Line m f) is so found h =
+    subst (λ (x : Result Unit TreeFault). IsRead x new.list reading) (sym is)
+    (lines-failed reading rest front after old.list n f so found h.0 ∙ ap (λ (k : ℕ). Err (Line k f)) (sym h.1))
+first-fault reading rest front after old new n r NoMemory is so found h = absurd h
 
 -- whether one of the names passes a test
 pub any-map : (p : List ℕ → Bool) (xs : List (Bor (List ℕ))) → list_any p (map (λ x. x.now) xs) ≡ list_any (λ x. p x.now) xs

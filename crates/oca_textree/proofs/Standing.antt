@@ -1,4 +1,4 @@
--- What is told of the objects of a tree: of each its own, and that it fits a line.
+-- What a tree answers of its objects: of each its own, and that it fits a line.
 use Rattle.std.proofs.Common.{◌≡◌, ℕ, zero, suc, ◌<◌, ◌≤◌, true, List, [], ◌∷◌, ◌++◌, length, get_or, take, refl, sym, ap, ◌∙◌, subst, arith, inl, inr, length-append, eq-eqb}
 use Rattle.std.specs.Prelude.{Option, Some, None, ◌==◌, ◌⊎◌, ℤ, slice_get}
 use Rattle.std.specs.Option.{option_map}
@@ -85,7 +85,7 @@ itself-in front back o h = by front (free-in front back o h.built)
     by (x ∷ xs) (inl e) = absurd (omega arith)
     by xs (inr free) = found-in xs back o (none-before xs o.ono.0 free.untaken)
 
--- ---- what is told fits a line
+-- ---- what is answered fits a line
 
 pub sound-found : (tree : List Object) (n : ℕ) (o : Object) → All IsSound tree → object_of tree n ≡ Some o → IsSound o
 sound-found tree n o h found =

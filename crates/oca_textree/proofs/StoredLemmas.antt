@@ -20,8 +20,8 @@ use Rattle.oca_textree.specs.declared.fault.ObjectFault.{ObjectFault}
 use Rattle.oca_textree.specs.declared.fault.ObjectFault.TheVariants as fault
 use Rattle.oca_textree.specs.Faults.{object_fault_of, stored_fault_of}
 use Rattle.oca_textree.specs.Lines.{then_by, some_or_fault, Valued, refusal}
-use Rattle.oca_textree.specs.Stored.{flags_after, named_after, text_said, start_refusal, Ending, Said, stored_refusal, stored_object, kept_unless, kept_by, switch_said}
-use Rattle.oca_textree.specs.PrivateStored.{named_view, kind_said}
+use Rattle.oca_textree.specs.Stored.{flags_after, named_after, field_text, start_refusal, Ending, Flagged, stored_refusal, stored_object, kept_unless, kept_by, switch_flagged}
+use Rattle.oca_textree.specs.PrivateStored.{named_view, kind_flagged}
 use Rattle.oca_textree.proofs.SplitLemmas.{split-one, split-more, any-map}
 
 -- ---- flags
@@ -46,23 +46,23 @@ named_on quoted (Err f) more = Err f
 
 pub named-more : (quoted : Bool) (names : List (List ℕ)) (n : List ℕ) (more : List (List ℕ))
     → named_after quoted names (n ∷ more) ≡ named_on quoted (named_after quoted names (n ∷ [])) more
-named-more quoted names n more = by_said (text_said quoted n)
+named-more quoted names n more = by_reading (field_text quoted n)
   where
-    by_said : (o : Option (List ℕ))
+    by_reading : (o : Option (List ℕ))
         → then_by (some_or_fault fault.Text o) (λ t. cond (nat_le 16 (length names)) (Err fault.Range) (named_after quoted (names ++ t ∷ []) more))
         ≡ named_on quoted (then_by (some_or_fault fault.Text o) (λ t. cond (nat_le 16 (length names)) (Err fault.Range) (Ok (names ++ t ∷ [])))) more
-    by_said None = refl
-    by_said (Some t) = by_test (nat_le 16 (length names))
+    by_reading None = refl
+    by_reading (Some t) = by_test (nat_le 16 (length names))
       where
         by_test : (b : Bool) → cond b (Err fault.Range) (named_after quoted (names ++ t ∷ []) more) ≡ named_on quoted (cond b (Err fault.Range) (Ok (names ++ t ∷ []))) more
         by_test true = refl
         by_test false = refl
 
 -- a fault of one name is that of all
-pub named-failed : (quoted : Bool) (said : Result (List (List ℕ)) ObjectFault) (ns : List (List ℕ)) (rest front after : List ℕ) (f : ObjectFault)
-    → said ≡ named_after quoted ns (split_on 44 rest) → Some (front, after) ≡ split_at 44 rest
-    → Err f ≡ named_after quoted ns (front ∷ []) → Err f ≡ said
-named-failed quoted said ns rest front after f so found e =
+pub named-failed : (quoted : Bool) (reading : Result (List (List ℕ)) ObjectFault) (ns : List (List ℕ)) (rest front after : List ℕ) (f : ObjectFault)
+    → reading ≡ named_after quoted ns (split_on 44 rest) → Some (front, after) ≡ split_at 44 rest
+    → Err f ≡ named_after quoted ns (front ∷ []) → Err f ≡ reading
+named-failed quoted reading ns rest front after f so found e =
     sym (so ∙ ap (named_after quoted ns) (split-more 44 rest front after (sym found)) ∙ named-more quoted ns front (split_on 44 after)
     ∙ ap (λ (r : Result (List (List ℕ)) ObjectFault). named_on quoted r (split_on 44 after)) (sym e))
 
@@ -72,18 +72,18 @@ pub named-err : (r : Result Unit ObjectFault) (f : ObjectFault) (names : List (L
 named-err r f names x is e = ap (λ (q : Result Unit ObjectFault). named_view q names) is ∙ e
 
 -- after a name, the names that are left
-pub named-on : (quoted : Bool) (said : Result (List (List ℕ)) ObjectFault) (ns more : List (List ℕ)) (rest front after : List ℕ)
-    → said ≡ named_after quoted ns (split_on 44 rest) → Some (front, after) ≡ split_at 44 rest
-    → Ok more ≡ named_after quoted ns (front ∷ []) → said ≡ named_after quoted more (split_on 44 after)
-named-on quoted said ns more rest front after so found e =
+pub named-on : (quoted : Bool) (reading : Result (List (List ℕ)) ObjectFault) (ns more : List (List ℕ)) (rest front after : List ℕ)
+    → reading ≡ named_after quoted ns (split_on 44 rest) → Some (front, after) ≡ split_at 44 rest
+    → Ok more ≡ named_after quoted ns (front ∷ []) → reading ≡ named_after quoted more (split_on 44 after)
+named-on quoted reading ns more rest front after so found e =
     so ∙ ap (named_after quoted ns) (split-more 44 rest front after (sym found)) ∙ named-more quoted ns front (split_on 44 after)
     ∙ ap (λ (r : Result (List (List ℕ)) ObjectFault). named_on quoted r (split_on 44 after)) (sym e)
 
 -- the last name ends them
-pub named-last : (quoted : Bool) (said : Result (List (List ℕ)) ObjectFault) (ns : List (List ℕ)) (rest : List ℕ) (r : Result (List (List ℕ)) ObjectFault)
-    → said ≡ named_after quoted ns (split_on 44 rest) → split_at 44 rest ≡ None
-    → r ≡ named_after quoted ns (rest ∷ []) → r ≡ said
-named-last quoted said ns rest r so none e = e ∙ sym (so ∙ ap (named_after quoted ns) (split-one 44 rest none))
+pub named-last : (quoted : Bool) (reading : Result (List (List ℕ)) ObjectFault) (ns : List (List ℕ)) (rest : List ℕ) (r : Result (List (List ℕ)) ObjectFault)
+    → reading ≡ named_after quoted ns (split_on 44 rest) → split_at 44 rest ≡ None
+    → r ≡ named_after quoted ns (rest ∷ []) → r ≡ reading
+named-last quoted reading ns rest r so none e = e ∙ sym (so ∙ ap (named_after quoted ns) (split-one 44 rest none))
 
 -- ---- why an object is refused
 
@@ -125,14 +125,14 @@ kept-refused room tree container ono spec start ending e r role label h =
 -- ---- a switch
 
 -- the switch that was read is the one that is added
-pub said-switch : (names : Bor (List (Bor (List ℕ)))) (position : ℕ) (flags : Option (Bor (List Bool))) (rest : Option (Bor (List ℕ))) (texts : List (List ℕ)) (fs : List Bool)
+pub reading-switch : (names : Bor (List (Bor (List ℕ)))) (position : ℕ) (flags : Option (Bor (List Bool))) (rest : Option (Bor (List ℕ))) (texts : List (List ℕ)) (fs : List Bool)
     → map (λ n. n.now) names.now ≡ texts → option_copied flags ≡ Some fs
-    → kind_said (given.Switch names position) flags rest ≡ switch_said (record { flags = fs; names = texts; position = position; rest = option_copied rest })
+    → kind_flagged (given.Switch names position) flags rest ≡ switch_flagged (record { flags = fs; names = texts; position = position; rest = option_copied rest })
 unfolding value_of
-said-switch names position flags rest texts fs e f =
+reading-switch names position flags rest texts fs e f =
     ap (λ (b : Bool). let v : Valued = record { bad_name = b; value = switch (map (λ n. n.now) names.now) position; rest = option_copied rest } in
-    let s : Said = record { valued = v; flags = option_copied flags } in s) (sym (any-map is_long names.now))
+    let s : Flagged = record { valued = v; flags = option_copied flags } in s) (sym (any-map is_long names.now))
     ∙ ap (λ (ts : List (List ℕ)). let v : Valued = record { bad_name = list_any is_long ts; value = switch ts position; rest = option_copied rest } in
-    let s : Said = record { valued = v; flags = option_copied flags } in s) e
+    let s : Flagged = record { valued = v; flags = option_copied flags } in s) e
     ∙ ap (λ (o : Option (List Bool)). let v : Valued = record { bad_name = list_any is_long texts; value = switch texts position; rest = option_copied rest } in
-    let s : Said = record { valued = v; flags = o } in s) f
+    let s : Flagged = record { valued = v; flags = o } in s) f

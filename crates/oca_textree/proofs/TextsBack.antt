@@ -14,7 +14,7 @@ use Rattle.oca_script.proofs.PartLemmas.{Free, free-append, free-after, free-now
 use Rattle.oca_textree.specs.declared.fault.ObjectFault.{ObjectFault}
 use Rattle.oca_textree.specs.declared.fault.ObjectFault.TheVariants as fault
 use Rattle.oca_textree.specs.Lines.{field_at, then_by, some_or_fault, has_control}
-use Rattle.oca_textree.specs.Stored.{short, text_said, is_quoted, text_at, flags_after, named_after, names_at}
+use Rattle.oca_textree.specs.Stored.{short, field_text, is_quoted, text_at, flags_after, named_after, names_at}
 use Rattle.oca_textree.specs.Written.{holds_mark, holds_comma, is_plain, is_plain_name, in_quotes, text_field, joined_names, name_part, names_field, flag_digit, IsShortText}
 use Rattle.oca_textree.proofs.SplitLemmas.{split-one, split-more}
 use Rattle.oca_textree.proofs.FieldsBack.{digits-free, digits-hex_text, Word, word-append, field-word, field-last, field-quoted, field-quoted-last, word-hex_text, hex-back, length-hex}
@@ -81,14 +81,14 @@ plain-from t e = let p = plain-text (has_hidden t) (holds_mark t) e in record { 
 short-back : (t : List ℕ) → length t ≤ 64 → short t ≡ Some t
 short-back t h = let few : nat_lt 64 (length t) ≡ false = grind (arith, nat_tests) in rw few refl
 
-said-plain : (t : List ℕ) → IsShortText t → Plain t → text_said true t ≡ Some t
-said-plain t h p =
+reading-plain : (t : List ℕ) → IsShortText t → Plain t → field_text true t ≡ Some t
+reading-plain t h p =
     let utf8 : is_utf8 t ≡ true = is_utf8-from_IsUtf8 t h.utf8 in
     let shown = p.shown in
     rw (utf8, shown) (short-back t h.short)
 
-said-hex : (t : List ℕ) → IsShortText t → text_said false (hex_text t) ≡ Some t
-said-hex t h =
+reading-hex : (t : List ℕ) → IsShortText t → field_text false (hex_text t) ≡ Some t
+reading-hex t h =
     let few = length-hex t h.short in
     let test : nat_lt 128 (length (hex_text t)) ≡ false = grind (arith, nat_tests, few) in
     let utf8 : is_utf8 t ≡ true = is_utf8-from_IsUtf8 t h.utf8 in
@@ -113,10 +113,10 @@ word-unquoted-last [] h = refl
 word-unquoted-last (b ∷ bs) h = let big = h.0 in grind (arith, nat_tests, big)
 
 abbrev at : Bool → Result (List ℕ × Option (List ℕ)) ObjectFault → Result (List ℕ × Option (List ℕ)) ObjectFault
-at quoted f = then_by f (λ f. then_by (some_or_fault fault.Text (text_said quoted f.0)) (λ text. Ok (text, f.1)))
+at quoted f = then_by f (λ f. then_by (some_or_fault fault.Text (field_text quoted f.0)) (λ text. Ok (text, f.1)))
 
 at-back : (field : Option (List ℕ)) (quoted : Bool) (w t : List ℕ) (rest : Option (List ℕ)) → is_quoted field ≡ quoted → field_at field ≡ Ok (w, rest)
-    → text_said quoted w ≡ Some t → text_at field ≡ Ok (t, rest)
+    → field_text quoted w ≡ Some t → text_at field ≡ Ok (t, rest)
 unfolding text_at
 at-back field quoted w t rest q f s =
     ap (λ (b : Bool). at b (field_at field)) q ∙ ap (at quoted) f ∙ ap (λ (o : Option (List ℕ)). then_by (some_or_fault fault.Text o) (λ text. Ok (text, rest))) s
@@ -128,11 +128,11 @@ text-back t rest h = by (written-by t (is_plain t) refl)
     by : Written t → text_at (Some (text_field t ++ 32 ∷ rest)) ≡ Ok (t, Some rest)
     by (inl w) =
         ap (λ (l : List ℕ). text_at (Some (l ++ 32 ∷ rest))) w.0
-        ∙ at-back (Some (in_quotes t ++ 32 ∷ rest)) true t t (Some rest) refl (field-quoted t rest (mark-free t w.1.unmarked)) (said-plain t h w.1)
+        ∙ at-back (Some (in_quotes t ++ 32 ∷ rest)) true t t (Some rest) refl (field-quoted t rest (mark-free t w.1.unmarked)) (reading-plain t h w.1)
     by (inr w) =
         let digits = word-hex_text t h.bytes in
         ap (λ (l : List ℕ). text_at (Some (l ++ 32 ∷ rest))) w
-        ∙ at-back (Some (hex_text t ++ 32 ∷ rest)) false (hex_text t) t (Some rest) (word-unquoted (hex_text t) rest digits) (field-word (hex_text t) rest digits) (said-hex t h)
+        ∙ at-back (Some (hex_text t ++ 32 ∷ rest)) false (hex_text t) t (Some rest) (word-unquoted (hex_text t) rest digits) (field-word (hex_text t) rest digits) (reading-hex t h)
 
 -- a text is read back at the end of a line
 pub text-last : (t : List ℕ) → IsShortText t → text_at (Some (text_field t)) ≡ Ok (t, None)
@@ -141,11 +141,11 @@ text-last t h = by (written-by t (is_plain t) refl)
     by : Written t → text_at (Some (text_field t)) ≡ Ok (t, None)
     by (inl w) =
         ap (λ (l : List ℕ). text_at (Some l)) w.0
-        ∙ at-back (Some (in_quotes t)) true t t None refl (field-quoted-last t (mark-free t w.1.unmarked)) (said-plain t h w.1)
+        ∙ at-back (Some (in_quotes t)) true t t None refl (field-quoted-last t (mark-free t w.1.unmarked)) (reading-plain t h w.1)
     by (inr w) =
         let digits = word-hex_text t h.bytes in
         ap (λ (l : List ℕ). text_at (Some l)) w
-        ∙ at-back (Some (hex_text t)) false (hex_text t) t None (word-unquoted-last (hex_text t) digits) (field-last (hex_text t) digits) (said-hex t h)
+        ∙ at-back (Some (hex_text t)) false (hex_text t) t None (word-unquoted-last (hex_text t) digits) (field-last (hex_text t) digits) (reading-hex t h)
 
 quotes-shown : (t : List ℕ) → has_control t ≡ false → has_control (in_quotes t) ≡ false
 quotes-shown t h = shown-append t (34 ∷ []) h refl
@@ -178,15 +178,15 @@ word-flags (false ∷ flags) = (omega arith, word-flags flags)
 
 -- ---- names
 
-abbrev pub Said : Bool → (List ℕ → List ℕ) → List (List ℕ) → Type 0
-Said quoted writes [] = Unit {0}
-Said quoted writes (n ∷ names) = (text_said quoted (writes n) ≡ Some n) × Said quoted writes names
+abbrev pub Flagged : Bool → (List ℕ → List ℕ) → List (List ℕ) → Type 0
+Flagged quoted writes [] = Unit {0}
+Flagged quoted writes (n ∷ names) = (field_text quoted (writes n) ≡ Some n) × Flagged quoted writes names
 
 abbrev pub AllFree : ℕ → (List ℕ → List ℕ) → List (List ℕ) → Type 0
 AllFree s writes [] = Unit {0}
 AllFree s writes (n ∷ names) = Free s (writes n) × AllFree s writes names
 
-named-back : (quoted : Bool) (writes : List ℕ → List ℕ) (before names : List (List ℕ)) → Said quoted writes names → length before + length names ≤ 16
+named-back : (quoted : Bool) (writes : List ℕ → List ℕ) (before names : List (List ℕ)) → Flagged quoted writes names → length before + length names ≤ 16
     → named_after quoted before (map writes names) ≡ Ok (before ++ names)
 named-back quoted writes before [] h few = ap Ok (sym (append-nil before))
 named-back quoted writes before (n ∷ names) h few =
@@ -212,7 +212,7 @@ joined-free s writes (n ∷ names) other all = free-append s (writes n) (flat_ma
 
 -- names that stand as they are
 pub record PlainNames (names : List (List ℕ)) : Type 0 where
-  said : Said true (name_part true) names
+  reading : Flagged true (name_part true) names
   commas : AllFree 44 (name_part true) names
   quotes : AllFree 34 (name_part true) names
   shown : has_control (flat_map (λ m. 44 ∷ name_part true m) names) ≡ false
@@ -223,14 +223,14 @@ and-true true false e = (refl, refl)
 and-true false b e = absurd (cc)
 
 pub plain-names : (names : List (List ℕ)) → All IsShortText names → list_any (λ n. not (is_plain_name n)) names ≡ false → PlainNames names
-plain-names [] h e = record { said = tt; commas = tt; quotes = tt; shown = refl }
+plain-names [] h e = record { reading = tt; commas = tt; quotes = tt; shown = refl }
 plain-names (n ∷ names) h e =
     let p = or-false (not (is_plain_name n)) (list_any (λ n. not (is_plain_name n)) names) e in
     let q = and-true (is_plain n) (holds_comma n) p.0 in
     let plain = plain-from n q.0 in
     let rest = plain-names names (All-tail IsShortText n names h) p.1 in
     record {
-      said = (said-plain n (All-head IsShortText n names h) plain, rest.said);
+      reading = (reading-plain n (All-head IsShortText n names h) plain, rest.reading);
       commas = (comma-free n q.1, rest.commas);
       quotes = (mark-free n plain.unmarked, rest.quotes);
       shown = shown-append n (flat_map (λ m. 44 ∷ name_part true m) names) (mark-shown n plain.unmarked) rest.shown;
@@ -238,7 +238,7 @@ plain-names (n ∷ names) h e =
 
 -- names in hexadecimal digits
 pub record HexNames (names : List (List ℕ)) : Type 0 where
-  said : Said false (name_part false) names
+  reading : Flagged false (name_part false) names
   commas : AllFree 44 (name_part false) names
   word : Word (flat_map (λ m. 44 ∷ name_part false m) names)
 
@@ -246,12 +246,12 @@ hex-commas : (bs : List ℕ) → IsBytes bs → Free 44 (hex_text bs)
 hex-commas bs h = digits-free 44 (hex_text bs) (omega arith) (digits-hex_text bs h)
 
 pub hex-names : (names : List (List ℕ)) → All IsShortText names → HexNames names
-hex-names [] h = record { said = tt; commas = tt; word = tt }
+hex-names [] h = record { reading = tt; commas = tt; word = tt }
 hex-names (n ∷ names) h =
     let is = All-head IsShortText n names h in
     let rest = hex-names names (All-tail IsShortText n names h) in
     record {
-      said = (said-hex n is, rest.said);
+      reading = (reading-hex n is, rest.reading);
       commas = (hex-commas n is.bytes, rest.commas);
       word = (omega arith, word-append (hex_text n) (flat_map (λ m. 44 ∷ name_part false m) names) (word-hex_text n is.bytes) rest.word);
     }
@@ -264,11 +264,11 @@ names-at field quoted w names rest q f s =
     ∙ ap (λ (r : Result (List ℕ × Option (List ℕ)) ObjectFault). then_by r (λ f. then_by (named_after quoted [] (split_on 44 f.0)) (λ names. Ok (names, f.1)))) f
     ∙ ap (λ (r : Result (List (List ℕ)) ObjectFault). then_by r (λ names. Ok (names, rest))) s
 
-names-parts : (quoted : Bool) (writes : List ℕ → List ℕ) (names : List (List ℕ)) → 0 < length names → length names ≤ 16 → Said quoted writes names → AllFree 44 writes names
+names-parts : (quoted : Bool) (writes : List ℕ → List ℕ) (names : List (List ℕ)) → 0 < length names → length names ≤ 16 → Flagged quoted writes names → AllFree 44 writes names
     → named_after quoted [] (split_on 44 (joined_names writes names)) ≡ Ok names
-names-parts quoted writes [] some few said free = absurd (omega arith)
-names-parts quoted writes (n ∷ names) some few said free =
-    ap (named_after quoted []) (split-parts writes (writes n) names free.0 free.1) ∙ named-back quoted writes [] (n ∷ names) said (omega (arith, few))
+names-parts quoted writes [] some few reading free = absurd (omega arith)
+names-parts quoted writes (n ∷ names) some few reading free =
+    ap (named_after quoted []) (split-parts writes (writes n) names free.0 free.1) ∙ named-back quoted writes [] (n ∷ names) reading (omega (arith, few))
 
 joined-word : (names : List (List ℕ)) → All IsShortText names → Word (joined_names (name_part false) names)
 joined-word [] h = tt
@@ -298,14 +298,14 @@ names-back names rest h some few = by (names-by names h (list_any (λ n. not (is
         let inside = joined_names (name_part true) names in
         ap (λ (l : List ℕ). names_at (Some (l ++ 32 ∷ rest))) w.0
         ∙ names-at (Some (in_quotes inside ++ 32 ∷ rest)) true inside names (Some rest) refl (field-quoted inside rest (joined-free 34 (name_part true) names refl w.1.quotes))
-        (names-parts true (name_part true) names some few w.1.said w.1.commas)
+        (names-parts true (name_part true) names some few w.1.reading w.1.commas)
     by (inr w) =
         let inside = joined_names (name_part false) names in
         let hex = hex-names names h in
         let word = joined-word names h in
         ap (λ (l : List ℕ). names_at (Some (l ++ 32 ∷ rest))) w
         ∙ names-at (Some (inside ++ 32 ∷ rest)) false inside names (Some rest) (word-unquoted inside rest word) (field-word inside rest word)
-        (names-parts false (name_part false) names some few hex.said hex.commas)
+        (names-parts false (name_part false) names some few hex.reading hex.commas)
 
 -- names are written without a control character
 pub names-shown : (names : List (List ℕ)) → All IsShortText names → has_control (names_field names) ≡ false

@@ -25,7 +25,7 @@ use Rattle.oca_tree.specs.Starts.{with_flags}
 use Rattle.oca_textree.specs.declared.fault.ObjectFault.{ObjectFault}
 use Rattle.oca_textree.specs.declared.fault.ObjectFault.TheVariants as fault
 use Rattle.oca_textree.specs.Lines.{field_at, then_by, some_or_fault, class_of_word, limits_of, by_word, one_of, value_at, has_control}
-use Rattle.oca_textree.specs.Stored.{Said, said_at, switch_at}
+use Rattle.oca_textree.specs.Stored.{Flagged, flagged_at, switch_at}
 use Rattle.oca_textree.specs.Written.{class_before, set_fields, value_fields, range_fields, switch_fields, names_field, flag_digit, IsShortText}
 use Rattle.oca_textree.specs.PrivateWritten.{IsInteger}
 use Rattle.oca_textree.proofs.Standing.{integer-of}
@@ -66,12 +66,12 @@ plain_value (values.Switch s) = switch s.names.items s.position
 plain_value v = v
 
 -- what is read of a value, with the rest of the line
-unfoldable pub said_of : Value → List ℕ → Said
-said_of v rest = record { valued = record { bad_name = false; value = plain_value v; rest = Some rest }; flags = flags_in v }
+unfoldable pub reading_of : Value → List ℕ → Flagged
+reading_of v rest = record { valued = record { bad_name = false; value = plain_value v; rest = Some rest }; flags = flags_in v }
 
 -- the class, and then what stands behind it
-unfoldable pub read_value : List ℕ → Result Said ObjectFault
-read_value text = then_by (field_at (Some text)) (λ c. then_by (some_or_fault fault.Class (class_of_word c.0)) (λ k. said_at k c.1))
+unfoldable pub read_value : List ℕ → Result Flagged ObjectFault
+read_value text = then_by (field_at (Some text)) (λ c. then_by (some_or_fault fault.Class (class_of_word c.0)) (λ k. flagged_at k c.1))
 
 module _ (setting least greatest : ℤ) (rest : List ℕ) where
   abbrev Of : NumberKind → Type 0
@@ -82,7 +82,7 @@ module _ (setting least greatest : ℤ) (rest : List ℕ) where
       ≡ Ok (record { valued = record { bad_name = false; value = number k setting least greatest; rest = Some rest }; flags = None })
 
   numbers-back : (k : NumberKind) → Of k → Back k
-  unfolding read_value field_at class_of_word said_at value_at class_before set_fields
+  unfolding read_value field_at class_of_word flagged_at value_at class_before set_fields
   numbers-back kinds.Int8 h =
       let e = limits-back (negsuc 127) (pos 127) least greatest setting rest (lies kinds.Int8 least _ _ h.1 (omega (arith, ints)) (omega (arith, ints)))
       (lies kinds.Int8 greatest _ _ h.2 (omega (arith, ints)) (omega (arith, ints))) (lies kinds.Int8 setting _ _ h.0 (omega (arith, ints)) (omega (arith, ints))) in
@@ -152,8 +152,8 @@ abbrev pub fields_of : Value → List ℕ
 fields_of v = value_fields (class_of v) (value_setting v) (names_in v) (flags_in v)
 
 -- a value is read back
-pub value-back : (v : Value) (rest : List ℕ) → IsSoundValue v → All IsShortText (names_in v) → read_value (fields_of v ++ 32 ∷ rest) ≡ Ok (said_of v rest)
-unfolding read_value said_of plain_value field_at class_of_word said_at value_at class_before set_fields class_of value_setting names_in flags_in IsSoundValue by_word one_of
+pub value-back : (v : Value) (rest : List ℕ) → IsSoundValue v → All IsShortText (names_in v) → read_value (fields_of v ++ 32 ∷ rest) ≡ Ok (reading_of v rest)
+unfolding read_value reading_of plain_value field_at class_of_word flagged_at value_at class_before set_fields class_of value_setting names_in flags_in IsSoundValue by_word one_of
 value-back values.Block rest h names = refl
 value-back (values.Mute Muted) rest h names = refl
 value-back (values.Mute Unmuted) rest h names = refl

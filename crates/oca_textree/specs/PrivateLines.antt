@@ -55,14 +55,14 @@ last_view (Err f) = Err f
 
 -- The builder has the objects that a line makes of those before it, or it is as it was and the line has that fault.
 abbrev pub Became : Result Unit ObjectFault → Store → Store → Result (List Object) ObjectFault → Type 0
-Became (Ok u) old new said = (said ≡ Ok new.list) × (new.room ≡ old.room)
-Became (Err f) old new said = (said ≡ Err f) × (new ≡ old)
+Became (Ok u) old new reading = (reading ≡ Ok new.list) × (new.room ≡ old.room)
+Became (Err f) old new reading = (reading ≡ Err f) × (new ≡ old)
 
 abbrev pub IsReadSoFar : Result Unit TreeFault → Store → Store → ℕ → Result (List Object) ObjectFault → Type 0
-IsReadSoFar (Ok u) old new number said = (said ≡ Ok new.list) × (new.room ≡ old.room)
-IsReadSoFar (Err (Line n f)) old new number said = (said ≡ Err f) × (n ≡ number)
-IsReadSoFar (Err _) old new number said = ⊥
+IsReadSoFar (Ok u) old new number reading = (reading ≡ Ok new.list) × (new.room ≡ old.room)
+IsReadSoFar (Err (Line n f)) old new number reading = (reading ≡ Err f) × (n ≡ number)
+IsReadSoFar (Err _) old new number reading = ⊥
 
 abbrev pub IsRead : Result Unit TreeFault → List Object → Result (List Object) TreeFault → Type 0
-IsRead (Ok u) tree said = said ≡ Ok tree
-IsRead (Err f) tree said = said ≡ Err f
+IsRead (Ok u) tree reading = reading ≡ Ok tree
+IsRead (Err f) tree reading = reading ≡ Err f

@@ -8,7 +8,7 @@ use Rattle.oca_tree.specs.Building.{root}
 use Rattle.oca_textree.specs.declared.fault.ObjectFault.{ObjectFault}
 use Rattle.oca_textree.specs.declared.stored.Ending.{Ending as Ended}
 use Rattle.oca_textree.specs.PrivateLines.{kind_valued}
-use Rattle.oca_textree.specs.Stored.{Ending, Positions, Said}
+use Rattle.oca_textree.specs.Stored.{Ending, Positions, Flagged}
 
 abbrev pub text_view : Result (List ℕ × Option (Bor (List ℕ))) ObjectFault
     → Result (List ℕ × Option (List ℕ)) ObjectFault
@@ -32,23 +32,23 @@ abbrev pub switch_view : Result (ℕ × Option (Bor (List ℕ))) ObjectFault →
 switch_view (Ok p) flags names = Ok (record { flags = flags; names = names; position = p.0; rest = option_copied p.1 })
 switch_view (Err f) flags names = Err f
 
-abbrev pub ending_said : Ended → Ending
-ending_said e = record { lockable = e.lockable; role = e.role; enabled = e.enabled; label = e.label }
+abbrev pub ending_in : Ended → Ending
+ending_in e = record { lockable = e.lockable; role = e.role; enabled = e.enabled; label = e.label }
 
 abbrev pub ending_view : Result Ended ObjectFault → Result Ending ObjectFault
-ending_view (Ok e) = Ok (ending_said e)
+ending_view (Ok e) = Ok (ending_in e)
 ending_view (Err f) = Err f
 
 -- what an object is, with the flags of its positions
-abbrev pub kind_said : Kind → Option (Bor (List Bool)) → Option (Bor (List ℕ)) → Said
-kind_said kind flags rest = record { valued = kind_valued kind rest; flags = option_copied flags }
+abbrev pub kind_flagged : Kind → Option (Bor (List Bool)) → Option (Bor (List ℕ)) → Flagged
+kind_flagged kind flags rest = record { valued = kind_valued kind rest; flags = option_copied flags }
 
 -- flags that were added
 abbrev pub flags_view : Option Unit → List Bool → Option (List Bool)
 flags_view None flags = None
 flags_view (Some u) flags = Some flags
 
--- the root with what is said of it
+-- the root with what its line says of it
 abbrev pub root_view : Result (Bool × List ℕ) ObjectFault → Result (List Object) ObjectFault
 root_view (Ok start) = Ok (record root { label = start.1; enabled = start.0 } ∷ [])
 root_view (Err f) = Err f

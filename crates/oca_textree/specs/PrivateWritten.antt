@@ -1,4 +1,4 @@
--- The lines as they are written by what is told of an object.
+-- The lines as they are written from what a tree answers of an object.
 use Rattle.std.specs.Prelude.{ℕ, ◌≤◌, ◌==◌, ◌-◌, ◌^◌, if◌then◌else◌, Bool, List, [], ◌∷◌, ◌++◌, length, codes, Option}
 use Rattle.std.specs.Prelude.{Some, None, ℤ, pos, negsuc, ◌≤ℤ◌}
 use Rattle.oca_tree.specs.declared.object.Object.{Object}
@@ -9,27 +9,27 @@ use Rattle.oca_tree.specs.Readers.{setting_at}
 use Rattle.oca_tree.specs.Copies.{Stored, stored_at, names_at, lockable_at}
 use Rattle.oca_textree.specs.Written.{place_fields, value_fields, end_fields, start_fields}
 
-abbrev pub flags_told : Option Stored → Option (List Bool)
-flags_told None = None
-flags_told (Some stored) = stored.flags
+abbrev pub stored_flags : Option Stored → Option (List Bool)
+stored_flags None = None
+stored_flags (Some stored) = stored.flags
 
-abbrev pub end_told : Option Bool → List ℕ → Option Stored → List ℕ
-end_told (Some lockable) role (Some stored) = end_fields lockable role stored.enabled stored.label
-end_told _ role _ = []
+abbrev pub end_text : Option Bool → List ℕ → Option Stored → List ℕ
+end_text (Some lockable) role (Some stored) = end_fields lockable role stored.enabled stored.label
+end_text _ role _ = []
 
-abbrev pub root_told : Option Stored → List ℕ
-root_told None = []
-root_told (Some stored) = codes "root " ++ start_fields stored.enabled stored.label
+abbrev pub root_text : Option Stored → List ℕ
+root_text None = []
+root_text (Some stored) = codes "root " ++ start_fields stored.enabled stored.label
 
-abbrev pub object_told : List Object → ObjectInfo → List ℕ
-object_told tree info =
+abbrev pub object_text : List Object → ObjectInfo → List ℕ
+object_text tree info =
     place_fields info.ono.0 info.container.0
     ++ value_fields info.class (setting_at tree info.ono.0) (names_at tree info.ono.0)
-    (flags_told (stored_at tree info.ono.0))
-    ++ end_told (lockable_at tree info.ono.0) info.role (stored_at tree info.ono.0)
+    (stored_flags (stored_at tree info.ono.0))
+    ++ end_text (lockable_at tree info.ono.0) info.role (stored_at tree info.ono.0)
 
-abbrev pub line_told : List Object → ObjectInfo → List ℕ
-line_told tree info = (if info.container.0 == 0 then root_told (stored_at tree info.ono.0) else object_told tree info)
+abbrev pub line_text : List Object → ObjectInfo → List ℕ
+line_text tree info = (if info.container.0 == 0 then root_text (stored_at tree info.ono.0) else object_text tree info)
     ++ 10 ∷ []
 
 -- ---- what fits a line
@@ -47,8 +47,8 @@ abbrev pub few_flags : Option (List Bool) → ℕ
 few_flags None = 0
 few_flags (Some flags) = length flags
 
--- what is told of the object with this number fits a line
+-- what a tree answers of the object with this number fits a line
 pub record Fits (tree : List Object) (number : ℕ) : Type 0 where
   pub setting : IsWritten (setting_at tree number)
   pub names : length (names_at tree number) ≤ 16
-  pub flags : few_flags (flags_told (stored_at tree number)) ≤ 16
+  pub flags : few_flags (stored_flags (stored_at tree number)) ≤ 16

@@ -27,14 +27,14 @@ short text = if nat_lt 64 (length text) then None else Some text
 abbrev pub short_utf8 : List ℕ → Option (List ℕ)
 short_utf8 bytes = if is_utf8 bytes then short bytes else None
 
-abbrev pub digits_said : List ℕ → Option (List ℕ)
-digits_said digits = if nat_lt 128 (length digits) then None else then_in (hex_of digits) short_utf8
+abbrev pub digits_text : List ℕ → Option (List ℕ)
+digits_text digits = if nat_lt 128 (length digits) then None else then_in (hex_of digits) short_utf8
 
 -- THE TEXT THAT A FIELD SAYS: in quotes it stands as it is, with nothing hidden; else its bytes stand in hexadecimal
 -- digits, `-` for none.
-abbrev pub text_said : Bool → List ℕ → Option (List ℕ)
-text_said true field = if is_text field then short field else None
-text_said false field = digits_said field
+abbrev pub field_text : Bool → List ℕ → Option (List ℕ)
+field_text true field = if is_text field then short field else None
+field_text false field = digits_text field
 
 -- whether the next field stands in quotes
 abbrev pub is_quoted : Option (List ℕ) → Bool
@@ -46,7 +46,7 @@ is_quoted (Some (b ∷ bs)) = b == 34
 unfoldable pub text_at : Option (List ℕ) → Result (List ℕ × Option (List ℕ)) ObjectFault
 text_at rest =
     then_by (field_at rest)
-    (λ f. then_by (some_or_fault fault.Text (text_said (is_quoted rest) f.0)) (λ text. Ok (text, f.1)))
+    (λ f. then_by (some_or_fault fault.Text (field_text (is_quoted rest) f.0)) (λ text. Ok (text, f.1)))
 
 -- ---- the positions of a switch
 
@@ -63,7 +63,7 @@ flags_after flags (b ∷ bs) =
 abbrev pub named_after : Bool → List (List ℕ) → List (List ℕ) → Result (List (List ℕ)) ObjectFault
 named_after quoted names [] = Ok names
 named_after quoted names (n ∷ more) =
-    then_by (some_or_fault fault.Text (text_said quoted n)) (λ text.
+    then_by (some_or_fault fault.Text (field_text quoted n)) (λ text.
     if nat_le 16 (length names) then Err fault.Range else named_after quoted (names ++ text ∷ []) more)
 
 -- the next field as names between commas, and what is left
@@ -89,20 +89,20 @@ switch_at rest =
 -- ---- what an object of a class is set to
 
 -- the same as of another line, and the flags of a switch's positions
-pub record Said : Type 0 where
+pub record Flagged : Type 0 where
   pub valued : Valued
   pub flags : Option (List Bool)
 
-abbrev pub switch_said : Positions → Said
-switch_said p =
+abbrev pub switch_flagged : Positions → Flagged
+switch_flagged p =
     record {
       valued = record { bad_name = list_any is_long p.names; value = switch p.names p.position; rest = p.rest };
       flags = Some p.flags;
     }
 
-unfoldable pub said_at : Class → Option (List ℕ) → Result Said ObjectFault
-said_at class.Switch rest = then_by (switch_at rest) (λ p. Ok (switch_said p))
-said_at k rest = then_by (value_at k rest) (λ v. Ok (record { valued = v; flags = None }))
+unfoldable pub flagged_at : Class → Option (List ℕ) → Result Flagged ObjectFault
+flagged_at class.Switch rest = then_by (switch_at rest) (λ p. Ok (switch_flagged p))
+flagged_at k rest = then_by (value_at k rest) (λ v. Ok (record { valued = v; flags = None }))
 
 -- ---- the end of a line
 
@@ -164,14 +164,14 @@ kept_by tree container ono ending bad_name v flags =
     (stored_object ono container ending v flags)
 
 -- the object with this value is added
-unfoldable pub stored_with : List Object → ℕ → ℕ → Said → Result (List Object) ObjectFault
-stored_with tree container ono said =
-    then_by (ending_at said.valued.rest) (λ ending.
-    kept_by tree container ono ending said.valued.bad_name said.valued.value said.flags)
+unfoldable pub stored_with : List Object → ℕ → ℕ → Flagged → Result (List Object) ObjectFault
+stored_with tree container ono reading =
+    then_by (ending_at reading.valued.rest) (λ ending.
+    kept_by tree container ono ending reading.valued.bad_name reading.valued.value reading.flags)
 
 -- the same, of which the class was read last
 abbrev pub stored_as : List Object → ℕ → ℕ → Class → Option (List ℕ) → Result (List Object) ObjectFault
-stored_as tree container ono k rest = then_by (said_at k rest) (λ said. stored_with tree container ono said)
+stored_as tree container ono k rest = then_by (flagged_at k rest) (λ reading. stored_with tree container ono reading)
 
 -- THE OBJECTS WITH THAT OF A LINE'S FIELDS BEHIND THEM, all that was stored of it included.
 unfoldable pub stored_by : List Object → List ℕ → Result (List Object) ObjectFault

@@ -1,4 +1,4 @@
--- How a tree is written as a text: a line an object, with all that is told of it (*profile*).
+-- How a tree is written as a text: a line an object, with everything of it but its lock (*profile*).
 use Rattle.std.specs.Prelude.{◌≡◌, ◌<◌, ◌≤◌, ◌^◌, length, IsUtf8, Ok, ℕ, ◌==◌, ◌&&◌, ◌||◌, not, nat_lt, Bool, true}
 use Rattle.std.specs.Prelude.{false, if◌then◌else◌, List, [], ◌∷◌, ◌++◌, map, codes, decimal, Option, Some, None, ℤ}
 use Rattle.std.specs.Fmt.{signed_decimal}
@@ -37,7 +37,7 @@ in_quotes text = 34 ∷ text ++ 34 ∷ []
 unfoldable pub text_field : List ℕ → List ℕ
 text_field text = if is_plain text then in_quotes text else hex_text text
 
--- ---- what is told of an object's value
+-- ---- an object's value
 
 -- names between commas, each written so
 abbrev pub joined_names : (List ℕ → List ℕ) → List (List ℕ) → List ℕ
@@ -115,7 +115,7 @@ class_before class.Uint64 = codes "uint64 "
 abbrev pub switch_fields : Option Setting → List (List ℕ) → Option (List Bool) → List ℕ
 switch_fields setting names flags = flags_field flags ++ 32 ∷ names_field names ++ 32 ∷ position_field setting
 
--- how an object of the class is set, by what is told: the setting, the names of positions and their flags
+-- how an object of the class is set, by its setting, the names of its positions and their flags
 unfoldable pub set_fields : Class → Option Setting → List (List ℕ) → Option (List Bool) → List ℕ
 set_fields class.Block setting names flags = []
 set_fields class.Mute setting names flags = state_word (codes "muted") (codes "unmuted") setting

@@ -1,7 +1,7 @@
 //! Texts of any characters: in quotes as they are, or in hexadecimal digits.
 ghost use Rattle.std.specs.Prelude.{◌≡◌};
 ghost use Rattle.std.specs.Option.{option_copied};
-ghost use Rattle.oca_textree.specs.Stored.{short, short_utf8, digits_said, text_said as said_text};
+ghost use Rattle.oca_textree.specs.Stored.{short, short_utf8, digits_text, field_text as field_text_of};
 ghost use Rattle.oca_textree.specs.Stored.{is_quoted as stands_quoted, text_at as next_text};
 ghost use Rattle.oca_textree.specs.PrivateStored.{text_view};
 
@@ -49,7 +49,7 @@ fn short_text_of(bytes: &[u8]) -> Option<Text>
 
 /// The text that hexadecimal digits say, `-` for none.
 fn text_of_digits(digits: &[u8]) -> Option<Text>
-    ensures { result ≡ digits_said digits.now }
+    ensures { result ≡ digits_text digits.now }
 {
     if digits.len() > MOST_DIGITS {
         return None;
@@ -60,8 +60,8 @@ fn text_of_digits(digits: &[u8]) -> Option<Text>
 }
 
 /// The text that a field says.
-pub fn text_said(quoted: bool, bytes: &[u8]) -> Option<Text>
-    ensures { result ≡ said_text quoted bytes.now }
+pub fn field_text(quoted: bool, bytes: &[u8]) -> Option<Text>
+    ensures { result ≡ field_text_of quoted bytes.now }
 {
     if !quoted {
         return text_of_digits(bytes);
@@ -79,7 +79,7 @@ pub fn text_at(rest: Option<&[u8]>) -> Result<(Text, Option<&[u8]>), ObjectFault
 {
     let quoted = is_quoted(rest);
     let (bytes, rest) = field(rest)?;
-    match text_said(quoted, bytes) {
+    match field_text(quoted, bytes) {
         Some(text) => Ok((text, rest)),
         None => Err(ObjectFault::Text),
     }

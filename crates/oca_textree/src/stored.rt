@@ -1,18 +1,18 @@
 //! The line of an object with all that was stored of it.
-ghost use Rattle.std.specs.Prelude.{◌≡◌, ◌≤◌, [], ◌∷◌, length, map, Some, None, if◌then◌else◌};
+ghost use Rattle.std.specs.Prelude.{◌≡◌, ◌≤◌, [], ◌∷◌, length, map, Some, None};
 ghost use Rattle.std.specs.Option.{option_copied};
 ghost use Rattle.oca_script.specs.Fields.{split_on};
 ghost use Rattle.oca_types.specs.declared.class.Class.TheVariants.{Switch};
 ghost use Rattle.oca_textree.specs.Stored.{flags_after, named_after, names_at, switch_at, start_at, ending_at, kept_by};
-ghost use Rattle.oca_textree.specs.Stored.{switch_said, stored_with, stored_as, stored_by};
+ghost use Rattle.oca_textree.specs.Stored.{switch_flagged, stored_with, stored_as, stored_by};
 ghost use Rattle.oca_textree.specs.PrivateLines.{Became};
-ghost use Rattle.oca_textree.specs.PrivateStored.{flags_view, named_view, names_rest_view, switch_view, ending_said};
-ghost use Rattle.oca_textree.specs.PrivateStored.{ending_view, kind_said};
+ghost use Rattle.oca_textree.specs.PrivateStored.{flags_view, named_view, names_rest_view, switch_view, ending_in};
+ghost use Rattle.oca_textree.specs.PrivateStored.{ending_view, kind_flagged};
 ghost use Rattle.oca_tree.specs.Building.{value_of, has_bad_name};
 
 use super::fault::ObjectFault;
 use super::field::{class, field, ono};
-use super::quoted::{is_quoted, text_at, text_said};
+use super::quoted::{field_text, is_quoted, text_at};
 use super::value::{kind_at, lockable, truth};
 use arrayvec::ArrayVec;
 use oca_script::field::{number, split_at_byte};
@@ -65,7 +65,7 @@ fn add_flags(digits: &[u8], flags: &mut Flags) -> Option<()>
 fn add_name(name: &[u8], quoted: bool, names: &mut Names) -> Result<(), ObjectFault>
     ensures { named_view result names.new.items ≡ named_after quoted names.old.items (name.now ∷ []) }
 {
-    let Some(name) = text_said(quoted, name) else {
+    let Some(name) = field_text(quoted, name) else {
         return Err(ObjectFault::Text);
     };
     match names.try_push(name) {
@@ -171,7 +171,7 @@ fn add_ended(
 ) -> Result<(), ObjectFault>
     requires { builder.old.room ≡ 4096 }
     ensures { Became result builder.old builder.new
-        (kept_by builder.old.list container ono (ending_said ending.now) (has_bad_name kind.entry) (value_of kind.entry)
+        (kept_by builder.old.list container ono (ending_in ending.now) (has_bad_name kind.entry) (value_of kind.entry)
         (option_copied flags.entry)) }
 {
     let spec = Spec {
@@ -202,7 +202,7 @@ fn add(
 ) -> Result<(), ObjectFault>
     requires { builder.old.room ≡ 4096 }
     ensures { Became result builder.old builder.new
-        (stored_with builder.old.list container ono (kind_said kind.entry flags.entry rest.entry)) }
+        (stored_with builder.old.list container ono (kind_flagged kind.entry flags.entry rest.entry)) }
 {
     let ending = read_end(rest)?;
     add_ended(builder, container, ono, kind, flags, &ending)
@@ -233,7 +233,7 @@ fn add_positions(
     requires { builder.old.room ≡ 4096 }
     ensures { Became result builder.old builder.new
         (stored_with builder.old.list container ono
-        (switch_said (record {
+        (switch_flagged (record {
           flags = flags.now.items;
           names = names.now.items;
           position = position;
@@ -249,7 +249,7 @@ fn add_positions(
 }
 
 /// Adds a switch of which the class was read last.
-#[tactic(auto, unfolding(crate::specs::Stored::said_at))]
+#[tactic(auto, unfolding(crate::specs::Stored::flagged_at))]
 fn add_switch(
     builder: &mut TreeBuilder,
     container: u32,
@@ -267,7 +267,7 @@ fn add_switch(
 }
 
 /// Adds an object of which the class was read last.
-#[tactic(auto, unfolding(crate::specs::Stored::said_at))]
+#[tactic(auto, unfolding(crate::specs::Stored::flagged_at))]
 fn add_of_class(
     builder: &mut TreeBuilder,
     container: u32,

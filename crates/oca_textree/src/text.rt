@@ -1,5 +1,5 @@
 //! A whole text.
-ghost use Rattle.std.specs.Prelude.{◌≡◌, ◌≤◌, ◌⊎◌, Some, None, [], ◌∷◌, IfOk, IfErr, Ok as ok, Err as err};
+ghost use Rattle.std.specs.Prelude.{◌≡◌, ◌≤◌, ◌⊎◌, Some, None, IfOk, IfErr, Ok as ok, Err as err};
 ghost use Rattle.oca_tree.specs.Room.{room_size};
 ghost use Rattle.oca_tree.specs.Building.{root};
 ghost use Rattle.oca_textree.specs.PrivateStored.{root_view};
@@ -72,7 +72,7 @@ fn rooted_tree(alloc: Global, fields: &[u8], text: &[u8]) -> Result<Tree, TreeFa
     Ok(builder.finish())
 }
 
-/// What is said of the root by the fields of its line.
+/// What the fields of the root's line say of it.
 #[tactic(auto, unfolding(crate::specs::Texts::rooted_by, crate::specs::Stored::rooted))]
 fn root_start(fields: &[u8]) -> Result<(bool, Text), ObjectFault>
     ensures { root_view result ≡ rooted_by fields.now }

@@ -1,5 +1,5 @@
 //! A tree written as a text.
-ghost use Rattle.std.specs.Prelude.{◌≡◌, ◌+◌, ◌*◌, ◌≤◌, ◌++◌, ◌∷◌, [], length, map, not, decimal, Some};
+ghost use Rattle.std.specs.Prelude.{◌≡◌, ◌+◌, ◌*◌, ◌≤◌, ◌++◌, ◌∷◌, length, map, not, Some};
 ghost use Rattle.std.specs.Fmt.{signed_decimal};
 ghost use Rattle.std.specs.Option.{option_copied, option_map};
 ghost use Rattle.std.specs.List.{flat_map, list_any};
@@ -10,10 +10,10 @@ ghost use Rattle.oca_textree.specs.Written.{is_plain as is_plain_text, is_plain_
 ghost use Rattle.oca_textree.specs.Written.{name_part, joined_names, names_field, flag_digit, flags_field, state_word};
 ghost use Rattle.oca_textree.specs.Written.{truth_word, truth_field, limit_field, range_fields, number_fields};
 ghost use Rattle.oca_textree.specs.Written.{holds_mark, holds_comma, position_field, switch_fields, set_fields};
-ghost use Rattle.oca_textree.specs.Written.{class_before, value_fields, lock_word, start_fields, place_fields};
-ghost use Rattle.oca_textree.specs.Written.{end_fields, text_of};
-ghost use Rattle.oca_textree.specs.PrivateWritten.{IsInteger, IsWritten, few_flags, Fits, flags_told, end_told};
-ghost use Rattle.oca_textree.specs.PrivateWritten.{root_told, object_told, line_told};
+ghost use Rattle.oca_textree.specs.Written.{class_before, value_fields, start_fields, place_fields};
+ghost use Rattle.oca_textree.specs.Written.{text_of};
+ghost use Rattle.oca_textree.specs.PrivateWritten.{IsInteger, IsWritten, few_flags, Fits, stored_flags, end_text};
+ghost use Rattle.oca_textree.specs.PrivateWritten.{root_text, object_text, line_text};
 
 use oca_script::escape::has_hidden;
 use oca_script::{Printer, Sink, WriteFailed};
@@ -390,7 +390,7 @@ fn put_end<W: Sink>(
     requires { length printer.old.held + 300 ≤ 8192 }
     ensures value { printer.new
         ≡ output printer.old.contents
-        (printer.old.held ++ end_told lockable role.now (option_map stored_in start.entry)) printer.old.failed }
+        (printer.old.held ++ end_text lockable role.now (option_map stored_in start.entry)) printer.old.failed }
     ensures len { length printer.new.held ≤ length printer.old.held + 300 }
 {
     let Some(lockable) = lockable else {
@@ -411,7 +411,7 @@ fn put_end<W: Sink>(
 
 /// The flags of its positions, of a switch.
 fn flags_in(start: Option<Start<'_>>) -> Option<&[bool]>
-    ensures { option_copied result ≡ flags_told (option_map stored_in start.entry) }
+    ensures { option_copied result ≡ stored_flags (option_map stored_in start.entry) }
 {
     match start {
         Some(start) => start.position_enableds,
@@ -459,7 +459,7 @@ fn put_object<W: Sink>(tree: &Tree, info: &ObjectInfo, printer: &mut Printer<W>)
     requires fits { Fits tree.now info.now.ono.0 }
     requires room { length printer.old.held + 3000 ≤ 8192 }
     ensures value { printer.new
-        ≡ output printer.old.contents (printer.old.held ++ object_told tree.now info.now) printer.old.failed }
+        ≡ output printer.old.contents (printer.old.held ++ object_text tree.now info.now) printer.old.failed }
     ensures len { length printer.new.held ≤ length printer.old.held + 3000 }
 {
     let ono = info.ono;
@@ -476,7 +476,7 @@ fn put_root<W: Sink>(start: Option<Start<'_>>, printer: &mut Printer<W>)
     requires { length printer.old.held + 200 ≤ 8192 }
     ensures value { printer.new
         ≡ output printer.old.contents
-        (printer.old.held ++ root_told (option_map stored_in start.entry)) printer.old.failed }
+        (printer.old.held ++ root_text (option_map stored_in start.entry)) printer.old.failed }
     ensures len { length printer.new.held ≤ length printer.old.held + 200 }
 {
     if let Some(start) = start {
@@ -490,7 +490,7 @@ fn put_line<W: Sink>(tree: &Tree, info: &ObjectInfo, printer: &mut Printer<W>)
     requires fits { Fits tree.now info.now.ono.0 }
     requires room { length printer.old.held + 4000 ≤ 8192 }
     ensures { printer.new
-        ≡ output printer.old.contents (printer.old.held ++ line_told tree.now info.now) printer.old.failed }
+        ≡ output printer.old.contents (printer.old.held ++ line_text tree.now info.now) printer.old.failed }
 {
     if info.container.0 == 0 {
         put_root(tree.start_of(info.ono), printer);
@@ -507,7 +507,7 @@ fn print_line<W: Sink>(
     printer: &mut Printer<W>,
 ) -> Result<(), WriteFailed>
     requires { Fits tree.now info.now.ono.0 }
-    ensures { Prints result printer.old printer.new (line_told tree.now info.now) }
+    ensures { Prints result printer.old printer.new (line_text tree.now info.now) }
 {
     printer.make_room(LINE_ROOM)?;
     put_line(tree, info, printer);

@@ -19,7 +19,7 @@ use Rattle.oca_tree.specs.Kinds.{number_at}
 use Rattle.oca_model.specs.Parameters.{whole, pair_at, items_at, list_at}
 use Rattle.oca_tree.specs.Requests.{positions, with_parameters, without_parameters, setting_request, request_of}
 use Rattle.oca_tree.specs.Execution.{request_at}
-use Rattle.oca_tree.proofs.Items.{with_first}
+use Rattle.oca_model.proofs.Steps.{with_first}
 
 unfoldable pub FitsPositions : Value → Request → Type 0
 FitsPositions value (requests.Switch (switches.SetPositionNames texts)) = length texts ≡ positions value

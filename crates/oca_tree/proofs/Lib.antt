@@ -1,4 +1,3 @@
-pub mod Items
 pub mod Positions
 pub mod Puts
 pub mod Chains

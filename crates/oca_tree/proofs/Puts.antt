@@ -3,29 +3,15 @@ use Rattle.std.proofs.Common.{◌≡◌, ℕ, ◌+◌, ◌<◌, Bool, true, fals
 use Rattle.std.specs.List.{flat_map, filter}
 use Rattle.std.specs.Prelude.{Result, Ok, Err, is_err}
 use Rattle.oca_types.specs.Putting.{Puts}
-use Rattle.std.proofs.lemmas.List.{drop_more}
-
--- bytes that don't fit, with more to come after them, don't fit with those
-pub full_early : (out next rest old all : List ℕ) → out ++ (next ++ rest) ≡ old ++ all → 1452 < length out + length next → 1452 < length old + length all
-full_early out next rest old all e h =
-    omega (arith, length-append out (next ++ rest), length-append next rest, length-append old all, ap length e)
+use Rattle.oca_model.proofs.Steps.{full_early, left}
 
 module _ {X : Type 0} (f : X → List ℕ) (xs : List X) (i : ℕ) (x : X) (within : i < length xs) (here : x ≡ get_or xs i x) where
-  left : drop i xs ≡ x ∷ drop (i + 1) xs
-  left = drop_more xs i x within ∙ ap (λ y. y ∷ drop (i + 1) xs) (sym here)
-
-  pub put_step : (out all : List ℕ) → out ++ flat_map f (drop i xs) ≡ all → (out ++ f x) ++ flat_map f (drop (i + 1) xs) ≡ all
-  put_step out all e = append_assoc out (f x) (flat_map f (drop (i + 1) xs)) ∙ sym (ap (λ ys. out ++ flat_map f ys) left) ∙ e
-
-  pub put_full : (out old all : List ℕ) → out ++ flat_map f (drop i xs) ≡ old ++ all → 1452 < length out + length (f x) → 1452 < length old + length all
-  put_full out old all e h = full_early out (f x) (flat_map f (drop (i + 1) xs)) old all (sym (ap (λ ys. out ++ flat_map f ys) left) ∙ e) h
-
   module _ (p : X → Bool) where
     kept : p x ≡ true → filter p (drop i xs) ≡ x ∷ filter p (drop (i + 1) xs)
-    kept t = ap (filter p) left ∙ ap (λ b. cond b (x ∷ filter p (drop (i + 1) xs)) (filter p (drop (i + 1) xs))) t
+    kept t = ap (filter p) (left f xs i x within here) ∙ ap (λ b. cond b (x ∷ filter p (drop (i + 1) xs)) (filter p (drop (i + 1) xs))) t
 
     passed : p x ≡ false → filter p (drop i xs) ≡ filter p (drop (i + 1) xs)
-    passed t = ap (filter p) left ∙ ap (λ b. cond b (x ∷ filter p (drop (i + 1) xs)) (filter p (drop (i + 1) xs))) t
+    passed t = ap (filter p) (left f xs i x within here) ∙ ap (λ b. cond b (x ∷ filter p (drop (i + 1) xs)) (filter p (drop (i + 1) xs))) t
 
     pub put_step_kept : (out all : List ℕ) → p x ≡ true → out ++ flat_map f (filter p (drop i xs)) ≡ all → (out ++ f x) ++ flat_map f (filter p (drop (i + 1) xs)) ≡ all
     put_step_kept out all t e = append_assoc out (f x) (flat_map f (filter p (drop (i + 1) xs))) ∙ sym (ap (λ ys. out ++ flat_map f ys) (kept t)) ∙ e

@@ -1,12 +1,14 @@
 -- The integers and the Boolean have encodings of one length.
-use Rattle.std.proofs.Common.{◌≡◌, ℕ, zero, suc, ◌%◌, ◌^◌, ◌<◌, Bool, true, false, ltb, List, [], ◌∷◌, ◌++◌, length, get_or, take, drop, refl, sym, subst, ap, ◌∙◌, arith}
+use Rattle.std.proofs.Common.{◌≡◌, ℕ, zero, suc, ◌%◌, ◌^◌, ◌<◌, Bool, true, false, ltb, List, [], ◌∷◌, ◌++◌, length}
+use Rattle.std.proofs.Common.{get_or, take, drop, refl, sym, subst, ap, ◌∙◌, arith}
 use Rattle.std.specs.Prelude.{◌==◌, not, Some, None}
 use Rattle.std.specs.Int.{Width, w8, w16, w32, w64, byte_len, to_be_bytes, cast_signed, cast_unsigned, from_be_bytes}
 use mir.Val.{bits}
 use Rattle.std.proofs.lemmas.Bool.{lt-ltb, le-ltb}
 use Rattle.std.proofs.lemmas.Bool.Decides.{nat_tests}
 use Rattle.std.proofs.lemmas.List.{take_at, drop_at, length-append}
-use Rattle.std.proofs.lemmas.Nat.{be_bytes_2, be_bytes_4, be_bytes_8, from_be_bytes-to_be_bytes_2, from_be_bytes-to_be_bytes_4, from_be_bytes-to_be_bytes_8}
+use Rattle.std.proofs.lemmas.Nat.{be_bytes_2, be_bytes_4, be_bytes_8, from_be_bytes-to_be_bytes_2}
+use Rattle.std.proofs.lemmas.Nat.{from_be_bytes-to_be_bytes_4, from_be_bytes-to_be_bytes_8}
 use Rattle.std.proofs.lemmas.Int.{of_z-to_z, to_z-of_z}
 use Rattle.std.proofs.Math.Nat.{mod-eq_of_lt}
 use Rattle.std.proofs.Math.Facts.{sfits_to_z, Fits-of_z, Fits-of_lt, Fits-lt-pow}
@@ -20,10 +22,12 @@ pub unsigned_none : (w : Width) (bytes : List ℕ) → length bytes < byte_len w
 unfolding unsigned_at
 unsigned_none w bytes lt = rw (lt-ltb _ _ lt) refl
 
-pub unsigned_some : (w : Width) (bytes front rest : List ℕ) → length front ≡ byte_len w → bytes ≡ front ++ rest → unsigned_at w bytes ≡ Some (from_be_bytes w front, rest)
+pub unsigned_some : (w : Width) (bytes front rest : List ℕ) → length front ≡ byte_len w → bytes ≡ front ++ rest →
+    unsigned_at w bytes ≡ Some (from_be_bytes w front, rest)
 unfolding unsigned_at
 unsigned_some w bytes front rest l e =
-    let enough : ltb (length bytes) (byte_len w) ≡ false = le-ltb _ _ (omega (arith, l, ap length e, length-append front rest)) in
+    let enough : ltb (length bytes) (byte_len w) ≡ false =
+    le-ltb _ _ (omega (arith, l, ap length e, length-append front rest)) in
     let head : take (byte_len w) bytes ≡ front = ap (take (byte_len w)) e ∙ take_at front rest (byte_len w) l in
     let tail : drop (byte_len w) bytes ≡ rest = ap (drop (byte_len w)) e ∙ drop_at front rest (byte_len w) l in
     rw (enough, head, tail) refl
@@ -31,7 +35,8 @@ unsigned_some w bytes front rest l e =
 -- A width at which bytes are a number and a number is its bytes.
 record IsWhole (w : Width) : Type 0 where
   fits : (bytes : List ℕ) → length bytes ≡ byte_len w → IsBytes bytes → from_be_bytes w bytes < 256 ^ byte_len w
-  back : (bytes : List ℕ) (n : ℕ) → length bytes ≡ byte_len w → IsBytes bytes → n ≡ from_be_bytes w bytes → to_be_bytes w n ≡ bytes
+  back : (bytes : List ℕ) (n : ℕ) → length bytes ≡ byte_len w → IsBytes bytes → n ≡ from_be_bytes w bytes →
+      to_be_bytes w n ≡ bytes
   same : (n : ℕ) → n < 256 ^ byte_len w → from_be_bytes w (to_be_bytes w n) ≡ n
   size : (n : ℕ) → length (to_be_bytes w n) ≡ byte_len w
 
@@ -44,13 +49,28 @@ whole_8 : IsWhole w8
 whole_8 = record { fits = λ b l f. f 0; back = one_byte; same = λ n lt. mod-eq_of_lt lt; size = λ n. refl }
 
 whole_16 : IsWhole w16
-whole_16 = record { fits = λ b l f. omega (arith, f 0, f 1); back = be_bytes_2; same = from_be_bytes-to_be_bytes_2; size = λ n. refl }
+whole_16 = record {
+  fits = λ b l f. omega (arith, f 0, f 1);
+  back = be_bytes_2;
+  same = from_be_bytes-to_be_bytes_2;
+  size = λ n. refl;
+}
 
 whole_32 : IsWhole w32
-whole_32 = record { fits = λ b l f. omega (arith, f 0, f 1, f 2, f 3); back = be_bytes_4; same = from_be_bytes-to_be_bytes_4; size = λ n. refl }
+whole_32 = record {
+  fits = λ b l f. omega (arith, f 0, f 1, f 2, f 3);
+  back = be_bytes_4;
+  same = from_be_bytes-to_be_bytes_4;
+  size = λ n. refl;
+}
 
 whole_64 : IsWhole w64
-whole_64 = record { fits = λ b l f. omega (arith, f 0, f 1, f 2, f 3, f 4, f 5, f 6, f 7); back = be_bytes_8; same = from_be_bytes-to_be_bytes_8; size = λ n. refl }
+whole_64 = record {
+  fits = λ b l f. omega (arith, f 0, f 1, f 2, f 3, f 4, f 5, f 6, f 7);
+  back = be_bytes_8;
+  same = from_be_bytes-to_be_bytes_8;
+  size = λ n. refl;
+}
 
 fixed_unsigned : (w : Width) → IsWhole w → IsFixed (unsigned w) (byte_len w)
 fixed_unsigned w h = record {
@@ -75,7 +95,8 @@ fixed_u64 = fixed_unsigned w64 whole_64
 
 -- ---- signed numbers
 
-pub signed_some : (w : Width) (bytes front rest : List ℕ) → length front ≡ byte_len w → bytes ≡ front ++ rest → signed_at w bytes ≡ Some (cast_signed w (from_be_bytes w front), rest)
+pub signed_some : (w : Width) (bytes front rest : List ℕ) → length front ≡ byte_len w → bytes ≡ front ++ rest →
+    signed_at w bytes ≡ Some (cast_signed w (from_be_bytes w front), rest)
 unfolding signed_at
 signed_some w bytes front rest l e = rw (unsigned_some w bytes front rest l e) refl
 
@@ -132,7 +153,8 @@ bool_few : (bytes : List ℕ) → length bytes < 1 → bool_at bytes ≡ None
 bool_few [] lt = refl
 bool_few (b ∷ bytes) lt = absurd (omega (arith, lt))
 
-bool_enough : (bytes front rest : List ℕ) → length front ≡ 1 → bytes ≡ front ++ rest → bool_at bytes ≡ Some (bool_in front, rest)
+bool_enough : (bytes front rest : List ℕ) → length front ≡ 1 → bytes ≡ front ++ rest →
+    bool_at bytes ≡ Some (bool_in front, rest)
 bool_enough bytes [] rest l e = absurd (omega (arith, l))
 bool_enough bytes (b ∷ []) rest l e = ap bool_at e
 bool_enough bytes (b ∷ c ∷ bs) rest l e = absurd (omega (arith, l))

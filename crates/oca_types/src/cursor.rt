@@ -1,5 +1,6 @@
 //! Reading values from the front of a slice.
-ghost use Rattle.std.specs.Prelude.{◌≡◌, List, ◌++◌, ◌<◌, [], ◌↔◌, length, IfOk, OnErr, OnOk, IfErr, IsOk, IsOkAnd, ◌≤◌, ℕ};
+ghost use Rattle.std.specs.Prelude.{◌≡◌, List, ◌++◌, ◌<◌, [], ◌↔◌, length, IfOk, OnErr, OnOk, IfErr, IsOk, IsOkAnd};
+ghost use Rattle.std.specs.Prelude.{◌≤◌, ℕ};
 ghost use Rattle.oca_types.specs.declared.fault.ReadFault.{ReadFault};
 ghost use Rattle.oca_types.specs.declared.fault.ReadFault.TheVariants.{Short, Trailing};
 ghost use Rattle.std.specs.Int.{w8, w16, w32, w64};
@@ -60,7 +61,8 @@ impl<'a> Cursor<'a> {
 
     /// The first `n` bytes. Refusal: `Short`, and the cursor is unchanged.
     fn take_bytes(&mut self, n: usize) -> Result<&'a [u8], ReadFault>
-        ensures ok { IfOk result (λ front. (self.old.rest.now ≡ front.now ++ self.new.rest.now) × (length front.now ≡ n) × IsBytes front.now) }
+        ensures ok { IfOk result (λ front. (self.old.rest.now ≡ front.now ++ self.new.rest.now) × (length front.now ≡ n)
+            × IsBytes front.now) }
         ensures err { OnErr result (self.new ≡ self.old) }
         ensures short { IfErr result (λ e. (e ≡ Short) × (length self.old.rest.now < n) × IsBytes self.old.rest.now) }
     {
@@ -95,7 +97,8 @@ impl<'a> Cursor<'a> {
 
     /// A Uint16 (AES70-3). Refusal: `Short`, and the cursor is unchanged.
     pub fn take_u16(&mut self) -> Result<u16, ReadFault>
-        ensures found { IfOk result (λ v. Takes (IsUnsignedEncoding w16) v (bytes_left self.old) (bytes_left self.new)) }
+        ensures found { IfOk result
+            (λ v. Takes (IsUnsignedEncoding w16) v (bytes_left self.old) (bytes_left self.new)) }
         ensures only { TakesEach (IsUnsignedEncoding w16) (bytes_left self.old) result (bytes_left self.new) }
         ensures short { IfErr result (λ e. (e ≡ Short) × IsCutShort (IsUnsignedEncoding w16) (bytes_left self.old)) }
         ensures err { OnErr result (bytes_left self.new ≡ bytes_left self.old) }
@@ -106,7 +109,8 @@ impl<'a> Cursor<'a> {
 
     /// A Uint32 (AES70-3). Refusal: `Short`, and the cursor is unchanged.
     pub fn take_u32(&mut self) -> Result<u32, ReadFault>
-        ensures found { IfOk result (λ v. Takes (IsUnsignedEncoding w32) v (bytes_left self.old) (bytes_left self.new)) }
+        ensures found { IfOk result
+            (λ v. Takes (IsUnsignedEncoding w32) v (bytes_left self.old) (bytes_left self.new)) }
         ensures only { TakesEach (IsUnsignedEncoding w32) (bytes_left self.old) result (bytes_left self.new) }
         ensures short { IfErr result (λ e. (e ≡ Short) × IsCutShort (IsUnsignedEncoding w32) (bytes_left self.old)) }
         ensures err { OnErr result (bytes_left self.new ≡ bytes_left self.old) }
@@ -117,7 +121,8 @@ impl<'a> Cursor<'a> {
 
     /// A Uint64 (AES70-3). Refusal: `Short`, and the cursor is unchanged.
     pub fn take_u64(&mut self) -> Result<u64, ReadFault>
-        ensures found { IfOk result (λ v. Takes (IsUnsignedEncoding w64) v (bytes_left self.old) (bytes_left self.new)) }
+        ensures found { IfOk result
+            (λ v. Takes (IsUnsignedEncoding w64) v (bytes_left self.old) (bytes_left self.new)) }
         ensures only { TakesEach (IsUnsignedEncoding w64) (bytes_left self.old) result (bytes_left self.new) }
         ensures short { IfErr result (λ e. (e ≡ Short) × IsCutShort (IsUnsignedEncoding w64) (bytes_left self.old)) }
         ensures err { OnErr result (bytes_left self.new ≡ bytes_left self.old) }
@@ -187,7 +192,8 @@ impl<'a> Cursor<'a> {
     /// unchanged: `Short`, `NotUtf8`, `TooLong`.
     pub fn take_text(&mut self) -> Result<Text, ReadFault>
         ensures found { IfOk result (λ text. Takes IsTextEncoding text (bytes_left self.old) (bytes_left self.new)) }
-        ensures only { (text front rest : List ℕ) → IsTextEncoding text front → bytes_left self.old ≡ front ++ rest → length text ≤ 64 →
+        ensures only { (text front rest : List ℕ) → IsTextEncoding text front → bytes_left self.old ≡ front ++ rest →
+            length text ≤ 64 →
             (result ≡ Ok text) × (bytes_left self.new ≡ rest) }
         ensures within { IfOk result (λ text. length text ≤ 64) }
         ensures refusal { IfErr result (λ e. IsTextRefusal (bytes_left self.old) e) }

@@ -4,7 +4,8 @@ ghost use Rattle.std.specs.Int.{w8, w16, w32, w64};
 ghost use Rattle.oca_types.specs.Putting.{Puts};
 ghost use Rattle.oca_types.specs.Sizes.{most_parameter_bytes};
 ghost use Rattle.oca_types.specs.Fixed.{Codec, IsFixed, unsigned, signed, boolean};
-ghost use Rattle.oca_types.specs.FixedNumbers.{fixed_u8, fixed_u16, fixed_u32, fixed_u64, fixed_i8, fixed_i16, fixed_i32, fixed_i64, fixed_bool};
+ghost use Rattle.oca_types.specs.FixedNumbers.{fixed_u8, fixed_u16, fixed_u32, fixed_u64, fixed_i8, fixed_i16};
+ghost use Rattle.oca_types.specs.FixedNumbers.{fixed_i32, fixed_i64, fixed_bool};
 
 use crate::fault::PutFault;
 use crate::put::put_bytes;

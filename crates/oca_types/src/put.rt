@@ -132,7 +132,8 @@ pub fn put_text(params: &mut Params, value: &Text) -> Result<(), PutFault>
 /// Appends an OcaClassIdentification (AES70-2): the class's identifier, and its version, which is 2
 /// (*profile*). Refusal: `Full`, and the parameters are unchanged.
 pub fn put_class_identification(params: &mut Params, class: Class) -> Result<(), PutFault>
-    ensures full { IsErr result ↔ (most_parameter_bytes < length params.old.items + length (class_identification_encoding class)) }
+    ensures full { IsErr result
+        ↔ (most_parameter_bytes < length params.old.items + length (class_identification_encoding class)) }
     ensures puts { Puts result params.old.items params.new.items (class_identification_encoding class) }
     ensures err { OnErr result (params.new ≡ params.old) }
 {

@@ -5,7 +5,9 @@
 //! of a descriptor of which it says so does not wait. No clause speaks of either.
 #![tactic(auto)]
 
-ghost use Rattle.std.specs.Prelude.{◌≡◌, IfOk, None, false};
+ghost use Rattle.std.specs.Prelude.{◌≡◌, ◌≢◌, IfOk, IfErr, None, false};
+ghost use Rattle.std.specs.IoError.{error_kind};
+ghost use Rattle.std.specs.declared.io.ErrorKind.TheVariants.{Interrupted};
 
 use libc::net::{POLLIN, poll};
 use libc::types::pollfd;
@@ -28,6 +30,7 @@ pub struct Ready {
 pub fn wait_for(input: Option<RawFd>, beside: Option<RawFd>, milliseconds: u64) -> io::Result<Ready>
     ensures input { IfOk result (λ ready. input ≡ None → ready.input ≡ false) }
     ensures beside { IfOk result (λ ready. beside ≡ None → ready.beside ≡ false) }
+    ensures signal { IfErr result (λ e. error_kind e ≢ Interrupted) }
 {
     let mut asked = [question(input), question(beside)];
     let most = i32::try_from(milliseconds).unwrap_or(i32::MAX);

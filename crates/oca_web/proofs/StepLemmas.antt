@@ -1,9 +1,9 @@
 -- One step more.
-use Rattle.std.proofs.Common.{◌≡◌, ℕ, Bool, true, false, Option, Some, None, Result, refl}
+use Rattle.std.proofs.Common.{ℕ, Bool, true, false, Option, Some, None, Result}
 use Rattle.oca_panel.specs.declared.trouble.Trouble.{Trouble}
 use Rattle.oca_panel.specs.Panels.{PanelState}
 use Rattle.oca_web.specs.declared.order.Sent.{Sent}
-use Rattle.oca_web.specs.Orders.{OrdersState, Steps, NoStep, OneMore, SubmitsOrder, SubmitsFirst, SettlesOne, SettlesAt}
+use Rattle.oca_web.specs.Orders.{OrdersState, Steps, OneMore, SubmitsOrder, SubmitsFirst, SettlesOne, SettlesAt}
 
 pub one_submitted : (b : Bool) (s t u : OrdersState) (p q r : PanelState) → Steps SubmitsOrder s p t q → SubmitsFirst b t q u r → Steps SubmitsOrder s p u r
 one_submitted true s t u p q r steps h = OneMore steps h

@@ -1,5 +1,5 @@
 -- Walks that go on, and others that begin.
-use Rattle.std.proofs.Common.{◌≡◌, ◌⊎◌, ℕ, ◌+◌, ◌≤◌, Bool, true, false, inl, inr, refl, sym, ◌∙◌, arith}
+use Rattle.std.proofs.Common.{◌≡◌, ◌≤◌, inl, inr, ◌∙◌, arith}
 use Rattle.oca_panel.specs.Panels.{PanelState}
 use Rattle.oca_web.specs.declared.inventory.Inventory.{Inventory}
 use Rattle.oca_web.specs.Orders.{OrdersState, SubmitsOrders}

@@ -1,5 +1,5 @@
 -- The walk through a device's objects: when it is over (*profile*).
-use Rattle.std.specs.Prelude.{◌≡◌, ◌⊎◌, ℕ, ◌+◌, ◌≤◌, true, false}
+use Rattle.std.specs.Prelude.{◌≡◌, ◌⊎◌, ◌+◌, ◌≤◌, true, false}
 use Rattle.oca_web.specs.declared.inventory.Inventory.{Inventory}
 
 -- it is the same walk, and is over or not as it was

@@ -1,6 +1,7 @@
 //! What a page gets as an answer, in JSON. Values travel as texts, so that those of 64 bits stay exact.
 //!
-//! Each function writes members into a `Writer` that it is lent, in their order; `tree_json` and `values_json` own one.
+//! Each function writes members into the `Writer` that it is given, in their order; `tree_json` and `values_json` own
+//! one.
 ghost use Rattle.std.specs.Prelude.{◌≡◌, ℕ, List, [], ◌∷◌, ◌++◌, decimal, IfOk, OnOk};
 ghost use Rattle.json.specs.Token.{key, number, string};
 ghost use Rattle.oca_web.specs.Results.{WritesResults, WritesResult, EndsWithResults, WritesTrouble, WritesValues};
@@ -259,7 +260,7 @@ fn put_link(out: &mut Writer, view: &View) -> Result<(), AllocError> {
 }
 
 /// What changed, and how the link is.
-fn put_news(alloc: Global, out: &mut Writer, view: &View, since: u64) -> Result<(), AllocError> {
+fn put_update(alloc: Global, out: &mut Writer, view: &View, since: u64) -> Result<(), AllocError> {
     let objects = view.inventory().objects();
     put_walk(out, view.inventory())?;
     put_number(out, "change", objects.changes())?;
@@ -272,7 +273,7 @@ fn put_values(alloc: Global, out: &mut Writer, view: &View, since: u64) -> Resul
     ensures { OnOk result (WritesValues view.now.orders.results out.new.tokens) }
 {
     out.begin_object()?;
-    put_news(alloc, out, view, since)?;
+    put_update(alloc, out, view, since)?;
     out.key("told")?;
     out.begin_array()?;
     put_orders(alloc, out, view.orders().results())?;

@@ -3,8 +3,8 @@
 //!
 //! Begin with [`View`]: it finds the objects of a device over a [`Panel`](oca_panel::Panel), reads their values again
 //! and again while a page is open, and submits what the pages order, each order once and in their order. A [`Site`] is
-//! the service over a view that a connection of `http_server` calls; it never has the panel in its hands, so no request
-//! can touch the link. Nothing here opens a socket or reads a clock.
+//! the service over a view that a connection of `http_server` calls; it is never given the panel, so no request can
+//! touch the link. Nothing here opens a socket or reads a clock.
 #![tactic(auto)]
 
 mod admission;

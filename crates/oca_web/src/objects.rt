@@ -27,8 +27,7 @@ impl Model for Objects {
 }
 
 impl Objects {
-    ghost use Rattle.std.specs.Prelude.{◌≡◌, [], ◌∷◌, ◌++◌, slice_get, length, IfOk, OnErr};
-    ghost use Rattle.std.specs.Option.{option_copied};
+    ghost use Rattle.std.specs.Prelude.{◌≡◌, [], IfOk};
     ghost use Rattle.oca_net.specs.Ends.{one_more};
     ghost use Rattle.oca_web.specs.Objects.{AddsObject, Changes};
 

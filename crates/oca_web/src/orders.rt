@@ -31,8 +31,8 @@ impl Model for Orders {
 impl Orders {
     ghost use Rattle.std.specs.Prelude.{◌≡◌, ◌∷◌, ◌++◌, remove, slice_get, length, [], Some};
     ghost use Rattle.oca_net.specs.Ends.{one_more};
-    ghost use Rattle.oca_web.specs.Orders.{AddsTicket, is_in_flight, lost_orders, lost_result, no_orders, ready_of};
-    ghost use Rattle.oca_web.specs.Orders.{result_of, unsent_result, waits, with_lost, with_order, with_result};
+    ghost use Rattle.oca_web.specs.Orders.{AddsTicket, is_in_flight, lost_orders, no_orders, ready_of};
+    ghost use Rattle.oca_web.specs.Orders.{result_of, waits, with_lost, with_result};
     ghost use Rattle.oca_web.specs.Orders.{with_unsent};
 
     /// No orders.

@@ -91,7 +91,7 @@ impl Site {
         requires { IsBlank response.old }
         ensures { IsAnswered result self.old request.now response.new self.new }
     {
-        put_guards(response)?;
+        put_protection(response)?;
         if request.uri().host().is_some() {
             response.status = StatusCode::BAD_REQUEST;
             return Ok(());
@@ -342,8 +342,8 @@ fn put_page(response: &mut Response) -> Result<(), AllocError>
     response.body.push(Bytes::from_static(PAGE.as_bytes()))
 }
 
-/// What every answer says to the browser: to keep nothing, to guess no type, and to lend it to no other page.
-fn put_guards(response: &mut Response) -> Result<(), AllocError>
+/// What every answer asks of the browser: not to cache it, not to guess its type, and to give it to no other page.
+fn put_protection(response: &mut Response) -> Result<(), AllocError>
     ensures status { response.new.status ≡ response.old.status }
     ensures body { response.new.body ≡ response.old.body }
 {

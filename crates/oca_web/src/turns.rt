@@ -1,5 +1,4 @@
 //! Orders over a panel: they are submitted in their order, and what the answers say is noted under their tickets.
-ghost use Rattle.std.specs.Prelude.{◌≡◌};
 ghost use Rattle.oca_web.specs.Orders.{LosesOrders, SettlesAt, SettlesOrders, SubmitsFirst, SubmitsOrders};
 
 use crate::order::Sent;

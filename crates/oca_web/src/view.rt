@@ -50,7 +50,7 @@ pub enum NoOrder {
 }
 
 /// A view of a device: what is known of it, the orders of the pages, and how its link is. The link itself lies in a
-/// [`Panel`], which each call that needs it is lent.
+/// [`Panel`], which is passed to each call that needs it.
 #[derive(Drop)]
 pub struct View {
     reach: Reach,

@@ -1,6 +1,6 @@
-//! The controller as a program: `ocactl tree`, `get`, `set`, `lock` and `unlock` speak of a device's objects in words, `ocactl send`
-//! sends a command to a device over UDP and prints its answer, `ocactl run` sends the commands on standard input, and `ocactl replay`
-//! runs a link over the script there.
+//! The controller as a program: `ocactl tree`, `get`, `set`, `lock` and `unlock` speak of a device's objects in words,
+//! `ocactl send` sends a command to a device over UDP and prints its answer, `ocactl run` sends the commands on
+//! standard input, and `ocactl replay` runs a link over the script there.
 #![tactic(auto)]
 
 use oca_net::{CountsSleep, fill_standard_descriptors};

@@ -1,4 +1,4 @@
--- How commands fare, and are printed.
+-- The outcomes of commands, and their text.
 use Rattle.std.proofs.Common.{◌≡◌, Bool, ℕ, ◌+◌, ◌-◌, ◌<◌, ◌≤◌, true, false, List, [], ◌∷◌, ◌++◌, length, Result, Ok, Err, refl, sym, ap, ◌∙◌, subst, arith, append-nil, append_assoc}
 use Rattle.std.specs.Prelude.{OnOk, slice_index_or, ◌==◌, ◌||◌, if◌then◌else◌}
 use Rattle.std.specs.List.{remove}
@@ -17,45 +17,45 @@ use Rattle.oca_control.specs.declared.outcome.Outcome.TheVariants as outcomes
 use Rattle.oca_panel.specs.declared.trouble.Trouble.{Trouble}
 use Rattle.oca_panel.specs.declared.trouble.Trouble.TheVariants as trouble
 use Rattle.oca_panel.specs.Outcomes.{done_or_trouble, done_answered}
-use Rattle.ocactl_cli.specs.Hands.{trouble_status}
+use Rattle.ocactl_cli.specs.Objects.{trouble_status}
 use Rattle.ocactl_cli.specs.Trees.{listed_status}
 use Rattle.oca_control.specs.Links.{LinkState}
 use Rattle.oca_net.specs.Ends.{last_u64}
 use Rattle.oca_control.specs.Asking.{refused_by, Begins, Waits, ReceivesSoOften}
 use Rattle.ocactl_cli.specs.Requests.{LineAsked, Send}
-use Rattle.ocactl_cli.specs.Exchanges.{SessionState, FirstIsOpen, TakesOne, Idles, NothingDone, OneTurned, OnePrinted, AwaitsFirst, Awaits, NoneAwaited, OneAwaited, AwaitsUntil, Submits, Refuses, Concludes, Finishes, ended_by, most_turns, outcome_text, outcome_status, WritesOutcome}
-use Rattle.ocactl_cli.specs.PrivateExchanges.{GoesOn, AwaitsAndPrints, IdlesAndPrints, SendsAndPrints, ServesAndPrints, Submitted, is_write_failure}
+use Rattle.ocactl_cli.specs.Exchanges.{SessionState, FirstIsOpen, TakesOne, Idles, IdledNot, OneTurned, OnePrinted, AwaitsFirst, Awaits, NoneAwaited, OneAwaited, AwaitsUntil, SubmitsCommand, Refuses, Concludes, FinishesLines, ended_by, most_turns, outcome_line, outcome_status, WritesOutcome}
+use Rattle.ocactl_cli.specs.PrivateExchanges.{PrintsUnlessFailed, AwaitsAndPrints, IdlesAndPrints, SendsAndPrints, DoesLineAndPrints, Submitted, is_write_failure}
 
 -- ---- printing, unless a write has failed
 
 not-ok : {A E : Type 0} (x : A) (e : E) → Ok x ≡ Err e → ⊥
 not-ok x e h = cc h
 
-pub goes-nil : (w : Result Unit WriteFailed) (a : Output) → GoesOn w w a a []
+pub goes-nil : (w : Result Unit WriteFailed) (a : Output) → PrintsUnlessFailed w w a a []
 goes-nil (Ok u) a = PrintsAll-nil a
 goes-nil (Err e) a = (refl, refl)
 
-pub goes-on : (w r s : Result Unit WriteFailed) (a b c : Output) (x y : List ℕ) → GoesOn w r a b x → GoesOn r s b c y → GoesOn w s a c (x ++ y)
+pub goes-on : (w r s : Result Unit WriteFailed) (a b c : Output) (x y : List ℕ) → PrintsUnlessFailed w r a b x → PrintsUnlessFailed r s b c y → PrintsUnlessFailed w s a c (x ++ y)
 goes-on (Ok u) (Ok v) s a b c x y h k = prints-then s a b c x y h k
 goes-on (Ok u) (Err e) s a b c x y h k = subst (λ (o : Output). Prints s a o (x ++ y)) (sym k.1) (prints-less s e a b x y k.0 h)
 goes-on (Err e) (Ok v) s a b c x y h k = absurd (not-ok v e h.0)
 goes-on (Err e) (Err f) s a b c x y h k = (k.0 ∙ h.0, k.1 ∙ h.1)
 
-pub goes-ok : (w r : Result Unit WriteFailed) (u : Unit {0}) (a b : Output) (text : List ℕ) → w ≡ Ok u → Prints r a b text → GoesOn w r a b text
-goes-ok w r u a b text is h = subst (λ (z : Result Unit WriteFailed). GoesOn z r a b text) (sym is) h
+pub goes-ok : (w r : Result Unit WriteFailed) (u : Unit {0}) (a b : Output) (text : List ℕ) → w ≡ Ok u → Prints r a b text → PrintsUnlessFailed w r a b text
+goes-ok w r u a b text is h = subst (λ (z : Result Unit WriteFailed). PrintsUnlessFailed z r a b text) (sym is) h
 
-pub goes-err : (w r : Result Unit WriteFailed) (e : WriteFailed) (a : Output) (text : List ℕ) → w ≡ Err e → r ≡ Err e → GoesOn w r a a text
-goes-err w r e a text is same = subst (λ (z : Result Unit WriteFailed). GoesOn z r a a text) (sym is) (same, refl)
+pub goes-err : (w r : Result Unit WriteFailed) (e : WriteFailed) (a : Output) (text : List ℕ) → w ≡ Err e → r ≡ Err e → PrintsUnlessFailed w r a a text
+goes-err w r e a text is same = subst (λ (z : Result Unit WriteFailed). PrintsUnlessFailed z r a a text) (sym is) (same, refl)
 
 -- a front of an outcome's line was written
-pub wrote-part : (o : Outcome) (r : Result ℕ WriteFailed) (e : WriteFailed) (a b : Output) → r ≡ Err e → PrintsPart a b (outcome_text o) → WritesOutcome o r a b
-wrote-part o r e a b is h = subst (λ (z : Result ℕ WriteFailed). WritesOutcome o z a b) (sym is) (front a b (outcome_text o) h)
+pub wrote-part : (o : Outcome) (r : Result ℕ WriteFailed) (e : WriteFailed) (a b : Output) → r ≡ Err e → PrintsPart a b (outcome_line o) → WritesOutcome o r a b
+wrote-part o r e a b is h = subst (λ (z : Result ℕ WriteFailed). WritesOutcome o z a b) (sym is) (front a b (outcome_line o) h)
 
 -- a text was printed, and then a write failed
 pub part-flushed : (a b c : Output) (text : List ℕ) → PrintsAll a b text → PrintsPart b c [] → PrintsPart a c text
 part-flushed a b c text h k = subst (PrintsPart a c) (append-nil text) (PrintsPart-then a b c text [] h k)
 
--- ---- handles under way
+-- ---- handles in flight
 
 pub first-removed : (xs ys : List ℕ) (h : ℕ) → 0 < length xs → h ≡ slice_index_or xs 0 h → ys ≡ remove xs 0 → xs ≡ h ∷ ys
 first-removed [] ys h some first rest = absurd (omega arith)
@@ -63,11 +63,11 @@ first-removed (x ∷ xs) ys h some first rest = ap (λ (z : ℕ). z ∷ xs) (sym
 
 pub submits : (request : RequestFields) (answer : Result Handle ControlFault) (h : Handle) (s old new : SessionState) → s ≡ old → answer ≡ Ok h
     → Begins request answer s.link new.link s.end_state new.end_state
-    → new.under_way ≡ s.under_way ++ h.0 ∷ [] → new.ahead ≡ s.ahead → new.unanswered ≡ s.unanswered → new.socket ≡ s.socket → new.is_open ≡ true
+    → new.in_flight ≡ s.in_flight ++ h.0 ∷ [] → new.ahead ≡ s.ahead → new.unanswered ≡ s.unanswered → new.socket ≡ s.socket → new.is_open ≡ true
     → Submitted request (Ok h) old new
-submits request answer h s old new e is begins under_way ahead unanswered socket is_open = subst (λ (x : SessionState). Submits request h x new) e (record {
+submits request answer h s old new e is begins in_flight ahead unanswered socket is_open = subst (λ (x : SessionState). SubmitsCommand request h x new) e (record {
   begins = subst (λ (z : Result Handle ControlFault). Begins request z s.link new.link s.end_state new.end_state) is begins;
-  under_way = under_way;
+  in_flight = in_flight;
   ahead = ahead;
   unanswered = unanswered;
   socket = socket;
@@ -87,19 +87,19 @@ refuses request answer f s old new e is begins kept =
 -- ---- waiting
 
 pub awaited-more : (left : ℕ) (r s t : SessionState) (w v z : Result Unit WriteFailed) (a b c : Output) (o : Outcome)
-    → ((text : List ℕ) × Awaits left r s text × GoesOn w v a b text) → left < length s.under_way → AwaitsFirst s t o → GoesOn v z b c (outcome_text o)
-    → (text : List ℕ) × Awaits left r t text × GoesOn w z a c text
+    → ((text : List ℕ) × Awaits left r s text × PrintsUnlessFailed w v a b text) → left < length s.in_flight → AwaitsFirst s t o → PrintsUnlessFailed v z b c (outcome_line o)
+    → (text : List ℕ) × Awaits left r t text × PrintsUnlessFailed w z a c text
 awaited-more left r s t w v z a b c o h more first k =
-    (h.0 ++ outcome_text o, OneAwaited o h.1 more first, goes-on w v z a b c h.0 (outcome_text o) h.2 k)
+    (h.0 ++ outcome_line o, OneAwaited o h.1 more first, goes-on w v z a b c h.0 (outcome_line o) h.2 k)
 
-pub fewer : (s t : SessionState) (o : Outcome) → AwaitsFirst s t o → length s.under_way ≡ length t.under_way + 1
+pub fewer : (s t : SessionState) (o : Outcome) → AwaitsFirst s t o → length s.in_flight ≡ length t.in_flight + 1
 fewer s t o h = ap length h.first ∙ omega arith
 
 pub awaited : (left : ℕ) (r s : SessionState) (w v : Result Unit WriteFailed) (a b : Output)
-    → ((text : List ℕ) × Awaits left r s text × GoesOn w v a b text) → length s.under_way ≤ left → AwaitsAndPrints left w r s v a b
+    → ((text : List ℕ) × Awaits left r s text × PrintsUnlessFailed w v a b text) → length s.in_flight ≤ left → AwaitsAndPrints left w r s v a b
 awaited left r s w v a b h few = record { text = h.0; awaits = (h.1, few); prints = h.2 }
 
-pub first-awaited : (old new : SessionState) (h : ℕ) (o : Outcome) → old.under_way ≡ h ∷ new.under_way → Waits h most_turns old.link o new.link old.end_state new.end_state
+pub first-awaited : (old new : SessionState) (h : ℕ) (o : Outcome) → old.in_flight ≡ h ∷ new.in_flight → Waits h most_turns old.link o new.link old.end_state new.end_state
     → (new.end_state.receives < last_u64 → ReceivesSoOften most_turns o old.end_state.receives new.end_state.receives) → new.ahead ≡ old.ahead
     → new.unanswered ≡ (old.unanswered || outcome_status o == 3) → new.socket ≡ old.socket → new.is_open ≡ old.is_open → AwaitsFirst old new o
 first-awaited old new h o first waits asks ahead unanswered socket is_open =
@@ -108,19 +108,19 @@ first-awaited old new h o first waits asks ahead unanswered socket is_open =
 pub awaited-from : (s old new : SessionState) (o : Outcome) → s ≡ old → AwaitsFirst s new o → AwaitsFirst old new o
 awaited-from s old new o e h = subst (λ (x : SessionState). AwaitsFirst x new o) e h
 
-pub some-under-way : (s old : SessionState) → s ≡ old → 0 < length old.under_way → 0 < length s.under_way
-some-under-way s old e h = subst (λ (x : SessionState). 0 < length x.under_way) (sym e) h
+pub some-in-flight : (s old : SessionState) → s ≡ old → 0 < length old.in_flight → 0 < length s.in_flight
+some-in-flight s old e h = subst (λ (x : SessionState). 0 < length x.in_flight) (sym e) h
 
 -- ---- idling
 
 pub idles-then : (r s t : SessionState) (x y : List ℕ) → Idles r s x → Idles s t y → Idles r t (x ++ y)
-idles-then r s t x y h NothingDone = subst (Idles r s) (sym (append-nil x)) h
+idles-then r s t x y h IdledNot = subst (Idles r s) (sym (append-nil x)) h
 idles-then r s t x y h (OneTurned {s = m} k waits one) = OneTurned (idles-then r s m x y h k) waits one
 idles-then r s t x y h (OnePrinted {s = m} {text = z} o k first) =
-    subst (Idles r t) (append_assoc x z (outcome_text o)) (OnePrinted o (idles-then r s m x z h k) first)
+    subst (Idles r t) (append_assoc x z (outcome_line o)) (OnePrinted o (idles-then r s m x z h k) first)
 
 pub idles-awaited : (left : ℕ) (r s : SessionState) (x : List ℕ) → Awaits left r s x → Idles r s x
-idles-awaited left r s x NoneAwaited = NothingDone
+idles-awaited left r s x NoneAwaited = IdledNot
 idles-awaited left r s x (OneAwaited {s = m} {text = z} o h more first) = OnePrinted o (idles-awaited left r m z h) first
 
 -- idled twice, and printed
@@ -132,20 +132,20 @@ idles-and r s t o w a b c h k = record {
 }
 
 pub idles-not : (s : SessionState) (o : Unit {0}) (a : Output) → IdlesAndPrints s s (Ok o) a a
-idles-not s o a = record { text = []; idles = NothingDone; prints = PrintsAll-nil a }
+idles-not s o a = record { text = []; idles = IdledNot; prints = PrintsAll-nil a }
 
 pub idles-as : (r s : SessionState) (w v : Result Unit WriteFailed) (a b : Output) → w ≡ v → IdlesAndPrints r s w a b → IdlesAndPrints r s v a b
 idles-as r s w v a b e h = subst (λ (z : Result Unit WriteFailed). IdlesAndPrints r s z a b) e h
 
-pub idles-turned : (r s t : SessionState) (o u : Unit {0}) (a b : Output) → IdlesAndPrints r s (Ok o) a b → FirstIsOpen s.link s.under_way → TakesOne s t → IdlesAndPrints r t (Ok u) a b
+pub idles-turned : (r s t : SessionState) (o u : Unit {0}) (a b : Output) → IdlesAndPrints r s (Ok o) a b → FirstIsOpen s.link s.in_flight → TakesOne s t → IdlesAndPrints r t (Ok u) a b
 idles-turned r s t o u a b h waits one = record { text = h.text; idles = OneTurned h.idles waits one; prints = h.prints }
 
-pub first-from : (s t : SessionState) → t ≡ s → FirstIsOpen s.link s.under_way → FirstIsOpen t.link t.under_way
-first-from s t e h = subst (λ (x : SessionState). FirstIsOpen x.link x.under_way) (sym e) h
+pub first-from : (s t : SessionState) → t ≡ s → FirstIsOpen s.link s.in_flight → FirstIsOpen t.link t.in_flight
+first-from s t e h = subst (λ (x : SessionState). FirstIsOpen x.link x.in_flight) (sym e) h
 
--- what was printed so far was handed on
+-- what was printed so far was flushed
 pub idles-handed : (r s : SessionState) (v z : Result Unit WriteFailed) (a b c : Output)
-    → ((text : List ℕ) × Idles r s text × GoesOn (Ok tt) v a b text) → GoesOn v z b c [] → IdlesAndPrints r s z a c
+    → ((text : List ℕ) × Idles r s text × PrintsUnlessFailed (Ok tt) v a b text) → PrintsUnlessFailed v z b c [] → IdlesAndPrints r s z a c
 idles-handed r s v z a b c h k = record {
   text = h.0;
   idles = h.1;
@@ -156,51 +156,51 @@ pub idles-from : (r s t : SessionState) (v : Result Unit WriteFailed) (a b : Out
 idles-from r s t v a b e h = subst (λ (x : SessionState). IdlesAndPrints r x v a b) (sym e) h
 
 pub idles-rest : (left : ℕ) (r s : SessionState) (v z : Result Unit WriteFailed) (a b c : Output)
-    → AwaitsAndPrints left (Ok tt) r s v a b → GoesOn v z b c [] → IdlesAndPrints r s z a c
+    → AwaitsAndPrints left (Ok tt) r s v a b → PrintsUnlessFailed v z b c [] → IdlesAndPrints r s z a c
 idles-rest left r s v z a b c h k = idles-handed r s v z a b c (h.text, idles-awaited left r s h.text h.awaits.0, h.prints) k
 
 pub idles-more : (r s t : SessionState) (v z : Result Unit WriteFailed) (a b c : Output) (o : Outcome)
-    → ((text : List ℕ) × Idles r s text × GoesOn (Ok tt) v a b text) → AwaitsFirst s t o → GoesOn v z b c (outcome_text o)
-    → (text : List ℕ) × Idles r t text × GoesOn (Ok tt) z a c text
+    → ((text : List ℕ) × Idles r s text × PrintsUnlessFailed (Ok tt) v a b text) → AwaitsFirst s t o → PrintsUnlessFailed v z b c (outcome_line o)
+    → (text : List ℕ) × Idles r t text × PrintsUnlessFailed (Ok tt) z a c text
 idles-more r s t v z a b c o h first k =
-    (h.0 ++ outcome_text o, OnePrinted o h.1 first, goes-on (Ok tt) v z a b c h.0 (outcome_text o) h.2 k)
+    (h.0 ++ outcome_line o, OnePrinted o h.1 first, goes-on (Ok tt) v z a b c h.0 (outcome_line o) h.2 k)
 
 -- ---- a line
 
 pub sends-one : (request : RequestFields) (answer : Result Handle ControlFault) (h : Handle) (left : ℕ) (w v : Result Unit WriteFailed) (old s new : SessionState) (a b : Output)
     → answer ≡ Ok h → Submitted request answer old s → left ≡ s.ahead - 1 → AwaitsAndPrints left w s new v a b → SendsAndPrints request w old new v a b
 sends-one request answer h left w v old s new a b is submits same k =
-    let one : Submits request h old s = subst (λ (z : Result Handle ControlFault). Submitted request z old s) is submits in
+    let one : SubmitsCommand request h old s = subst (λ (z : Result Handle ControlFault). Submitted request z old s) is submits in
     let all_but_one : left ≡ old.ahead - 1 = same ∙ ap (λ (n : ℕ). n - 1) one.ahead in
     record { returned = Ok h; text = k.text; sends = (s, one, subst (λ (n : ℕ). AwaitsUntil n s new k.text) all_but_one k.awaits); prints = k.prints }
 
 pub sends-none : (request : RequestFields) (answer : Result Handle ControlFault) (fault : ControlFault) (o : Outcome) (w v z : Result Unit WriteFailed) (old s t new : SessionState) (a b c : Output)
-    → answer ≡ Err fault → Submitted request answer old s → AwaitsAndPrints 0 w s t v a b → new ≡ record t { unanswered = true } → o ≡ refused_by fault → GoesOn v z b c (outcome_text o)
+    → answer ≡ Err fault → Submitted request answer old s → AwaitsAndPrints 0 w s t v a b → new ≡ record t { unanswered = true } → o ≡ refused_by fault → PrintsUnlessFailed v z b c (outcome_line o)
     → SendsAndPrints request w old new z a c
 sends-none request answer fault o w v z old s t new a b c is submits k noted by p =
     let same : (s ≡ old) × Refuses request fault old = subst (λ (y : Result Handle ControlFault). Submitted request y old s) is submits in
     let awaits : AwaitsUntil 0 old t k.text = subst (λ (x : SessionState). AwaitsUntil 0 x t k.text) same.0 k.awaits in
     record {
       returned = Err fault;
-      text = k.text ++ outcome_text o;
-      sends = (t, k.text, same.1, awaits, noted, ap (λ (x : Outcome). k.text ++ outcome_text x) by);
-      prints = goes-on w v z a b c k.text (outcome_text o) k.prints p;
+      text = k.text ++ outcome_line o;
+      sends = (t, k.text, same.1, awaits, noted, ap (λ (x : Outcome). k.text ++ outcome_line x) by);
+      prints = goes-on w v z a b c k.text (outcome_line o) k.prints p;
     }
 
 pub serves-command : (request : RequestFields) (left : ℕ) (v z : Result Unit WriteFailed) (old s new : SessionState) (a b c : Output)
-    → left ≡ old.ahead - 1 → AwaitsAndPrints left (Ok tt) old s v a b → SendsAndPrints request v s new z b c → ServesAndPrints old (Send request) new z a c
+    → left ≡ old.ahead - 1 → AwaitsAndPrints left (Ok tt) old s v a b → SendsAndPrints request v s new z b c → DoesLineAndPrints old (Send request) new z a c
 serves-command request left v z old s new a b c is h k = record {
   text = h.text ++ k.text;
   serves = (s, h.text, k.text, k.returned, subst (λ (n : ℕ). AwaitsUntil n old s h.text) is h.awaits, k.sends, refl);
   prints = goes-on (Ok tt) v z a b c h.text k.text h.prints k.prints;
 }
 
-pub as-line : (old new : SessionState) (l m : LineAsked) (z : Result Unit WriteFailed) (a c : Output) → m ≡ l → ServesAndPrints old l new z a c → ServesAndPrints old m new z a c
-as-line old new l m z a c e h = subst (λ (x : LineAsked). ServesAndPrints old x new z a c) (sym e) h
+pub as-line : (old new : SessionState) (l m : LineAsked) (z : Result Unit WriteFailed) (a c : Output) → m ≡ l → DoesLineAndPrints old l new z a c → DoesLineAndPrints old m new z a c
+as-line old new l m z a c e h = subst (λ (x : LineAsked). DoesLineAndPrints old x new z a c) (sym e) h
 
 -- ---- the end
 
-pub finishes-unwritten : (ended : Result Unit ReplayFault) (s : SessionState) (a : Output) → is_write_failure ended ≡ true → Finishes ended s s a a ended
+pub finishes-unwritten : (ended : Result Unit ReplayFault) (s : SessionState) (a : Output) → is_write_failure ended ≡ true → FinishesLines ended s s a a ended
 finishes-unwritten (Ok u) s a h = absurd (not-true h)
   where
     not-true : false ≡ true → ⊥
@@ -219,7 +219,7 @@ finishes-unwritten (Err TooMuch) s a h = absurd (not-true h)
     not-true : false ≡ true → ⊥
     not-true e = cc e
 
-pub finishes : (ended result : Result Unit ReplayFault) (old new : SessionState) (a b : Output) → is_write_failure ended ≡ false → Concludes ended old new a b result → Finishes ended old new a b result
+pub finishes : (ended result : Result Unit ReplayFault) (old new : SessionState) (a b : Output) → is_write_failure ended ≡ false → Concludes ended old new a b result → FinishesLines ended old new a b result
 finishes (Ok u) result old new a b h k = k
 finishes (Err (Line n w)) result old new a b h k = k
 finishes (Err Read) result old new a b h k = k
@@ -229,13 +229,13 @@ finishes (Err Write) result old new a b h k = absurd (not-false h)
     not-false e = cc e
 finishes (Err TooMuch) result old new a b h k = k
 
-written-last : (v z : Result Unit WriteFailed) (a b c : Output) (text : List ℕ) → GoesOn (Ok tt) v a b text → GoesOn v z b c [] → OnOk z (c.held ≡ []) → WritesOut z a c text
+written-last : (v z : Result Unit WriteFailed) (a b c : Output) (text : List ℕ) → PrintsUnlessFailed (Ok tt) v a b text → PrintsUnlessFailed v z b c [] → OnOk z (c.held ≡ []) → WritesOut z a c text
 written-last (Ok u) z a b c text h k none = written-out z a b c text h k none
 written-last (Err e) z a b c text h k none =
     subst (λ (r : Result Unit WriteFailed). WritesOut r a c text) (sym k.0) (subst (λ (o : Output). WritesOut (Err e) a o text) (sym k.1) (front a b text h))
 
 pub concludes : (ended result : Result Unit ReplayFault) (old new : SessionState) (v z : Result Unit WriteFailed) (a b c : Output)
-    → AwaitsAndPrints 0 (Ok tt) old new v a b → GoesOn v z b c [] → OnOk z (c.held ≡ []) → result ≡ ended_by z ended → Concludes ended old new a c result
+    → AwaitsAndPrints 0 (Ok tt) old new v a b → PrintsUnlessFailed v z b c [] → OnOk z (c.held ≡ []) → result ≡ ended_by z ended → Concludes ended old new a c result
 concludes ended result old new v z a b c h k none is = record {
   text = h.text;
   written = z;

@@ -1,66 +1,133 @@
 -- Locks that are kept.
-use Rattle.std.proofs.Common.{◌≡◌, ℕ, ◌+◌, ◌<◌, List, [], ◌∷◌, ◌++◌, length, take, get_or, refl, sym, ap, ◌∙◌, subst, false, arith}
-use Rattle.std.specs.Prelude.{map}
+use Rattle.std.proofs.Common.{◌≡◌, ◌⊎◌, true, inl, inr, drop, Result, Ok, Err, ℕ, ◌+◌, ◌<◌, List, [], ◌∷◌, ◌++◌, length, take, get_or, refl, sym, ap, ◌∙◌, subst, false, arith}
+use Rattle.std.specs.Prelude.{map, IfErr, IfOk}
 use Rattle.std.proofs.lemmas.List.{flat_map_more}
 use Rattle.oca_types.specs.declared.words.Ono.{Ono}
 use Rattle.oca_script.specs.Ends.{Input, Output}
-use Rattle.oca_script.specs.Printing.{PrintsAll}
+use Rattle.oca_script.specs.Printing.{PrintsAll, WritesWhole}
+use Rattle.oca_script.specs.declared.fault.WriteFailed.{WriteFailed}
+use Rattle.oca_program.specs.declared.fault.Failure.{Failure}
+use Rattle.oca_program.specs.declared.fault.RunFault.{RunFault}
+use Rattle.oca_program.specs.declared.fault.RunFault.TheVariants.{NoMemory, Write}
 use Rattle.oca_panel.specs.Panels.{PanelState}
-use Rattle.ocactl_cli.specs.declared.told.Told.{Told}
-use Rattle.ocactl_cli.specs.Hands.{AsksAll, HoldsAll, KeepsHeld, KeepsUntilEnd, Locks, NoneAsked, OneAsked, graver_of, held_if, held_of, held_one}
-use Rattle.ocactl_cli.specs.PrivateHands.{LocksEach, LocksNext, TellsAll, TellsNext, number_of}
-use Rattle.ocactl_cli.proofs.HandLemmas.{line-told, map-take, tells-next, writes-none}
+use Rattle.ocactl_cli.specs.declared.object_line.ObjectLine.{ObjectLine}
+use Rattle.ocactl_cli.specs.Objects.{AsksAll, HoldsAll, HoldsPart, StopsHolding, StopsLocking, StopsUnlocking, reported_line, reported_lines, KeepsHeld, KeepsUntilEnd, Locks, NoneAsked, OneAsked, max_severity, held_if, held_of, held_one}
+use Rattle.ocactl_cli.specs.PrivateObjects.{KeepsOrFails, LocksEach, LocksNext, ReportsAll, ReportsOne, ReportsNext, ono_number}
+use Rattle.ocactl_cli.proofs.ObjectLemmas.{line-reported, map-split, map-take, reports-next, writes-none, writes-then}
 
 pub locked-none : (held : List Ono) (s : PanelState) (a b : Output) → held ≡ [] → PrintsAll a b [] → b.held ≡ [] → LocksEach [] s s 0 held a b
 locked-none held s a b none h empty =
-    record { fared = []; locks = NoneAsked; worst = refl; writes = writes-none a b h empty; listed = ap (map number_of) none }
+    record { lines = []; locks = NoneAsked; worst = refl; writes = writes-none a b h empty; listed = ap (map ono_number) none }
 
 locked-more : (targets : List ℕ) (target status now : ℕ) (held more : List Ono) (r s t : PanelState) (a b c : Output)
     → LocksEach targets r s status held a b → LocksNext target s t status now held more b c → LocksEach (targets ++ target ∷ []) r t now more a c
 locked-more targets target status now held more r s t a b c h k =
-    let told : Told = k.tells.told in
-    let next : TellsNext (target, told) status now b c = line-told target told status k.own now b c k.tells.writes k.lists.worst in
-    let all : TellsAll (h.fared ++ (target, told) ∷ []) now a c =
-    tells-next h.fared (target, told) status now a b c (record { worst = h.worst; writes = h.writes }) next in
+    let line : ObjectLine = k.reports.line in
+    let next : ReportsNext (target, line) status now b c = line-reported target line status k.own now b c k.reports.writes k.lists.worst in
+    let all : ReportsAll (h.lines ++ (target, line) ∷ []) now a c =
+    reports-next h.lines (target, line) status now a b c (record { worst = h.worst; writes = h.writes }) next in
     record {
-      fared = h.fared ++ (target, told) ∷ [];
-      locks = OneAsked target told h.locks k.tells.asks;
+      lines = h.lines ++ (target, line) ∷ [];
+      locks = OneAsked target line h.locks k.reports.asks;
       worst = all.worst;
       writes = all.writes;
       listed =
           k.lists.listed ∙ ap (λ (ns : List ℕ). ns ++ held_if target k.own) h.listed
-          ∙ ap (λ (n : ℕ). held_of h.fared ++ held_if target n) k.tells.writes.0
-          ∙ flat_map_more held_one [] h.fared (target, told);
+          ∙ ap (λ (n : ℕ). held_of h.lines ++ held_if target n) k.reports.writes.0
+          ∙ flat_map_more held_one [] h.lines (target, line);
     }
 
 -- the first objects and the next one
 pub locked-next : (onos : List Ono) (i : ℕ) (d : Ono) (status now : ℕ) (held more : List Ono) (r s t : PanelState) (a b c : Output) → i < length onos
-    → LocksEach (map number_of (take i onos)) r s status held a b → LocksNext (number_of (get_or onos i d)) s t status now held more b c
-    → LocksEach (map number_of (take (i + 1) onos)) r t now more a c
+    → LocksEach (map ono_number (take i onos)) r s status held a b → LocksNext (ono_number (get_or onos i d)) s t status now held more b c
+    → LocksEach (map ono_number (take (i + 1) onos)) r t now more a c
 locked-next onos i d status now held more r s t a b c h x y =
-    subst (λ (ns : List ℕ). LocksEach ns r t now more a c) (sym (map-take number_of onos i d h))
-    (locked-more (map number_of (take i onos)) (number_of (get_or onos i d)) status now held more r s t a b c x y)
+    subst (λ (ns : List ℕ). LocksEach ns r t now more a c) (sym (map-take ono_number onos i d h))
+    (locked-more (map ono_number (take i onos)) (ono_number (get_or onos i d)) status now held more r s t a b c x y)
 
 -- some locks were kept, and taken off
 pub kept-some : (held : List Ono) (before after status : ℕ) (r s t : PanelState) (i j : Input) (a b : Output) → 0 < length held → KeepsUntilEnd r s i j
-    → AsksAll (Locks false) (map number_of held) s t after a b → status ≡ graver_of before after → KeepsHeld (map number_of held) before r t status i j a b
+    → AsksAll (Locks false) (map ono_number held) s t after a b → status ≡ max_severity before after → KeepsHeld (map ono_number held) before r t status i j a b
 kept-some [] before after status r s t i j a b some keeps unlocks worst = absurd (omega (arith, some))
 kept-some (o ∷ held) before after status r s t i j a b some keeps unlocks worst =
     record { kept = s; after = after; keeps = keeps; unlocks = unlocks; worst = worst }
 
-pub kept-none : (held : List Ono) (before : ℕ) (s : PanelState) (i : Input) (a : Output) → held ≡ [] → KeepsHeld (map number_of held) before s s before i i a a
-kept-none held before s i a none = subst (λ (os : List Ono). KeepsHeld (map number_of os) before s s before i i a a) (sym none) (refl, refl, refl, refl)
+pub kept-none : (held : List Ono) (before : ℕ) (s : PanelState) (i : Input) (a : Output) → held ≡ [] → KeepsHeld (map ono_number held) before s s before i i a a
+kept-none held before s i a none = subst (λ (os : List Ono). KeepsHeld (map ono_number os) before s s before i i a a) (sym none) (refl, refl, refl, refl)
 
 -- locked, and kept
 pub held-all : (targets : List ℕ) (held : List Ono) (before status : ℕ) (r s t : PanelState) (i j : Input) (a b c : Output)
-    → LocksEach targets r s before held a b → KeepsHeld (map number_of held) before s t status i j b c → HoldsAll targets r t status i j a c
+    → LocksEach targets r s before held a b → KeepsHeld (map ono_number held) before s t status i j b c → HoldsAll targets r t status i j a c
 held-all targets held before status r s t i j a b c h k = record {
-  fared = h.fared;
+  lines = h.lines;
   locked = s;
   between = b;
   locks = h.locks;
   writes = h.writes;
   keeps =
-      subst (λ (n : ℕ). KeepsHeld (held_of h.fared) n s t status i j b c) h.worst
+      subst (λ (n : ℕ). KeepsHeld (held_of h.lines) n s t status i j b c) h.worst
       (subst (λ (ns : List ℕ). KeepsHeld ns before s t status i j b c) h.listed k);
 }
+
+-- ---- stopping
+
+pub locking-stopped : (onos : List Ono) (i : ℕ) (d : Ono) (status : ℕ) (why : RunFault) (held : List Ono) (r s t : PanelState)
+    (a b c : Output) → i < length onos → LocksEach (map ono_number (take i onos)) r s status held a b
+    → ((why ≡ Write) × (e : WriteFailed) × ReportsOne (Locks true) (ono_number (get_or onos i d)) s t (Err e) b c)
+    ⊎ ((why ≡ NoMemory) × ReportsOne (Locks true) (ono_number (get_or onos i d)) s t (Ok 0) b c)
+    → StopsLocking (map ono_number onos) why r t a c
+locking-stopped onos i d status why held r s t a b c h x (inl k) = inl (
+  k.0,
+  inr (record {
+    asked = map ono_number (take i onos);
+    rest = ono_number (get_or onos i d) ∷ map ono_number (drop (i + 1) onos);
+    lines = x.lines;
+    before = s;
+    between = b;
+    whole = map-split ono_number onos i d h;
+    turns = x.locks;
+    writes = x.writes;
+    stops = (k.2.line, k.2.asks, k.2.writes);
+  }),
+)
+locking-stopped onos i d status why held r s t a b c h x (inr k) =
+    let one : ℕ = ono_number (get_or onos i d) in
+    inr (
+      k.0,
+      record {
+        asked = map ono_number (take i onos);
+        last = one;
+        line = k.1.line;
+        rest = map ono_number (drop (i + 1) onos);
+        lines = x.lines;
+        whole = map-split ono_number onos i d h;
+        locks = OneAsked one k.1.line x.locks k.1.asks;
+        locked = sym k.1.writes.0;
+        writes = subst (WritesWhole a c) (flat_map_more reported_line [] x.lines (one, k.1.line))
+            (writes-then a b c (reported_lines x.lines) (reported_line (one, k.1.line)) x.writes k.1.writes.1);
+      },
+    )
+
+held-part : (targets : List ℕ) (held : List Ono) (before : ℕ) (r s t : PanelState) (i j : Input) (a b c : Output)
+    → LocksEach targets r s before held a b → StopsUnlocking (map ono_number held) s t i j b c → HoldsPart targets r t i j a c
+held-part targets held before r s t i j a b c h k = record {
+  lines = h.lines;
+  locked = s;
+  between = b;
+  locks = h.locks;
+  writes = h.writes;
+  stops = subst (λ (ns : List ℕ). StopsUnlocking ns s t i j b c) h.listed k;
+}
+
+-- locked, and kept, or that stopped
+pub held-so : (targets : List ℕ) (held : List Ono) (before : ℕ) (q : Result ℕ Failure) (r s t : PanelState) (i j : Input) (a b c : Output)
+    → LocksEach targets r s before held a b → KeepsOrFails (map ono_number held) before s t q i j b c
+    → IfOk q (λ status. HoldsAll targets r t status i j a c)
+held-so targets held before (Ok status) r s t i j a b c h k = held-all targets held before status r s t i j a b c h k
+held-so targets held before (Err failure) r s t i j a b c h k = tt
+
+pub held-stopped : (targets : List ℕ) (held : List Ono) (before : ℕ) (q : Result ℕ Failure) (r s t : PanelState) (i j : Input) (a b c : Output)
+    → LocksEach targets r s before held a b → KeepsOrFails (map ono_number held) before s t q i j b c
+    → IfErr q (λ failure. StopsHolding targets failure.fault r t i j a c)
+held-stopped targets held before (Ok status) r s t i j a b c h k = tt
+held-stopped targets held before (Err failure) r s t i j a b c h k = inr (k.0, held-part targets held before r s t i j a b c h k.1)

@@ -3,7 +3,7 @@ pub mod ExchangeLemmas
 mod PairLemmas
 mod RunLemmas
 mod TurnLemmas
-mod HandLemmas
+mod ObjectLemmas
 mod TreeLemmas
 mod HoldLemmas
 mod ProbeLemmas

@@ -6,7 +6,7 @@ use Rattle.oca_net.specs.EndStates.{EndState}
 use Rattle.oca_control.specs.declared.report.DriveReport.{DriveReport}
 use Rattle.oca_control.specs.Driving.{GivesOut}
 use Rattle.oca_control.specs.Links.{LinkState, new_link, submission, submitted}
-use Rattle.ocactl_cli.specs.Probes.{Asks, AsksRounds, handle_in, question}
+use Rattle.ocactl_cli.specs.Probes.{AsksQuestion, AsksRounds, handle_in, question}
 
 abbrev number_or_none : Option Handle → ℕ
 number_or_none None = 0
@@ -21,7 +21,7 @@ asked-under device first old r h new is some =
 
 pub asked-all : (device : Peer) (first : ℕ) (old sub l last : LinkState) (d e f : EndState) (report : DriveReport) (h : Handle) (answered : Bool) (r : Option Handle)
     → old ≡ new_link device first 0 16 → r ≡ handle_in (submission question old) → r ≡ Some h → sub ≡ submitted question 0 old
-    → GivesOut 0 (sub.span + 1) sub l d e report → AsksRounds device h.0 answered l last e f → Asks device first answered d f
+    → GivesOut 0 (sub.span + 1) sub l d e report → AsksRounds device h.0 answered l last e f → AsksQuestion device first answered d f
 asked-all device first old sub l last d e f report h answered r new is some submits gives rounds =
     let made : sub ≡ submitted question 0 (new_link device first 0 16) = submits ∙ ap (submitted question 0) new in
     record {

@@ -1,11 +1,12 @@
 -- How a run ends, by what its last call gave.
-use Rattle.std.proofs.Common.{◌≡◌, ℕ, List, Result, Ok, Err, refl, ap, subst}
-use Rattle.std.specs.Prelude.{IfOk, IfErr, OnErr, if◌then◌else◌}
+use Rattle.std.proofs.Common.{◌≡◌, Bool, true, false, ℕ, List, Result, Ok, Err, refl, sym, ap, subst}
+use Rattle.std.specs.Prelude.{IfOk, IfErr, OnErr, if◌then◌else◌, map}
+use Rattle.ocactl_cli.specs.Matching.{is_set, matched_words, with_blank}
 use Rattle.oca_types.specs.Sizes.{span_size}
 use Rattle.oca_control.specs.Links.{LinkState, new_link}
 use Rattle.oca_net.specs.EndStates.{EndState}
 use Rattle.oca_panel.specs.declared.own_port.OwnPort.{OwnPort}
-use Rattle.ocactl_cli.specs.Sockets.{IsOwnPort}
+use Rattle.oca_panel.specs.OwnPorts.{IsPortByClock}
 use Rattle.oca_script.specs.declared.fault.ReplayFault.{ReplayFault}
 use Rattle.oca_script.specs.declared.fault.WriteFailed.{WriteFailed}
 use Rattle.oca_script.specs.Ends.{Input, Output}
@@ -18,8 +19,9 @@ use Rattle.oca_program.specs.declared.fault.RunFault.TheVariants.{Write}
 use Rattle.ocactl_replay.specs.Requests.{asked_call}
 use Rattle.ocactl_replay.specs.Replaying.{Serves as CallsLink}
 use Rattle.ocactl_cli.specs.Exchanges.{SendsLines, SessionState}
-use Rattle.ocactl_cli.specs.Hands.{GivesUp}
-use Rattle.ocactl_cli.specs.Runs.{AsksOver, IsDone, ReplaysOn, RunsFrom, SendsOne, Tells}
+use Rattle.oca_panel.specs.Panels.{PanelState}
+use Rattle.ocactl_cli.specs.Objects.{GivesUp, HoldsAll, StopsHolding}
+use Rattle.ocactl_cli.specs.Runs.{AsksOver, HoldsObjects, IsDone, ReplaysScript, RunsFrom, RunsProgram, RunsWords, SendsOne, EndsWithText}
 use Rattle.ocactl_cli.specs.declared.words.Linking.{Linking}
 use Rattle.ocactl_cli.specs.declared.words.Reach.{Reach}
 use Rattle.ocactl_cli.specs.declared.words.Sending.{Sending}
@@ -30,34 +32,34 @@ failed why = Err why
 abbrev ended : ℕ → Result ℕ RunFault
 ended status = Ok status
 
-pub tells-all : (u : Unit {0}) (text : List ℕ) (was is : Output) → WritesOut (Ok u) was is text → Tells text (Ok 0) was is
-tells-all u text was is h = record { written = Ok tt; ends = refl; writes = h }
+pub prints-all : (u : Unit {0}) (text : List ℕ) (was is : Output) → WritesOut (Ok u) was is text → EndsWithText text (Ok 0) was is
+prints-all u text was is h = record { written = Ok tt; ends = refl; writes = h }
 
-pub tells-part : (e : WriteFailed) (why : RunFault) (text : List ℕ) (was is : Output) → why ≡ Write → WritesOut (Err e) was is text → Tells text (Err why) was is
-tells-part e why text was is same h = record { written = Err e; ends = ap failed same; writes = h }
+pub prints-part : (e : WriteFailed) (why : RunFault) (text : List ℕ) (was is : Output) → why ≡ Write → WritesOut (Err e) was is text → EndsWithText text (Err why) was is
+prints-part e why text was is same h = record { written = Err e; ends = ap failed same; writes = h }
 
 -- a replay on this link
 abbrev Replayed : LinkState → LinkState → Result Unit ReplayFault → Input → Input → Output → Output → Type 0
 Replayed link after replayed had has was is = Outcome asked_call CallsLink NeverIdles link after was is had has replayed
 
-abbrev link_said : Linking → LinkState
-link_said linking = new_link linking.device linking.first_handle 0 (span_size linking.span)
+abbrev given_link : Linking → LinkState
+given_link linking = new_link linking.device linking.first_handle 0 (span_size linking.span)
 
 pub replays-all : (linking : Linking) (link after : LinkState) (u : Unit {0}) (had has : Input) (was is : Output)
-    → link ≡ link_said linking → Replayed link after (Ok u) had has was is → ReplaysOn linking (Ok 0) had has was is
+    → link ≡ given_link linking → Replayed link after (Ok u) had has was is → ReplaysScript linking (Ok 0) had has was is
 replays-all linking link after u had has was is made h =
     record { after = after; replayed = Ok u; ends = refl; outcome = subst (λ (l : LinkState). Replayed l after (Ok u) had has was is) made h }
 
 pub replays-part : (linking : Linking) (link after : LinkState) (e : ReplayFault) (why : RunFault) (had has : Input) (was is : Output)
-    → why ≡ run_fault e → link ≡ link_said linking → Replayed link after (Err e) had has was is → ReplaysOn linking (Err why) had has was is
+    → why ≡ run_fault e → link ≡ given_link linking → Replayed link after (Err e) had has was is → ReplaysScript linking (Err why) had has was is
 replays-part linking link after e why had has was is same made h =
     record { after = after; replayed = Err e; ends = ap failed same; outcome = subst (λ (l : LinkState). Replayed l after (Err e) had has was is) made h }
 
-pub sends-all : (reach : Reach) (sending : Sending) (own : OwnPort) (before : EndState) (status : ℕ) (was is : Output) → IsOwnPort own
+pub sends-all : (reach : Reach) (sending : Sending) (own : OwnPort) (before : EndState) (status : ℕ) (was is : Output) → IsPortByClock own
     → AsksOver reach own.first_handle.0 sending before (Ok status) was is → SendsOne reach sending before (Ok status) was is
 sends-all reach sending own before status was is by h = record { own = own; by_clock = by; sent = Ok status; asks = h; ends = refl }
 
-pub sends-part : (reach : Reach) (sending : Sending) (own : OwnPort) (before : EndState) (e : WriteFailed) (why : RunFault) (was is : Output) → IsOwnPort own
+pub sends-part : (reach : Reach) (sending : Sending) (own : OwnPort) (before : EndState) (e : WriteFailed) (why : RunFault) (was is : Output) → IsPortByClock own
     → why ≡ Write → AsksOver reach own.first_handle.0 sending before (Err e) was is → SendsOne reach sending before (Err why) was is
 sends-part reach sending own before e why was is by same h = record { own = own; by_clock = by; sent = Err e; asks = h; ends = ap failed same }
 
@@ -73,6 +75,33 @@ runs-part session after e why had has was is same h = record { after = after; se
 pub done-so : (Done : ℕ → Type 0) (r : Result ℕ Failure) (is : Output) → IfOk r Done → IfErr r (λ failure. GivesUp failure is) → IsDone Done (fault_in r) is
 done-so Done (Ok status) is h k = h
 done-so Done (Err failure) is h k = k
+
+-- objects were locked and kept, or that stopped
+pub holds-so : (targets : List ℕ) (old new : PanelState) (r : Result ℕ Failure) (had has : Input) (was is : Output)
+    → IfOk r (λ status. HoldsAll targets old new status had has was is)
+    → IfErr r (λ failure. StopsHolding targets failure.fault old new had has was is)
+    → HoldsObjects targets old new (fault_in r) had has was is
+holds-so targets old new (Ok status) had has was is h k = h
+holds-so targets old new (Err failure) had has was is h k = k
+
+-- ---- the words of a run
+
+pub runs-as : (ws vs : List (List ℕ)) (status : ℕ) (had has : Input) (was is : Output) → ws ≡ vs
+    → RunsWords ws status had has was is → RunsWords vs status had has was is
+runs-as ws vs status had has was is same h = subst (λ (xs : List (List ℕ)). RunsWords xs status had has was is) same h
+
+by-set : (b : Bool) (ws : List (List ℕ)) → b ≡ is_set ws → matched_words ws ≡ (if b then map with_blank ws else ws)
+by-set b ws is = ap (λ (t : Bool). if t then map with_blank ws else ws) (sym is)
+
+pub runs-set : (ws : List (List ℕ)) (status : ℕ) (had has : Input) (was is : Output) → true ≡ is_set ws
+    → RunsWords (map with_blank ws) status had has was is → RunsProgram ws status had has was is
+runs-set ws status had has was is set h =
+    runs-as (map with_blank ws) (matched_words ws) status had has was is (sym (by-set true ws set)) h
+
+pub runs-others : (ws : List (List ℕ)) (status : ℕ) (had has : Input) (was is : Output) → false ≡ is_set ws
+    → RunsWords ws status had has was is → RunsProgram ws status had has was is
+runs-others ws status had has was is set h =
+    runs-as ws (matched_words ws) status had has was is (sym (by-set false ws set)) h
 
 pub on-err : (P : Type 0) (r : Result ℕ Failure) → OnErr r P → OnErr (fault_in r) P
 on-err P (Ok status) h = h

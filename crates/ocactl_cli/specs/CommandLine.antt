@@ -1,24 +1,14 @@
 -- What the program's command line takes, as `clap` reads it (*profile*).
-use Rattle.std.specs.Prelude.{◌≡◌, ℕ, Bool, true, false, List, [], ◌∷◌, ◌++◌, codes, Some}
+use Rattle.std.specs.Prelude.{◌≡◌, false, true, List, [], ◌∷◌, ◌++◌, codes, Some}
 use Rattle.clap.specs.Lexer.{usize_max}
 use Rattle.clap.specs.Walk.{Rule}
-use Rattle.clap.specs.Simple.{App, Shape, app_of, new_rule, new_shape, with_rule, with_subcommand}
+use Rattle.clap.specs.Simple.{App, Shape, app_of, new_rule, new_shape, with_subcommand}
 use Rattle.clap.specs.declared.builder.action.ArgAction.TheVariants as action
 use Rattle.clap.specs.declared.builder.command.Command.{Command}
 use Rattle.clap.specs.declared.builder.command.Command.TheViews.{out-Command}
+use Rattle.oca_program.specs.Commands.{command_shape, flag_rule, option_rule, required_rule}
 
 -- ---- options and words
-
--- an option with one value, which must be given or need not be
-abbrev pub option_rule : List ℕ → (required : Bool) → Rule
-option_rule name required =
-    record (new_rule name) { long = Some name; action = Some action.Set; value_names = 1; required = required }
-
-abbrev pub needed : List ℕ → Rule
-needed name = option_rule name true
-
-abbrev pub optional : List ℕ → Rule
-optional name = option_rule name false
 
 -- the words behind the options, one or more
 abbrev pub words_rule : Rule
@@ -30,59 +20,51 @@ words_rule =
       required = true;
     }
 
--- the same, of which one may be a negative number where `plain` is false
-abbrev pub values_rule : (plain : Bool) → Rule
-values_rule plain = record words_rule { is_simple = plain }
-
 -- the flag that keeps locks: it takes no value
 abbrev pub hold_rule : Rule
-hold_rule = record (new_rule (codes "hold")) { long = Some (codes "hold"); action = Some action.SetTrue }
+hold_rule = flag_rule (codes "hold")
 
 -- ---- commands
 
-abbrev pub with_rules : App → List Rule → App
-with_rules a [] = a
-with_rules a (rule ∷ rules) = with_rules (with_rule a rule) rules
-
-abbrev pub with_commands : App → List Shape → App
-with_commands a [] = a
-with_commands a (command ∷ commands) = with_commands (with_subcommand a command) commands
+abbrev pub with_shapes : App → List Shape → App
+with_shapes a [] = a
+with_shapes a (shape ∷ shapes) = with_shapes (with_subcommand a shape) shapes
 
 -- the options by which a device is reached
 abbrev pub reach_rules : List Rule
-reach_rules = needed (codes "device") ∷ optional (codes "span") ∷ optional (codes "first-handle") ∷ optional (codes "ip") ∷ []
+reach_rules =
+    required_rule (codes "device") ∷ option_rule (codes "span") ∷ option_rule (codes "first-handle")
+    ∷ option_rule (codes "ip") ∷ []
 
 abbrev pub objects_rules : List Rule
-objects_rules = reach_rules ++ optional (codes "turns") ∷ optional (codes "port") ∷ []
+objects_rules = reach_rules ++ option_rule (codes "turns") ∷ option_rule (codes "port") ∷ []
 
 abbrev pub set_rules : List Rule
-set_rules = objects_rules ++ optional (codes "ahead") ∷ []
+set_rules = objects_rules ++ option_rule (codes "ahead") ∷ []
 
 abbrev pub replay_rules : List Rule
-replay_rules = needed (codes "device") ∷ optional (codes "span") ∷ needed (codes "first-handle") ∷ []
+replay_rules =
+    required_rule (codes "device") ∷ option_rule (codes "span") ∷ required_rule (codes "first-handle") ∷ []
 
 abbrev pub send_rules : List Rule
 send_rules =
-    reach_rules ++ needed (codes "target") ∷ needed (codes "level") ∷ needed (codes "index") ∷ needed (codes "count")
-    ∷ optional (codes "params") ∷ optional (codes "turns") ∷ optional (codes "port") ∷ []
+    reach_rules ++ required_rule (codes "target") ∷ required_rule (codes "level") ∷ required_rule (codes "index")
+    ∷ required_rule (codes "count") ∷ option_rule (codes "params") ∷ option_rule (codes "turns")
+    ∷ option_rule (codes "port") ∷ []
 
 abbrev pub run_rules : List Rule
-run_rules = reach_rules ++ optional (codes "ahead") ∷ optional (codes "port") ∷ []
+run_rules = reach_rules ++ option_rule (codes "ahead") ∷ option_rule (codes "port") ∷ []
 
--- a command of this name that takes these
-abbrev pub command_of : List ℕ → List Rule → Shape
-command_of name rules = record (new_shape name) { rules = rules }
-
-abbrev pub commands : (plain : Bool) → List Shape
-commands plain =
-    command_of (codes "tree") objects_rules
-    ∷ command_of (codes "get") (objects_rules ++ words_rule ∷ [])
-    ∷ command_of (codes "set") (set_rules ++ values_rule plain ∷ [])
-    ∷ command_of (codes "lock") (objects_rules ++ hold_rule ∷ words_rule ∷ [])
-    ∷ command_of (codes "unlock") (objects_rules ++ words_rule ∷ [])
-    ∷ command_of (codes "replay") replay_rules
-    ∷ command_of (codes "send") send_rules
-    ∷ command_of (codes "run") run_rules ∷ []
+abbrev pub own_commands : List Shape
+own_commands =
+    command_shape (codes "tree") objects_rules
+    ∷ command_shape (codes "get") (objects_rules ++ words_rule ∷ [])
+    ∷ command_shape (codes "set") (set_rules ++ words_rule ∷ [])
+    ∷ command_shape (codes "lock") (objects_rules ++ hold_rule ∷ words_rule ∷ [])
+    ∷ command_shape (codes "unlock") (objects_rules ++ words_rule ∷ [])
+    ∷ command_shape (codes "replay") replay_rules
+    ∷ command_shape (codes "send") send_rules
+    ∷ command_shape (codes "run") run_rules ∷ []
 
 -- the program without its commands, one of which must be given
 abbrev pub bare_program : App
@@ -92,9 +74,9 @@ bare_program =
       subs = [];
     }
 
--- THE COMMAND LINE OF THE PROGRAM. Where `plain` is false, a value of `set` may be a negative number.
-unfoldable pub own_app : (plain : Bool) → App
-own_app plain = with_commands bare_program (commands plain)
+-- THE COMMAND LINE OF THE PROGRAM.
+unfoldable pub own_app : App
+own_app = with_shapes bare_program own_commands
 
 -- ---- commands as clap has them
 
@@ -103,6 +85,6 @@ abbrev pub IsOwn : Command → Type 0
 IsOwn command = (out-Command command).has_globals ≡ false
 
 -- it takes just these
-pub record Takes (a : App) (command : Command) : Type 0 where
+pub record TakesApp (a : App) (command : Command) : Type 0 where
   pub app : app_of command ≡ a
   pub own : IsOwn command

@@ -1,5 +1,7 @@
--- How commands fare that are sent over a network, one or those of lines (*profile*).
-use Rattle.std.specs.Prelude.{IfSome, MatchOption, Option, ◌≡◌, ℕ, ℤ, ◌-◌, ◌<◌, ◌≤◌, ◌==◌, Bool, ◌||◌, ◌&&◌, not, min, true, false, Some, None, if◌then◌else◌, List, [], ◌∷◌, ◌++◌, length, codes, Result, Ok, Err}
+-- The outcomes of commands that are sent over a network, one or those of lines (*profile*).
+use Rattle.std.specs.Prelude.{IfSome, MatchOption, Option, ◌≡◌, ℕ, ℤ, ◌-◌, ◌<◌, ◌≤◌, ◌==◌, Bool, ◌||◌, ◌&&◌, not, min}
+use Rattle.std.specs.Prelude.{true, false, Some, None, if◌then◌else◌, List, [], ◌∷◌, ◌++◌, length, codes, Result, Ok}
+use Rattle.std.specs.Prelude.{Err}
 use Rattle.oca_types.specs.declared.words.Handle.{Handle}
 use Rattle.oca_types.specs.Peers.{RequestFields}
 use Rattle.oca_net.specs.Ends.{last_u64}
@@ -23,11 +25,11 @@ use Rattle.ocactl_cli.specs.Requests.{LineAsked, Send, Wait, asked_line}
 use Rattle.ocactl_replay.specs.Printing.{answer_text, refusal_text}
 
 -- the line that is printed
-abbrev pub outcome_text : Outcome → List ℕ
-outcome_text (outcomes.Answered a) = answer_text (answer_fields a)
-outcome_text (outcomes.Refused fault) = refusal_text fault
-outcome_text outcomes.Lost = codes "lost\n"
-outcome_text outcomes.Unanswered = codes "no answer\n"
+abbrev pub outcome_line : Outcome → List ℕ
+outcome_line (outcomes.Answered a) = answer_text (answer_fields a)
+outcome_line (outcomes.Refused fault) = refusal_text fault
+outcome_line outcomes.Lost = codes "lost\n"
+outcome_line outcomes.Unanswered = codes "no answer\n"
 
 -- the exit status: 0 for an answer with the status 0, 4 for another, 3 where there is none
 abbrev pub outcome_status : Outcome → ℕ
@@ -38,11 +40,12 @@ outcome_status outcomes.Unanswered = 3
 
 -- What was written of an outcome, and the exit status, or a write failed.
 abbrev pub WritesOutcome : Outcome → Result ℕ WriteFailed → Output → Output → Type 0
-WritesOutcome outcome (Ok status) was is = (status ≡ outcome_status outcome) × WritesWhole was is (outcome_text outcome)
-WritesOutcome outcome (Err e) was is = WritesFront was is (outcome_text outcome)
+WritesOutcome outcome (Ok status) was is = (status ≡ outcome_status outcome) × WritesWhole was is (outcome_line outcome)
+WritesOutcome outcome (Err e) was is = WritesFront was is (outcome_line outcome)
 
--- ONE COMMAND was asked over an end, and how it fared was written.
-pub record AsksOnce (request : RequestFields) (turns : ℕ) (old new : LinkState) (before after : EndState) (result : Result ℕ WriteFailed) (was is : Output) : Type 0 where
+-- ONE COMMAND was asked over an end, and its outcome was written.
+pub record AsksOnce (request : RequestFields) (turns : ℕ) (old new : LinkState) (before after : EndState)
+    (result : Result ℕ WriteFailed) (was is : Output) : Type 0 where
   pub outcome : Outcome
   pub asks : Asks request turns old outcome new before after
   pub writes : WritesOutcome outcome result was is
@@ -53,25 +56,25 @@ pub record AsksOnce (request : RequestFields) (turns : ℕ) (old new : LinkState
 abbrev pub most_turns : ℕ
 most_turns = 4294967295
 
--- A link, what the end that it is driven over says of itself, the handles of the commands under way in the order of their lines, how
--- many may be, and whether a command got no answer so far; the end's descriptor, where it has one that is awaited beside
--- input; and whether a command was submitted.
+-- A link, what the end that it is driven over says of itself, the handles of the commands in flight in the order of
+-- their lines, how many may be, and whether a command got no answer so far; the end's descriptor, where it has one that
+-- is awaited beside input; and whether a command was submitted.
 pub record SessionState : Type 0 where
   pub link : LinkState
   pub end_state : EndState
-  pub under_way : List ℕ
+  pub in_flight : List ℕ
   pub ahead : ℕ
   pub unanswered : Bool
   pub socket : Option ℤ
   pub is_open : Bool
 
--- no command is under way
-abbrev pub NoneUnderWay : SessionState → Type 0
-NoneUnderWay s = length s.under_way ≤ 0
+-- no command is in flight
+abbrev pub NoneInFlight : SessionState → Type 0
+NoneInFlight s = length s.in_flight ≤ 0
 
--- there is nothing to do: no command is under way, and none was submitted or the link is lost
+-- there is nothing to do: no command is in flight, and none was submitted or the link is lost
 abbrev pub is_over : SessionState → Bool
-is_over s = (length s.under_way == 0) && (not s.is_open || s.link.lost)
+is_over s = (length s.in_flight == 0) && (not s.is_open || s.link.lost)
 
 -- How long input may be awaited before the next turn, in milliseconds: until this moment, an hour at most; and not at
 -- all where no descriptor is awaited beside it.
@@ -84,35 +87,37 @@ time_beside None due now = 0
 time_beside (Some socket) due now = time_until due now
 
 -- the next moment at which the link has something to send is counted from the end's present one
-pub record IsPatience (s : SessionState) (time : ℕ) : Type 0 where
+pub record IsWaitTime (s : SessionState) (time : ℕ) : Type 0 where
   pub now : ℕ
   pub due : Option ℕ
   pub present : IsPresent now s.end_state
   pub next : MatchOption due (NeverIsDue s.link) (λ t. IsNextDue s.link t)
   pub beside : time ≡ time_beside s.socket due now
 
--- The first command under way was waited for, and came out so.
+-- The first command in flight was waited for, and came out so.
 pub record AwaitsFirst (old new : SessionState) (outcome : Outcome) : Type 0 where
   pub handle : ℕ
-  pub first : old.under_way ≡ handle ∷ new.under_way
+  pub first : old.in_flight ≡ handle ∷ new.in_flight
   pub waits : Waits handle most_turns old.link outcome new.link old.end_state new.end_state
-  pub asks : new.end_state.receives < last_u64 → ReceivesSoOften most_turns outcome old.end_state.receives new.end_state.receives
+  pub asks : new.end_state.receives < last_u64
+      → ReceivesSoOften most_turns outcome old.end_state.receives new.end_state.receives
   pub ahead : new.ahead ≡ old.ahead
   pub unanswered : new.unanswered ≡ (old.unanswered || outcome_status outcome == 3)
   pub socket : new.socket ≡ old.socket
   pub is_open : new.is_open ≡ old.is_open
 
--- Commands under way were waited for, one after another, while more than `left` were; how each came out is printed.
+-- Commands in flight were waited for, one after another, while more than `left` were; how each came out is printed.
 pub data Awaits (left : ℕ) : (old new : SessionState) (text : List ℕ) → Type 0 where
   NoneAwaited : {s : SessionState} → Awaits left s s []
-  OneAwaited : {r s t : SessionState} {text : List ℕ} (outcome : Outcome) → Awaits left r s text → left < length s.under_way →
-      AwaitsFirst s t outcome → Awaits left r t (text ++ outcome_text outcome)
+  OneAwaited : {r s t : SessionState} {text : List ℕ} (outcome : Outcome) → Awaits left r s text
+      → left < length s.in_flight →
+      AwaitsFirst s t outcome → Awaits left r t (text ++ outcome_line outcome)
 
--- until at most so many are under way
+-- until at most so many are in flight
 abbrev pub AwaitsUntil : ℕ → SessionState → SessionState → List ℕ → Type 0
-AwaitsUntil left old new text = Awaits left old new text × (length new.under_way ≤ left)
+AwaitsUntil left old new text = Awaits left old new text × (length new.in_flight ≤ left)
 
--- the answer of the first command under way, where there is one, is not there, and the link is not lost
+-- the answer of the first command in flight, where there is one, is not there, and the link is not lost
 abbrev pub FirstIsOpen : LinkState → List ℕ → Type 0
 FirstIsOpen l [] = Unit {0}
 FirstIsOpen l (h ∷ hs) = (answer_under h l.untaken ≡ None) × (l.lost ≡ false)
@@ -121,23 +126,25 @@ FirstIsOpen l (h ∷ hs) = (answer_under h l.untaken ≡ None) × (l.lost ≡ fa
 pub record TakesOne (old new : SessionState) : Type 0 where
   pub report : DriveReport
   pub turns : Turns old.link new.link old.end_state new.end_state report
-  pub under_way : new.under_way ≡ old.under_way
+  pub in_flight : new.in_flight ≡ old.in_flight
   pub ahead : new.ahead ≡ old.ahead
   pub unanswered : new.unanswered ≡ old.unanswered
   pub socket : new.socket ≡ old.socket
   pub is_open : new.is_open ≡ old.is_open
 
--- WHILE INPUT IS AWAITED turns are taken, and it is printed how commands came out, in the order of their lines. A turn is taken only
--- where the first command under way has not come out yet.
+-- WHILE INPUT IS AWAITED turns are taken, and it is printed how commands came out, in the order of their lines. A turn
+-- is taken only where the first command in flight has not come out yet.
 pub data Idles : (old new : SessionState) (text : List ℕ) → Type 0 where
-  NothingDone : {s : SessionState} → Idles s s []
-  OneTurned : {r s t : SessionState} {text : List ℕ} → Idles r s text → FirstIsOpen s.link s.under_way → TakesOne s t → Idles r t text
-  OnePrinted : {r s t : SessionState} {text : List ℕ} (outcome : Outcome) → Idles r s text → AwaitsFirst s t outcome → Idles r t (text ++ outcome_text outcome)
+  IdledNot : {s : SessionState} → Idles s s []
+  OneTurned : {r s t : SessionState} {text : List ℕ} → Idles r s text → FirstIsOpen s.link s.in_flight → TakesOne s t
+      → Idles r t text
+  OnePrinted : {r s t : SessionState} {text : List ℕ} (outcome : Outcome) → Idles r s text → AwaitsFirst s t outcome
+      → Idles r t (text ++ outcome_line outcome)
 
--- The command got this handle and was given out at once, and is under way behind the others.
-pub record Submits (request : RequestFields) (handle : Handle) (old new : SessionState) : Type 0 where
+-- The command got this handle and was sent at once, and is in flight behind the others.
+pub record SubmitsCommand (request : RequestFields) (handle : Handle) (old new : SessionState) : Type 0 where
   pub begins : Begins request (Ok handle) old.link new.link old.end_state new.end_state
-  pub under_way : new.under_way ≡ old.under_way ++ handle.0 ∷ []
+  pub in_flight : new.in_flight ≡ old.in_flight ++ handle.0 ∷ []
   pub ahead : new.ahead ≡ old.ahead
   pub unanswered : new.unanswered ≡ old.unanswered
   pub socket : new.socket ≡ old.socket
@@ -147,19 +154,21 @@ pub record Submits (request : RequestFields) (handle : Handle) (old new : Sessio
 abbrev pub Refuses : RequestFields → ControlFault → SessionState → Type 0
 Refuses request fault s = Begins request (Err fault) s.link s.link s.end_state s.end_state
 
--- A command is submitted, and no more are waited for than need be, so that one more may be under way. Where it is refused all that are
--- under way are waited for first, and it is told behind them.
-abbrev pub Sends : RequestFields → Result Handle ControlFault → SessionState → SessionState → List ℕ → Type 0
-Sends request (Ok handle) old new text =
-    (s : SessionState) × Submits request handle old s × AwaitsUntil (old.ahead - 1) s new text
-Sends request (Err fault) old new text =
-    (s : SessionState) × (x : List ℕ) × Refuses request fault old × AwaitsUntil 0 old s x × (new ≡ record s { unanswered = true }) × (text ≡ x ++ outcome_text (refused_by fault))
+-- A command is submitted, and no more are waited for than need be, so that one more may be in flight. Where it is
+-- refused all that are in flight are waited for first, and that is printed behind them.
+abbrev pub SendsCommand : RequestFields → Result Handle ControlFault → SessionState → SessionState → List ℕ → Type 0
+SendsCommand request (Ok handle) old new text =
+    (s : SessionState) × SubmitsCommand request handle old s × AwaitsUntil (old.ahead - 1) s new text
+SendsCommand request (Err fault) old new text =
+    (s : SessionState) × (x : List ℕ) × Refuses request fault old × AwaitsUntil 0 old s x
+    × (new ≡ record s { unanswered = true }) × (text ≡ x ++ outcome_line (refused_by fault))
 
 -- WHAT A LINE DOES, from a session to the one after it, with the text that it prints.
-abbrev pub Serves : SessionState → LineAsked → SessionState → List ℕ → Type 0
-Serves old (Send request) new text =
-    (s : SessionState) × (x : List ℕ) × (y : List ℕ) × (returned : Result Handle ControlFault) × AwaitsUntil (old.ahead - 1) old s x × Sends request returned s new y × (text ≡ x ++ y)
-Serves old Wait new text = AwaitsUntil 0 old new text
+abbrev pub DoesLine : SessionState → LineAsked → SessionState → List ℕ → Type 0
+DoesLine old (Send request) new text =
+    (s : SessionState) × (x : List ℕ) × (y : List ℕ) × (returned : Result Handle ControlFault)
+    × AwaitsUntil (old.ahead - 1) old s x × SendsCommand request returned s new y × (text ≡ x ++ y)
+DoesLine old Wait new text = AwaitsUntil 0 old new text
 
 -- ---- all lines
 
@@ -168,8 +177,9 @@ abbrev pub ended_by : Result Unit WriteFailed → Result Unit ReplayFault → Re
 ended_by (Ok u) ended = ended
 ended_by (Err e) ended = Err Write
 
--- All that were still under way were waited for, and how they fared was written.
-pub record Concludes (ended : Result Unit ReplayFault) (old new : SessionState) (was is : Output) (result : Result Unit ReplayFault) : Type 0 where
+-- All that were still in flight were waited for, and their outcomes were written.
+pub record Concludes (ended : Result Unit ReplayFault) (old new : SessionState) (was is : Output)
+    (result : Result Unit ReplayFault) : Type 0 where
   pub text : List ℕ
   pub written : Result Unit WriteFailed
   pub awaits : AwaitsUntil 0 old new text
@@ -177,20 +187,23 @@ pub record Concludes (ended : Result Unit ReplayFault) (old new : SessionState) 
   pub ends : result ≡ ended_by written ended
 
 -- the same, unless a write had failed
-abbrev pub Finishes : Result Unit ReplayFault → SessionState → SessionState → Output → Output → Result Unit ReplayFault → Type 0
-Finishes (Ok u) old new was is result = Concludes (Ok u) old new was is result
-Finishes (Err (Line number fault)) old new was is result = Concludes (Err (Line number fault)) old new was is result
-Finishes (Err Read) old new was is result = Concludes (Err Read) old new was is result
-Finishes (Err Write) old new was is result = (result ≡ Err Write) × (new ≡ old) × (is ≡ was)
-Finishes (Err TooMuch) old new was is result = Concludes (Err TooMuch) old new was is result
+abbrev pub FinishesLines : Result Unit ReplayFault → SessionState → SessionState → Output → Output
+    → Result Unit ReplayFault → Type 0
+FinishesLines (Ok u) old new was is result = Concludes (Ok u) old new was is result
+FinishesLines (Err (Line number fault)) old new was is result =
+    Concludes (Err (Line number fault)) old new was is result
+FinishesLines (Err Read) old new was is result = Concludes (Err Read) old new was is result
+FinishesLines (Err Write) old new was is result = (result ≡ Err Write) × (new ≡ old) × (is ≡ was)
+FinishesLines (Err TooMuch) old new was is result = Concludes (Err TooMuch) old new was is result
 
--- THE LINES of a source were served one after another, between them it was idled while input was awaited, and then all commands under way were waited for. Where the bytes that the source
--- had are known, these were its lines; whatever source, there are bytes, those that it gave where it tells them, and the rest of what it
--- had, of which they were.
-pub record SendsLines (old new : SessionState) (was is : Output) (had has : Input) (result : Result Unit ReplayFault) : Type 0 where
+-- THE LINES of a source were served one after another, between them it was idled while input was awaited, and then all
+-- commands in flight were waited for. Where the bytes that the source had are known, these were its lines; whatever
+-- source, there are bytes, those that it gave where it is known which, and the rest of what it had, of which they were.
+pub record SendsLines (old new : SessionState) (was is : Output) (had has : Input)
+    (result : Result Unit ReplayFault) : Type 0 where
   pub middle : SessionState
   pub between : Output
   pub ended : Result Unit ReplayFault
-  pub known : IfSome had.remaining (λ given. Replays asked_line Serves Idles old middle was between ended given)
-  pub reads : ReadsLines asked_line Serves Idles old middle was between had has ended
-  pub finishes : Finishes ended middle new between is result
+  pub known : IfSome had.remaining (λ given. Replays asked_line DoesLine Idles old middle was between ended given)
+  pub reads : ReadsLines asked_line DoesLine Idles old middle was between had has ended
+  pub finishes : FinishesLines ended middle new between is result

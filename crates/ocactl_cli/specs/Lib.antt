@@ -1,9 +1,9 @@
 pub mod Requests
 pub mod Exchanges
-pub mod Hands
+pub mod Objects
 pub mod Reasons
 pub mod PrivateExchanges
-pub mod PrivateHands
+pub mod PrivateObjects
 pub mod Words
 pub mod Trees
 pub mod PrivateTrees

@@ -13,18 +13,20 @@ use Rattle.oca_control.specs.declared.outcome.Outcome.{Outcome}
 use Rattle.ocactl_cli.specs.declared.commands.Asked.{Asked}
 use Rattle.ocactl_cli.specs.declared.commands.Asked.TheVariants as asked
 use Rattle.ocactl_cli.specs.Requests.{LineAsked, Send, Wait}
-use Rattle.ocactl_cli.specs.Exchanges.{SessionState, AwaitsFirst, FirstIsOpen, Idles, Serves, Sends, AwaitsUntil, Submits, Refuses}
+use Rattle.ocactl_cli.specs.Exchanges.{SessionState, AwaitsFirst, FirstIsOpen, Idles, DoesLine, SendsCommand}
+use Rattle.ocactl_cli.specs.Exchanges.{AwaitsUntil, SubmitsCommand, Refuses}
 
 -- The text is printed, unless a write failed before.
-abbrev pub GoesOn : Result Unit WriteFailed → Result Unit WriteFailed → Output → Output → List ℕ → Type 0
-GoesOn (Ok u) result was is text = Prints result was is text
-GoesOn (Err e) result was is text = (result ≡ Err e) × (is ≡ was)
+abbrev pub PrintsUnlessFailed : Result Unit WriteFailed → Result Unit WriteFailed → Output → Output → List ℕ → Type 0
+PrintsUnlessFailed (Ok u) result was is text = Prints result was is text
+PrintsUnlessFailed (Err e) result was is text = (result ≡ Err e) × (is ≡ was)
 
 -- as many as need be were waited for, and printed as far as the writes went
-pub record AwaitsAndPrints (left : ℕ) (written : Result Unit WriteFailed) (old new : SessionState) (result : Result Unit WriteFailed) (was is : Output) : Type 0 where
+pub record AwaitsAndPrints (left : ℕ) (written : Result Unit WriteFailed) (old new : SessionState)
+    (result : Result Unit WriteFailed) (was is : Output) : Type 0 where
   pub text : List ℕ
   pub awaits : AwaitsUntil left old new text
-  pub prints : GoesOn written result was is text
+  pub prints : PrintsUnlessFailed written result was is text
 
 -- it was idled, and printed as far as the writes went
 pub record IdlesAndPrints (old new : SessionState) (result : Result Unit WriteFailed) (was is : Output) : Type 0 where
@@ -32,27 +34,29 @@ pub record IdlesAndPrints (old new : SessionState) (result : Result Unit WriteFa
   pub idles : Idles old new text
   pub prints : Prints result was is text
 
--- how the first command under way came out, where that is known without a turn
+-- how the first command in flight came out, where that is known without a turn
 abbrev pub TakesFirst : Option Outcome → SessionState → SessionState → Type 0
-TakesFirst None old new = (new ≡ old) × FirstIsOpen old.link old.under_way
+TakesFirst None old new = (new ≡ old) × FirstIsOpen old.link old.in_flight
 TakesFirst (Some outcome) old new = AwaitsFirst old new outcome
 
 -- a command was submitted or refused, and printed as far as the writes went
-pub record SendsAndPrints (request : RequestFields) (written : Result Unit WriteFailed) (old new : SessionState) (result : Result Unit WriteFailed) (was is : Output) : Type 0 where
+pub record SendsAndPrints (request : RequestFields) (written : Result Unit WriteFailed) (old new : SessionState)
+    (result : Result Unit WriteFailed) (was is : Output) : Type 0 where
   pub returned : Result Handle ControlFault
   pub text : List ℕ
-  pub sends : Sends request returned old new text
-  pub prints : GoesOn written result was is text
+  pub sends : SendsCommand request returned old new text
+  pub prints : PrintsUnlessFailed written result was is text
 
 -- a line was served, and printed as far as the writes went
-pub record ServesAndPrints (old : SessionState) (line : LineAsked) (new : SessionState) (result : Result Unit WriteFailed) (was is : Output) : Type 0 where
+pub record DoesLineAndPrints (old : SessionState) (line : LineAsked) (new : SessionState)
+    (result : Result Unit WriteFailed) (was is : Output) : Type 0 where
   pub text : List ℕ
-  pub serves : Serves old line new text
+  pub serves : DoesLine old line new text
   pub prints : Prints result was is text
 
 -- what a submission made of a session
 abbrev pub Submitted : RequestFields → Result Handle ControlFault → SessionState → SessionState → Type 0
-Submitted request (Ok handle) old new = Submits request handle old new
+Submitted request (Ok handle) old new = SubmitsCommand request handle old new
 Submitted request (Err fault) old new = (new ≡ old) × Refuses request fault old
 
 abbrev pub line_in : Asked → LineAsked

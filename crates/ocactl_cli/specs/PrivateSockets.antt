@@ -9,9 +9,9 @@ use Rattle.ocactl_cli.specs.Sockets.{IsLinkedOver, asks_first}
 use Rattle.ocactl_cli.specs.declared.words.Reach.{Reach}
 
 -- the same socket; or the same fault, maybe with another note
-abbrev pub IsNamed : Result SocketState Failure → Result SocketState Failure → Type 0
-IsNamed (Ok end_there) result = result ≡ Ok end_there
-IsNamed (Err failure) result = IsErrAnd result (λ named. named.fault ≡ failure.fault)
+abbrev pub IsSameButNoted : Result SocketState Failure → Result SocketState Failure → Type 0
+IsSameButNoted (Ok end_there) result = result ≡ Ok end_there
+IsSameButNoted (Err failure) result = IsErrAnd result (λ named. named.fault ≡ failure.fault)
 
 abbrev pub is_at : Option ℕ → ℕ → Bool
 is_at None port = false
@@ -23,7 +23,9 @@ IsMarked own (Ok end_there) result = result ≡ Ok (end_there, is_at own end_the
 IsMarked own (Err failure) result = result ≡ Err failure
 
 -- a link over the socket; or the same fault
-abbrev pub IsLinkedIfBound : Reach → OwnPort → Result (SocketState × Bool) Failure → Result (LinkState × WatchState) Failure → Type 0
+abbrev pub IsLinkedIfBound : Reach → OwnPort → Result (SocketState × Bool) Failure
+    → Result (LinkState × WatchState) Failure → Type 0
 IsLinkedIfBound reach own (Ok (end_there, is_own)) result =
-    IsOkAnd result (λ linked. IsLinkedOver (asks_first is_own reach.first_handle) reach own end_there.local linked.0 linked.1.end_state)
+    IsOkAnd result (λ linked.
+    IsLinkedOver (asks_first is_own reach.first_handle) reach own end_there.local linked.0 linked.1.end_state)
 IsLinkedIfBound reach own (Err failure) result = result ≡ Err failure

@@ -8,39 +8,44 @@ use Rattle.oca_panel.specs.declared.walk.Place.{Place}
 use Rattle.oca_panel.specs.declared.walk.Visit.{Visit}
 use Rattle.oca_panel.specs.Panels.{PanelState}
 use Rattle.oca_panel.specs.Walks.{WalkState, StepsToPlace}
-use Rattle.ocactl_cli.specs.Hands.{GivesUp, graver_of}
-use Rattle.ocactl_cli.specs.Trees.{Walks, gravest_visit, left_text, status_with, visit_status, visit_text, visits_text}
+use Rattle.ocactl_cli.specs.Objects.{GivesUp, max_severity}
+use Rattle.ocactl_cli.specs.Trees.{Walks, most_severe_visit, left_text, status_with_left, visit_status, visit_text}
+use Rattle.ocactl_cli.specs.Trees.{visits_text}
 
--- what is told of a place was written behind what was told before
-pub record TellsVisit (visit : Visit) (status now : ℕ) (was is : Output) : Type 0 where
-  pub worst : now ≡ graver_of status (visit_status visit)
+-- the lines of a place were written behind those before
+pub record ReportsVisit (visit : Visit) (status now : ℕ) (was is : Output) : Type 0 where
+  pub worst : now ≡ max_severity status (visit_status visit)
   pub writes : WritesWhole was is (visit_text visit)
 
--- a visit is told, where there was one; or the sink failed
-abbrev pub TellsFound : Option Visit → (status : ℕ) → Result (Option ℕ) Failure → Output → Output → Type 0
-TellsFound (Some visit) status (Ok (Some now)) was is = TellsVisit visit status now was is
-TellsFound (Some visit) status (Ok None) was is = ⊥
-TellsFound (Some visit) status (Err failure) was is = (failure.fault ≡ Write) × (is.failed ≡ true)
-TellsFound None status result was is = (result ≡ Ok None) × (is ≡ was)
+-- the lines of a visit are written, where there was one; or the sink failed
+abbrev pub ReportsFound : Option Visit → (status : ℕ) → Result (Option ℕ) Failure → Output → Output → Type 0
+ReportsFound (Some visit) status (Ok (Some now)) was is = ReportsVisit visit status now was is
+ReportsFound (Some visit) status (Ok None) was is = ⊥
+ReportsFound (Some visit) status (Err failure) was is = (failure.fault ≡ Write) × (is.failed ≡ true)
+ReportsFound None status result was is = (result ≡ Ok None) × (is ≡ was)
 
--- The next place was visited and told, or there was none; or it was given up.
-pub record TakesStep (status : ℕ) (result : Result (Option ℕ) Failure) (walk : WalkState) (old : PanelState) (was : Output) (further : WalkState) (new : PanelState) (is : Output) : Type 0 where
+-- The next place was visited and its lines were written, or there was none; or it was given up.
+pub record TakesStep (status : ℕ) (result : Result (Option ℕ) Failure) (walk : WalkState) (old : PanelState)
+    (was : Output) (further : WalkState) (new : PanelState) (is : Output) : Type 0 where
   pub found : Option Visit
   pub steps : StepsToPlace walk old new found further
-  pub tells : TellsFound found status result was is
+  pub reports : ReportsFound found status result was is
 
-abbrev pub VisitsOne : (status : ℕ) → Result (Option ℕ) Failure → WalkState → PanelState → Output → WalkState → PanelState → Output → Type 0
+abbrev pub VisitsOne : (status : ℕ) → Result (Option ℕ) Failure → WalkState → PanelState → Output → WalkState
+    → PanelState → Output → Type 0
 VisitsOne status (Ok now) walk old was further new is = TakesStep status (Ok now) walk old was further new is
 VisitsOne status (Err failure) walk old was further new is = GivesUp failure is
 
--- all that was visited and told so far
-pub record WalkedTo (start : WalkState) (old : PanelState) (was : Output) (walk : WalkState) (new : PanelState) (status : ℕ) (is : Output) : Type 0 where
+-- all that was visited, and the lines that were written so far
+pub record WalkedTo (start : WalkState) (old : PanelState) (was : Output) (walk : WalkState) (new : PanelState)
+    (status : ℕ) (is : Output) : Type 0 where
   pub visits : List Visit
   pub walks : Walks start old visits walk new
-  pub worst : status ≡ gravest_visit visits
+  pub worst : status ≡ most_severe_visit visits
   pub writes : WritesWhole was is (visits_text visits)
 
--- that places are left is told, where some are; or the sink failed
-abbrev pub TellsLeft : List Place → (status : ℕ) → Result ℕ Failure → Output → Output → Type 0
-TellsLeft places status (Ok now) was is = (now ≡ status_with places status) × WritesWhole was is (left_text places)
-TellsLeft places status (Err failure) was is = (failure.fault ≡ Write) × (is.failed ≡ true)
+-- that places are left is printed, where some are; or the sink failed
+abbrev pub ReportsLeft : List Place → (status : ℕ) → Result ℕ Failure → Output → Output → Type 0
+ReportsLeft places status (Ok now) was is =
+    (now ≡ status_with_left places status) × WritesWhole was is (left_text places)
+ReportsLeft places status (Err failure) was is = (failure.fault ≡ Write) × (is.failed ≡ true)

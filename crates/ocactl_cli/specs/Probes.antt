@@ -26,24 +26,27 @@ handle_in (Ok handle) = Some handle
 handle_in (Err fault) = None
 
 -- an answer came
-abbrev pub is_answered : Outcome → Bool
-is_answered (outcomes.Answered a) = true
-is_answered other = false
+abbrev pub has_answer : Outcome → Bool
+has_answer (outcomes.Answered a) = true
+has_answer other = false
 
 -- A keep-alive of five seconds was sent to the device.
 abbrev pub SendsKeepAlive : Peer → EndState → EndState → Type 0
-SendsKeepAlive device before after = (sent : Bool) × Sends sent device (pdu_encoding (OneKeepAlive (Seconds 5))) before after
+SendsKeepAlive device before after =
+    (sent : Bool) × Sends sent device (pdu_encoding (OneKeepAlive (Seconds 5))) before after
 
 -- One round: a keep-alive was sent, and the answer waited for, five turns at most.
-pub record AsksRound (device : Peer) (h : ℕ) (answered : Bool) (old new : LinkState) (before after : EndState) : Type 0 where
+pub record AsksRound (device : Peer) (h : ℕ) (answered : Bool) (old new : LinkState)
+    (before after : EndState) : Type 0 where
   pub between : EndState
   pub outcome : Outcome
   pub keeps : SendsKeepAlive device before between
   pub waits : Waits h 5 old outcome new between after
-  pub answers : answered ≡ is_answered outcome
+  pub answers : answered ≡ has_answer outcome
 
 -- so many rounds, without an answer
-pub data AsksInVain (device : Peer) (h : ℕ) : (rounds : ℕ) (old new : LinkState) (before after : EndState) → Type 0 where
+pub data AsksInVain (device : Peer) (h : ℕ) : (rounds : ℕ) (old new : LinkState) (before after : EndState)
+    → Type 0 where
   NoRound : {l : LinkState} {e : EndState} → AsksInVain device h 0 l l e e
   OneRound : {n : ℕ} {l m o : LinkState} {d e f : EndState} → AsksInVain device h n l m d e
       → AsksRound device h false m o e f → AsksInVain device h (n + 1) l o d f
@@ -56,7 +59,7 @@ AsksRounds device h true old new before after =
     × AsksRound device h true m new e after
 
 -- The question was submitted to a new link under this handle at moment 0, and sent; and whether it was answered.
-pub record Asks (device : Peer) (first : ℕ) (answered : Bool) (before after : EndState) : Type 0 where
+pub record AsksQuestion (device : Peer) (first : ℕ) (answered : Bool) (before after : EndState) : Type 0 where
   pub link : LinkState
   pub last : LinkState
   pub between : EndState
@@ -68,5 +71,5 @@ pub record Asks (device : Peer) (first : ℕ) (answered : Bool) (before after : 
 -- this was found, by whether the question was answered and when the device was heard.
 pub record Probes (device : Peer) (first : ℕ) (before : EndState) (asked : WatchState) (found : Found) : Type 0 where
   pub answered : Bool
-  pub asks : Asks device first answered before asked.end_state
+  pub asks : AsksQuestion device first answered before asked.end_state
   pub by : found ≡ found_by answered asked.heard

@@ -30,10 +30,11 @@ heard_after heards.Closed peer before = before
 -- whether a device answers the commands of a port, by whether it answered one, and when it was heard
 abbrev pub found_by : Bool → Option ℕ → Found
 found_by true heard = found.Answering
-found_by false (Some moment) = found.Deaf
-found_by false None = found.Unheard
+found_by false (Some moment) = found.NotAnswering
+found_by false None = found.NotHeard
 
--- why a device that was not heard gave no answer, by whether it is heard when it is asked now and whether its host refuses its port
+-- why a device that was not heard gave no answer, by whether it is heard when it is asked now and whether its host
+-- refuses its port
 abbrev pub reason_unheard : (is_there is_refused : Bool) → Reason
 reason_unheard true is_refused = reasons.AnswersNone
 reason_unheard false true = reasons.Refused
@@ -45,6 +46,6 @@ reason_by now (Some moment) is_there is_refused = reasons.HeardBefore (now - mom
 reason_by now None is_there is_refused = reason_unheard is_there is_refused
 
 -- the first handle: that of the words, where they give one
-abbrev pub first_of : Option ℕ → ℕ → ℕ
-first_of None else_one = else_one
-first_of (Some handle) else_one = handle
+abbrev pub first_handle_for : Option ℕ → ℕ → ℕ
+first_handle_for None else_one = else_one
+first_handle_for (Some handle) else_one = handle

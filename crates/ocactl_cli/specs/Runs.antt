@@ -21,18 +21,22 @@ use Rattle.oca_program.specs.declared.fault.RunFault.TheVariants as fault
 use Rattle.oca_panel.specs.Panels.{PanelState}
 use Rattle.ocactl_replay.specs.Requests.{asked_call}
 use Rattle.ocactl_replay.specs.Replaying.{Serves as CallsLink}
-use Rattle.ocactl_cli.specs.Asked.{AsksFor, IsRefusal}
+use Rattle.ocactl_cli.specs.Asked.{OptionsAsk, IsRefusal}
 use Rattle.ocactl_cli.specs.Exchanges.{AsksOnce, SendsLines, SessionState}
-use Rattle.ocactl_cli.specs.Hands.{AsksAll, HoldsAll, Gets, Locks, SetsAll, SetsNoneUnfound, is_locking}
-use Rattle.ocactl_cli.specs.PrivateHands.{number_of, pair_of}
-use Rattle.ocactl_cli.specs.Matching.{AreMatched}
-use Rattle.ocactl_cli.specs.Sockets.{IsOwnPort, IsReached, IsUnreached, end_at, link_for, port_or_any}
+use Rattle.ocactl_cli.specs.Objects.{AsksAll, AsksPart, HoldsAll, StopsHolding, Gets, Locks, SetsAll, SetsNoneUnfound}
+use Rattle.ocactl_cli.specs.Objects.{is_locking}
+use Rattle.ocactl_cli.specs.PrivateObjects.{ono_number, pair_of}
+use Rattle.oca_program.specs.Commands.{MatchingGives}
+use Rattle.ocactl_cli.specs.CommandLine.{own_app}
+use Rattle.ocactl_cli.specs.Matching.{matched_words}
+use Rattle.oca_panel.specs.OwnPorts.{IsPortByClock}
+use Rattle.ocactl_cli.specs.Sockets.{IsReached, IsUnreached, end_at, link_for, port_or_any}
 use Rattle.oca_panel.specs.declared.own_port.OwnPort.{OwnPort}
 use Rattle.oca_types.specs.declared.words.Peer.{Peer}
 use Rattle.oca_net.specs.Sockets.{IsBoundAt}
 use Rattle.ocactl_cli.specs.Trees.{PrintsTree}
 use Rattle.ocactl_cli.specs.Words.{sending_fields}
-use Rattle.ocactl_cli.specs.declared.told.Told.{Told}
+use Rattle.ocactl_cli.specs.declared.object_line.ObjectLine.{ObjectLine}
 use Rattle.ocactl_cli.specs.declared.tasks.Task.{Task}
 use Rattle.ocactl_cli.specs.declared.tasks.Task.TheVariants as task
 use Rattle.ocactl_cli.specs.declared.words.Asked.{Asked}
@@ -44,72 +48,78 @@ use Rattle.ocactl_cli.specs.declared.words.Sending.{Sending}
 -- ---- how a run ends
 
 -- with a status, or with this fault
-abbrev pub exit_status : Result ℕ RunFault → ℕ
-exit_status (Ok status) = status
-exit_status (Err why) = fault_status why
+abbrev pub run_status : Result ℕ RunFault → ℕ
+run_status (Ok status) = status
+run_status (Err why) = fault_status why
 
 -- by what was written last
-abbrev pub when_written : Result Unit WriteFailed → Result ℕ RunFault
-when_written (Ok done) = Ok 0
-when_written (Err e) = Err fault.Write
+abbrev pub ended_by_write : Result Unit WriteFailed → Result ℕ RunFault
+ended_by_write (Ok done) = Ok 0
+ended_by_write (Err e) = Err fault.Write
 
 -- by how the replay ended
-abbrev pub when_replayed : Result Unit ReplayFault → Result ℕ RunFault
-when_replayed (Ok done) = Ok 0
-when_replayed (Err e) = Err (run_fault e)
+abbrev pub ended_by_replay : Result Unit ReplayFault → Result ℕ RunFault
+ended_by_replay (Ok done) = Ok 0
+ended_by_replay (Err e) = Err (run_fault e)
 
--- by what was written of the one command that was sent, whose status is that of how it fared
-abbrev pub when_sent : Result ℕ WriteFailed → Result ℕ RunFault
-when_sent (Ok status) = Ok status
-when_sent (Err e) = Err fault.Write
+-- by what was written of the one command that was sent, whose status is that of its outcome
+abbrev pub ended_by_send : Result ℕ WriteFailed → Result ℕ RunFault
+ended_by_send (Ok status) = Ok status
+ended_by_send (Err e) = Err fault.Write
 
 -- by how the lines of commands ended: 3 where one of them got no answer
-abbrev pub when_run : Bool → Result Unit ReplayFault → Result ℕ RunFault
-when_run unanswered (Ok done) = Ok (if unanswered then 3 else 0)
-when_run unanswered (Err e) = Err (run_fault e)
+abbrev pub ended_by_lines : Bool → Result Unit ReplayFault → Result ℕ RunFault
+ended_by_lines unanswered (Ok done) = Ok (if unanswered then 3 else 0)
+ended_by_lines unanswered (Err e) = Err (run_fault e)
 
 -- with this fault, and nothing was written
-pub record FailsWith (why : RunFault) (ended : Result ℕ RunFault) (was is : Output) : Type 0 where
+pub record FailsUnwritten (why : RunFault) (ended : Result ℕ RunFault) (was is : Output) : Type 0 where
   pub ends : ended ≡ Err why
   pub writes : is ≡ was
 
 -- nothing was read or written, and it failed with this fault
-abbrev pub Stops : RunFault → Result ℕ RunFault → Input → Input → Output → Output → Type 0
-Stops why ended had has was is = FailsWith why ended was is × (has ≡ had)
+abbrev pub FailsUntouched : RunFault → Result ℕ RunFault → Input → Input → Output → Output → Type 0
+FailsUntouched why ended had has was is = FailsUnwritten why ended was is × (has ≡ had)
 
 -- the text was written, as far as the writes went
-pub record Tells (text : List ℕ) (ended : Result ℕ RunFault) (was is : Output) : Type 0 where
+pub record EndsWithText (text : List ℕ) (ended : Result ℕ RunFault) (was is : Output) : Type 0 where
   pub written : Result Unit WriteFailed
-  pub ends : ended ≡ when_written written
+  pub ends : ended ≡ ended_by_write written
   pub writes : WritesOut written was is text
 
 -- ---- replay
 
 -- THE SCRIPT on standard input was replayed on a new link, which is as the words say.
-pub record ReplaysOn (linking : Linking) (ended : Result ℕ RunFault) (had has : Input) (was is : Output) : Type 0 where
+pub record ReplaysScript (linking : Linking) (ended : Result ℕ RunFault) (had has : Input)
+    (was is : Output) : Type 0 where
   pub after : LinkState
   pub replayed : Result Unit ReplayFault
-  pub ends : ended ≡ when_replayed replayed
-  pub outcome : Outcome asked_call CallsLink NeverIdles (new_link linking.device linking.first_handle 0 (span_size linking.span)) after was is had has replayed
+  pub ends : ended ≡ ended_by_replay replayed
+  pub outcome : Outcome asked_call CallsLink NeverIdles
+      (new_link linking.device linking.first_handle 0 (span_size linking.span)) after was is had has replayed
 
 -- ---- one command
 
--- It was asked over a new link and an end that did nothing before, for as many turns as were said, and how it fared was
--- written.
-pub record AsksOver (reach : Reach) (first : ℕ) (sending : Sending) (before : EndState) (sent : Result ℕ WriteFailed) (was is : Output) : Type 0 where
+-- It was asked over a new link and an end that did nothing before, for as many turns as were given, and its outcome
+-- was written.
+pub record AsksOver (reach : Reach) (first : ℕ) (sending : Sending) (before : EndState) (sent : Result ℕ WriteFailed)
+    (was is : Output) : Type 0 where
   pub after : LinkState
   pub behind : EndState
-  pub asks : AsksOnce (sending_fields sending).command sending.turns (link_for reach first 0) after before behind sent was is
+  pub asks : AsksOnce (sending_fields sending).command sending.turns (link_for reach first 0) after before behind sent
+      was is
 
--- The status is that of how it fared, by a first handle of the clock's where none is said.
-pub record SendsOne (reach : Reach) (sending : Sending) (before : EndState) (ended : Result ℕ RunFault) (was is : Output) : Type 0 where
+-- The status is that of its outcome, by a first handle of the clock's where none is given.
+pub record SendsOne (reach : Reach) (sending : Sending) (before : EndState) (ended : Result ℕ RunFault)
+    (was is : Output) : Type 0 where
   pub own : OwnPort
-  pub by_clock : IsOwnPort own
+  pub by_clock : IsPortByClock own
   pub sent : Result ℕ WriteFailed
   pub asks : AsksOver reach own.first_handle.0 sending before sent was is
-  pub ends : ended ≡ when_sent sent
+  pub ends : ended ≡ ended_by_send sent
 
--- over a socket that was bound at the address that was said, and at the port that was said or one of the system's choice
+-- over a socket that was bound at the address that was given, and at the port that was given or one of the system's
+-- choice
 pub record SendsBound (reach : Reach) (sending : Sending) (ended : Result ℕ RunFault) (was is : Output) : Type 0 where
   pub local : Peer
   pub bound : IsBoundAt reach.ip (port_or_any reach.port) local
@@ -118,17 +128,18 @@ pub record SendsBound (reach : Reach) (sending : Sending) (ended : Result ℕ Ru
 -- ONE COMMAND was sent, or the device was not reached.
 abbrev pub SendsAt : Reach → Sending → Result ℕ RunFault → Output → Output → Type 0
 SendsAt reach sending ended was is =
-    SendsBound reach sending ended was is ⊎ ((why : RunFault) × IsUnreached why × FailsWith why ended was is)
+    SendsBound reach sending ended was is ⊎ ((why : RunFault) × IsUnreached why × FailsUnwritten why ended was is)
 
 -- ---- commands of lines
 
--- a session over a new link, in which as many commands may be under way, and the descriptor that is awaited beside input
+-- a session over a new link, in which as many commands may be in flight, and the descriptor that is awaited beside
+-- input
 abbrev pub new_session : LinkState → EndState → ℕ → Option ℤ → SessionState
 new_session link end_state ahead socket =
     record {
       link = link;
       end_state = end_state;
-      under_way = [];
+      in_flight = [];
       ahead = ahead;
       unanswered = false;
       socket = socket;
@@ -136,14 +147,16 @@ new_session link end_state ahead socket =
     }
 
 -- The commands on standard input were sent over this session; the status is 3 where one of them got no answer.
-pub record RunsFrom (session : SessionState) (ended : Result ℕ RunFault) (had has : Input) (was is : Output) : Type 0 where
+pub record RunsFrom (session : SessionState) (ended : Result ℕ RunFault) (had has : Input)
+    (was is : Output) : Type 0 where
   pub after : SessionState
   pub sent : Result Unit ReplayFault
   pub sends : SendsLines session after was is had has sent
-  pub ends : ended ≡ when_run after.unanswered sent
+  pub ends : ended ≡ ended_by_lines after.unanswered sent
 
--- over a new link to a device that is reached as the words say, up to as many at once as were said
-pub record RunsLines (reach : Reach) (ahead : ℕ) (ended : Result ℕ RunFault) (had has : Input) (was is : Output) : Type 0 where
+-- over a new link to a device that is reached as the words say, up to as many at once as were given
+pub record RunsLines (reach : Reach) (ahead : ℕ) (ended : Result ℕ RunFault) (had has : Input)
+    (was is : Output) : Type 0 where
   pub link : LinkState
   pub end_state : EndState
   pub socket : ℤ
@@ -152,7 +165,7 @@ pub record RunsLines (reach : Reach) (ahead : ℕ) (ended : Result ℕ RunFault)
 
 -- nothing was read or written, since the device was not reached
 abbrev pub Unreached : Result ℕ RunFault → Input → Input → Output → Output → Type 0
-Unreached ended had has was is = (why : RunFault) × IsUnreached why × Stops why ended had has was is
+Unreached ended had has was is = (why : RunFault) × IsUnreached why × FailsUntouched why ended had has was is
 
 -- THE COMMANDS of standard input were sent, or the device was not reached.
 abbrev pub RunsAt : Reach → ℕ → Result ℕ RunFault → Input → Input → Output → Output → Type 0
@@ -170,19 +183,21 @@ IsDone Done (Ok status) is = Done status
 IsDone Done (Err why) is = IsGivenUp why is
 
 -- of each of these objects this was asked, or a write failed
-abbrev pub AsksEach : (ℕ → PanelState → PanelState → Told → Type 0) → List ℕ → PanelState → PanelState → Result ℕ RunFault → Output → Output → Type 0
+abbrev pub AsksEach : (ℕ → PanelState → PanelState → ObjectLine → Type 0) → List ℕ → PanelState → PanelState
+    → Result ℕ RunFault → Output → Output → Type 0
 AsksEach One targets old new (Ok status) was is = AsksAll One targets old new status was is
-AsksEach One targets old new (Err why) was is = (why ≡ fault.Write) × (is.failed ≡ true)
+AsksEach One targets old new (Err why) was is = (why ≡ fault.Write) × AsksPart One targets old new was is
 
 -- they were set, so many at once, or none was
 abbrev pub SetsObjects : ℕ → List (ℕ × List ℕ) → PanelState → PanelState → Result ℕ RunFault → Output → Output → Type 0
 SetsObjects ahead pairs old new ended was is =
     IsDone (λ status. SetsAll ahead pairs old new status was is) ended is × OnErr ended (SetsNoneUnfound pairs old new)
 
--- they were locked, and kept so until the input ended
-abbrev pub HoldsObjects : List ℕ → PanelState → PanelState → Result ℕ RunFault → Input → Input → Output → Output → Type 0
-HoldsObjects targets old new ended had has was is =
-    IsDone (λ status. HoldsAll targets old new status had has was is) ended is
+-- they were locked, and kept so until the input ended; or that stopped
+abbrev pub HoldsObjects : List ℕ → PanelState → PanelState → Result ℕ RunFault → Input → Input → Output → Output
+    → Type 0
+HoldsObjects targets old new (Ok status) had has was is = HoldsAll targets old new status had has was is
+HoldsObjects targets old new (Err why) had has was is = StopsHolding targets why old new had has was is
 
 -- all were printed as a tree
 abbrev pub PrintsObjects : PanelState → PanelState → Result ℕ RunFault → Output → Output → Type 0
@@ -191,14 +206,15 @@ PrintsObjects old new ended was is = IsDone (λ status. PrintsTree old new statu
 -- A TASK was done over a panel. All but the keeping of locks leaves standard input as it is.
 abbrev pub DoesTask : Task → PanelState → PanelState → Result ℕ RunFault → Input → Input → Output → Output → Type 0
 DoesTask (task.Get onos) old new ended had has was is =
-    AsksEach Gets (map number_of onos.items) old new ended was is × (has ≡ had)
+    AsksEach Gets (map ono_number onos.items) old new ended was is × (has ≡ had)
 DoesTask (task.Set ahead pairs) old new ended had has was is =
     SetsObjects (span_size ahead) (map pair_of pairs.items) old new ended was is × (has ≡ had)
 DoesTask (task.Lock onos) old new ended had has was is =
-    AsksEach (Locks true) (map number_of onos.items) old new ended was is × (has ≡ had)
-DoesTask (task.Hold onos) old new ended had has was is = HoldsObjects (map number_of onos.items) old new ended had has was is
+    AsksEach (Locks true) (map ono_number onos.items) old new ended was is × (has ≡ had)
+DoesTask (task.Hold onos) old new ended had has was is =
+    HoldsObjects (map ono_number onos.items) old new ended had has was is
 DoesTask (task.Unlock onos) old new ended had has was is =
-    AsksEach (Locks false) (map number_of onos.items) old new ended was is × (has ≡ had)
+    AsksEach (Locks false) (map ono_number onos.items) old new ended was is × (has ≡ had)
 DoesTask task.Tree old new ended had has was is = PrintsObjects old new ended was is × (has ≡ had)
 
 -- a panel over a new link, each of whose commands waits so many turns
@@ -206,8 +222,9 @@ abbrev pub new_panel : LinkState → EndState → ℕ → PanelState
 new_panel link end_state turns = record { link = link; end_state = end_state; turns = turns; unanswered = false }
 
 -- It was done over a new link to a device that is reached as the words say, whose commands wait as many turns as were
--- said. For locks the socket is at the program's own port, where none was said.
-pub record DoesOver (reach : Reach) (turns : ℕ) (what : Task) (ended : Result ℕ RunFault) (had has : Input) (was is : Output) : Type 0 where
+-- given. For locks the socket is at the program's own port, where none was given.
+pub record DoesOver (reach : Reach) (turns : ℕ) (what : Task) (ended : Result ℕ RunFault) (had has : Input)
+    (was is : Output) : Type 0 where
   pub link : LinkState
   pub end_state : EndState
   pub after : PanelState
@@ -222,56 +239,64 @@ DoesAt reach turns what ended had has was is =
 -- ---- the whole run
 
 -- WHAT WAS ASKED FOR WAS DONE.
-abbrev pub Does : Asked → Result ℕ RunFault → Input → Input → Output → Output → Type 0
-Does (asked.Replay linking) ended had has was is = ReplaysOn linking ended had has was is
-Does (asked.Send reach sending) ended had has was is = SendsAt reach sending ended was is × (has ≡ had)
-Does (asked.Run reach ahead) ended had has was is = RunsAt reach (span_size ahead) ended had has was is
-Does (asked.Do reach turns what) ended had has was is = DoesAt reach turns what ended had has was is
+abbrev pub DoesRequest : Asked → Result ℕ RunFault → Input → Input → Output → Output → Type 0
+DoesRequest (asked.Replay linking) ended had has was is = ReplaysScript linking ended had has was is
+DoesRequest (asked.Send reach sending) ended had has was is = SendsAt reach sending ended was is × (has ≡ had)
+DoesRequest (asked.Run reach ahead) ended had has was is = RunsAt reach (span_size ahead) ended had has was is
+DoesRequest (asked.Do reach turns what) ended had has was is = DoesAt reach turns what ended had has was is
 
 -- what a command with these options asks for
-pub record DoesIt (name : List ℕ) (options : ArgMatches) (ended : Result ℕ RunFault) (had has : Input) (was is : Output) : Type 0 where
+pub record DoesAsAsked (name : List ℕ) (options : ArgMatches) (ended : Result ℕ RunFault) (had has : Input)
+    (was is : Output) : Type 0 where
   pub asked : Asked
-  pub asks : AsksFor name options asked
-  pub does : Does asked ended had has was is
+  pub asks : OptionsAsk name options asked
+  pub does : DoesRequest asked ended had has was is
 
 -- nothing was read or written, since the words ask for nothing, or there was no memory
 abbrev pub Refused : Result ℕ RunFault → Input → Input → Output → Output → Type 0
-Refused ended had has was is = (why : RunFault) × IsRefusal why × Stops why ended had has was is
+Refused ended had has was is = (why : RunFault) × IsRefusal why × FailsUntouched why ended had has was is
 
-abbrev pub DoesAsked : List ℕ → ArgMatches → Result ℕ RunFault → Input → Input → Output → Output → Type 0
-DoesAsked name options ended had has was is = DoesIt name options ended had has was is ⊎ Refused ended had has was is
+abbrev pub DoesByOptions : List ℕ → ArgMatches → Result ℕ RunFault → Input → Input → Output → Output → Type 0
+DoesByOptions name options ended had has was is =
+    DoesAsAsked name options ended had has was is ⊎ Refused ended had has was is
 
-abbrev pub DoesCommand : Option (List ℕ × ArgMatches) → Result ℕ RunFault → Input → Input → Output → Output → Type 0
-DoesCommand None ended had has was is = Stops fault.BadWords ended had has was is
-DoesCommand (Some (name, options)) ended had has was is = DoesAsked name options ended had has was is
+abbrev pub DoesNamed : Option (List ℕ × ArgMatches) → Result ℕ RunFault → Input → Input → Output → Output → Type 0
+DoesNamed None ended had has was is = FailsUntouched fault.BadWords ended had has was is
+DoesNamed (Some (name, options)) ended had has was is = DoesByOptions name options ended had has was is
 
 -- The command that matched words name was done, with its options.
-pub record Obeys (words : ArgMatches) (ended : Result ℕ RunFault) (had has : Input) (was is : Output) : Type 0 where
+pub record DoesMatchedCommand (words : ArgMatches) (ended : Result ℕ RunFault) (had has : Input)
+    (was is : Output) : Type 0 where
   pub command : Option (List ℕ × ArgMatches)
   pub names : IsCommand words command
-  pub does : DoesCommand command ended had has was is
+  pub does : DoesNamed command ended had has was is
 
 -- a text was asked for, and printed; or there was no memory for it
-abbrev pub HelpsOut : Result ℕ RunFault → Output → Output → Type 0
-HelpsOut ended was is = ((text : List ℕ) × Tells text ended was is) ⊎ FailsWith fault.NoMemory ended was is
+abbrev pub PrintsHelp : Result ℕ RunFault → Output → Output → Type 0
+PrintsHelp ended was is =
+    ((text : List ℕ) × EndsWithText text ended was is) ⊎ FailsUnwritten fault.NoMemory ended was is
 
 -- WORDS THAT WERE NOT MATCHED: where they ask for the text of `--help` or of `--version`, that is printed, and the
 -- status is 0; else nothing is printed, and the run fails, since the words are bad or memory was refused.
-abbrev pub Helps : ErrorKind → Result ℕ RunFault → Output → Output → Type 0
-Helps kinds.DisplayHelp ended was is = HelpsOut ended was is
-Helps kinds.DisplayVersion ended was is = HelpsOut ended was is
-Helps kind ended was is = FailsWith (words_fault kind) ended was is
+abbrev pub AnswersUnmatched : ErrorKind → Result ℕ RunFault → Output → Output → Type 0
+AnswersUnmatched kinds.DisplayHelp ended was is = PrintsHelp ended was is
+AnswersUnmatched kinds.DisplayVersion ended was is = PrintsHelp ended was is
+AnswersUnmatched kind ended was is = FailsUnwritten (words_fault kind) ended was is
 
 -- by what matching the words gave
-abbrev pub DoesMatched : Result ArgMatches Error → Result ℕ RunFault → Input → Input → Output → Output → Type 0
-DoesMatched (Ok matches) ended had has was is = Obeys matches ended had has was is
-DoesMatched (Err error) ended had has was is = Helps (kind_of error) ended was is × (has ≡ had)
+abbrev pub DoesByMatches : Result ArgMatches Error → Result ℕ RunFault → Input → Input → Output → Output → Type 0
+DoesByMatches (Ok matches) ended had has was is = DoesMatchedCommand matches ended had has was is
+DoesByMatches (Err error) ended had has was is = AnswersUnmatched (kind_of error) ended was is × (has ≡ had)
 
--- THE PROGRAM'S RUN on these words: they were matched with its own command line, and what that gave decides what was
--- done. The exit status is that of how it ended.
-pub record RunsOn (words : List (List ℕ)) (status : ℕ) (had has : Input) (was is : Output) : Type 0 where
+-- These words were matched with the program's own command line, and what that gave decides what was done. The exit
+-- status is that of how it ended.
+pub record RunsWords (words : List (List ℕ)) (status : ℕ) (had has : Input) (was is : Output) : Type 0 where
   pub matched : Result ArgMatches Error
   pub ended : Result ℕ RunFault
-  pub matches : AreMatched words matched
-  pub ends : status ≡ exit_status ended
-  pub does : DoesMatched matched ended had has was is
+  pub matches : MatchingGives own_app words matched
+  pub ends : status ≡ run_status ended
+  pub does : DoesByMatches matched ended had has was is
+
+-- THE PROGRAM'S RUN on these words. A negative number among those of `set` is matched behind a blank.
+abbrev pub RunsProgram : List (List ℕ) → (status : ℕ) → (had has : Input) → (was is : Output) → Type 0
+RunsProgram words status had has was is = RunsWords (matched_words words) status had has was is

@@ -5,34 +5,25 @@ use Rattle.oca_types.specs.Sizes.{span_size}
 use Rattle.oca_net.specs.EndStates.{EndState}
 use Rattle.oca_net.specs.Sockets.{IsBoundAt, new_socket, state_of_socket}
 use Rattle.oca_control.specs.Links.{LinkState, new_link}
-use Rattle.oca_panel.specs.OwnPorts.{first_handle_at, other_port, port_at}
+use Rattle.oca_panel.specs.OwnPorts.{IsPortByClock}
 use Rattle.oca_panel.specs.declared.own_port.OwnPort.{OwnPort}
 use Rattle.oca_program.specs.declared.fault.RunFault.{RunFault}
 use Rattle.oca_program.specs.declared.fault.RunFault.TheVariants as fault
 use Rattle.ocactl_cli.specs.Probes.{Probes}
-use Rattle.ocactl_cli.specs.Reasons.{WatchState, first_of}
+use Rattle.ocactl_cli.specs.Reasons.{WatchState, first_handle_for}
 use Rattle.ocactl_cli.specs.declared.probe.Found.{Found}
 use Rattle.ocactl_cli.specs.declared.probe.Found.TheVariants as found
 use Rattle.ocactl_cli.specs.declared.words.Reach.{Reach}
 
 -- ---- the socket
 
--- THE PROGRAM'S OWN PORT, the other one, and the first handle there, so long after the beginning of 1970: 65001 in one
--- turn and 65002 in the next.
-pub record IsOwnPort (own : OwnPort) : Type 0 where
-  pub seconds : ℕ
-  pub microseconds : ℕ
-  pub port : own.port ≡ port_at seconds microseconds
-  pub other : own.other ≡ other_port own.port
-  pub handle : own.first_handle.0 ≡ first_handle_at seconds microseconds
-
--- Where no port was said: at the program's own, or where another may be taken, at one of the system's choice.
+-- Where no port was given: at the program's own, or where another may be taken, at one of the system's choice.
 abbrev pub IsBoundByChoice : (ip own : ℕ) → (own_alone : Bool) → Peer → Type 0
 IsBoundByChoice ip own true local = IsBoundAt ip own local
 IsBoundByChoice ip own false local = IsBoundAt ip own local ⊎ IsBoundAt ip 0 local
 
--- A SOCKET IS BOUND at the address that was said, and at the port, where one was said; and whether it is at the
--- program's own port though none was said.
+-- A SOCKET IS BOUND at the address that was given, and at the port, where one was given; and whether it is at the
+-- program's own port though none was given.
 abbrev pub IsSocketFor : Option ℕ → (ip own : ℕ) → (own_alone : Bool) → Peer → (is_own : Bool) → Type 0
 IsSocketFor (Some port) ip own own_alone local is_own = IsBoundAt ip port local × (is_own ≡ false)
 IsSocketFor None ip own own_alone local is_own =
@@ -42,7 +33,7 @@ IsSocketFor None ip own own_alone local is_own =
 abbrev pub IsUnreached : RunFault → Type 0
 IsUnreached why = (why ≡ fault.Socket) ⊎ (why ≡ fault.NoMemory)
 
--- the port that was said, else one of the system's choice
+-- the port that was given, else one of the system's choice
 abbrev pub port_or_any : Option ℕ → ℕ
 port_or_any None = 0
 port_or_any (Some port) = port
@@ -53,18 +44,20 @@ port_or_any (Some port) = port
 abbrev pub end_at : Peer → EndState
 end_at local = state_of_socket (new_socket local)
 
--- A NEW LINK to the device that was said, with the span that was said, and the first handle that was said or, where none
--- was, this one; made at this moment.
+-- A NEW LINK to the device that was given, with the span that was given, and the first handle that was given or, where
+-- none was, this one; made at this moment.
 abbrev pub link_for : Reach → (first now : ℕ) → LinkState
-link_for reach first now = new_link reach.device (first_of reach.first_handle first) now (span_size reach.span)
+link_for reach first now = new_link reach.device (first_handle_for reach.first_handle first) now (span_size reach.span)
 
 -- over a socket that has done nothing, made at moment 0
-pub record IsLinkedAtOnce (reach : Reach) (first : ℕ) (local : Peer) (link : LinkState) (end_state : EndState) : Type 0 where
+pub record IsLinkedAtOnce (reach : Reach) (first : ℕ) (local : Peer) (link : LinkState)
+    (end_state : EndState) : Type 0 where
   pub made : link ≡ link_for reach first 0
   pub unused : end_state ≡ end_at local
 
 -- over a socket from which the device was asked, made at the end's present moment: its first handle is the next one
-pub record IsLinkedFurther (reach : Reach) (first : ℕ) (before : EndState) (link : LinkState) (end_state : EndState) : Type 0 where
+pub record IsLinkedFurther (reach : Reach) (first : ℕ) (before : EndState) (link : LinkState)
+    (end_state : EndState) : Type 0 where
   pub now : ℕ
   pub present : IfSome end_state.moment (λ m. m ≤ now)
   pub made : link ≡ link_for reach (first + 1) now
@@ -79,21 +72,22 @@ pub record IsLinkedElsewhere (reach : Reach) (own : OwnPort) (link : LinkState) 
 -- by whether the device answers commands from the first port: where it was heard and does not, over the other one, if
 -- that can be had
 abbrev pub IsLinkedBy : Found → Reach → OwnPort → (before : EndState) → LinkState → EndState → Type 0
-IsLinkedBy found.Deaf reach own before link end_state =
+IsLinkedBy found.NotAnswering reach own before link end_state =
     IsLinkedElsewhere reach own link end_state ⊎ IsLinkedFurther reach own.first_handle.0 before link end_state
 IsLinkedBy found.Answering reach own before link end_state =
     IsLinkedFurther reach own.first_handle.0 before link end_state
-IsLinkedBy found.Unheard reach own before link end_state =
+IsLinkedBy found.NotHeard reach own before link end_state =
     IsLinkedFurther reach own.first_handle.0 before link end_state
 
 -- THE DEVICE WAS ASKED from a socket whether it answers commands from there, and linked by what was found.
-pub record IsLinkedBehind (reach : Reach) (own : OwnPort) (before : EndState) (link : LinkState) (end_state : EndState) : Type 0 where
+pub record IsLinkedBehind (reach : Reach) (own : OwnPort) (before : EndState) (link : LinkState)
+    (end_state : EndState) : Type 0 where
   pub asked : WatchState
   pub found : Found
   pub probes : Probes reach.device own.first_handle.0 before asked found
   pub linked : IsLinkedBy found reach own asked.end_state link end_state
 
--- It is asked first exactly where no port and no first handle were said and the socket is at the program's own port.
+-- It is asked first exactly where no port and no first handle were given and the socket is at the program's own port.
 abbrev pub asks_first : (is_own : Bool) → Option ℕ → Bool
 asks_first is_own None = is_own
 asks_first is_own (Some handle) = false
@@ -107,6 +101,6 @@ pub record IsReached (reach : Reach) (own_alone : Bool) (link : LinkState) (end_
   pub own : OwnPort
   pub local : Peer
   pub is_own : Bool
-  pub by_clock : IsOwnPort own
+  pub by_clock : IsPortByClock own
   pub bound : IsSocketFor reach.port reach.ip own.port own_alone local is_own
   pub linked : IsLinkedOver (asks_first is_own reach.first_handle) reach own local link end_state

@@ -11,8 +11,8 @@ use Rattle.oca_panel.specs.declared.walk.Place.{Place}
 use Rattle.oca_panel.specs.declared.walk.Visit.{Visit}
 use Rattle.oca_panel.specs.Panels.{PanelState}
 use Rattle.oca_panel.specs.Walks.{WalkState, VisitsPlace, begun_walk, most_places}
-use Rattle.ocactl_cli.specs.declared.told.Told.TheVariants.{Hindered}
-use Rattle.ocactl_cli.specs.Hands.{graver_of, line_of, place_text, trouble_status}
+use Rattle.ocactl_cli.specs.declared.object_line.ObjectLine.TheVariants.{Failed}
+use Rattle.ocactl_cli.specs.Objects.{max_severity, line_of_object, place_text, trouble_status}
 
 -- ---- a place
 
@@ -23,13 +23,13 @@ described_text place d = place_text place.ono.0 d.fields.items place.container.0
 -- why a block does not say its members, behind its line
 abbrev pub unlisted_text : ℕ → Result Unit Trouble → List ℕ
 unlisted_text ono (Ok u) = []
-unlisted_text ono (Err why) = line_of ono (Hindered why)
+unlisted_text ono (Err why) = line_of_object ono (Failed why)
 
 -- the lines of a place: that of its object, or why that does not say what it is
 abbrev pub found_text : Place → Found → List ℕ
 found_text place (found.Object d) = described_text place d
 found_text place (found.Block d listed) = described_text place d ++ unlisted_text place.ono.0 listed
-found_text place (found.Undescribed why) = line_of place.ono.0 (Hindered why)
+found_text place (found.Undescribed why) = line_of_object place.ono.0 (Failed why)
 found_text place found.Again = []
 
 abbrev pub visit_text : Visit → List ℕ
@@ -54,8 +54,8 @@ visit_status visit = found_status visit.found
 abbrev pub visits_text : List Visit → List ℕ
 visits_text visits = flat_map visit_text visits
 
-abbrev pub gravest_visit : List Visit → ℕ
-gravest_visit visits = fold (λ worst visit. graver_of worst (visit_status visit)) 0 visits
+abbrev pub most_severe_visit : List Visit → ℕ
+most_severe_visit visits = fold (λ worst visit. max_severity worst (visit_status visit)) 0 visits
 
 -- Places were visited, one after another, each the next one.
 pub data Walks : WalkState → PanelState → List Visit → WalkState → PanelState → Type 0 where
@@ -72,16 +72,17 @@ abbrev pub left_text : List Place → List ℕ
 left_text [] = []
 left_text (place ∷ places) = codes "more than 4096 objects\n"
 
-abbrev pub status_with : List Place → ℕ → ℕ
-status_with [] status = status
-status_with (place ∷ places) status = graver_of status 4
+abbrev pub status_with_left : List Place → ℕ → ℕ
+status_with_left [] status = status
+status_with_left (place ∷ places) status = max_severity status 4
 
--- THE TREE OF A DEVICE WAS PRINTED: all its places were visited from the root block on, each block's members behind it in their order, or
--- as many as are at most; the lines of each were written in this order, and the exit status is the gravest.
+-- THE TREE OF A DEVICE WAS PRINTED: all its places were visited from the root block on, each block's members behind it
+-- in their order, or as many as are at most; the lines of each were written in this order, and the exit status is the
+-- most severe.
 pub record PrintsTree (old new : PanelState) (status : ℕ) (was is : Output) : Type 0 where
   pub visits : List Visit
   pub walk : WalkState
   pub walks : Walks begun_walk old visits walk new
   pub over : IsOver walk
-  pub worst : status ≡ status_with walk.waiting (gravest_visit visits)
+  pub worst : status ≡ status_with_left walk.waiting (most_severe_visit visits)
   pub writes : WritesWhole was is (visits_text visits ++ left_text walk.waiting)

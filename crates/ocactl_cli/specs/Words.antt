@@ -1,5 +1,6 @@
 -- What the options of the controller's program say (*profile*).
-use Rattle.std.specs.Prelude.{◌≡◌, ℕ, ◌/◌, ◌==◌, Bool, false, List, [], ◌∷◌, codes, length, map, nat_lt, if◌then◌else◌, Option, Some, None}
+use Rattle.std.specs.Prelude.{◌≡◌, ℕ, ◌/◌, ◌==◌, Bool, false, List, [], ◌∷◌, codes, length, map, nat_lt, if◌then◌else◌}
+use Rattle.std.specs.Prelude.{Option, Some, None}
 use Rattle.std.specs.Option.{option_map}
 use Rattle.std.specs.Str.{bytes_eq}
 use Rattle.clap.specs.Words.{found_of, matched_of, raw_values}
@@ -14,7 +15,8 @@ use Rattle.ocactl_cli.specs.declared.words.Linking.{Linking}
 use Rattle.ocactl_cli.specs.declared.words.Reach.{Reach}
 use Rattle.ocactl_cli.specs.declared.words.Sending.{Sending}
 use Rattle.ocactl_cli.specs.declared.words.Handling.{Handling}
-use Rattle.ocactl_cli.specs.Hands.{ono_said}
+use Rattle.ocactl_cli.specs.Objects.{parsed_ono}
+use Rattle.ocactl_cli.specs.Matching.{without_blank}
 
 -- ---- the link
 
@@ -45,7 +47,8 @@ linking_in words =
 
 -- ---- the device over a network
 
--- the address that a socket is bound to unless it is given: 127.0.0.1 for a device of 127/8, and any address of the machine else
+-- the address that a socket is bound to unless it is given: 127.0.0.1 for a device of 127/8, and any address of the
+-- machine else
 abbrev pub own_address : Peer → ℕ
 own_address device = if device.ip / 16777216 == 127 then 2130706433 else 0
 
@@ -67,7 +70,8 @@ pub record ReachFields : Type 0 where
   pub span : ℕ
 
 abbrev pub reach_fields : Reach → ReachFields
-reach_fields r = record { device = r.device; ip = r.ip; port = r.port; first_handle = r.first_handle; span = span_size r.span }
+reach_fields r =
+    record { device = r.device; ip = r.ip; port = r.port; first_handle = r.first_handle; span = span_size r.span }
 
 unfoldable pub reach_in : ArgMatches → Option ReachFields
 reach_in words =
@@ -78,7 +82,7 @@ reach_in words =
     then_in (span_in words) (λ span.
     Some (record { device = device; ip = ip; port = port; first_handle = first_handle; span = span }))))))
 
--- how many commands may be under way at once: 1 unless given, at most the span
+-- how many commands may be in flight at once: 1 unless given, at most the span
 abbrev pub ahead_in : ℕ → ArgMatches → Option ℕ
 ahead_in span words = then_in (read_or 1 (number_of 3 255) (given words (codes "ahead"))) (sized span)
 
@@ -100,7 +104,13 @@ pub record SendingFields : Type 0 where
 
 abbrev pub sending_fields : Sending → SendingFields
 sending_fields s = record {
-  command = record { target = s.target.0; level = s.method.level; index = s.method.index; count = s.count; params = s.params.items };
+  command = record {
+    target = s.target.0;
+    level = s.method.level;
+    index = s.method.index;
+    count = s.count;
+    params = s.params.items;
+  };
   turns = s.turns;
 }
 
@@ -113,11 +123,14 @@ sending_in words =
     then_in (read_as (number_of 3 255) (given words (codes "count"))) (λ count.
     then_in (params_in words) (λ params.
     then_in (read_or 200 (number_of 10 4294967295) (given words (codes "turns"))) (λ turns.
-    Some (record { command = record { target = target; level = level; index = index; count = count; params = params }; turns = turns })))))))
+    Some (record {
+      command = record { target = target; level = level; index = index; count = count; params = params };
+      turns = turns;
+    })))))))
 
 -- ---- several commands, and objects
 
--- how many set commands may be under way, how many turns a command waits for its answer, and how the device is reached
+-- how many set commands may be in flight, how many turns a command waits for its answer, and how the device is reached
 pub record HandlingFields : Type 0 where
   pub reach : ReachFields
   pub turns : ℕ
@@ -127,13 +140,13 @@ abbrev pub handling_fields : Handling → HandlingFields
 handling_fields h = record { reach = reach_fields h.reach; turns = h.turns; ahead = span_size h.ahead }
 
 -- 200 turns unless given
-abbrev pub turns_in : ArgMatches → Option ℕ
-turns_in words = read_or 200 (number_of 10 4294967295) (given words (codes "turns"))
+abbrev pub given_turns : ArgMatches → Option ℕ
+given_turns words = read_or 200 (number_of 10 4294967295) (given words (codes "turns"))
 
 unfoldable pub handling_in : ArgMatches → Option HandlingFields
 handling_in words =
     then_in (reach_in words) (λ reach.
-    then_in (turns_in words) (λ turns.
+    then_in (given_turns words) (λ turns.
     then_in (ahead_in reach.span words) (λ ahead.
     Some (record { reach = reach; turns = turns; ahead = ahead }))))
 
@@ -146,19 +159,21 @@ abbrev pub behind_options : ArgMatches → List (List ℕ)
 behind_options words = or_none (option_map raw_values (matched_of (found_of words) (codes "ONO")))
 
 -- whether locks are to be kept until the input ends
-abbrev pub is_true : Option (List ℕ) → Bool
-is_true None = false
-is_true (Some text) = bytes_eq text (codes "true")
+abbrev pub is_flag_set : Option (List ℕ) → Bool
+is_flag_set None = false
+is_flag_set (Some text) = bytes_eq text (codes "true")
 
-abbrev pub holds_said : ArgMatches → Bool
-holds_said words = is_true (given words (codes "hold"))
+abbrev pub hold_flag : ArgMatches → Bool
+hold_flag words = is_flag_set (given words (codes "hold"))
 
 -- One number a word, all of them, in their order.
 abbrev pub AreNumbers : List (List ℕ) → List ℕ → Type 0
-AreNumbers texts numbers = map ono_said texts ≡ map Some numbers
+AreNumbers texts numbers = map parsed_ono texts ≡ map Some numbers
 
--- An object and the word for its value, all of them, in their order: where a value is missing, or a word is no number, there are none.
-abbrev pub pairs_said : List (List ℕ) → Option (List (ℕ × List ℕ))
-pairs_said [] = Some []
-pairs_said (text ∷ []) = None
-pairs_said (text ∷ word ∷ texts) = then_in (ono_said text) (λ ono. option_map (λ pairs. (ono, word) ∷ pairs) (pairs_said texts))
+-- An object and the word for its value, all of them, in their order: where a value is missing, or a word is no number,
+-- there are none. A word for a value is without the blank with which it was matched.
+abbrev pub parsed_pairs : List (List ℕ) → Option (List (ℕ × List ℕ))
+parsed_pairs [] = Some []
+parsed_pairs (text ∷ []) = None
+parsed_pairs (text ∷ word ∷ texts) =
+    then_in (parsed_ono text) (λ ono. option_map (λ pairs. (ono, without_blank word) ∷ pairs) (parsed_pairs texts))

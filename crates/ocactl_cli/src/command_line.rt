@@ -1,9 +1,10 @@
-//! The commands of the program and their options, as `clap` is told of them.
-ghost use Rattle.std.specs.Prelude.{◌≡◌, [], ◌∷◌, IfOk, false, map, not};
+//! The commands of the program and their options, as `clap` has them.
+ghost use Rattle.std.specs.Prelude.{◌≡◌, [], ◌∷◌, IfOk, false, map};
 ghost use Rattle.clap.specs.Simple.{app_of, with_subcommand};
 ghost use Rattle.clap.specs.Walk.{rule_of};
-ghost use Rattle.ocactl_cli.specs.CommandLine.{IsOwn, Takes, bare_program, hold_rule, own_app, values_rule};
-ghost use Rattle.ocactl_cli.specs.CommandLine.{with_commands as with_shapes, with_rules, words_rule};
+ghost use Rattle.oca_program.specs.Commands.{with_rules};
+ghost use Rattle.ocactl_cli.specs.CommandLine.{IsOwn, TakesApp, bare_program, hold_rule, own_app, with_shapes};
+ghost use Rattle.ocactl_cli.specs.CommandLine.{words_rule};
 ghost use Rattle.ocactl_cli.specs.PrivateCommandLine.{further_rules, row_app, row_command, row_rule};
 
 use clap::{Arg, ArgAction, Command};
@@ -44,21 +45,24 @@ struct CommandRow {
 const DEVICE: OptionRow = OptionRow {
     name: "device",
     value: "A.B.C.D:PORT",
-    help: "The device's address",
+    help: "The device's address and port",
     required: true,
 };
 
 const SPAN: OptionRow = OptionRow {
     name: "span",
     value: "S",
-    help: "How far above the oldest command whose answer was not taken the next handle may lie, 1 to 32 [16 unless given]; the device's window must be at least twice this number less one: its default of 32 is enough for 16",
+    help: "The span, 1 to 32: the handles of the commands in flight are within S consecutive numbers. The device needs \
+        a reply window of at least 2 * S - 1 commands; its default of 32 is enough for a span of 16 [default: 16]",
     required: false,
 };
 
 const FIRST_HANDLE: OptionRow = OptionRow {
     name: "first-handle",
     value: "H",
-    help: "The handle of the first command, 0 to 4294967295 [by the clock unless given: it rises by 100000 a second, and wraps at 2147483648]",
+    help: "The handle of the first command, 0 to 4294967295; it must be above every handle that was used from the same \
+        local port in the last two minutes [default: from the clock; it rises by 100000 a second, and starts again \
+        from 0 when it reaches 2147483648]",
     required: false,
 };
 
@@ -72,14 +76,15 @@ const OWN_FIRST_HANDLE: OptionRow = OptionRow {
 const IP: OptionRow = OptionRow {
     name: "ip",
     value: "A.B.C.D",
-    help: "The local address [unless given: 127.0.0.1 for a device on this machine, otherwise any address of this machine]",
+    help: "The local address [default: 127.0.0.1 for a device on this machine (127.x.x.x), otherwise any address of \
+        this machine]",
     required: false,
 };
 
 const AHEAD: OptionRow = OptionRow {
     name: "ahead",
     value: "N",
-    help: "How many commands may be in flight at once, 1 to the span; the device may execute these in any order [1 unless given]",
+    help: "How many commands may be in flight at once, 1 to the span; they may be executed in any order [default: 1]",
     required: false,
 };
 
@@ -114,42 +119,46 @@ const COUNT: OptionRow = OptionRow {
 const PARAMS: OptionRow = OptionRow {
     name: "params",
     value: "HEX",
-    help: "The parameters in hexadecimal, - for none [none unless given]",
+    help: "The parameters in hexadecimal, or - for none [default: none]",
     required: false,
 };
 
 const SEND_TURNS: OptionRow = OptionRow {
     name: "turns",
     value: "T",
-    help: "Give up after T waits of up to 50 ms each; at 0 the command is sent once and no answer waited for [200 unless given]",
+    help: "Gives up after T waits of up to 50 ms each; at 0 the command is sent once, and no answer is waited for \
+        [default: 200]",
     required: false,
 };
 
 const SEND_PORT: OptionRow = OptionRow {
     name: "port",
     value: "PORT",
-    help: "The local port [unless given one that the system chooses: a new session at the device for each call, of which it has 16 unless its maker chose otherwise, so give a port for many calls in a row]",
+    help: "The local port [default: the system chooses one]. Without this option each call takes a new session at the \
+        device, which has 16 unless its maker chose otherwise: so give a port if you make many calls in a row",
     required: false,
 };
 
 const RUN_PORT: OptionRow = OptionRow {
     name: "port",
     value: "PORT",
-    help: "The local port [65001 or 65002 unless given, alternating every six hours, or one that the system chooses where that is in use]",
+    help: "The local port [default: 65001 or 65002, which alternate every six hours; if that port is in use, the \
+        system chooses one]",
     required: false,
 };
 
 const TURNS: OptionRow = OptionRow {
     name: "turns",
     value: "T",
-    help: "Give up after T waits of up to 50 ms each [200 unless given]",
+    help: "Gives up on a command after T waits of up to 50 ms each [default: 200]",
     required: false,
 };
 
 const PORT: OptionRow = OptionRow {
     name: "port",
     value: "PORT",
-    help: "The local port [65001 or 65002 unless given, alternating every six hours; where that is in use lock and unlock fail, and other commands use one that the system chooses]",
+    help: "The local port [default: 65001 or 65002, which alternate every six hours; lock and unlock fail if either of \
+        the two is in use; for other commands the system chooses a port if theirs is in use]",
     required: false,
 };
 
@@ -181,52 +190,68 @@ const OBJECTS_OPTIONS: [OptionRow; 6] = [DEVICE, SPAN, FIRST_HANDLE, IP, TURNS, 
 const SET_OPTIONS: [OptionRow; 7] = [DEVICE, SPAN, FIRST_HANDLE, IP, TURNS, PORT, AHEAD];
 
 const TREE_EXAMPLE: &str =
-    "Prints a line for each object: its ONo, its class identifier, the ONo of its container (0 for the root), and its role. Behind the ONo of
-a block that does not say its members, or of an object that does not say what it is, stands why, as BufferOverflow or Locked.
+    "Prints a line for each object: its ONo, its class identifier, the ONo of its
+container (0 for the root), and its role. If an object does not give its class
+or its role, its line has its ONo and the reason, for example Locked. If a
+block does not list its members, it has a second line with its ONo and the
+reason, for example BufferOverflow.
 
 Example: ocactl tree --device 127.0.0.1:65000";
 
-const GET_EXAMPLE: &str =
-    "Prints a line for each object: its ONo and its value: muted or unmuted; inverted or non-inverted; on or off; a position's number and
-name; an integer. Behind the ONo of another stands why: a status as Locked, or no value, no answer, lost.
+const GET_EXAMPLE: &str = "Prints a line for each object: its ONo and its value: muted or unmuted;
+non-inverted or inverted; on or off; the number and the name of a switch's
+position; an integer. If an object gives no value, its line has the reason: a
+status, for example Locked, or no value, no answer, lost.
 
-Exit status: 0 where all was done, 4 where something was refused, 3 where an answer did not come. The name of a position that is not told
-changes nothing of it.
+Exit status: 0 if all values were read, 3 if an answer did not come, 4 if
+something was refused. If a device does not give the name of a position, that
+does not change the exit status.
 
 Example, with the bench device: ocactl get --device 127.0.0.1:65000 4097 4100";
 
 const SET_EXAMPLE: &str =
-    "VALUE is muted or unmuted; inverted or non-inverted; on or off; a position's number or its name; an integer. Where one is for no value
-of its object, or that can't be found out, nothing is set. Up to N set commands are waited for at once (--ahead), 1 unless given; the
-lines stand in the order of the words, whichever is carried out first.
+    "VALUE is muted or unmuted; non-inverted or inverted; on or off; the number or
+the name of a switch's position; an integer. If a value does not fit its
+object, or it can't be found out whether it does, nothing is set. Up to N set
+commands wait for their answers at once (--ahead N). The lines are printed in
+the order of the arguments, whatever the order in which the commands are
+executed.
 
-Exit status: 0 where all was set, 4 where something was refused, 2 where a value is none of its object's, 3 where an answer did not come.
+Exit status: 0 if everything was set, 2 if a value does not fit its object, 3
+if an answer did not come, 4 if something was refused.
 
 Example, with the bench device: ocactl set --device 127.0.0.1:65000 4097 unmuted 4100 -60";
 
 const LOCK_EXAMPLE: &str =
-    "While an object is locked, other controllers can neither read nor set it. Without --hold a lock is released once its holder (this
-address and port) has been silent for more than 15 seconds; with --hold it is kept until standard input ends.
+    "While an object is locked, other controllers can neither read nor set it.
+Without --hold a lock is released once its holder (this address and port) has
+been silent for more than 15 seconds; with --hold it is kept until standard
+input ends.
 
 Example: ocactl lock --device 127.0.0.1:65000 4097";
 
 const UNLOCK_EXAMPLE: &str = "Example: ocactl unlock --device 127.0.0.1:65000 4097";
 
-const REPLAY_EXAMPLE: &str =
-    "Lines: N submit ONO LEVEL INDEX COUNT HEX, N due, N from A.B.C.D:PORT HEX, take H; N is a moment in ms.
+const REPLAY_EXAMPLE: &str = "Each line is one of these; N is a moment in milliseconds:
+  N submit ONO LEVEL INDEX COUNT HEX   a command is submitted
+  N due                                the link is asked what it has to send
+  N from A.B.C.D:PORT HEX              a datagram comes from this address and port
+  take H                               the answer to the command with the handle H is taken
 
 Example: printf '0 submit 4097 4 1 0 -\\n0 due\\n' | ocactl replay --device 127.0.0.1:65000 --first-handle 1";
 
 const SEND_EXAMPLE: &str =
-    "Exit status: 0 for an answer with status 0, 4 for another, 3 where none came.
+    "Exit status: 0 for an answer with status 0, 3 if none came, 4 for an answer
+with another status.
 
 Example: ocactl send --device 127.0.0.1:65000 --first-handle 1 --target 4097 --level 4 --index 1 --count 0";
 
 const RUN_EXAMPLE: &str =
-    "Each line is a command, ONO LEVEL INDEX COUNT HEX (object number, DefLevel, MethodIndex, ParamCount, and the parameters in
-hexadecimal or - for none), or the word wait, which waits for the answers to all commands before it.
+    "Each line is a command, ONO LEVEL INDEX COUNT HEX (object number, DefLevel,
+MethodIndex, ParamCount, and the parameters in hexadecimal or - for none), or
+the word wait, which waits for the answers to all commands before it.
 
-Exit status: 0 where each command was answered, 3 where one was not.
+Exit status: 0 if each command was answered, 3 if one was not.
 
 Example: echo '4097 4 1 0 -' | ocactl run --device 127.0.0.1:65000";
 
@@ -241,7 +266,7 @@ const COMMANDS: [CommandRow; 8] = [
     },
     CommandRow {
         name: "get",
-        about: "Prints how objects of a device are set",
+        about: "Prints the values of objects of a device",
         example: GET_EXAMPLE,
         options: &OBJECTS_OPTIONS,
         further: Further::Objects,
@@ -262,14 +287,14 @@ const COMMANDS: [CommandRow; 8] = [
     },
     CommandRow {
         name: "unlock",
-        about: "Takes the locks off objects of a device",
+        about: "Releases the locks of objects of a device",
         example: UNLOCK_EXAMPLE,
         options: &OBJECTS_OPTIONS,
         further: Further::Objects,
     },
     CommandRow {
         name: "replay",
-        about: "Runs a controller's link over a script on standard input, with no network",
+        about: "Runs a controller's link over a script on standard input, without a network",
         example: REPLAY_EXAMPLE,
         options: &REPLAY_OPTIONS,
         further: Further::Nothing,
@@ -283,20 +308,21 @@ const COMMANDS: [CommandRow; 8] = [
     },
     CommandRow {
         name: "run",
-        about: "Sends the commands on standard input and prints the answer of each, in the order of their lines",
+        about: "Sends the commands on standard input, and prints the answer to each in the order of their lines",
         example: RUN_EXAMPLE,
         options: &RUN_OPTIONS,
         further: Further::Nothing,
     },
 ];
 
-const PROGRAM_EXAMPLE: &str = "Example: ocactl set --device 127.0.0.1:65000 4097 unmuted";
+const PROGRAM_EXAMPLE: &str =
+    "Example, with the bench device: ocactl set --device 127.0.0.1:65000 4097 unmuted";
 
-/// The program with all its commands. Where it is not `plain`, a value of `set` may be a negative number.
-pub fn program<'a>(alloc: Global, plain: bool) -> Result<Command<'a>, AllocError>
-    ensures { IfOk result (Takes (own_app plain)) }
+/// The program with all its commands.
+pub fn program<'a>(alloc: Global) -> Result<Command<'a>, AllocError>
+    ensures { IfOk result (TakesApp own_app) }
 {
-    with_commands(without_commands(alloc), &COMMANDS, alloc, plain)
+    with_commands(without_commands(alloc), &COMMANDS, alloc)
 }
 
 /// With these commands.
@@ -304,24 +330,23 @@ fn with_commands<'a>(
     program: Command<'a>,
     rows: &[CommandRow],
     alloc: Global,
-    plain: bool,
 ) -> Result<Command<'a>, AllocError>
     requires { IsOwn program }
-    ensures { IfOk result (Takes (with_shapes (app_of program.entry) (map (row_command plain) rows.now))) }
+    ensures { IfOk result (TakesApp (with_shapes (app_of program.entry) (map row_command rows.now))) }
 {
     let mut so_far = program;
     for row in rows {
-        so_far = with(so_far, row, alloc, plain)?;
+        so_far = with(so_far, row, alloc)?;
     }
     Ok(so_far)
 }
 
 /// The program without its commands.
 fn without_commands<'a>(alloc: Global) -> Command<'a>
-    ensures { Takes bare_program result }
+    ensures { TakesApp bare_program result }
 {
     Command::new(alloc, "ocactl")
-        .about("A controller of OCA (AES70) devices over UDP")
+        .about("Controls an OCA (AES70) device over UDP")
         .version(VERSION)
         .after_help(PROGRAM_EXAMPLE)
         .subcommand_required(true)
@@ -332,28 +357,22 @@ fn with<'a>(
     program: Command<'a>,
     row: &CommandRow,
     alloc: Global,
-    plain: bool,
 ) -> Result<Command<'a>, AllocError>
     requires { IsOwn program }
-    ensures { IfOk result (Takes (with_subcommand (app_of program.entry) (row_command plain row.now))) }
+    ensures { IfOk result (TakesApp (with_subcommand (app_of program.entry) (row_command row.now))) }
 {
-    let added = command(row, alloc, plain)?;
+    let added = command(row, alloc)?;
     program.subcommand(added)
 }
 
 /// A command.
-fn command<'a>(row: &CommandRow, alloc: Global, plain: bool) -> Result<Command<'a>, AllocError>
-    ensures { IfOk result (Takes (row_app plain row.now)) }
+fn command<'a>(row: &CommandRow, alloc: Global) -> Result<Command<'a>, AllocError>
+    ensures { IfOk result (TakesApp (row_app row.now)) }
 {
     let begun = Command::new(alloc, row.name)
         .about(row.about)
         .after_help(row.example);
-    with_further(
-        with_options(begun, row.options, alloc)?,
-        row.further,
-        alloc,
-        plain,
-    )
+    with_further(with_options(begun, row.options, alloc)?, row.further, alloc)
 }
 
 /// With these options.
@@ -363,7 +382,7 @@ fn with_options<'a>(
     alloc: Global,
 ) -> Result<Command<'a>, AllocError>
     requires { IsOwn command }
-    ensures { IfOk result (Takes (with_rules (app_of command.entry) (map row_rule rows.now))) }
+    ensures { IfOk result (TakesApp (with_rules (app_of command.entry) (map row_rule rows.now))) }
 {
     let mut so_far = command;
     for row in rows {
@@ -379,7 +398,7 @@ fn with_option<'a>(
     alloc: Global,
 ) -> Result<Command<'a>, AllocError>
     requires { IsOwn command }
-    ensures { IfOk result (Takes (with_rules (app_of command.entry) (row_rule row.now ∷ []))) }
+    ensures { IfOk result (TakesApp (with_rules (app_of command.entry) (row_rule row.now ∷ []))) }
 {
     command.arg(option(row, alloc))
 }
@@ -402,23 +421,22 @@ fn with_further<'a>(
     command: Command<'a>,
     further: Further,
     alloc: Global,
-    plain: bool,
 ) -> Result<Command<'a>, AllocError>
     requires { IsOwn command }
-    ensures { IfOk result (Takes (with_rules (app_of command.entry) (further_rules plain further))) }
+    ensures { IfOk result (TakesApp (with_rules (app_of command.entry) (further_rules further))) }
 {
     match further {
         Further::Nothing => Ok(command),
         Further::Objects => command.arg(objects(alloc)),
         Further::ObjectsToHold => with_held_objects(command, alloc),
-        Further::Values => command.arg(values(alloc, plain)),
+        Further::Values => command.arg(values(alloc)),
     }
 }
 
 /// With the objects that are locked, and the flag by which their locks are kept.
 fn with_held_objects<'a>(command: Command<'a>, alloc: Global) -> Result<Command<'a>, AllocError>
     requires { IsOwn command }
-    ensures { IfOk result (Takes (with_rules (app_of command.entry) (hold_rule ∷ words_rule ∷ []))) }
+    ensures { IfOk result (TakesApp (with_rules (app_of command.entry) (hold_rule ∷ words_rule ∷ []))) }
 {
     command.arg(hold(alloc))?.arg(objects(alloc))
 }
@@ -430,7 +448,7 @@ fn objects<'a>(alloc: Global) -> Arg<'a>
 {
     Arg::new(alloc, "ONO")
         .value_name("ONO")
-        .help("The numbers of objects")
+        .help("The numbers (ONo) of the objects")
         .action(ArgAction::Append)
         .num_args(1..)
         .required(true)
@@ -444,22 +462,21 @@ fn hold<'a>(alloc: Global) -> Arg<'a>
     Arg::new(alloc, "hold")
         .long("hold")
         .help(
-            "Keeps the locks until standard input ends, and takes them off then; where it is stopped, they lapse after 15 seconds",
+            "Keeps the locks until standard input ends, and then releases them; if a signal stops the program, they \
+            lapse after 15 seconds",
         )
         .action(ArgAction::SetTrue)
 }
 
-/// The objects and the words for their values, which may be negative numbers where it is not `plain`.
-fn values<'a>(alloc: Global, plain: bool) -> Arg<'a>
-    ensures rule { rule_of result ≡ values_rule plain }
-    ensures negative { result.allow_negative_numbers ≡ not plain }
+/// The objects and the words for their values.
+fn values<'a>(alloc: Global) -> Arg<'a>
+    ensures rule { rule_of result ≡ words_rule }
     ensures own { result.global ≡ false }
 {
     Arg::new(alloc, "ONO")
         .value_name("ONO VALUE")
-        .help("The numbers of objects, and behind each its value")
+        .help("The number (ONo) of each object, followed by its value")
         .action(ArgAction::Append)
         .num_args(1..)
-        .allow_negative_numbers(!plain)
         .required(true)
 }

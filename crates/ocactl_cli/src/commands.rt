@@ -1,4 +1,4 @@
-//! Commands from lines, so many at once as may be under way.
+//! Commands from lines, so many at once as may be in flight.
 ghost use Rattle.std.specs.Prelude.{◌≡◌, ◌≤◌, ◌<◌, [], codes, length, OnOk, true, false, Ok as ok};
 ghost use Rattle.std.specs.Str.{bytes_eq};
 ghost use Rattle.oca_script.specs.Ends.{input};
@@ -6,8 +6,9 @@ ghost use Rattle.oca_script.specs.Fields.{fields};
 ghost use Rattle.oca_script.specs.Printing.{Prints};
 ghost use Rattle.oca_types.specs.Peers.{request_of};
 ghost use Rattle.ocactl_cli.specs.Requests.{LineAsked, asked_line, is_wait as wait_line};
-ghost use Rattle.ocactl_cli.specs.Exchanges.{FirstIsOpen, Idles, NoneUnderWay, Serves, SendsLines, outcome_text};
-ghost use Rattle.ocactl_cli.specs.PrivateExchanges.{AwaitsAndPrints, IdlesAndPrints, SendsAndPrints, ServesAndPrints, GoesOn, is_write_failure, line_in, line_asked};
+ghost use Rattle.ocactl_cli.specs.Exchanges.{FirstIsOpen, Idles, NoneInFlight, DoesLine, SendsLines, outcome_line};
+ghost use Rattle.ocactl_cli.specs.PrivateExchanges.{AwaitsAndPrints, IdlesAndPrints, SendsAndPrints, DoesLineAndPrints};
+ghost use Rattle.ocactl_cli.specs.PrivateExchanges.{PrintsUnlessFailed, is_write_failure, line_in, line_asked};
 
 use super::exchange::print_outcome;
 use super::session::Session;
@@ -39,13 +40,13 @@ impl<E: End> Language for Commands<E> {
 
     ghost asked = { asked_line };
 
-    ghost rests = { NoneUnderWay };
+    ghost rests = { NoneInFlight };
 
     ghost idles = { Idles };
 
-    ghost serves = { Serves };
+    ghost serves = { DoesLine };
 
-    /// Reads what the line asks for, does it, and prints how commands fared.
+    /// Reads what the line asks for, does it, and prints the outcomes of commands.
     fn serve_line<W: Sink>(
         session: &mut Session<E>,
         room: &mut [u8; PARAMS_ROOM],
@@ -61,7 +62,7 @@ impl<E: End> Language for Commands<E> {
         }
     }
 
-    /// Drives the commands under way until there is input, and prints how they fared as soon as that is known.
+    /// Drives the commands in flight until there is input, and prints their outcomes as soon as they are known.
     fn before_read<R: Source, W: Sink>(
         session: &mut Session<E>,
         reader: &mut R,
@@ -104,13 +105,13 @@ fn asked_by<'a>(line: &[u8], room: &'a mut [u8; PARAMS_ROOM]) -> Result<Asked<'a
     }
 }
 
-/// Does what a line asks for, and prints how commands fared.
+/// Does what a line asks for, and prints the outcomes of commands.
 fn serve<E: End, W: Sink>(
     session: &mut Session<E>,
     asked: Asked<'_>,
     printer: &mut Printer<W>,
 ) -> Result<(), WriteFailed>
-    ensures { ServesAndPrints session.old (line_in asked.entry) session.new result printer.old printer.new }
+    ensures { DoesLineAndPrints session.old (line_in asked.entry) session.new result printer.old printer.new }
 {
     match asked {
         Asked::Send(request) => {
@@ -122,14 +123,14 @@ fn serve<E: End, W: Sink>(
     }
 }
 
-/// Submits a command; then so many are waited for that one more may be under way.
+/// Submits a command; then so many are waited for that one more may be in flight.
 fn send<E: End, W: Sink>(
     session: &mut Session<E>,
     request: Request<'_>,
     written: Result<(), WriteFailed>,
     printer: &mut Printer<W>,
 ) -> Result<(), WriteFailed>
-    requires { length session.old.under_way < 32 }
+    requires { length session.old.in_flight < 32 }
     ensures { SendsAndPrints (request_of request.entry) written session.old session.new result printer.old printer.new }
 {
     match session.submit(request) {
@@ -140,13 +141,13 @@ fn send<E: End, W: Sink>(
         Err(fault) => {
             let written = await_until(session, 0, written, printer);
             session.refuse();
-            print_next(&refused(fault), written, printer)
+            write_unless_failed(&refused(fault), written, printer)
         }
     }
 }
 
-/// Waits for commands under way, in the order of their lines, until at most so many are. How each fared is printed and handed on,
-/// unless a write has failed.
+/// Waits for commands in flight, in the order of their lines, until at most so many are. The outcome of each is printed
+/// and flushed, unless a write has failed.
 fn await_until<E: End, W: Sink>(
     session: &mut Session<E>,
     left: usize,
@@ -156,20 +157,20 @@ fn await_until<E: End, W: Sink>(
     ensures { AwaitsAndPrints left written session.old session.new result printer.old printer.new }
 {
     let mut so_far = written;
-    while session.under_way() > left {
+    while session.in_flight() > left {
         let outcome = session.await_first();
-        so_far = print_next(&outcome, so_far, printer);
+        so_far = write_unless_failed(&outcome, so_far, printer);
     }
     so_far
 }
 
-/// Prints how a command fared, and hands it on, unless a write has failed.
-fn print_next<W: Sink>(
+/// Prints a command's outcome, and flushes it, unless a write has failed.
+fn write_unless_failed<W: Sink>(
     outcome: &Outcome,
     written: Result<(), WriteFailed>,
     printer: &mut Printer<W>,
 ) -> Result<(), WriteFailed>
-    ensures { GoesOn written result printer.old printer.new (outcome_text outcome.now) }
+    ensures { PrintsUnlessFailed written result printer.old printer.new (outcome_line outcome.now) }
 {
     match written {
         Ok(()) => write_outcome(outcome, printer),
@@ -177,16 +178,16 @@ fn print_next<W: Sink>(
     }
 }
 
-/// Prints how a command fared, and hands it on.
+/// Prints a command's outcome, and flushes it.
 fn write_outcome<W: Sink>(outcome: &Outcome, printer: &mut Printer<W>) -> Result<(), WriteFailed>
-    ensures { Prints result printer.old printer.new (outcome_text outcome.now) }
+    ensures { Prints result printer.old printer.new (outcome_line outcome.now) }
 {
     print_outcome(outcome, printer)?;
     printer.flush()
 }
 
-/// Takes turns while there is no input, and prints how commands fared as soon as that is known: until a read does not wait, or nothing
-/// is to be done any more.
+/// Takes turns while there is no input, and prints the outcomes of commands as soon as that is known: until a read does
+/// not wait, or nothing is to be done any more.
 fn idle<E: End, R: Source, W: Sink>(
     session: &mut Session<E>,
     reader: &mut R,
@@ -195,8 +196,9 @@ fn idle<E: End, R: Source, W: Sink>(
     requires { printer.old.held ≡ [] }
     ensures idles { IdlesAndPrints session.old session.new result printer.old printer.new }
     ensures empty { OnOk result (printer.new.held ≡ []) }
-    ensures source { input (R.remaining reader.new) (R.failed reader.new) ≡ input (R.remaining reader.old) (R.failed reader.old) }
-    ensures rests { OnOk result (R.ready reader.new ≡ false → NoneUnderWay session.new) }
+    ensures source { input (R.remaining reader.new) (R.failed reader.new)
+        ≡ input (R.remaining reader.old) (R.failed reader.old) }
+    ensures rests { OnOk result (R.ready reader.new ≡ false → NoneInFlight session.new) }
 {
     for _turn in 0..u64::MAX {
         let (goes_on, written) = idle_once(session, reader, printer);
@@ -207,8 +209,8 @@ fn idle<E: End, R: Source, W: Sink>(
     await_rest(session, printer)
 }
 
-/// Prints how commands fared, where that is known, waits for input, and takes a turn where there is none. Returns whether it goes on
-/// so, and whether a write failed.
+/// Prints the outcomes of commands, where they are known, waits for input, and takes a turn where there is none.
+/// Returns whether it goes on so, and whether a write failed.
 fn idle_once<E: End, R: Source, W: Sink>(
     session: &mut Session<E>,
     reader: &mut R,
@@ -216,9 +218,10 @@ fn idle_once<E: End, R: Source, W: Sink>(
 ) -> (bool, Result<(), WriteFailed>)
     ensures idles { IdlesAndPrints session.old session.new result.1 printer.old printer.new }
     ensures empty { OnOk result.1 (printer.new.held ≡ []) }
-    ensures source { input (R.remaining reader.new) (R.failed reader.new) ≡ input (R.remaining reader.old) (R.failed reader.old) }
+    ensures source { input (R.remaining reader.new) (R.failed reader.new)
+        ≡ input (R.remaining reader.old) (R.failed reader.old) }
     ensures goes_on { result.0 ≡ true → result.1 ≡ ok tt }
-    ensures rests { OnOk result.1 (result.0 ≡ false → R.ready reader.new ≡ false → NoneUnderWay session.new) }
+    ensures rests { OnOk result.1 (result.0 ≡ false → R.ready reader.new ≡ false → NoneInFlight session.new) }
 {
     let Ok(()) = print_settled(session, printer) else {
         return (false, Err(WriteFailed));
@@ -226,7 +229,7 @@ fn idle_once<E: End, R: Source, W: Sink>(
     if session.is_over() {
         return (false, Ok(()));
     }
-    if reader.await_input(session.socket(), session.patience()) {
+    if reader.await_input(session.socket(), session.wait_time()) {
         return (false, Ok(()));
     }
     if session.turn() {
@@ -235,42 +238,42 @@ fn idle_once<E: End, R: Source, W: Sink>(
     (true, Ok(()))
 }
 
-/// Prints how the first commands under way fared, where that is known without a turn, and hands it on.
+/// Prints the outcomes of the first commands in flight, where they are known without a turn, and flushes them.
 fn print_settled<E: End, W: Sink>(
     session: &mut Session<E>,
     printer: &mut Printer<W>,
 ) -> Result<(), WriteFailed>
     ensures idles { IdlesAndPrints session.old session.new result printer.old printer.new }
     ensures empty { OnOk result (printer.new.held ≡ []) }
-    ensures first { FirstIsOpen session.new.link session.new.under_way }
+    ensures first { FirstIsOpen session.new.link session.new.in_flight }
 {
     let mut so_far = Ok(());
     while let Some(outcome) = session.take_first() {
-        so_far = hold_next(&outcome, so_far, printer);
+        so_far = print_unless_failed(&outcome, so_far, printer);
     }
-    hand_on(so_far, printer)
+    flush_unless_failed(so_far, printer)
 }
 
-/// Waits for all commands under way, and prints how each fared.
+/// Waits for all commands in flight, and prints the outcome of each.
 fn await_rest<E: End, W: Sink>(
     session: &mut Session<E>,
     printer: &mut Printer<W>,
 ) -> Result<(), WriteFailed>
     ensures idles { IdlesAndPrints session.old session.new result printer.old printer.new }
     ensures empty { OnOk result (printer.new.held ≡ []) }
-    ensures none { NoneUnderWay session.new }
+    ensures none { NoneInFlight session.new }
 {
     let written = await_until(session, 0, Ok(()), printer);
-    hand_on(written, printer)
+    flush_unless_failed(written, printer)
 }
 
-/// Prints how a command fared, unless a write has failed.
-fn hold_next<W: Sink>(
+/// Prints a command's outcome, unless a write has failed.
+fn print_unless_failed<W: Sink>(
     outcome: &Outcome,
     written: Result<(), WriteFailed>,
     printer: &mut Printer<W>,
 ) -> Result<(), WriteFailed>
-    ensures { GoesOn written result printer.old printer.new (outcome_text outcome.now) }
+    ensures { PrintsUnlessFailed written result printer.old printer.new (outcome_line outcome.now) }
 {
     match written {
         Ok(()) => print_outcome(outcome, printer),
@@ -278,14 +281,17 @@ fn hold_next<W: Sink>(
     }
 }
 
-/// Sends the commands that the source has to give over the session, and prints how each fared, in the order of their lines.
-/// While there is no input, those under way are driven; at the end they are waited for. Faults: the first bad line, too much input, a failed read or write.
+/// Sends the commands that the source has to give over the session, and prints the outcome of each, in the order of
+/// their lines. While there is no input, those in flight are driven; at the end they are waited for. Faults: the first
+/// bad line, too much input, a failed read or write.
 pub fn send_all<E: End, R: Source, W: Sink>(
     session: &mut Session<E>,
     reader: &mut R,
     printer: &mut Printer<W>,
 ) -> Result<(), ReplayFault>
-    ensures { SendsLines session.old session.new printer.old printer.new (input (R.remaining reader.old) (R.failed reader.old)) (input (R.remaining reader.new) (R.failed reader.new)) result }
+    ensures { SendsLines session.old session.new printer.old printer.new
+        (input (R.remaining reader.old) (R.failed reader.old)) (input (R.remaining reader.new) (R.failed reader.new))
+        result }
 {
     let mut room = [0; PARAMS_ROOM];
     let ended = serve_lines::<Commands<E>, R, W>(session, &mut room, reader, printer);
@@ -293,7 +299,7 @@ pub fn send_all<E: End, R: Source, W: Sink>(
         return ended;
     }
     let written = await_until(session, 0, Ok(()), printer);
-    match hand_on(written, printer) {
+    match flush_unless_failed(written, printer) {
         Ok(()) => ended,
         Err(WriteFailed) => Err(ReplayFault::Write),
     }
@@ -306,12 +312,12 @@ fn is_unwritten(ended: Result<(), ReplayFault>) -> bool
     matches!(ended, Err(ReplayFault::Write))
 }
 
-/// Hands on what is held, unless a write has failed.
-fn hand_on<W: Sink>(
+/// Flushes what is held, unless a write has failed.
+fn flush_unless_failed<W: Sink>(
     written: Result<(), WriteFailed>,
     printer: &mut Printer<W>,
 ) -> Result<(), WriteFailed>
-    ensures goes_on { GoesOn written result printer.old printer.new [] }
+    ensures goes_on { PrintsUnlessFailed written result printer.old printer.new [] }
     ensures empty { OnOk result (printer.new.held ≡ []) }
 {
     match written {

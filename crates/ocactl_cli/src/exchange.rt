@@ -1,10 +1,10 @@
-//! A command and how it fares: asked over an end, and printed.
+//! A command and its outcome: asked over an end, and printed.
 ghost use Rattle.std.specs.Prelude.{◌≡◌};
 ghost use Rattle.oca_types.specs.Peers.{request_of};
 ghost use Rattle.oca_script.specs.Printing.{Prints};
-ghost use Rattle.ocactl_cli.specs.Exchanges.{AsksOnce, outcome_text, outcome_status};
+ghost use Rattle.ocactl_cli.specs.Exchanges.{AsksOnce, outcome_line, outcome_status};
 
-use super::told::status_of;
+use super::object_line::status_of;
 use oca_control::{Link, Outcome, ask};
 use oca_net::End;
 use oca_panel::done_in;
@@ -22,12 +22,12 @@ pub fn outcome_status(outcome: &Outcome) -> u8
     }
 }
 
-/// Prints how a command fared, as one line.
+/// Prints a command's outcome, as one line.
 pub fn print_outcome<W: Sink>(
     outcome: &Outcome,
     printer: &mut Printer<W>,
 ) -> Result<(), WriteFailed>
-    ensures { Prints result printer.old printer.new (outcome_text outcome.now) }
+    ensures { Prints result printer.old printer.new (outcome_line outcome.now) }
 {
     match outcome {
         Outcome::Answered(answer) => print_line(printer, Line::Answer(answer)),
@@ -37,7 +37,8 @@ pub fn print_outcome<W: Sink>(
     }
 }
 
-/// Asks for one command over the end, waits for its answer at most so many turns, and writes how it fared. Returns the exit status.
+/// Asks for one command over the end, waits for its answer at most so many turns, and writes its outcome. Returns the
+/// exit status.
 pub fn ask_once<E: End, W: Sink>(
     link: &mut Link,
     end: &mut E,
@@ -45,7 +46,8 @@ pub fn ask_once<E: End, W: Sink>(
     turns: u32,
     printer: &mut Printer<W>,
 ) -> Result<u8, WriteFailed>
-    ensures { AsksOnce (request_of request.entry) turns link.old link.new (E.state end.old) (E.state end.new) result printer.old printer.new }
+    ensures { AsksOnce (request_of request.entry) turns link.old link.new (E.state end.old) (E.state end.new) result
+        printer.old printer.new }
 {
     let outcome = ask(link, end, request, turns);
     print_outcome(&outcome, printer)?;

@@ -2,11 +2,13 @@
 ghost use Rattle.std.specs.Prelude.{◌≡◌, [], IfErr, IfOk, map};
 ghost use Rattle.oca_program.specs.declared.fault.RunFault.TheVariants.{NoMemory};
 ghost use Rattle.oca_script.specs.Ends.{input};
-ghost use Rattle.ocactl_cli.specs.Hands.{GivesUp, HoldsAll, KeepsUntilEnd, LooksAtInput, ends_input};
-ghost use Rattle.ocactl_cli.specs.PrivateHands.{KeepsOrFails, ReadsWhereReady, ListsHeld, LocksEach, LocksNextOr, number_of};
+ghost use Rattle.ocactl_cli.specs.Objects.{HoldsAll, KeepsUntilEnd, LooksAtInput, StopsHolding, StopsLocking};
+ghost use Rattle.ocactl_cli.specs.Objects.{ends_input};
+ghost use Rattle.ocactl_cli.specs.PrivateObjects.{KeepsOrFails, ReadsWhereReady, ListsHeld, LocksEach, LocksNextOr};
+ghost use Rattle.ocactl_cli.specs.PrivateObjects.{ono_number};
 
-use super::hands::{lock_all, lock_one};
-use super::told::graver;
+use super::object_line::max_severity;
+use super::objects::{lock_all, lock_one};
 use oca_net::End;
 use oca_panel::Panel;
 use oca_program::{Failure, RunFault};
@@ -17,9 +19,10 @@ use std::alloc::Global;
 /// How many bytes of the input are read at a time.
 const PIECE: usize = 4096;
 
-/// Locks the objects one after another, keeps those locks until the input ends, and takes them off. Prints how each
-/// fared, first of the locks, then of those taken off. Returns the exit status, the graver of both. Where no object was
-/// locked, nothing is awaited.
+/// Locks the objects one after another, keeps those locks until the input ends, and takes them off. Prints the outcome
+/// of each, first of the locks, then of those taken off. Returns the exit status, the more severe of both. Where no
+/// object was locked, nothing is awaited. Where a write fails, or there is no memory to list the objects, the locks
+/// that were taken by then are left to lapse.
 pub fn hold<E: End, R: Source, W: Sink>(
     alloc: Global,
     panel: &mut Panel<E>,
@@ -27,10 +30,12 @@ pub fn hold<E: End, R: Source, W: Sink>(
     reader: &mut R,
     printer: &mut Printer<W>,
 ) -> Result<u8, Failure>
-    ensures holds { IfOk result (λ status. HoldsAll (map number_of onos.now) panel.old panel.new status
+    ensures holds { IfOk result (λ status. HoldsAll (map ono_number onos.now) panel.old panel.new status
         (input (R.remaining reader.old) (R.failed reader.old))
         (input (R.remaining reader.new) (R.failed reader.new)) printer.old printer.new) }
-    ensures fails { IfErr result (λ failure. GivesUp failure printer.new) }
+    ensures stops { IfErr result (λ failure. StopsHolding (map ono_number onos.now) failure.fault panel.old panel.new
+        (input (R.remaining reader.old) (R.failed reader.old))
+        (input (R.remaining reader.new) (R.failed reader.new)) printer.old printer.new) }
 {
     let mut held = Vec::new(alloc);
     match lock_each(panel, onos, &mut held, printer) {
@@ -47,9 +52,10 @@ fn lock_each<E: End, W: Sink>(
     printer: &mut Printer<W>,
 ) -> Result<u8, Failure>
     requires { held.old.items ≡ [] }
-    ensures locks { IfOk result (λ status. LocksEach (map number_of onos.now)
+    ensures locks { IfOk result (λ status. LocksEach (map ono_number onos.now)
         panel.old panel.new status held.new.items printer.old printer.new) }
-    ensures fails { IfErr result (λ failure. GivesUp failure printer.new) }
+    ensures stops { IfErr result (λ failure. StopsLocking (map ono_number onos.now) failure.fault
+        panel.old panel.new printer.old printer.new) }
 {
     printer.flush()?;
     let mut status = 0;
@@ -67,7 +73,8 @@ fn lock_next<E: End, W: Sink>(
     status: u8,
     printer: &mut Printer<W>,
 ) -> Result<u8, Failure>
-    ensures { LocksNextOr ono.0 panel.old panel.new status result held.old.items held.new.items printer.old printer.new }
+    ensures { LocksNextOr ono.0 panel.old panel.new status result held.old.items held.new.items
+        printer.old printer.new }
 {
     match lock_one(panel, ono, true, printer) {
         Ok(own) => list_held(ono, own, held, status),
@@ -83,7 +90,7 @@ fn list_held(ono: Ono, own: u8, held: &mut Vec<Ono>, status: u8) -> Result<u8, F
     if own == 0 && held.push(ono).is_err() {
         return Err(Failure::from(RunFault::NoMemory));
     }
-    Ok(graver(status, own))
+    Ok(max_severity(status, own))
 }
 
 /// Keeps the locks of these objects until the input ends, and takes them off. Returns the exit status.
@@ -94,7 +101,7 @@ fn keep_held<E: End, R: Source, W: Sink>(
     reader: &mut R,
     printer: &mut Printer<W>,
 ) -> Result<u8, Failure>
-    ensures { KeepsOrFails (map number_of held.now) status panel.old panel.new result
+    ensures { KeepsOrFails (map ono_number held.now) status panel.old panel.new result
         (input (R.remaining reader.old) (R.failed reader.old))
         (input (R.remaining reader.new) (R.failed reader.new)) printer.old printer.new }
 {
@@ -103,7 +110,7 @@ fn keep_held<E: End, R: Source, W: Sink>(
     }
     keep(panel, reader);
     match lock_all(panel, held, false, printer) {
-        Ok(after) => Ok(graver(status, after)),
+        Ok(after) => Ok(max_severity(status, after)),
         Err(failed) => Err(Failure::from(failed)),
     }
 }

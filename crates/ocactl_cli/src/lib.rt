@@ -1,17 +1,19 @@
-//! The controller's program, without its `main`: what the words of the command line ask for, and what is done and printed.
+//! The controller's program, without its `main`: what the words of the command line ask for, and what is done and
+//! printed.
 //!
-//! [`run::run`] is the whole program on its words: `tree`, `get`, `set`, `lock` and `unlock` speak of a device's objects in words,
-//! `send` sends a command to a device over UDP and prints its answer, `run` sends the commands that a source has to give, and `replay`
-//! runs a link over the script there. Each of them over any end stands in a module of its own: [`commands`], [`exchange`], [`hands`];
-//! `replay` is the library `ocactl_replay`.
+//! [`run::run`] is the whole program on its words: `tree`, `get`, `set`, `lock` and `unlock` speak of a device's
+//! objects in words, `send` sends a command to a device over UDP and prints its answer, `run` sends the commands that a
+//! source has to give, and `replay` runs a link over the script there. Each of them over any end stands in a module of
+//! its own: [`commands`], [`exchange`], [`objects`]; `replay` is the library `ocactl_replay`.
 #![tactic(auto)]
 
 mod command_line;
 pub mod commands;
 pub mod exchange;
-pub mod hands;
 mod holding;
 mod matching;
+mod object_line;
+pub mod objects;
 pub mod probe;
 mod reaching;
 mod reason;
@@ -19,7 +21,6 @@ pub mod run;
 pub mod session;
 mod setting;
 pub mod tasks;
-mod told;
 mod walk;
 mod wanted;
 pub mod watched;

@@ -1,112 +1,27 @@
 //! The words of the command line, matched with what the program takes.
 //!
-//! A value of `set` may be a negative number, which `clap`'s contract does not follow. So words are matched without such
-//! values first, and words of `set` once more where a negative number was refused as an unknown argument.
-ghost use Rattle.std.specs.Prelude.{◌≡◌, false, map, true};
-ghost use Rattle.std.specs.List.{list_any};
-ghost use Rattle.clap.specs.Values.{kind_of};
+//! A value of `set` may be a negative number, which is an option for `clap`, as each word that begins with `-`. So the
+//! words of `set` are matched with a blank in front of each negative number, which is then taken off the value.
+ghost use Rattle.std.specs.Prelude.{◌≡◌, ◌++◌, ◌∷◌, [], IfOk, OnOk, map, string_bytes};
+ghost use Rattle.oca_program.specs.Commands.{MatchingGives};
 ghost use Rattle.ocactl_cli.specs.CommandLine.{own_app};
-ghost use Rattle.ocactl_cli.specs.Matching.{AreMatched, AreMatchedBy, IsSecond, begins_negative as is_negative};
-ghost use Rattle.ocactl_cli.specs.Matching.{is_help as is_help_kind, is_help_word as is_for_help};
-ghost use Rattle.ocactl_cli.specs.Matching.{is_set as is_for_set, may_be_negative as is_by_negative};
+ghost use Rattle.ocactl_cli.specs.Matching.{BlanksLoseNothing, is_set as is_for_set, takes_blank as may_take_blank};
+ghost use Rattle.ocactl_cli.specs.Matching.{with_blank as blank_before, without_blank as blank_taken};
 
 use super::command_line::program;
-use clap::error::ErrorKind;
 use clap::{ArgMatches, Error};
-use std::alloc::Global;
+use std::alloc::{AllocError, Global};
 use std::convert::AsStr;
 
 /// The words, the program's name first, matched with what the program takes.
 pub fn matches_of<'a, S: AsStr>(alloc: Global, words: &'a [S]) -> Result<ArgMatches<'a>, Error>
-    ensures { AreMatched (map S.text words.entry.now) result }
+    ensures { MatchingGives own_app (map S.text words.entry.now) result }
 {
-    match plain_matches(alloc, words) {
-        Ok(matches) => Ok(matches),
-        Err(error) => {
-            if may_be_negative(words, error.kind()) {
-                return matched_again(alloc, words, error);
-            }
-            Err(error)
-        }
-    }
-}
-
-/// The words, matched with what the program takes where no value is a negative number.
-fn plain_matches<'a, S: AsStr>(alloc: Global, words: &'a [S]) -> Result<ArgMatches<'a>, Error>
-    ensures { AreMatchedBy (own_app true) (map S.text words.entry.now) result }
-{
-    program(alloc, true)?.try_get_matches_from(words)
-}
-
-/// The words, matched where a value of `set` may be a negative number; `first` is why they were not matched before.
-fn matched_again<'a, S: AsStr>(
-    alloc: Global,
-    words: &'a [S],
-    first: Error,
-) -> Result<ArgMatches<'a>, Error>
-    requires { is_help_kind (kind_of first) ≡ false }
-    ensures { IsSecond (map S.text words.entry.now) result }
-{
-    match negative_matches(alloc, words) {
-        Ok(matches) => Ok(matches),
-        Err(second) => {
-            if is_unasked(words, second.kind()) {
-                return Err(first);
-            }
-            Err(second)
-        }
-    }
-}
-
-/// The words, matched where a value of `set` may be a negative number.
-fn negative_matches<'a, S: AsStr>(alloc: Global, words: &'a [S]) -> Result<ArgMatches<'a>, Error> {
-    program(alloc, false)?.try_get_matches_from(words)
-}
-
-/// Whether an error of this kind gives a text for which no word asks.
-fn is_unasked<S: AsStr>(words: &[S], kind: ErrorKind) -> bool
-    ensures { result ≡ false → is_help_kind kind ≡ true → list_any is_for_help (map S.text words.now) ≡ true }
-{
-    if !is_help(kind) {
-        return false;
-    }
-    !asks_help(words)
-}
-
-/// Whether an error gives the text of `--help` or of `--version`.
-fn is_help(kind: ErrorKind) -> bool
-    ensures { result ≡ is_help_kind kind }
-{
-    matches!(kind, ErrorKind::DisplayHelp | ErrorKind::DisplayVersion)
-}
-
-/// Whether a word asks for help.
-fn asks_help<S: AsStr>(words: &[S]) -> bool
-    ensures { result ≡ list_any (λ word. is_for_help (S.text word)) words.now }
-{
-    words.iter().any(|word| is_help_word(word.as_str()))
-}
-
-/// Whether the word asks for help.
-fn is_help_word(word: &str) -> bool
-    ensures { result ≡ is_for_help word.now }
-{
-    word == "-h" || word == "--help"
-}
-
-/// Whether words may be refused by an error of this kind only since a value of `set` is a negative number.
-fn may_be_negative<S: AsStr>(words: &[S], kind: ErrorKind) -> bool
-    ensures value { result ≡ is_by_negative (map S.text words.now) kind }
-    ensures no_help { result ≡ true → is_help_kind kind ≡ false }
-{
-    match kind {
-        ErrorKind::UnknownArgument => is_set(words) && has_negative(words),
-        _ => false,
-    }
+    program(alloc)?.try_get_matches_from(words)
 }
 
 /// Whether the command is `set`.
-fn is_set<S: AsStr>(words: &[S]) -> bool
+pub fn is_set<S: AsStr>(words: &[S]) -> bool
     ensures { result ≡ is_for_set (map S.text words.now) }
 {
     match words {
@@ -115,19 +30,72 @@ fn is_set<S: AsStr>(words: &[S]) -> bool
     }
 }
 
-/// Whether a word begins as a negative number.
-fn has_negative<S: AsStr>(words: &[S]) -> bool
-    ensures { result ≡ list_any (λ word. is_negative (S.text word)) words.now }
+/// The words, with a blank in front of each that begins as a negative number or with a blank.
+pub fn with_blanks<S: AsStr>(alloc: Global, words: &[S]) -> Result<Vec<String>, AllocError>
+    ensures { IfOk result (λ texts. map string_bytes texts.items ≡ map blank_before (map S.text words.now)) }
 {
-    words.iter().any(|word| begins_negative(word.as_str()))
+    let mut texts = Vec::new(alloc);
+    for word in words {
+        add_word(alloc, word.as_str(), &mut texts)?;
+    }
+    Ok(texts)
 }
 
-/// Whether the word begins as a negative number.
-fn begins_negative(word: &str) -> bool
-    ensures { result ≡ is_negative word.now }
+/// Adds a word to a list, with a blank in front of it where it takes one.
+fn add_word(alloc: Global, word: &str, texts: &mut Vec<String>) -> Result<(), AllocError>
+    ensures { OnOk result (map string_bytes texts.new.items
+        ≡ map string_bytes texts.old.items ++ blank_before word.now ∷ []) }
 {
-    match word.as_bytes() {
-        [first, second, ..] => *first == b'-' && b'0' <= *second && *second <= b'9',
-        _ => false,
+    let text = with_blank(alloc, word)?;
+    match texts.push(text) {
+        Ok(()) => Ok(()),
+        Err(_) => Err(AllocError),
     }
 }
+
+/// A word, with a blank in front of it where it takes one.
+fn with_blank(alloc: Global, word: &str) -> Result<String, AllocError>
+    ensures { IfOk result (λ text. string_bytes text ≡ blank_before word.now) }
+{
+    if takes_blank(word) {
+        return behind_blank(alloc, word);
+    }
+    String::from_str(alloc, word)
+}
+
+/// A word behind a blank.
+fn behind_blank(alloc: Global, word: &str) -> Result<String, AllocError>
+    ensures { IfOk result (λ text. string_bytes text ≡ 32 ∷ word.now) }
+{
+    let mut text = String::from_str(alloc, " ")?;
+    text.push_str(word)?;
+    Ok(text)
+}
+
+/// Whether a word begins with a blank, or with `-` and a digit.
+fn takes_blank(word: &str) -> bool
+    ensures { result ≡ may_take_blank word.now }
+{
+    match word.as_bytes() {
+        [first, second, ..] => {
+            *first == b' ' || *first == b'-' && b'0' <= *second && *second <= b'9'
+        }
+        [first] => *first == b' ',
+        [] => false,
+    }
+}
+
+/// The word of which this was matched.
+pub fn without_blank(word: &str) -> &str
+    ensures { result.now ≡ blank_taken word.now }
+{
+    match word.strip_prefix(" ") {
+        Some(rest) => rest,
+        None => word,
+    }
+}
+
+/// Each word of `set` is got back as it was given.
+pub fn law_of_blanks()
+    ensures { BlanksLoseNothing }
+{}

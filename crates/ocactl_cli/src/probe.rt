@@ -5,7 +5,8 @@
 //! reads.
 ghost use Rattle.std.specs.Prelude.{◌≡◌};
 ghost use Rattle.oca_control.specs.Links.{new_link, submission, submitted};
-ghost use Rattle.ocactl_cli.specs.Probes.{Asks, AsksRound, AsksRounds, Probes, SendsKeepAlive, handle_in, is_answered, question};
+ghost use Rattle.ocactl_cli.specs.Probes.{AsksQuestion, AsksRound, AsksRounds, Probes, SendsKeepAlive, handle_in};
+ghost use Rattle.ocactl_cli.specs.Probes.{has_answer, question};
 ghost use Rattle.ocactl_cli.specs.Reasons.{found_by};
 
 use super::watched::Watched;
@@ -30,9 +31,9 @@ pub enum Found {
     /// It answered one.
     Answering,
     /// It was heard, and answered none.
-    Deaf,
+    NotAnswering,
     /// It was not heard.
-    Unheard,
+    NotHeard,
 }
 
 /// Asks a device for the class of its root, under this handle, and beside it for keep-alives, for a second at most.
@@ -52,15 +53,15 @@ fn by_answer(answered: bool, heard: Option<u64>) -> Found
         return Found::Answering;
     }
     match heard {
-        Some(_) => Found::Deaf,
-        None => Found::Unheard,
+        Some(_) => Found::NotAnswering,
+        None => Found::NotHeard,
     }
 }
 
 /// Asks for the class of the root, and beside it for keep-alives: whether the command was answered.
 fn asks<E: End>(link: &mut Link, end: &mut Watched<E>, device: Peer, first: Handle) -> bool
     requires { link.old ≡ new_link device first.0 0 16 }
-    ensures { Asks device first.0 result end.old.end_state end.new.end_state }
+    ensures { AsksQuestion device first.0 result end.old.end_state end.new.end_state }
 {
     let Some(handle) = submit(link) else {
         return false;
@@ -92,7 +93,7 @@ fn asks_round<E: End>(link: &mut Link, end: &mut Watched<E>, device: Peer, handl
 
 /// Whether an answer came.
 fn is_answer(outcome: &Outcome) -> bool
-    ensures { result ≡ is_answered outcome.now }
+    ensures { result ≡ has_answer outcome.now }
 {
     match outcome {
         Outcome::Answered(_) => true,

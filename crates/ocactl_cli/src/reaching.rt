@@ -1,10 +1,10 @@
 //! How a device is reached: the socket's port, and a link with its first handle.
 ghost use Rattle.std.specs.Prelude.{◌≡◌, ◌<◌, IfErr, IfOk};
 ghost use Rattle.oca_net.specs.Sockets.{IsBoundAt, new_socket};
-ghost use Rattle.ocactl_cli.specs.declared.probe.Found.TheVariants.{Deaf};
-ghost use Rattle.ocactl_cli.specs.PrivateSockets.{IsLinkedIfBound, IsMarked, IsNamed};
+ghost use Rattle.ocactl_cli.specs.declared.probe.Found.TheVariants.{NotAnswering};
+ghost use Rattle.ocactl_cli.specs.PrivateSockets.{IsLinkedIfBound, IsMarked, IsSameButNoted};
 ghost use Rattle.ocactl_cli.specs.Sockets.{IsBoundByChoice, IsLinkedBehind, IsLinkedBy, IsLinkedFurther, IsLinkedOver};
-ghost use Rattle.ocactl_cli.specs.Sockets.{IsOwnPort, IsReached, IsSocketFor, IsUnreached, asks_first};
+ghost use Rattle.ocactl_cli.specs.Sockets.{IsReached, IsSocketFor, IsUnreached, asks_first};
 
 use super::probe::{Found, probe};
 use super::watched::Watched;
@@ -19,7 +19,6 @@ use oca_types::Peer;
 use std::alloc::Global;
 use std::net::Net;
 use std::rt::Clock;
-use std::time::{SystemTime, UNIX_EPOCH};
 
 /// A socket that knows when the device was heard.
 type DeviceEnd<'a, C> = Watched<UdpEnd<'a, C>>;
@@ -40,28 +39,13 @@ pub fn reached<'a, N: Net + Clock, F: Sink>(
     ensures reached { IfOk result (λ r. IsReached reach own_alone r.0 r.1.end_state) }
     ensures fault { IfErr result (λ failure. IsUnreached failure.fault) }
 {
-    let own = own_port(system);
+    let own = OwnPort::now(system);
     let bound = bound(alloc, system, reach, own, own_alone);
     linked_over(alloc, system, reach, own, bound, faults)
 }
 
-/// The program's own port, the other one, and a first handle there, by the clock: those of the beginning of 1970 where
-/// it can't be read.
-pub fn own_port<C: Clock>(clock: &C) -> OwnPort
-    ensures own { IsOwnPort result }
-    ensures below { result.first_handle.0 < 2147483648 }
-{
-    let Ok(now) = SystemTime::now(clock) else {
-        return OwnPort::at(0, 0);
-    };
-    match now.duration_since(UNIX_EPOCH) {
-        Ok(since) => OwnPort::at(since.as_secs(), since.subsec_micros()),
-        Err(_) => OwnPort::at(0, 0),
-    }
-}
-
-/// A socket at the port that the words give, else at the program's own or another one; and whether none was given and it
-/// is at the program's own.
+/// A socket at the port that the words give, else at the program's own or another one; and whether none was given and
+/// it is at the program's own.
 fn bound<'a, N: Net + Clock>(
     alloc: Global,
     system: &'a N,
@@ -192,8 +176,8 @@ fn answering<'a, N: Net + Clock, F: Sink>(
     ensures { IsLinkedBehind reach own end.entry.end_state result.0 result.1.end_state }
 {
     match probe(&mut end, reach.device, own.first_handle) {
-        Found::Deaf => elsewhere(alloc, system, reach, own, end, faults),
-        Found::Answering | Found::Unheard => further(reach, own, end),
+        Found::NotAnswering => elsewhere(alloc, system, reach, own, end, faults),
+        Found::Answering | Found::NotHeard => further(reach, own, end),
     }
 }
 
@@ -207,7 +191,7 @@ fn elsewhere<'a, N: Net + Clock, F: Sink>(
     faults: &mut Printer<F>,
 ) -> (Link, DeviceEnd<'a, N>)
     requires { own.first_handle.0 < 2147483648 }
-    ensures { IsLinkedBy Deaf reach own end.entry.end_state result.0 result.1.end_state }
+    ensures { IsLinkedBy NotAnswering reach own end.entry.end_state result.0 result.1.end_state }
 {
     let bound = bind_at(alloc, system, reach, own.other);
     match bound {
@@ -259,7 +243,7 @@ fn named<'a, N: Net + Clock>(
     bound: Result<UdpEnd<'a, N>, Failure>,
     port: u16,
 ) -> Result<UdpEnd<'a, N>, Failure>
-    ensures { IsNamed bound.entry result }
+    ensures { IsSameButNoted bound.entry result }
 {
     match bound {
         Ok(end) => Ok(end),
@@ -284,7 +268,7 @@ fn naming(alloc: Global, failure: Failure, port: u16) -> Failure
 fn note_other<F: Sink>(alloc: Global, device: Peer, own: OwnPort, faults: &mut Printer<F>) {
     let OwnPort { port, other, .. } = own;
     let note = format!(in alloc;
-        "{device} answers no command from port {port}: port {other} is taken"
+        "{device} answers no command from port {port}: port {other} is used instead"
     );
     if let Ok(note) = note {
         print_note(note.as_str(), faults);

@@ -85,7 +85,7 @@ fn reason_text(
         Reason::HeardBefore(ms) => format!(in alloc; "{device} was last heard {ms} ms ago"),
         Reason::AnswersNone => {
             format!(in alloc;
-                "{device} is heard, and answers no command from port {port}: wait two minutes, or give another --port"
+                "{device} is heard, but answers no command from port {port}: wait two minutes, or give another --port"
             )
         }
     }

@@ -6,34 +6,38 @@ ghost use Rattle.oca_script.specs.Ends.{input};
 ghost use Rattle.oca_script.specs.Printing.{WritesOut};
 ghost use Rattle.oca_program.specs.Faults.{fault_in, words_fault};
 ghost use Rattle.oca_panel.specs.Panels.{PanelState};
-ghost use Rattle.ocactl_cli.specs.Hands.{Gets, Locks};
-ghost use Rattle.ocactl_cli.specs.PrivateHands.{number_of, pair_of};
-ghost use Rattle.ocactl_cli.specs.Matching.{is_help};
-ghost use Rattle.ocactl_cli.specs.Runs.{exit_status, RunsOn, DoesMatched, Obeys, DoesAsked, Does, Helps, HelpsOut, Tells};
-ghost use Rattle.ocactl_cli.specs.Runs.{ReplaysOn, SendsAt, SendsOne, AsksOver, RunsAt, RunsFrom, DoesAt, DoesTask, AsksEach};
+ghost use Rattle.ocactl_cli.specs.Objects.{Gets, Locks};
+ghost use Rattle.ocactl_cli.specs.PrivateObjects.{ono_number, pair_of};
+ghost use Rattle.ocactl_cli.specs.Matching.{with_blank};
+ghost use Rattle.oca_program.specs.Faults.{asks_for_text};
+ghost use Rattle.ocactl_cli.specs.Runs.{run_status, RunsProgram, RunsWords, DoesByMatches, DoesMatchedCommand};
+ghost use Rattle.ocactl_cli.specs.Runs.{DoesByOptions, DoesRequest, AnswersUnmatched, PrintsHelp, EndsWithText};
+ghost use Rattle.ocactl_cli.specs.Runs.{ReplaysScript, SendsAt, SendsOne, AsksOver, RunsAt, RunsFrom, DoesAt, DoesTask};
+ghost use Rattle.ocactl_cli.specs.Runs.{AsksEach};
 
 use super::commands::send_all;
 use super::exchange::ask_once;
-use super::hands::{get_all, lock_all, set_all};
 use super::holding::hold;
-use super::reaching::{own_port, reached};
+use super::matching::{is_set, matches_of, with_blanks};
+use super::objects::{get_all, lock_all, set_all};
+use super::reaching::reached;
 use super::reason::note_silence;
 use super::session::Session;
 use super::tasks::Task;
 use super::walk::walk;
 use super::watched::Watched;
-use super::words::{Asked, Linking, Reach, Sending, asked_for, matches_of};
+use super::words::{Asked, Linking, Reach, Sending, asked_for};
 use clap::error::ErrorKind;
 use clap::{ArgMatches, Error};
 use oca_net::{End, UdpEnd};
-use oca_panel::Panel;
+use oca_panel::{OwnPort, Panel};
 use oca_program::options::help_or_failure;
 use oca_program::socket::bind;
 use oca_program::{Failure, RunFault, print_note, report};
 use oca_script::{Printer, Sink, Source, WriteFailed};
 use oca_types::{Handle, Ono, Span};
 use ocactl_replay::replay::replay;
-use std::alloc::Global;
+use std::alloc::{AllocError, Global};
 use std::convert::AsStr;
 use std::net::Net;
 use std::os::fd::AsRawFd;
@@ -41,14 +45,15 @@ use std::rt::Clock;
 
 /// Runs the program on the words of its command line, its name first, and returns its exit status.
 ///
-/// `replay` runs a link over the script that the source has to give. `send` sends a command and prints its answer: 0 for an
-/// answer with the status 0, 4 for another, 3 where the link is lost or no answer came. `run` sends the commands that the
-/// source has to give, and prints the answer of each, or why there is none, in the order of their lines: 3 where one got none. `tree`,
-/// `get`, `set`, `lock` and `unlock` print a line for each object (`set`, where a value is missing, for those without one alone): 4
-/// where one was refused, 3 where an answer did not come or the link took no command, and of `set` 2 where a word is for no value of its
-/// object; of several 3 before 2 before 4. Else 0 where all was done, 2 where the words or a line are bad, and 1 where something could
-/// not be done. A fault is printed on `faults` as one line, behind one that begins with `note: ` where more is known; such a line also
-/// says why a send failed where no answer came.
+/// `replay` runs a link over the script that the source has to give. `send` sends a command and prints its answer: 0
+/// for an answer with the status 0, 4 for another, 3 where the link is lost or no answer came. `run` sends the commands
+/// that the source has to give, and prints the answer of each, or why there is none, in the order of their lines: 3
+/// where one got none. `tree`, `get`, `set`, `lock` and `unlock` print a line for each object (`set`, where a value is
+/// missing, for those without one alone): 4 where one was refused, 3 where an answer did not come or the link took no
+/// command, and of `set` 2 where a word is for no value of its object; of several 3 before 2 before 4. Else 0 where all
+/// was done, 2 where the words or a line are bad, and 1 where something could not be done. A fault is printed on
+/// `faults` as one line, behind one that begins with `note: ` where more is known; such a line also says why a send
+/// failed where no answer came.
 pub fn run<N: Net + Clock, S: AsStr, R: Source, W: Sink, F: Sink>(
     alloc: Global,
     system: &N,
@@ -57,7 +62,64 @@ pub fn run<N: Net + Clock, S: AsStr, R: Source, W: Sink, F: Sink>(
     printer: &mut Printer<W>,
     faults: &mut Printer<F>,
 ) -> u8
-    ensures { RunsOn (map S.text words.now) result
+    ensures { RunsProgram (map S.text words.now) result
+        (input (R.remaining reader.old) (R.failed reader.old))
+        (input (R.remaining reader.new) (R.failed reader.new)) printer.old printer.new }
+{
+    if is_set(words) {
+        return run_set(alloc, system, words, reader, printer, faults);
+    }
+    run_words(alloc, system, words, reader, printer, faults)
+}
+
+/// The same of words of `set`, in which a negative number is matched behind a blank.
+fn run_set<N: Net + Clock, S: AsStr, R: Source, W: Sink, F: Sink>(
+    alloc: Global,
+    system: &N,
+    words: &[S],
+    reader: &mut R,
+    printer: &mut Printer<W>,
+    faults: &mut Printer<F>,
+) -> u8
+    ensures { RunsWords (map with_blank (map S.text words.now)) result
+        (input (R.remaining reader.old) (R.failed reader.old))
+        (input (R.remaining reader.new) (R.failed reader.new)) printer.old printer.new }
+{
+    match with_blanks(alloc, words) {
+        Ok(texts) => run_words(alloc, system, texts.as_slice(), reader, printer, faults),
+        Err(refused) => run_refused(alloc, system, words, refused, reader, printer, faults),
+    }
+}
+
+/// The same where memory was refused for the words.
+fn run_refused<N: Net + Clock, S: AsStr, R: Source, W: Sink, F: Sink>(
+    alloc: Global,
+    system: &N,
+    words: &[S],
+    refused: AllocError,
+    reader: &mut R,
+    printer: &mut Printer<W>,
+    faults: &mut Printer<F>,
+) -> u8
+    ensures { RunsWords (map with_blank (map S.text words.now)) result
+        (input (R.remaining reader.old) (R.failed reader.old))
+        (input (R.remaining reader.new) (R.failed reader.new)) printer.old printer.new }
+{
+    let matched: Result<ArgMatches<'_>, Error> = Err(Error::from(refused));
+    let ended = matched_run(alloc, system, &matched, reader, printer, faults);
+    status_of(ended, faults)
+}
+
+/// Runs the program on words that are matched as they stand.
+fn run_words<N: Net + Clock, S: AsStr, R: Source, W: Sink, F: Sink>(
+    alloc: Global,
+    system: &N,
+    words: &[S],
+    reader: &mut R,
+    printer: &mut Printer<W>,
+    faults: &mut Printer<F>,
+) -> u8
+    ensures { RunsWords (map S.text words.now) result
         (input (R.remaining reader.old) (R.failed reader.old))
         (input (R.remaining reader.new) (R.failed reader.new)) printer.old printer.new }
 {
@@ -75,19 +137,19 @@ fn matched_run<N: Net + Clock, R: Source, W: Sink, F: Sink>(
     printer: &mut Printer<W>,
     faults: &mut Printer<F>,
 ) -> Result<u8, Failure>
-    ensures { DoesMatched matched.now (fault_in result)
+    ensures { DoesByMatches matched.now (fault_in result)
         (input (R.remaining reader.old) (R.failed reader.old))
         (input (R.remaining reader.new) (R.failed reader.new)) printer.old printer.new }
 {
     match matched {
-        Ok(matches) => obeyed(alloc, system, matches, reader, printer, faults),
-        Err(error) => helped(alloc, error, printer),
+        Ok(matches) => do_matched(alloc, system, matches, reader, printer, faults),
+        Err(error) => answer_unmatched(alloc, error, printer),
     }
 }
 
 /// The exit status of a run that ended so. Why it failed, where it did, is printed.
 fn status_of<F: Sink>(ended: Result<u8, Failure>, faults: &mut Printer<F>) -> u8
-    ensures { result ≡ exit_status (fault_in ended) }
+    ensures { result ≡ run_status (fault_in ended) }
 {
     match ended {
         Ok(status) => status,
@@ -96,8 +158,12 @@ fn status_of<F: Sink>(ended: Result<u8, Failure>, faults: &mut Printer<F>) -> u8
 }
 
 /// Prints the text of `--help` or `--version`, where the words ask for that.
-fn helped<W: Sink>(alloc: Global, error: &Error, printer: &mut Printer<W>) -> Result<u8, Failure>
-    ensures { Helps (kind_of error.now) (fault_in result) printer.old printer.new }
+fn answer_unmatched<W: Sink>(
+    alloc: Global,
+    error: &Error,
+    printer: &mut Printer<W>,
+) -> Result<u8, Failure>
+    ensures { AnswersUnmatched (kind_of error.now) (fault_in result) printer.old printer.new }
 {
     match error.kind() {
         ErrorKind::DisplayHelp | ErrorKind::DisplayVersion => help(alloc, error, printer),
@@ -105,19 +171,19 @@ fn helped<W: Sink>(alloc: Global, error: &Error, printer: &mut Printer<W>) -> Re
     }
 }
 
-/// Prints the text of an error that stands for one.
+/// Prints the text of an error that asks for one.
 fn help<W: Sink>(alloc: Global, error: &Error, printer: &mut Printer<W>) -> Result<u8, Failure>
-    ensures { HelpsOut (fault_in result) printer.old printer.new }
+    ensures { PrintsHelp (fault_in result) printer.old printer.new }
 {
     match error.to_string(alloc) {
-        Ok(text) => told(text.as_bytes(), printer),
+        Ok(text) => print_text(text.as_bytes(), printer),
         Err(_) => Err(Failure::from(RunFault::NoMemory)),
     }
 }
 
 /// Why a run fails whose words were not matched and ask for no text.
 fn unmatched(alloc: Global, error: &Error) -> Failure
-    requires { is_help (kind_of error.now) ≡ false }
+    requires { asks_for_text (kind_of error.now) ≡ false }
     ensures { result.fault ≡ words_fault (kind_of error.now) }
 {
     match help_or_failure(alloc, error) {
@@ -128,7 +194,7 @@ fn unmatched(alloc: Global, error: &Error) -> Failure
 
 /// The fault of words that were not matched.
 fn fault_for(kind: ErrorKind) -> RunFault
-    requires { is_help kind ≡ false }
+    requires { asks_for_text kind ≡ false }
     ensures { result ≡ words_fault kind }
 {
     match kind {
@@ -137,9 +203,9 @@ fn fault_for(kind: ErrorKind) -> RunFault
     }
 }
 
-/// Prints a text, and hands it on.
-fn told<W: Sink>(text: &[u8], printer: &mut Printer<W>) -> Result<u8, Failure>
-    ensures { Tells text.now (fault_in result) printer.old printer.new }
+/// Prints a text, and flushes it.
+fn print_text<W: Sink>(text: &[u8], printer: &mut Printer<W>) -> Result<u8, Failure>
+    ensures { EndsWithText text.now (fault_in result) printer.old printer.new }
 {
     match print_all(text, printer) {
         Ok(()) => Ok(0),
@@ -156,7 +222,7 @@ fn print_all<W: Sink>(text: &[u8], printer: &mut Printer<W>) -> Result<(), Write
 }
 
 /// Does what the command asks for that the matched words name, and returns the exit status.
-fn obeyed<N: Net + Clock, R: Source, W: Sink, F: Sink>(
+fn do_matched<N: Net + Clock, R: Source, W: Sink, F: Sink>(
     alloc: Global,
     system: &N,
     words: &ArgMatches<'_>,
@@ -164,18 +230,18 @@ fn obeyed<N: Net + Clock, R: Source, W: Sink, F: Sink>(
     printer: &mut Printer<W>,
     faults: &mut Printer<F>,
 ) -> Result<u8, Failure>
-    ensures { Obeys words.now (fault_in result)
+    ensures { DoesMatchedCommand words.now (fault_in result)
         (input (R.remaining reader.old) (R.failed reader.old))
         (input (R.remaining reader.new) (R.failed reader.new)) printer.old printer.new }
 {
     match words.subcommand() {
-        Some((name, options)) => commanded(alloc, system, name, options, reader, printer, faults),
+        Some((name, options)) => do_named(alloc, system, name, options, reader, printer, faults),
         None => Err(Failure::from(RunFault::BadWords)),
     }
 }
 
 /// Does what a command with these options asks for.
-fn commanded<N: Net + Clock, R: Source, W: Sink, F: Sink>(
+fn do_named<N: Net + Clock, R: Source, W: Sink, F: Sink>(
     alloc: Global,
     system: &N,
     name: &str,
@@ -184,18 +250,18 @@ fn commanded<N: Net + Clock, R: Source, W: Sink, F: Sink>(
     printer: &mut Printer<W>,
     faults: &mut Printer<F>,
 ) -> Result<u8, Failure>
-    ensures { DoesAsked name.now options.now (fault_in result)
+    ensures { DoesByOptions name.now options.now (fault_in result)
         (input (R.remaining reader.old) (R.failed reader.old))
         (input (R.remaining reader.new) (R.failed reader.new)) printer.old printer.new }
 {
     match asked_for(alloc, name, options) {
-        Ok(asked) => served(alloc, system, &asked, reader, printer, faults),
+        Ok(asked) => do_request(alloc, system, &asked, reader, printer, faults),
         Err(failure) => Err(failure),
     }
 }
 
 /// Does what is asked for, and returns the exit status.
-fn served<N: Net + Clock, R: Source, W: Sink, F: Sink>(
+fn do_request<N: Net + Clock, R: Source, W: Sink, F: Sink>(
     alloc: Global,
     system: &N,
     asked: &Asked,
@@ -203,7 +269,7 @@ fn served<N: Net + Clock, R: Source, W: Sink, F: Sink>(
     printer: &mut Printer<W>,
     faults: &mut Printer<F>,
 ) -> Result<u8, Failure>
-    ensures { Does asked.now (fault_in result)
+    ensures { DoesRequest asked.now (fault_in result)
         (input (R.remaining reader.old) (R.failed reader.old))
         (input (R.remaining reader.new) (R.failed reader.new)) printer.old printer.new }
 {
@@ -223,7 +289,7 @@ fn replayed<R: Source, W: Sink>(
     reader: &mut R,
     printer: &mut Printer<W>,
 ) -> Result<u8, Failure>
-    ensures { ReplaysOn linking (fault_in result)
+    ensures { ReplaysScript linking (fault_in result)
         (input (R.remaining reader.old) (R.failed reader.old))
         (input (R.remaining reader.new) (R.failed reader.new)) printer.old printer.new }
 {
@@ -234,7 +300,7 @@ fn replayed<R: Source, W: Sink>(
     }
 }
 
-/// The largest span that a device's window of 32 commands bears, which it has unless it is told another.
+/// The largest span that a device's window of 32 commands bears, which it has unless it is given another.
 const SPAN_OF_A_DEFAULT: u8 = 16;
 
 /// Prints which window the device needs, where the span is above 16 and there is memory for the line.
@@ -245,14 +311,15 @@ fn note_span<F: Sink>(alloc: Global, span: Span, faults: &mut Printer<F>) {
     let size = span.get();
     let window = 2 * u32::from(size) - 1;
     let note = format!(in alloc;
-        "--span {size}: the device needs a window of {window} commands or more; its 32, unless it is told another, bear a span of 16"
+        "--span {size}: the device needs a window of {window} commands or more; its default of 32 is enough for \
+        a span of 16"
     );
     if let Ok(note) = note {
         print_note(note.as_str(), faults);
     }
 }
 
-/// Sends a command over a socket, and prints how it fared.
+/// Sends a command over a socket, and prints its outcome.
 fn sent<N: Net + Clock, W: Sink, F: Sink>(
     alloc: Global,
     system: &N,
@@ -285,7 +352,7 @@ fn sent_over<N: Net + Clock, W: Sink, F: Sink>(
 ) -> Result<u8, Failure>
     ensures { SendsOne reach sending.now end.entry.end_state (fault_in result) printer.old printer.new }
 {
-    let own = own_port(system);
+    let own = OwnPort::now(system);
     match send_one(reach, own.first_handle, &mut end, sending, printer) {
         Ok(status) => {
             note_no_answer(alloc, system, &mut end, reach, status == 3, false, faults);
@@ -295,7 +362,7 @@ fn sent_over<N: Net + Clock, W: Sink, F: Sink>(
     }
 }
 
-/// Sends the commands of the input over a socket, and prints how each fared.
+/// Sends the commands of the input over a socket, and prints the outcome of each.
 fn ran<N: Net + Clock, R: Source, W: Sink, F: Sink>(
     alloc: Global,
     system: &N,
@@ -436,7 +503,7 @@ fn get_each<E: End, W: Sink>(
     onos: &[Ono],
     printer: &mut Printer<W>,
 ) -> Result<u8, Failure>
-    ensures { AsksEach Gets (map number_of onos.now) panel.old panel.new (fault_in result) printer.old printer.new }
+    ensures { AsksEach Gets (map ono_number onos.now) panel.old panel.new (fault_in result) printer.old printer.new }
 {
     match get_all(panel, onos, printer) {
         Ok(status) => Ok(status),
@@ -451,7 +518,7 @@ fn lock_each<E: End, W: Sink>(
     locks: bool,
     printer: &mut Printer<W>,
 ) -> Result<u8, Failure>
-    ensures { AsksEach (Locks locks) (map number_of onos.now) panel.old panel.new
+    ensures { AsksEach (Locks locks) (map ono_number onos.now) panel.old panel.new
         (fault_in result) printer.old printer.new }
 {
     match lock_all(panel, onos, locks, printer) {
@@ -460,7 +527,7 @@ fn lock_each<E: End, W: Sink>(
     }
 }
 
-/// Sends a command over a new link with this first handle unless the words give one, and prints how it fared.
+/// Sends a command over a new link with this first handle unless the words give one, and prints its outcome.
 fn send_one<E: End, W: Sink>(
     reach: Reach,
     first: Handle,
@@ -474,8 +541,8 @@ fn send_one<E: End, W: Sink>(
     ask_once(&mut link, end, sending.command(), sending.turns, printer)
 }
 
-/// Prints what is known of why a command got no answer, where one got none: why a send failed, where one has, and when the device was
-/// heard. `asks` is whether one that was not heard is asked once more whether it is there.
+/// Prints what is known of why a command got no answer, where one got none: why a send failed, where one has, and when
+/// the device was heard. `asks` is whether one that was not heard is asked once more whether it is there.
 fn note_no_answer<N: Net + Clock, F: Sink>(
     alloc: Global,
     system: &N,

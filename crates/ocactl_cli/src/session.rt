@@ -1,7 +1,8 @@
-//! A link, the end that it is driven over, and the commands under way.
+//! A link, the end that it is driven over, and the commands in flight.
 ghost use Rattle.std.specs.Prelude.{◌≡◌, ◌==◌, ◌||◌, ◌<◌, length, true};
 ghost use Rattle.oca_types.specs.Peers.{request_of};
-ghost use Rattle.ocactl_cli.specs.Exchanges.{AwaitsFirst, IsPatience, NoneUnderWay, TakesOne, is_over, outcome_status, time_beside, time_until};
+ghost use Rattle.ocactl_cli.specs.Exchanges.{AwaitsFirst, IsWaitTime, NoneInFlight, TakesOne, is_over, outcome_status};
+ghost use Rattle.ocactl_cli.specs.Exchanges.{time_beside, time_until};
 ghost use Rattle.ocactl_cli.specs.PrivateExchanges.{Submitted, TakesFirst};
 
 use super::exchange::outcome_status;
@@ -12,21 +13,23 @@ use oca_types::{Handle, Request, Span};
 use std::marker::Model;
 use std::os::fd::RawFd;
 
-/// The most commands that can be under way: the largest span.
+/// The most commands that can be in flight: the largest span.
 const MOST_AHEAD: usize = 32;
 
-/// How many turns a command of a line waits for its answer: where not every receive fails, the link is lost long before.
+/// How many turns a command of a line waits for its answer: where not every receive fails, the link is lost long
+/// before.
 const TURNS: u32 = u32::MAX;
 
 /// The longest wait for input, in milliseconds: an hour.
 const LONGEST_WAIT_MS: u64 = 3_600_000;
 
-/// A link, the end that it is driven over, the handles of the commands under way in the order of their lines, how many may be, and
-/// whether a command got no answer so far. Besides the end's descriptor, where it has one, and whether a command was submitted.
+/// A link, the end that it is driven over, the handles of the commands in flight in the order of their lines, how many
+/// may be, and whether a command got no answer so far. Besides the end's descriptor, where it has one, and whether a
+/// command was submitted.
 pub struct Session<E: End> {
     link: Link,
     end: E,
-    under_way: ArrayVec<u32, MOST_AHEAD>,
+    in_flight: ArrayVec<u32, MOST_AHEAD>,
     ahead: usize,
     unanswered: bool,
     socket: Option<RawFd>,
@@ -39,7 +42,15 @@ impl<E: End> Model for Session<E> {
 
     ghost Value = { SessionState };
 
-    ghost view = { λ s. record { link = s.link; end_state = E.state s.end; under_way = s.under_way.items; ahead = s.ahead; unanswered = s.unanswered; socket = s.socket; is_open = s.is_open } };
+    ghost view = { λ s. record {
+      link = s.link;
+      end_state = E.state s.end;
+      in_flight = s.in_flight.items;
+      ahead = s.ahead;
+      unanswered = s.unanswered;
+      socket = s.socket;
+      is_open = s.is_open;
+    } };
 
     ghost invariant = { λ s. (1 ≤ s.ahead) × (s.ahead ≤ 32) };
 }
@@ -50,7 +61,7 @@ impl<E: End + Drop> Drop for Session<E> {
         let Session {
             link: _,
             end: _,
-            under_way: _,
+            in_flight: _,
             ahead: _,
             unanswered: _,
             socket: _,
@@ -63,15 +74,23 @@ impl<E: End> Session<E> {
     ghost use Rattle.std.specs.Prelude.{◌≡◌, ◌-◌, ◌<◌, [], true, false, length};
     ghost use Rattle.oca_types.specs.Sizes.{span_size};
 
-    /// A session with no command under way, in which as many may be as a span has. `socket` is the end's descriptor, for which is
-    /// waited beside input; where there is none, it is not waited for input.
+    /// A session with no command in flight, in which as many may be as a span has. `socket` is the end's descriptor,
+    /// for which is waited beside input; where there is none, it is not waited for input.
     pub fn new(link: Link, end: E, ahead: Span, socket: Option<RawFd>) -> Session<E>
-        ensures { result ≡ record { link = link; end_state = E.state end; under_way = []; ahead = span_size ahead; unanswered = false; socket = socket; is_open = false } }
+        ensures { result ≡ record {
+          link = link;
+          end_state = E.state end;
+          in_flight = [];
+          ahead = span_size ahead;
+          unanswered = false;
+          socket = socket;
+          is_open = false;
+        } }
     {
         Session {
             link,
             end,
-            under_way: ArrayVec::new(),
+            in_flight: ArrayVec::new(),
             ahead: usize::from(ahead.get()),
             unanswered: false,
             socket,
@@ -79,14 +98,14 @@ impl<E: End> Session<E> {
         }
     }
 
-    /// How many commands are under way.
-    pub fn under_way(&self) -> usize
-        ensures { result ≡ length self.now.under_way }
+    /// How many commands are in flight.
+    pub fn in_flight(&self) -> usize
+        ensures { result ≡ length self.now.in_flight }
     {
-        self.under_way.len()
+        self.in_flight.len()
     }
 
-    /// How many may be under way where one more is to follow.
+    /// How many may be in flight where one more is to follow.
     pub fn left(&self) -> usize
         ensures value { result ≡ self.now.ahead - 1 }
         ensures most { result < 32 }
@@ -116,7 +135,7 @@ impl<E: End> Session<E> {
         let Session {
             link: _,
             end,
-            under_way: _,
+            in_flight: _,
             ahead: _,
             unanswered: _,
             socket: _,
@@ -139,14 +158,14 @@ impl<E: End> Session<E> {
         self.unanswered = true;
     }
 
-    /// Submits a command and gives it out at once. What the link refuses changes nothing.
+    /// Submits a command and sends it at once. What the link refuses changes nothing.
     pub fn submit(&mut self, request: Request<'_>) -> Result<Handle, ControlFault>
-        requires { length self.old.under_way < 32 }
+        requires { length self.old.in_flight < 32 }
         ensures { Submitted (request_of request.entry) result self.old self.new }
     {
         match begin(&mut self.link, &mut self.end, request) {
             Ok(handle) => {
-                self.under_way.push(handle.0);
+                self.in_flight.push(handle.0);
                 self.is_open = true;
                 Ok(handle)
             }
@@ -154,12 +173,12 @@ impl<E: End> Session<E> {
         }
     }
 
-    /// Whether there is nothing to do: no command is under way, and none was submitted yet or the link is lost.
+    /// Whether there is nothing to do: no command is in flight, and none was submitted yet or the link is lost.
     pub fn is_over(&self) -> bool
         ensures value { result ≡ is_over self.now }
-        ensures none { result ≡ true → NoneUnderWay self.now }
+        ensures none { result ≡ true → NoneInFlight self.now }
     {
-        self.under_way.is_empty() && (!self.is_open || self.link.is_lost())
+        self.in_flight.is_empty() && (!self.is_open || self.link.is_lost())
     }
 
     /// The end's descriptor.
@@ -170,8 +189,8 @@ impl<E: End> Session<E> {
     }
 
     /// How many milliseconds may be waited before the next turn; none where the end has no descriptor.
-    pub fn patience(&self) -> u64
-        ensures { IsPatience self.now result }
+    pub fn wait_time(&self) -> u64
+        ensures { IsWaitTime self.now result }
     {
         let due = self.link.next_due();
         time_beside(self.socket, due, self.end.now())
@@ -184,30 +203,30 @@ impl<E: End> Session<E> {
         turn(&mut self.link, &mut self.end).lost
     }
 
-    /// How the first command under way came out, where that is known without a turn; it is under way no longer then.
+    /// How the first command in flight came out, where that is known without a turn; it is in flight no longer then.
     pub fn take_first(&mut self) -> Option<Outcome>
         ensures { TakesFirst result self.old self.new }
     {
-        let Some(first) = self.under_way.first() else {
+        let Some(first) = self.in_flight.first() else {
             return None;
         };
         let handle = Handle(*first);
         match wait_for(&mut self.link, &mut self.end, handle, 0) {
             Outcome::Unanswered => None,
             outcome => {
-                self.under_way.remove(0);
+                self.in_flight.remove(0);
                 self.unanswered = gets_none(self.unanswered, &outcome);
                 Some(outcome)
             }
         }
     }
 
-    /// Waits for the first command under way.
+    /// Waits for the first command in flight.
     pub fn await_first(&mut self) -> Outcome
-        requires { 0 < length self.old.under_way }
+        requires { 0 < length self.old.in_flight }
         ensures { AwaitsFirst self.old self.new result }
     {
-        let handle = Handle(self.under_way.remove(0));
+        let handle = Handle(self.in_flight.remove(0));
         let outcome = wait_for(&mut self.link, &mut self.end, handle, TURNS);
         self.unanswered = gets_none(self.unanswered, &outcome);
         outcome

@@ -3,11 +3,12 @@ ghost use Rattle.std.specs.Prelude.{◌≡◌, ◌≤◌, ◌<◌, [], map, leng
 ghost use Rattle.oca_types.specs.Sizes.{span_size};
 ghost use Rattle.oca_panel.specs.Panels.{EndsIn};
 ghost use Rattle.oca_panel.specs.Outcomes.{done_answered};
-ghost use Rattle.ocactl_cli.specs.declared.told.Told.TheVariants as tells;
-ghost use Rattle.ocactl_cli.specs.Hands.{BeginsSet, last_refused, told_done};
-ghost use Rattle.ocactl_cli.specs.PrivateHands.{wish_of, command_of, MakesPlace, SetsEachTo, SetsOn, WaitsForFirst, WaitsOn};
+ghost use Rattle.ocactl_cli.specs.declared.object_line.ObjectLine.TheVariants as shown;
+ghost use Rattle.ocactl_cli.specs.Objects.{BeginsSet, last_refused, done_line};
+ghost use Rattle.ocactl_cli.specs.PrivateObjects.{assignment_of, set_command_of, MakesPlace, SetsEachTo, SetsOn};
+ghost use Rattle.ocactl_cli.specs.PrivateObjects.{WaitsForFirst, WaitsOn};
 
-use super::told::{Told, graver, tell};
+use super::object_line::{ObjectLine, max_severity, report_object};
 use arrayvec::ArrayVec;
 use oca_control::{ControlFault, Outcome};
 use oca_model::Value;
@@ -21,7 +22,7 @@ const MOST_AHEAD: usize = 32;
 
 /// An object, and the value that it is to have.
 #[derive(Clone, Copy)]
-pub struct Wish {
+pub struct Assignment {
     pub ono: Ono,
     pub value: Value,
 }
@@ -29,19 +30,19 @@ pub struct Wish {
 /// A set command that was to be submitted: its handle, or why the link refused it.
 #[derive(Clone, Copy)]
 struct Submitted {
-    wish: Wish,
+    assignment: Assignment,
     returned: Result<Handle, ControlFault>,
 }
 
 impl Default for Submitted {
     ghost use Rattle.std.specs.Prelude.{◌≡◌};
 
-    ghost is_default = { λ s. s.wish.ono.0 ≡ 0 };
+    ghost is_default = { λ s. s.assignment.ono.0 ≡ 0 };
 
     /// What a place holds where no command is.
     fn default() -> Self {
         Submitted {
-            wish: Wish {
+            assignment: Assignment {
                 ono: Ono(0),
                 value: Value::Boolean(false),
             },
@@ -50,42 +51,46 @@ impl Default for Submitted {
     }
 }
 
-/// Sets objects, so many at once, and prints how each fared, in the order of the wishes. Returns the exit status.
-pub fn set_wishes<E: End, W: Sink>(
+/// Sets objects, so many at once, and prints the outcome of each, in the order of the assignments. Returns the exit
+/// status.
+pub fn set_assignments<E: End, W: Sink>(
     panel: &mut Panel<E>,
-    wishes: &[Wish],
+    assignments: &[Assignment],
     ahead: Span,
     printer: &mut Printer<W>,
 ) -> Result<u8, WriteFailed>
     requires { printer.old.held ≡ [] }
-    ensures sets { IfOk result (λ status. SetsEachTo (span_size ahead) (map wish_of wishes.now) status panel.old panel.new printer.old printer.new) }
+    ensures sets { IfOk result (λ status. SetsEachTo (span_size ahead) (map assignment_of assignments.now) status
+        panel.old panel.new printer.old printer.new) }
     ensures fails { OnErr result (printer.new.failed ≡ true) }
 {
     let mut waiting = ArrayVec::new();
     let mut status = 0;
-    for wish in wishes {
-        status = set_next(panel, wish, ahead, &mut waiting, status, printer)?;
+    for assignment in assignments {
+        status = set_next(panel, assignment, ahead, &mut waiting, status, printer)?;
     }
     await_all(panel, &mut waiting, status, printer)
 }
 
-/// Submits the command that sets an object, as soon as one more may be in flight. Where the link refuses it, all before it are waited
-/// for, and it is told behind them.
+/// Submits the command that sets an object, as soon as one more may be in flight. Where the link refuses it, all before
+/// it are waited for, and that is printed behind them.
 fn set_next<E: End, W: Sink>(
     panel: &mut Panel<E>,
-    wish: &Wish,
+    assignment: &Assignment,
     ahead: Span,
     waiting: &mut ArrayVec<Submitted, MOST_AHEAD>,
     status: u8,
     printer: &mut Printer<W>,
 ) -> Result<u8, WriteFailed>
     requires few { length waiting.old.items ≤ span_size ahead }
-    requires accepted { last_refused (map command_of waiting.old.items) ≡ false }
-    ensures sets { IfOk result (λ now. SetsOn (span_size ahead) (wish_of wish.now) panel.old panel.new (map command_of waiting.old.items) (map command_of waiting.new.items) status now printer.old printer.new) }
+    requires accepted { last_refused (map set_command_of waiting.old.items) ≡ false }
+    ensures sets { IfOk result (λ now. SetsOn (span_size ahead) (assignment_of assignment.now) panel.old panel.new
+        (map set_command_of waiting.old.items) (map set_command_of waiting.new.items) status now printer.old
+        printer.new) }
     ensures fails { OnErr result (printer.new.failed ≡ true) }
 {
     let so_far = make_place(panel, ahead, waiting, status, printer)?;
-    let command = begin(panel, *wish);
+    let command = begin(panel, *assignment);
     waiting.push(command);
     match command.returned {
         Ok(_) => Ok(so_far),
@@ -94,15 +99,19 @@ fn set_next<E: End, W: Sink>(
 }
 
 /// Submits the command that sets an object.
-fn begin<E: End>(panel: &mut Panel<E>, wish: Wish) -> Submitted
-    ensures wish { result.wish ≡ wish }
-    ensures begins { BeginsSet (command_of result) panel.old panel.new }
+fn begin<E: End>(panel: &mut Panel<E>, assignment: Assignment) -> Submitted
+    ensures assignment { result.assignment ≡ assignment }
+    ensures begins { BeginsSet (set_command_of result) panel.old panel.new }
 {
-    let returned = panel.begin_set(wish.ono, wish.value);
-    Submitted { wish, returned }
+    let returned = panel.begin_set(assignment.ono, assignment.value);
+    Submitted {
+        assignment,
+        returned,
+    }
 }
 
-/// Waits for the first set command in flight where as many are as may be, and prints how it fared. Returns the exit status so far.
+/// Waits for the first set command in flight where as many are as may be, and prints its outcome. Returns the exit
+/// status so far.
 fn make_place<E: End, W: Sink>(
     panel: &mut Panel<E>,
     ahead: Span,
@@ -111,8 +120,10 @@ fn make_place<E: End, W: Sink>(
     printer: &mut Printer<W>,
 ) -> Result<u8, WriteFailed>
     requires few { length waiting.old.items ≤ span_size ahead }
-    requires accepted { last_refused (map command_of waiting.old.items) ≡ false }
-    ensures makes { IfOk result (λ now. MakesPlace (span_size ahead) panel.old panel.new (map command_of waiting.old.items) (map command_of waiting.new.items) status now printer.old printer.new) }
+    requires accepted { last_refused (map set_command_of waiting.old.items) ≡ false }
+    ensures makes { IfOk result (λ now. MakesPlace (span_size ahead) panel.old panel.new
+        (map set_command_of waiting.old.items) (map set_command_of waiting.new.items) status now printer.old
+        printer.new) }
     ensures fails { OnErr result (printer.new.failed ≡ true) }
 {
     if waiting.len() < usize::from(ahead.get()) {
@@ -121,14 +132,16 @@ fn make_place<E: End, W: Sink>(
     await_first(panel, waiting, status, printer)
 }
 
-/// Waits for all set commands in flight, the first first, and prints how each fared. Returns the exit status so far.
+/// Waits for all set commands in flight, the first first, and prints the outcome of each. Returns the exit status so
+/// far.
 fn await_all<E: End, W: Sink>(
     panel: &mut Panel<E>,
     waiting: &mut ArrayVec<Submitted, MOST_AHEAD>,
     status: u8,
     printer: &mut Printer<W>,
 ) -> Result<u8, WriteFailed>
-    ensures waits { IfOk result (λ now. WaitsOn panel.old panel.new (map command_of waiting.old.items) [] status now printer.old printer.new) }
+    ensures waits { IfOk result (λ now. WaitsOn panel.old panel.new (map set_command_of waiting.old.items) [] status now
+        printer.old printer.new) }
     ensures empty { OnOk result (waiting.new.items ≡ []) }
     ensures fails { OnErr result (printer.new.failed ≡ true) }
 {
@@ -139,7 +152,7 @@ fn await_all<E: End, W: Sink>(
     Ok(so_far)
 }
 
-/// Waits for the first set command in flight, and prints how it fared. Returns the exit status so far.
+/// Waits for the first set command in flight, and prints its outcome. Returns the exit status so far.
 fn await_first<E: End, W: Sink>(
     panel: &mut Panel<E>,
     waiting: &mut ArrayVec<Submitted, MOST_AHEAD>,
@@ -147,17 +160,18 @@ fn await_first<E: End, W: Sink>(
     printer: &mut Printer<W>,
 ) -> Result<u8, WriteFailed>
     requires { 0 < length waiting.old.items }
-    ensures waits { IfOk result (λ now. WaitsForFirst panel.old panel.new waiting.old.items waiting.new.items status now printer.old printer.new) }
+    ensures waits { IfOk result (λ now. WaitsForFirst panel.old panel.new waiting.old.items waiting.new.items status now
+        printer.old printer.new) }
     ensures fails { OnErr result (printer.new.failed ≡ true) }
 {
     let command = waiting.remove(0);
     let outcome = outcome_of(panel, command.returned);
-    let told = told_by(command.wish.value, &outcome);
-    let own = tell(command.wish.ono, &told, printer)?;
-    Ok(graver(status, own))
+    let line = line_of_set(command.assignment.value, &outcome);
+    let own = report_object(command.assignment.ono, &line, printer)?;
+    Ok(max_severity(status, own))
 }
 
-/// How a submitted command fares: it is waited for, unless it was refused.
+/// The outcome of a submitted command: it is waited for, unless it was refused.
 fn outcome_of<E: End>(panel: &mut Panel<E>, returned: Result<Handle, ControlFault>) -> Outcome
     ensures { EndsIn returned panel.old panel.new result }
 {
@@ -167,12 +181,12 @@ fn outcome_of<E: End>(panel: &mut Panel<E>, returned: Result<Handle, ControlFaul
     }
 }
 
-/// What is told of an object that was to be set: its value, or why it has not got it.
-fn told_by(value: Value, outcome: &Outcome) -> Told
-    ensures { result ≡ told_done (tells.Value value) (done_answered outcome.now) }
+/// What the line of an object that was to be set shows: its value, or why it has not got it.
+fn line_of_set(value: Value, outcome: &Outcome) -> ObjectLine
+    ensures { result ≡ done_line (shown.Value value) (done_answered outcome.now) }
 {
     match done_in(outcome) {
-        Ok(()) => Told::Value(value),
-        Err(trouble) => Told::Hindered(trouble),
+        Ok(()) => ObjectLine::Value(value),
+        Err(trouble) => ObjectLine::Failed(trouble),
     }
 }

@@ -1,14 +1,17 @@
-//! The commands for hands: what they take, and what their words say.
+//! The commands for objects: what they take, and what their words say.
 ghost use Rattle.std.specs.Prelude.{◌≡◌, IfErr, IfOk, OnOk, Some, map};
 ghost use Rattle.std.specs.Option.{option_map};
 ghost use Rattle.oca_types.specs.Sizes.{span_size};
 ghost use Rattle.oca_program.specs.declared.fault.RunFault.TheVariants.{BadWords};
-ghost use Rattle.ocactl_cli.specs.Hands.{ono_said, is_locking};
-ghost use Rattle.ocactl_cli.specs.PrivateHands.{AddsPair, pair_of as pair_fields};
-ghost use Rattle.ocactl_cli.specs.Words.{turns_in, holds_said, pairs_said, AreNumbers};
-ghost use Rattle.ocactl_cli.specs.Asked.{is_for_hands, AsksTask, IsRefusal, IsTaskWith, IsSetTask, IsOnosTask, IsTaskOf};
+ghost use Rattle.ocactl_cli.specs.Objects.{parsed_ono, is_locking};
+ghost use Rattle.ocactl_cli.specs.Matching.{without_blank as blank_taken};
+ghost use Rattle.ocactl_cli.specs.PrivateObjects.{AddsPair, pair_of as pair_fields};
+ghost use Rattle.ocactl_cli.specs.Words.{given_turns, hold_flag, parsed_pairs, AreNumbers};
+ghost use Rattle.ocactl_cli.specs.Asked.{is_object_command, AsksTask, IsRefusal, IsTaskWith, IsSetTask, IsOnosTask};
+ghost use Rattle.ocactl_cli.specs.Asked.{IsTaskOf};
 
-use super::hands::Pair;
+use super::matching::without_blank;
+use super::objects::Pair;
 use clap::ArgMatches;
 use oca_program::options::{number_or, text_of};
 use oca_program::{Failure, RunFault};
@@ -42,16 +45,16 @@ impl Task {
     }
 }
 
-/// Whether a command is one for hands.
+/// Whether a command is one for objects.
 pub fn is_task(name: &str) -> bool
-    ensures { result ≡ is_for_hands name.now }
+    ensures { result ≡ is_object_command name.now }
 {
     name == "tree" || name == "get" || name == "set" || name == "lock" || name == "unlock"
 }
 
-/// How many turns a command waits for its answer: 200 unless said.
+/// How many turns a command waits for its answer: 200 unless given.
 pub fn turns_of(words: &ArgMatches<'_>) -> Option<u32>
-    ensures { result ≡ turns_in words.now }
+    ensures { result ≡ given_turns words.now }
 {
     match number_or(words, "turns", 10, 4294967295, 200) {
         Some(turns) => Some(turns as u32),
@@ -59,7 +62,7 @@ pub fn turns_of(words: &ArgMatches<'_>) -> Option<u32>
     }
 }
 
-/// What the words of a command for hands ask for; what sets, so many at once. Refusals: `BadWords`, and `NoMemory`.
+/// What the words of a command for objects ask for; what sets, so many at once. Refusals: `BadWords`, and `NoMemory`.
 pub fn task_of(
     alloc: Global,
     name: &str,
@@ -140,7 +143,7 @@ fn onos_task_of(name: &str, holds: bool, onos: Vec<Ono>) -> Result<Task, Failure
 
 /// Whether the words ask to keep locks.
 fn holds(words: &ArgMatches<'_>) -> bool
-    ensures { result ≡ holds_said words.now }
+    ensures { result ≡ hold_flag words.now }
 {
     match text_of(words, "hold") {
         Some(text) => text.as_bytes() == b"true".as_slice(),
@@ -150,7 +153,7 @@ fn holds(words: &ArgMatches<'_>) -> bool
 
 /// The number of an object that a word says.
 fn ono_of(word: &str) -> Option<Ono>
-    ensures { option_map (λ ono. ono.0) result ≡ ono_said word.now }
+    ensures { option_map (λ ono. ono.0) result ≡ parsed_ono word.now }
 {
     match number(word.as_bytes(), 10, 4294967295) {
         Some(ono) => Some(Ono(ono as u32)),
@@ -175,15 +178,15 @@ fn onos_of(alloc: Global, words: &[&str]) -> Result<Vec<Ono>, Failure>
     Ok(onos)
 }
 
-/// What is said of a word that is no number of an object.
-const BAD_ONO: &str = "an ONo is 1 to 10 digits, up to 4294967295";
+/// The note on a word that is no number of an object.
+const BAD_ONO: &str = "an object number (ONo) is 1 to 10 digits, up to 4294967295";
 
-/// What is said where a value is missing.
-const BAD_PAIRS: &str = "behind each ONo stands a value, of at most 64 bytes";
+/// The note where a value is missing.
+const BAD_PAIRS: &str = "give a value of at most 64 bytes after each ONo";
 
 /// The objects and words for values that words say: behind each object its value. Refusals: `BadWords`, and `NoMemory`.
 fn pairs_of(alloc: Global, words: &[&str]) -> Result<Vec<Pair>, Failure>
-    ensures pairs { IfOk result (λ ps. pairs_said (map (λ w. w.now) words.now) ≡ Some (map pair_fields ps.items)) }
+    ensures pairs { IfOk result (λ ps. parsed_pairs (map (λ w. w.now) words.now) ≡ Some (map pair_fields ps.items)) }
     ensures refused { IfErr result (λ failure. IsRefusal failure.fault) }
 {
     if words.len() % 2 != 0 {
@@ -212,13 +215,13 @@ fn add_pair(alloc: Global, first: &str, second: &str, pairs: &mut Vec<Pair>) -> 
 
 /// The object and the word for its value that two words say.
 fn pair_of(alloc: Global, first: &str, second: &str) -> Result<Pair, Failure>
-    ensures pair { IfOk result (λ p. (ono_said first.now ≡ Some p.ono.0) × (p.word ≡ second.now)) }
+    ensures pair { IfOk result (λ p. (parsed_ono first.now ≡ Some p.ono.0) × (p.word ≡ blank_taken second.now)) }
     ensures refused { IfErr result (λ failure. IsRefusal failure.fault) }
 {
     let Some(ono) = ono_of(first) else {
         return Err(bad_words(alloc, BAD_ONO));
     };
-    match Text::new(second) {
+    match Text::new(without_blank(second)) {
         Some(word) => Ok(Pair { ono, word }),
         None => Err(bad_words(alloc, BAD_PAIRS)),
     }

@@ -3,13 +3,14 @@ ghost use Rattle.std.specs.Prelude.{◌≡◌, ◌+◌, ◌++◌, ◌≤◌, [],
 ghost use Rattle.oca_script.specs.Ends.{output};
 ghost use Rattle.oca_script.specs.Printing.{WritesOut};
 ghost use Rattle.oca_panel.specs.Walks.{begun_walk};
-ghost use Rattle.ocactl_cli.specs.Hands.{GivesUp};
-ghost use Rattle.ocactl_cli.specs.Trees.{PrintsTree, described_text, found_status, listed_status, unlisted_text, visit_status, visit_text};
-ghost use Rattle.ocactl_cli.specs.PrivateHands.{WritesLine};
-ghost use Rattle.ocactl_cli.specs.PrivateTrees.{TellsFound, TellsLeft, VisitsOne};
+ghost use Rattle.ocactl_cli.specs.Objects.{GivesUp};
+ghost use Rattle.ocactl_cli.specs.Trees.{PrintsTree, described_text, found_status, listed_status, unlisted_text};
+ghost use Rattle.ocactl_cli.specs.Trees.{visit_status, visit_text};
+ghost use Rattle.ocactl_cli.specs.PrivateObjects.{WritesLine};
+ghost use Rattle.ocactl_cli.specs.PrivateTrees.{ReportsFound, ReportsLeft, VisitsOne};
 ghost use Rattle.std.specs.Prelude.{codes};
 
-use super::told::{Told, graver, put_line, put_place, status_of};
+use super::object_line::{ObjectLine, max_severity, put_object, put_place, status_of};
 use oca_net::End;
 use oca_panel::{Description, Found, MOST_PLACES, Panel, Place, Trouble, Visit, Walk};
 use oca_program::{Failure, RunFault};
@@ -20,8 +21,9 @@ use std::alloc::Global;
 /// Room for the lines of a place.
 const ROOM: usize = 2000;
 
-/// Visits the places of a device from the root block on, each block's members behind it in their order, and prints a line for each. What an
-/// object refuses is printed in its place, and the walk goes on. Returns the exit status. At most 4,096 places are visited.
+/// Visits the places of a device from the root block on, each block's members behind it in their order, and prints a
+/// line for each. What an object refuses is printed in its place, and the walk goes on. Returns the exit status. At
+/// most 4,096 places are visited.
 pub fn walk<E: End, W: Sink>(
     alloc: Global,
     panel: &mut Panel<E>,
@@ -50,11 +52,11 @@ fn walk_on<E: End, W: Sink>(
     let mut status = 0;
     for _place in 0..MOST_PLACES {
         let Some(now) = visit_one(walk, panel, status, printer)? else {
-            return tell_left(walk, status, printer);
+            return report_left(walk, status, printer);
         };
         status = now;
     }
-    tell_left(walk, status, printer)
+    report_left(walk, status, printer)
 }
 
 /// Visits the next place, and prints its lines. Returns the exit status so far, nothing where no place is left.
@@ -67,37 +69,37 @@ fn visit_one<E: End, W: Sink>(
     ensures { VisitsOne status result walk.old panel.old printer.old walk.new panel.new printer.new }
 {
     match walk.next_place(panel) {
-        Ok(found) => tell_found(found, status, printer),
+        Ok(found) => report_found(found, status, printer),
         Err(NoMemory) => Err(Failure::from(RunFault::NoMemory)),
     }
 }
 
 /// Prints the lines of a place, where one was visited. Returns the exit status so far.
-fn tell_found<W: Sink>(
+fn report_found<W: Sink>(
     found: Option<Visit>,
     status: u8,
     printer: &mut Printer<W>,
 ) -> Result<Option<u8>, Failure>
-    ensures { TellsFound found status result printer.old printer.new }
+    ensures { ReportsFound found status result printer.old printer.new }
 {
     match found {
         Some(visit) => {
-            let own = tell_visit(&visit, printer)?;
-            Ok(Some(graver(status, own)))
+            let own = report_visit(&visit, printer)?;
+            Ok(Some(max_severity(status, own)))
         }
         None => Ok(None),
     }
 }
 
-/// Prints the lines of a place, and hands them on. Returns the exit status.
-fn tell_visit<W: Sink>(visit: &Visit, printer: &mut Printer<W>) -> Result<u8, WriteFailed>
+/// Prints the lines of a place, and flushes them. Returns the exit status.
+fn report_visit<W: Sink>(visit: &Visit, printer: &mut Printer<W>) -> Result<u8, WriteFailed>
     ensures { WritesLine (visit_status visit.now) (visit_text visit.now) result printer.old printer.new }
 {
     write_visit(visit, printer)?;
     Ok(found_status(&visit.found))
 }
 
-/// Prints the lines of a place, and hands them on.
+/// Prints the lines of a place, and flushes them.
 fn write_visit<W: Sink>(visit: &Visit, printer: &mut Printer<W>) -> Result<(), WriteFailed>
     ensures { WritesOut result printer.old printer.new (visit_text visit.now) }
 {
@@ -118,7 +120,7 @@ fn put_visit<W: Sink>(visit: &Visit, printer: &mut Printer<W>)
             put_unlisted(visit.place.ono, listed, printer);
         }
         Found::Undescribed(trouble) => {
-            put_line(visit.place.ono, &Told::Hindered(*trouble), printer);
+            put_object(visit.place.ono, &ObjectLine::Failed(*trouble), printer);
         }
         Found::Again => {}
     }
@@ -127,7 +129,8 @@ fn put_visit<W: Sink>(visit: &Visit, printer: &mut Printer<W>)
 /// Holds the line of an object that says what it is.
 fn put_description<W: Sink>(place: Place, description: &Description, printer: &mut Printer<W>)
     requires { length printer.old.held + 1100 ≤ 8192 }
-    ensures value { printer.new ≡ output printer.old.contents (printer.old.held ++ described_text place description.now) printer.old.failed }
+    ensures value { printer.new
+        ≡ output printer.old.contents (printer.old.held ++ described_text place description.now) printer.old.failed }
     ensures len { length printer.new.held ≤ length printer.old.held + 1000 }
 {
     put_place(
@@ -142,11 +145,12 @@ fn put_description<W: Sink>(place: Place, description: &Description, printer: &m
 /// Holds why the members of a block are not listed, where they are not.
 fn put_unlisted<W: Sink>(ono: Ono, listed: &Result<(), Trouble>, printer: &mut Printer<W>)
     requires { length printer.old.held + 700 ≤ 8192 }
-    ensures { printer.new ≡ output printer.old.contents (printer.old.held ++ unlisted_text ono.0 listed.now) printer.old.failed }
+    ensures { printer.new ≡ output printer.old.contents (printer.old.held ++ unlisted_text ono.0 listed.now)
+        printer.old.failed }
 {
     match listed {
         Ok(()) => {}
-        Err(trouble) => put_line(ono, &Told::Hindered(*trouble), printer),
+        Err(trouble) => put_object(ono, &ObjectLine::Failed(*trouble), printer),
     }
 }
 
@@ -172,15 +176,15 @@ fn listed_status(listed: &Result<(), Trouble>) -> u8
 }
 
 /// Prints that places are left, where some are. Returns the exit status.
-fn tell_left<W: Sink>(walk: &Walk, status: u8, printer: &mut Printer<W>) -> Result<u8, Failure>
+fn report_left<W: Sink>(walk: &Walk, status: u8, printer: &mut Printer<W>) -> Result<u8, Failure>
     requires { printer.old.held ≡ [] }
-    ensures { TellsLeft walk.now.waiting status result printer.old printer.new }
+    ensures { ReportsLeft walk.now.waiting status result printer.old printer.new }
 {
     if !walk.is_unfinished() {
         return Ok(status);
     }
     write_left(printer)?;
-    Ok(graver(status, 4))
+    Ok(max_severity(status, 4))
 }
 
 /// Prints that places are left.

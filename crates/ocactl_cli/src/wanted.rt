@@ -3,7 +3,7 @@ ghost use Rattle.std.specs.Prelude.{◌≡◌, ◌<◌, IfSome, length};
 ghost use Rattle.std.specs.List.{position};
 ghost use Rattle.std.specs.Str.{bytes_eq};
 ghost use Rattle.oca_script.specs.Escapes.{escaped};
-ghost use Rattle.ocactl_cli.specs.Hands.{FindsValue, FindsOf, FindsName, FindsPosition, found_position};
+ghost use Rattle.ocactl_cli.specs.Objects.{FindsValue, FindsOf, FindsName, FindsPosition, found_position};
 
 use oca_model::{Names, Value, value_from_word};
 use oca_net::End;
@@ -11,8 +11,8 @@ use oca_panel::{Panel, Trouble};
 use oca_script::Escaped;
 use oca_types::{Class, Ono, Text};
 
-/// The value of an object that a word names: the object's class is asked first, and of a switch, where the word is no number, the
-/// names of its positions. Nothing is set.
+/// The value of an object that a word names: the object's class is asked first, and of a switch, where the word is no
+/// number, the names of its positions. Nothing is set.
 pub fn wanted<E: End>(panel: &mut Panel<E>, ono: Ono, word: &str) -> Result<Value, Trouble>
     ensures { FindsValue ono.0 word.now panel.old panel.new result }
 {

@@ -60,7 +60,7 @@ impl<E: End> Watched<E> {
         self.heard
     }
 
-    /// Begins anew: the peer was not heard so far.
+    /// Begins again: the peer was not heard so far.
     pub fn forget(&mut self)
         ensures { self.new ≡ record self.old { heard = None } }
     {

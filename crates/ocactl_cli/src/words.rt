@@ -5,11 +5,15 @@ ghost use Rattle.oca_types.specs.Sizes.{span_size};
 ghost use Rattle.oca_control.specs.Links.{new_link};
 ghost use Rattle.oca_types.specs.Peers.{request_of};
 ghost use Rattle.oca_program.specs.declared.fault.RunFault.TheVariants.{BadWords};
-ghost use Rattle.ocactl_cli.specs.Reasons.{first_of};
-ghost use Rattle.ocactl_cli.specs.Asked.{AsksFor, AsksSend, AsksRun, IsRefusal};
-ghost use Rattle.ocactl_cli.specs.Words.{array_items, span_of as span_said, span_in as span_given, linking_fields, first_handle_in, linking_in, host_in, own_address, port_in, handle_in, reach_fields, reach_in, ahead_in, handling_fields, handling_in, sending_fields, sending_in, params_of as params_said, params_in as params_given};
+ghost use Rattle.ocactl_cli.specs.Reasons.{first_handle_for};
+ghost use Rattle.ocactl_cli.specs.Asked.{OptionsAsk, AsksSend, AsksRun, IsRefusal};
+ghost use Rattle.ocactl_cli.specs.Words.{array_items, span_of as parsed_span, span_in as span_given, linking_fields};
+ghost use Rattle.ocactl_cli.specs.Words.{first_handle_in, linking_in, host_in, own_address, port_in, handle_in};
+ghost use Rattle.ocactl_cli.specs.Words.{reach_fields, reach_in, ahead_in, handling_fields, handling_in};
+ghost use Rattle.ocactl_cli.specs.Words.{sending_fields, sending_in, params_of as parsed_params};
+ghost use Rattle.ocactl_cli.specs.Words.{params_in as params_given};
 
-pub use super::matching::matches_of;
+pub use super::matching::{law_of_blanks, matches_of};
 use super::tasks::{Task, is_task, task_of, turns_of};
 use arrayvec::ArrayVec;
 use clap::ArgMatches;
@@ -23,7 +27,7 @@ use oca_types::{
 };
 use std::alloc::Global;
 
-/// How many turns `send` takes, unless it is said.
+/// How many turns `send` takes, unless it is given.
 const TURNS: u64 = 200;
 
 /// The link that the words ask for.
@@ -57,7 +61,7 @@ impl Reach {
     /// A new link, made at this moment, with this first handle unless the words give one.
     pub fn link(&self, first_handle: u32, now: u64) -> Link
         ensures { result ≡ new_link
-            self.now.device (first_of self.now.first_handle first_handle) now (span_size self.now.span) }
+            self.now.device (first_handle_for self.now.first_handle first_handle) now (span_size self.now.span) }
     {
         let first = match self.first_handle {
             Some(handle) => handle,
@@ -81,8 +85,7 @@ impl Sending {
     /// The command.
     pub fn command(&self) -> Request<'_>
         ensures { request_of result ≡ record {
-          target =
-              self.now.target.0;
+          target = self.now.target.0;
           level = self.now.method.level;
           index = self.now.method.index;
           count = self.now.count;
@@ -114,7 +117,7 @@ pub enum Asked {
 /// What a command with these options asks for. Refusals: `BadWords` where it is none, or where a value is not of its
 /// form, which a note then names; `NoMemory`.
 pub fn asked_for(alloc: Global, name: &str, options: &ArgMatches<'_>) -> Result<Asked, Failure>
-    ensures asks { IfOk result (AsksFor name.now options.now) }
+    ensures asks { IfOk result (OptionsAsk name.now options.now) }
     ensures refused { IfErr result (λ failure. IsRefusal failure.fault) }
 {
     if is_task(name) {
@@ -126,9 +129,9 @@ pub fn asked_for(alloc: Global, name: &str, options: &ArgMatches<'_>) -> Result<
     }
 }
 
-/// What the options of a command say that is not one for hands, where each has its form.
+/// What the options of a command say that is not one for objects, where each has its form.
 fn asked_in(name: &str, options: &ArgMatches<'_>) -> Option<Asked>
-    ensures { IfSome result (AsksFor name.now options.now) }
+    ensures { IfSome result (OptionsAsk name.now options.now) }
 {
     if name == "replay" {
         return Some(Asked::Replay(linking_of(options)?));
@@ -276,8 +279,8 @@ const OF_OTHERS: [Rule; 12] = [
     },
 ];
 
-/// What is said where each option has its form.
-const ABOVE_THE_SPAN: &str = "--ahead is more than the span, which is 16 unless --span is given";
+/// The note where each option has its form.
+const ABOVE_THE_SPAN: &str = "--ahead is more than the span, which is 16 without --span";
 
 /// Why the options of a command were not read.
 fn unread(alloc: Global, name: &str, words: &ArgMatches<'_>) -> Failure
@@ -291,9 +294,9 @@ fn unread(alloc: Global, name: &str, words: &ArgMatches<'_>) -> Failure
     bad_option(alloc, words, rules, ABOVE_THE_SPAN)
 }
 
-/// What the options and the words of a command for hands say.
+/// What the options and the words of a command for objects say.
 fn task_asked(alloc: Global, name: &str, options: &ArgMatches<'_>) -> Result<Asked, Failure>
-    ensures asks { IfOk result (AsksFor name.now options.now) }
+    ensures asks { IfOk result (OptionsAsk name.now options.now) }
     ensures refused { IfErr result (λ failure. IsRefusal failure.fault) }
 {
     match handling_of(options) {
@@ -310,7 +313,7 @@ fn task_by(
     handling: Handling,
 ) -> Result<Asked, Failure>
     requires { handling_in options.now ≡ Some (handling_fields handling) }
-    ensures asks { IfOk result (AsksFor name.now options.now) }
+    ensures asks { IfOk result (OptionsAsk name.now options.now) }
     ensures refused { IfErr result (λ failure. IsRefusal failure.fault) }
 {
     match task_of(alloc, name, options, handling.ahead) {
@@ -346,7 +349,7 @@ fn handling_of(options: &ArgMatches<'_>) -> Option<Handling>
 /// The span that a text says: 1 to 3 digits, 1 to 32.
 #[tactic(auto, using(oca_program::proofs::OptionLemmas::size_rules))]
 fn span_of(text: &[u8]) -> Option<Span>
-    ensures { option_map span_size result ≡ span_said text.now }
+    ensures { option_map span_size result ≡ parsed_span text.now }
 {
     let size = number(text, 3, 255)? as u8;
     Span::new(size)
@@ -446,14 +449,14 @@ fn reach_of(words: &ArgMatches<'_>) -> Option<Reach>
     })
 }
 
-/// How many commands may be under way at once.
+/// How many commands may be in flight at once.
 fn ahead_of(words: &ArgMatches<'_>, span: Span) -> Option<Span>
     ensures { option_map span_size result ≡ ahead_in (span_size span) words.now }
 {
     Span::new(ahead_within(words, span)? as u8)
 }
 
-/// How many commands may be under way at once, as a number.
+/// How many commands may be in flight at once, as a number.
 fn ahead_within(words: &ArgMatches<'_>, span: Span) -> Option<usize>
     ensures value { result ≡ ahead_in (span_size span) words.now }
     ensures within { IfSome result (λ n. (1 ≤ n) × (n ≤ 32)) }
@@ -490,7 +493,7 @@ fn sending_of(words: &ArgMatches<'_>) -> Option<Sending>
 
 /// The parameters that a text says: at most 2,890 hexadecimal digits, or `-`.
 fn params_of(text: &[u8]) -> Option<ArrayVec<u8, MOST_COMMAND_PARAMETER_BYTES>>
-    ensures { option_map array_items result ≡ params_said text.now }
+    ensures { option_map array_items result ≡ parsed_params text.now }
 {
     let mut room = [0u8; MOST_COMMAND_PARAMETER_BYTES];
     if text.len() > 2 * MOST_COMMAND_PARAMETER_BYTES {

@@ -22,7 +22,7 @@ abbrev pub submission_text : Result Handle ControlFault → List ℕ
 submission_text (Ok h) = codes "handle " ++ decimal h.0 ++ codes "\n"
 submission_text (Err fault) = refusal_text fault
 
--- what was given out, with its bytes
+-- what was sent, with its bytes
 abbrev pub due_text : Due → List ℕ → List ℕ
 due_text (dues.Send h) bytes = codes "send " ++ hex_text bytes ++ codes "\n"
 due_text dues.KeepAlive bytes = codes "keep-alive " ++ hex_text bytes ++ codes "\n"
@@ -38,7 +38,8 @@ reception_text receptions.NothingNew = codes "nothing new\n"
 
 -- an answer: its status, ParamCount and parameters
 abbrev pub answer_text : AnswerFields → List ℕ
-answer_text a = codes "answer " ++ decimal a.status ++ codes " " ++ decimal a.count ++ codes " " ++ hex_text a.params ++ codes "\n"
+answer_text a =
+    codes "answer " ++ decimal a.status ++ codes " " ++ decimal a.count ++ codes " " ++ hex_text a.params ++ codes "\n"
 
 -- the answer that is taken, where there is one
 abbrev pub taken_text : Option AnswerFields → List ℕ

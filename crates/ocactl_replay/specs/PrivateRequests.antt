@@ -17,7 +17,14 @@ abbrev pub pair_given : Option (Bor (List ℕ) × Bor (List ℕ)) → Option (Li
 pair_given r = option_map (λ p. (p.0.now, p.1.now)) r
 
 abbrev pub texts_in : Texts → CommandTexts
-texts_in t = record { target = t.target.now; level = t.level.now; index = t.index.now; count = t.count.now; params = t.params.now }
+texts_in t =
+    record {
+      target = t.target.now;
+      level = t.level.now;
+      index = t.index.now;
+      count = t.count.now;
+      params = t.params.now;
+    }
 
 abbrev pub texts_given : Option Texts → Option CommandTexts
 texts_given r = option_map texts_in r

@@ -8,7 +8,7 @@ use Rattle.oca_program.specs.Fields.{needs, u32_of, u16_of, u8_of}
 use Rattle.oca_script.specs.declared.fault.LineFault.{LineFault}
 use Rattle.oca_script.specs.declared.fault.LineFault.TheVariants as fault
 
--- What a line asks of a link: a command is submitted, what is due is given out, a datagram has come, or an answer is taken.
+-- What a line asks of a link: a command is submitted, what is due is sent, a datagram has come, or an answer is taken.
 -- Moments are in milliseconds.
 pub data LinkCall : Type 0 where
   Submit : (now : ℕ) (request : RequestFields) → LinkCall

@@ -19,7 +19,7 @@ const LINE_ROOM: usize = 3000;
 pub enum Line<'a> {
     /// What became of a command that was to be submitted.
     Submission(Result<Handle, ControlFault>),
-    /// What was given out, with its bytes.
+    /// What was sent, with its bytes.
     Due(Due, &'a [u8]),
     /// What became of a datagram.
     Reception(Reception),
@@ -69,7 +69,8 @@ fn refusal(fault: ControlFault) -> &'static [u8]
 /// Holds what became of a command that was to be submitted.
 fn put_submission<W: Sink>(printer: &mut Printer<W>, answer: Result<Handle, ControlFault>)
     requires { length printer.old.held + 3000 ≤ 8192 }
-    ensures { printer.new ≡ output printer.old.contents (printer.old.held ++ submission_text answer) printer.old.failed }
+    ensures { printer.new ≡ output printer.old.contents (printer.old.held ++ submission_text answer)
+        printer.old.failed }
 {
     match answer {
         Ok(handle) => {
@@ -81,11 +82,12 @@ fn put_submission<W: Sink>(printer: &mut Printer<W>, answer: Result<Handle, Cont
     }
 }
 
-/// Holds what was given out.
+/// Holds what was sent.
 fn put_due<W: Sink>(printer: &mut Printer<W>, due: Due, bytes: &[u8])
     requires few { length bytes.now ≤ 1472 }
     requires room { length printer.old.held + 3000 ≤ 8192 }
-    ensures { printer.new ≡ output printer.old.contents (printer.old.held ++ due_text due bytes.now) printer.old.failed }
+    ensures { printer.new ≡ output printer.old.contents (printer.old.held ++ due_text due bytes.now)
+        printer.old.failed }
 {
     match due {
         Due::Send(_) => put_bytes(printer, b"send ", bytes),
@@ -100,7 +102,8 @@ fn put_bytes<W: Sink>(printer: &mut Printer<W>, word: &[u8], bytes: &[u8])
     requires short { length word.now ≤ 20 }
     requires few { length bytes.now ≤ 1472 }
     requires room { length printer.old.held + 3000 ≤ 8192 }
-    ensures { printer.new ≡ output printer.old.contents (printer.old.held ++ (word.now ++ hex_text bytes.now ++ codes "\n")) printer.old.failed }
+    ensures { printer.new ≡ output printer.old.contents (printer.old.held
+        ++ (word.now ++ hex_text bytes.now ++ codes "\n")) printer.old.failed }
 {
     printer.put(word);
     printer.put_hex(bytes);
@@ -110,7 +113,8 @@ fn put_bytes<W: Sink>(printer: &mut Printer<W>, word: &[u8], bytes: &[u8])
 /// Holds what became of a datagram.
 fn put_reception<W: Sink>(printer: &mut Printer<W>, reception: Reception)
     requires { length printer.old.held + 3000 ≤ 8192 }
-    ensures { printer.new ≡ output printer.old.contents (printer.old.held ++ reception_text reception) printer.old.failed }
+    ensures { printer.new ≡ output printer.old.contents (printer.old.held ++ reception_text reception)
+        printer.old.failed }
 {
     match reception {
         Reception::Answered(count) => {
@@ -127,7 +131,8 @@ fn put_reception<W: Sink>(printer: &mut Printer<W>, reception: Reception)
 /// Holds an answer.
 fn put_answer<W: Sink>(printer: &mut Printer<W>, answer: &Answer)
     requires { length printer.old.held + 3000 ≤ 8192 }
-    ensures { printer.new ≡ output printer.old.contents (printer.old.held ++ answer_text (answer_fields answer.now)) printer.old.failed }
+    ensures { printer.new ≡ output printer.old.contents (printer.old.held ++ answer_text (answer_fields answer.now))
+        printer.old.failed }
 {
     printer.put(b"answer ");
     printer.put_number(answer.status as u64);

@@ -3,7 +3,8 @@ ghost use Rattle.std.specs.Prelude.{◌≡◌, IfSome};
 ghost use Rattle.oca_types.specs.Peers.{request_of};
 ghost use Rattle.oca_script.specs.Ends.{input};
 ghost use Rattle.oca_script.specs.Replaying.{NeverIdles, Outcome, Replays};
-ghost use Rattle.ocactl_replay.specs.Requests.{LinkCall, Submit as SubmitCall, Due as DueCall, Datagram as DatagramCall, Take as TakeCall, asked_call};
+ghost use Rattle.ocactl_replay.specs.Requests.{LinkCall, Submit as SubmitCall, Due as DueCall};
+ghost use Rattle.ocactl_replay.specs.Requests.{Datagram as DatagramCall, Take as TakeCall, asked_call};
 ghost use Rattle.ocactl_replay.specs.Replaying.{Serves, ServesAndPrints};
 ghost use Rattle.ocactl_replay.specs.PrivateRequests.{call_in};
 
@@ -17,7 +18,7 @@ use oca_types::{Handle, Packet, Peer, Request};
 /// The language of the controller's scripts: a line is a call of the link.
 pub struct LinkScript;
 
-/// Room for what the link gives out, and for the bytes of a field.
+/// Room for what the link sends, and for the bytes of a field.
 #[derive(Drop)]
 pub struct LinkRoom {
     packet: Packet,
@@ -61,7 +62,7 @@ impl Language for LinkScript {
         }
     }
 
-    /// Does nothing: no request is under way behind its line.
+    /// Does nothing: no request is in flight behind its line.
     fn before_read<R: Source, W: Sink>(
         _link: &mut Link,
         _reader: &mut R,
@@ -95,7 +96,8 @@ fn submit<W: Sink>(
     command: Request<'_>,
     printer: &mut Printer<W>,
 ) -> Result<(), WriteFailed>
-    ensures { ServesAndPrints link.old (SubmitCall now (request_of command.entry)) link.new result printer.old printer.new }
+    ensures { ServesAndPrints link.old (SubmitCall now (request_of command.entry)) link.new result printer.old
+        printer.new }
 {
     let answer = link.submit(
         command.target,
@@ -150,25 +152,26 @@ fn take<W: Sink>(
 
 /// Replays the script that the source has to give on the link, and writes what that prints.
 ///
-/// Moments N are in milliseconds. A line `N submit ONO LEVEL INDEX COUNT HEX` submits a command, and prints its handle or
-/// why it is refused; `N due` prints what is to be given out; `N from P HEX` is a datagram of the peer P, and prints what
-/// became of it; `take H` takes the answer under the handle H, and prints it. Faults: `Line` with the number of the first bad
-/// line, counted from 1; `TooMuch` beyond 16,777,216 bytes; `Read` and `Write` where a read or a write of ends that had not
-/// failed before failed in this call, and nowhere else. What the lines before printed is written in each case, as far as the
-/// writes went. (The script's form is the profile's.)
+/// Moments N are in milliseconds. A line `N submit ONO LEVEL INDEX COUNT HEX` submits a command, and prints its handle
+/// or why it is refused; `N due` prints what is to be sent; `N from P HEX` is a datagram of the peer P, and prints what
+/// became of it; `take H` takes the answer under the handle H, and prints it. Faults: `Line` with the number of the
+/// first bad line, counted from 1; `TooMuch` beyond 16,777,216 bytes; `Read` and `Write` where a read or a write of
+/// ends that had not failed before failed in this call, and nowhere else. What the lines before printed is written in
+/// each case, as far as the writes went. (The script's form is the profile's.)
 pub fn replay<R: Source, W: Sink>(
     link: &mut Link,
     reader: &mut R,
     printer: &mut Printer<W>,
 ) -> Result<(), ReplayFault>
-    // Where the bytes that the source had are known, their script was replayed: each line is a call of the link, and its answer
-    // was printed.
+    // Where the bytes that the source had are known, their script was replayed: each line is a call of the link, and
+    // its answer was printed.
     ensures known { IfSome (R.remaining reader.old) (λ given.
         Replays asked_call Serves NeverIdles link.old link.new printer.old printer.new result given) }
-    // Whatever source: there are bytes, those that it gave where it tells them, and the rest of what it had, and their script was
-    // replayed.
+    // Whatever source: there are bytes, those that it gave where it is known which, and the rest of what it had, and
+    // their script was replayed.
     ensures reads { Outcome asked_call Serves NeverIdles link.old link.new printer.old printer.new
-        (input (R.remaining reader.old) (R.failed reader.old)) (input (R.remaining reader.new) (R.failed reader.new)) result }
+        (input (R.remaining reader.old) (R.failed reader.old))
+        (input (R.remaining reader.new) (R.failed reader.new)) result }
 {
     let mut room = LinkRoom::new();
     serve_lines::<LinkScript, R, W>(link, &mut room, reader, printer)

@@ -2,8 +2,10 @@
 ghost use Rattle.std.specs.Prelude.{◌≡◌, ◌≤◌, ◌*◌, IfSome, length};
 ghost use Rattle.std.specs.Option.{option_copied};
 ghost use Rattle.oca_script.specs.Fields.{fields, fields_after};
-ghost use Rattle.ocactl_replay.specs.Requests.{one_text, two_texts, command_texts, command_of, submit_of, due_of, datagram_of, from_of, take_of, timed_of, asked_call, asked_command};
-ghost use Rattle.ocactl_replay.specs.PrivateRequests.{text_given, pair_given, texts_in, texts_given, request_asked, call_asked};
+ghost use Rattle.ocactl_replay.specs.Requests.{one_text, two_texts, command_texts, command_of, submit_of, due_of};
+ghost use Rattle.ocactl_replay.specs.Requests.{datagram_of, from_of, take_of, timed_of, asked_call, asked_command};
+ghost use Rattle.ocactl_replay.specs.PrivateRequests.{text_given, pair_given, texts_in, texts_given, request_asked};
+ghost use Rattle.ocactl_replay.specs.PrivateRequests.{call_asked};
 
 use oca_program::field::{moment, u8_in, u16_in, u32_in};
 use oca_script::LineFault;
@@ -129,7 +131,7 @@ fn submit<'a>(
     }
 }
 
-/// A moment at which what is due is given out.
+/// A moment at which what is due is sent.
 fn due<'a>(now: &[u8], rest: Option<&[u8]>) -> Result<Call<'a>, LineFault>
     ensures { call_asked result ≡ due_of now.now (fields_after (option_copied rest.entry)) }
 {

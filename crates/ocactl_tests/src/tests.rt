@@ -1,9 +1,9 @@
-//! What the clauses leave open: commands that are sent over an end in memory, and readers and writers that give and take a
-//! little at a time or fail. Whole runs of the program are rows of `tools/ctl_runs.py`.
+//! What the clauses leave open: commands that are sent over an end in memory, and readers and writers that give and
+//! take a little at a time or fail. Whole runs of the program are rows of `tools/ctl_runs.py`.
 use std::process::Abort;
 
 mod commands;
-mod hands;
+mod objects;
 mod probes;
 mod replay;
 
@@ -28,7 +28,7 @@ fn commands_over_an_end(rt: HostRuntime) {
     none_wrong(&rt, "idle", commands::wrong_idle(rt.alloc()));
     none_wrong(&rt, "bad lines", commands::wrong_bad(rt.alloc()));
     none_wrong(&rt, "driven", commands::first_undriven_of(rt.alloc()));
-    none_wrong(&rt, "settings", hands::first_wrong(rt.alloc()));
+    none_wrong(&rt, "settings", objects::first_wrong(rt.alloc()));
     none_wrong(&rt, "probes", probes::first_other_found(rt.alloc()));
 }
 

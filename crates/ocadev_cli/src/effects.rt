@@ -120,7 +120,8 @@ fn print_datagram<F: Sink>(
     statuses: &[u8],
     faults: &mut Printer<F>,
 ) -> Result<(), WriteFailed>
-    ensures { Prints result faults.old faults.new (messages_text (read_or_none (read_datagram bytes.now)) statuses.now) }
+    ensures { Prints result faults.old faults.new
+        (messages_text (read_or_none (read_datagram bytes.now)) statuses.now) }
 {
     match check(bytes) {
         Ok(datagram) => print_messages(datagram.messages(), statuses, faults),

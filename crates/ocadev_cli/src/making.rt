@@ -32,13 +32,13 @@ pub fn made(alloc: Global, tree: Tree, sizes: Sizes) -> Result<(Device, Outbox),
     ensures refused { IfErr result (λ why. why ≡ no_memory) }
 {
     match Device::with_sizes(alloc, tree, sizes) {
-        Ok(device) => beside_outbox(alloc, device),
+        Ok(device) => with_outbox(alloc, device),
         Err(_) => Err(RunFault::NoMemory),
     }
 }
 
 /// A device and an outbox. Refusal: `NoMemory`.
-fn beside_outbox(alloc: Global, device: Device) -> Result<(Device, Outbox), RunFault>
+fn with_outbox(alloc: Global, device: Device) -> Result<(Device, Outbox), RunFault>
     ensures device { IfOk result (λ made. made.0 ≡ device) }
     ensures outbox { IfOk result (λ made. made.1 ≡ []) }
     ensures refused { IfErr result (λ why. why ≡ no_memory) }

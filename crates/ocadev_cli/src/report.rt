@@ -31,7 +31,8 @@ pub fn print_report<W: Sink>(report: &Report, printer: &mut Printer<W>) -> Resul
 /// Holds the line of a report.
 fn put_report<W: Sink>(report: &Report, printer: &mut Printer<W>)
     requires { length printer.old.held + 600 ≤ 8192 }
-    ensures { printer.new ≡ output printer.old.contents (printer.old.held ++ report_text report.now) printer.old.failed }
+    ensures { printer.new
+        ≡ output printer.old.contents (printer.old.held ++ report_text report.now) printer.old.failed }
 {
     put_counts(report, printer);
     printer.put(b"\n");

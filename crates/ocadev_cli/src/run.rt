@@ -41,7 +41,8 @@ use std::rt::{Clock, Files};
 
 /// The note where a device is bound to every address of the machine.
 const EVERY_ADDRESS: &str =
-    "0.0.0.0 is every address of this machine: answers may leave from another one than was asked, and links drop those";
+    "0.0.0.0 is every address of this machine: a reply may leave from a different address than the one that the \
+    controller sent to, and the controller then drops it";
 
 /// Of how many bytes for datagrams that have not left a host that does not answer holds less than half.
 const ENOUGH_GRANTED: u32 = 500_000;
@@ -158,7 +159,7 @@ fn served<N: Net + Clock + Files, R: Source, W: Sink, F: Sink>(
         Asked::Replay(making) => replayed(alloc, system, making, reader, printer),
         Asked::Serve(serving) => serve_socket(alloc, system, serving, printer, faults),
         Asked::Show(listed) => shown(alloc, system, listed, printer),
-        Asked::ShowText(listed) => texted(alloc, system, listed, printer),
+        Asked::ShowText(listed) => shown_as_text(alloc, system, listed, printer),
     }
 }
 
@@ -241,7 +242,7 @@ fn show_tree<W: Sink>(tree: &Tree, printer: &mut Printer<W>) -> Result<(), Failu
 }
 
 /// Prints the objects of a device as a text that `--tree` reads.
-fn texted<N: Files, W: Sink>(
+fn shown_as_text<N: Files, W: Sink>(
     alloc: Global,
     system: &N,
     listed: Objects<'_>,
@@ -454,8 +455,8 @@ fn print_bound<N: Clock, F: Sink>(alloc: Global, end: &UdpEnd<'_, N>, faults: &m
 /// Prints that the system grants so few bytes for datagrams that have not left, where there is memory for the line.
 fn note_granted<F: Sink>(alloc: Global, granted: u32, faults: &mut Printer<F>) {
     let note = format!(in alloc;
-        "the system grants {granted} bytes for datagrams that have not left: a host that does not answer may fill \
-        them, and answers to others are lost then"
+        "the system grants a send buffer of {granted} bytes: datagrams to a host that does not answer may fill it, and \
+        replies to other hosts are then lost"
     );
     if let Ok(note) = note {
         print_note(note.as_str(), faults);

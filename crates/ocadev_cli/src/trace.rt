@@ -249,7 +249,8 @@ fn put_malformed<F: Sink>(bytes: &[u8], faults: &mut Printer<F>)
 /// Holds the first fault of a datagram.
 fn put_fault<F: Sink>(fault: PduFault, faults: &mut Printer<F>)
     requires { length faults.old.held + 80 ≤ 8192 }
-    ensures { faults.new ≡ output faults.old.contents (faults.old.held ++ malformed_text (Err fault)) faults.old.failed }
+    ensures { faults.new
+        ≡ output faults.old.contents (faults.old.held ++ malformed_text (Err fault)) faults.old.failed }
 {
     put_count(b" malformed ", u64::from(fault.kind.number()), faults);
     put_count(b" at ", fault.at as u64, faults);

@@ -76,7 +76,7 @@ fn with_window<'a>(command: Command<'a>, alloc: Global) -> Result<Command<'a>, A
         command,
         "window",
         "W",
-        "How many commands of each peer are kept with their replies (the reply window), 1 to 64; 32 unless given",
+        "The reply window: how many commands of each peer are kept with their replies, 1 to 64 [default: 32]",
     )
 }
 
@@ -89,7 +89,7 @@ fn with_peers<'a>(command: Command<'a>, alloc: Global) -> Result<Command<'a>, Al
         command,
         "peers",
         "N",
-        "How many peers can have a session at once, 1 to 64; 16 unless given",
+        "How many peers can have a session at once, 1 to 64 [default: 16]",
     )
 }
 
@@ -102,8 +102,8 @@ fn with_channels<'a>(command: Command<'a>, alloc: Global) -> Result<Command<'a>,
         command,
         "channels",
         "N",
-        "How many channel strips are added to the bench's own objects, 0 to 1022; 0 unless given. A strip is a block \
-        with a mute, a polarity and a trim",
+        "How many channel strips are added to the objects of the bench device, 0 to 1022; a strip is a block with a \
+        mute, a polarity and a trim [default: 0]",
     )
 }
 
@@ -116,7 +116,7 @@ fn with_tree<'a>(command: Command<'a>, alloc: Global) -> Result<Command<'a>, All
         command,
         "tree",
         "FILE",
-        "A file that lists the objects, one a line, in place of the bench's; see examples/stagebox.tree",
+        "A file that lists the objects, one per line, instead of those of the bench device; see examples/stagebox.tree",
     )
 }
 
@@ -147,7 +147,7 @@ fn replay_name<'a>(alloc: Global) -> Command<'a>
 {
     Command::new(alloc, "replay")
         .about(
-            "Runs a device, the bench device unless --tree is given, over the script on standard input, and prints \
+            "Runs the bench device, or one with the objects of --tree, over the script on standard input, and prints \
             its answers",
         )
         .after_help("Example: ocadev replay < examples/getstate.script")
@@ -162,8 +162,8 @@ fn replay_command<'a>(alloc: Global) -> Result<Command<'a>, AllocError>
 
 /// What stands behind the options of `serve` in its help text.
 const SERVE_EXAMPLE: &str =
-    "In a turn the device handles one datagram, or waits 50 ms in which none comes. So T turns take 50 ms each at \
-    most, and less while datagrams come.
+    "In each turn the device handles one datagram, or waits 50 ms if none comes. So T turns take at most T times \
+    50 ms, and less if datagrams come.
 A run that a signal ends (Ctrl-C, kill) prints no report.
 
 Example: ocadev serve --port 65000 --turns 1200";
@@ -190,7 +190,7 @@ fn with_turns<'a>(command: Command<'a>, alloc: Global) -> Result<Command<'a>, Al
         command,
         "turns",
         "T",
-        "Stops after this many turns, 0 to 4294967295; runs until it is stopped unless given",
+        "Stops after this many turns, 0 to 4294967295; without this option it runs until you stop it",
     )
 }
 
@@ -203,8 +203,8 @@ fn with_ip<'a>(command: Command<'a>, alloc: Global) -> Result<Command<'a>, Alloc
         command,
         "ip",
         "A.B.C.D",
-        "The address to listen at; 127.0.0.1 unless given. 0.0.0.0 is every address of the machine: replies may then \
-        leave from a different address than the one that a controller sent to, and controllers drop such replies",
+        "The address to listen at. 0.0.0.0 means every address of the machine: a reply may then leave from a different \
+        address than the one that the controller sent to, and controllers drop such replies [default: 127.0.0.1]",
     )
 }
 
@@ -230,7 +230,7 @@ fn with_verbose<'a>(command: Command<'a>, alloc: Global) -> Result<Command<'a>, 
         alloc,
         command,
         "verbose",
-        "Prints a line for each datagram on standard error: its sender, what became of it, the objects it wrote to, \
+        "Prints a line for each datagram on standard error: its sender, what became of it, which objects it wrote to, \
         and what was locked, unlocked and refused",
     )
 }
@@ -244,7 +244,7 @@ fn with_stats<'a>(command: Command<'a>, alloc: Global) -> Result<Command<'a>, Al
         command,
         "stats",
         "SECONDS",
-        "Prints the report so far on standard error every SECONDS seconds, 1 to 86400, with the number of sessions \
+        "Every SECONDS seconds, 1 to 86400, prints the counts so far on standard error, with the number of sessions \
         and of locks held",
     )
 }
@@ -258,9 +258,9 @@ fn with_keep<'a>(command: Command<'a>, alloc: Global) -> Result<Command<'a>, All
         command,
         "keep",
         "FILE",
-        "The file in which the state is stored: if it exists, it is read at the start in place of --tree, and it is \
-        written after each datagram that wrote to an object. Reply windows and sessions are not stored: a duplicate \
-        from before a restart is executed as new",
+        "The file in which the device's state is stored. If it exists at the start, the device has its objects, \
+        whatever --tree and --channels say. It is written after each datagram that wrote to an object. Locks, reply \
+        windows and sessions are not stored: after a restart, a duplicate of a command from before is executed as new",
     )
 }
 
@@ -284,7 +284,7 @@ fn serve_name<'a>(alloc: Global) -> Command<'a>
 {
     Command::new(alloc, "serve")
         .about(
-            "Serves a device, the bench device unless --tree is given, at a UDP socket, and prints what was done",
+            "Serves the bench device, or one with the objects of --tree, at a UDP socket; prints a report at the end",
         )
         .after_help(SERVE_EXAMPLE)
 }
@@ -311,7 +311,7 @@ fn with_text<'a>(command: Command<'a>, alloc: Global) -> Result<Command<'a>, All
         alloc,
         command,
         "text",
-        "Prints them as a text that --tree reads, with labels and all else that a device stores",
+        "Prints the objects in the form that --tree reads, with labels and everything else that a device stores",
     )
 }
 
@@ -320,7 +320,9 @@ fn show_name<'a>(alloc: Global) -> Command<'a>
     ensures { app_of result ≡ new_app (codes "show") }
 {
     Command::new(alloc, "show")
-        .about("Prints the objects of the device: ONo, class identifier, container and role")
+        .about(
+            "Prints the objects of a device, one per line: ONo, class identifier, container and role",
+        )
         .after_help("Example: ocadev show --tree examples/stagebox.tree")
 }
 
@@ -336,9 +338,13 @@ fn program<'a>(alloc: Global) -> Command<'a>
     ensures { app_of result ≡ record { top = program_shape; subs = [] } }
 {
     Command::new(alloc, "ocadev")
-        .about("The bench device of OCA (AES70) over UDP")
+        .about("An OCA (AES70) device over UDP")
         .version(VERSION)
-        .after_help("Example: ocadev replay < examples/getstate.script")
+        .after_help(
+            "The bench device is built in, for trying things out: ocadev show lists its objects.
+
+Example: ocadev replay < examples/getstate.script",
+        )
         .subcommand_required(true)
 }
 
@@ -444,7 +450,7 @@ const RULES: [Rule; 7] = [
 
 /// The note where each option has its form.
 const TREE_AND_CHANNELS: &str =
-    "--tree and --channels each say what the objects are: give one of the two";
+    "--tree and --channels can't be combined: each says which objects there are";
 
 /// The same, where the options' values are of their forms.
 fn asked_in<'a>(name: &str, options: &ArgMatches<'a>) -> Option<Asked<'a>>

@@ -17,7 +17,7 @@ use Rattle.oca_script.specs.declared.fault.WriteFailed.{WriteFailed}
 use Rattle.oca_script.specs.Ends.{Input, Output}
 use Rattle.oca_script.specs.Printing.{Prints, PrintsAll, PrintsPart, WritesWhole}
 use Rattle.oca_script.specs.Script.{Script}
-use Rattle.oca_script.specs.Replaying.{Runs, NoneLeft, OneServed, OneIdled, NeverIdles, ServesLine, Writes, BeginsWith, known_bytes, Replays as ReplaysScript, Outcome as ScriptOutcome}
+use Rattle.oca_script.specs.Replaying.{Runs, NoneLeft, OneServed, OneIdled, NeverIdles, ServesLine, Writes, BeginsWithRequests, known_bytes, Replays as ReplaysScript, Outcome as ScriptOutcome}
 use Rattle.ocadev_replay.specs.declared.request.ScriptEvent.{ScriptEvent}
 use Rattle.ocadev_replay.specs.declared.request.ScriptEvent.TheVariants as asks
 use Rattle.oca_script.proofs.PrintLemmas.{prints-then, prints-less}
@@ -126,7 +126,7 @@ whole w tree events a b u v r given requests text at_a runs appends e =
     }
 
 part : (w : DeviceSizes) (tree : List Object) (events : List Event) (a b : DeviceState) (u v : Output) (r : Result Unit ReplayFault) (given : List ℕ) (requests : List Event) (text : List ℕ)
-    → Represents w a tree events → Runs Serves NeverIdles a requests b text → Writes r u v text → BeginsWith requests (device_script given) → Part w tree events b u v r given
+    → Represents w a tree events → Runs Serves NeverIdles a requests b text → Writes r u v text → BeginsWithRequests requests (device_script given) → Part w tree events b u v r given
 part w tree events a b u v r given requests text at_a runs writes begins = record {
   first = requests;
   begins = begins;

@@ -10,7 +10,7 @@ use Rattle.oca_script.specs.declared.fault.WriteFailed.{WriteFailed}
 use Rattle.oca_script.specs.Ends.{Input, Output}
 use Rattle.oca_script.specs.Printing.{Prints, WritesWhole}
 use Rattle.oca_script.specs.Script.{Script, script}
-use Rattle.oca_script.specs.Replaying.{BeginsWith, Reads, Writes, known_bytes}
+use Rattle.oca_script.specs.Replaying.{BeginsWithRequests, Reads, Writes, known_bytes}
 use Rattle.ocadev_replay.specs.Requests.{asked_event}
 use Rattle.ocadev_replay.specs.Printing.{event_text, events_text, events_then}
 
@@ -49,7 +49,7 @@ pub record Whole (w : DeviceSizes) (tree : List Object) (events : List Event) (n
 pub record Part (w : DeviceSizes) (tree : List Object) (events : List Event) (new : DeviceState) (was is : Output)
     (result : Result Unit ReplayFault) (given : List ℕ) : Type 0 where
   pub first : List Event
-  pub begins : BeginsWith first (device_script given)
+  pub begins : BeginsWithRequests first (device_script given)
   pub writes : Writes result was is (events_text w tree events first)
   pub represents : Represents w new tree (events_then events first)
 

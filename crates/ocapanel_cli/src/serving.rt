@@ -438,7 +438,7 @@ fn note_link<F: Sink>(alloc: Global, rounds: &mut Rounds, view: &View, faults: &
     rounds.was_lost = is_lost;
     let lost = view.news().lost;
     let line = if is_lost {
-        format!(in alloc; "the device is lost: it left a command unanswered for 5 s")
+        format!(in alloc; "the device is lost: a command got no answer for 5 s")
     } else {
         format!(in alloc; "the device is heard again; {lost} sessions were lost so far")
     };

@@ -46,8 +46,8 @@ pub enum Asked {
 
 /// What stands behind the options in the help text.
 const EXAMPLE: &str =
-    "Only browsers on this machine can reach the panel. One process serves at most 8 of their connections at once, and \
-    runs until it is stopped.
+    "Only browsers on this machine can reach the panel. It serves at most 8 of their connections at once, and runs \
+    until you stop it.
 
 Example: ocapanel --device 127.0.0.1:65000, and open http://127.0.0.1:8080/";
 
@@ -61,7 +61,13 @@ fn verbose_option<'a>(alloc: Global) -> Arg<'a> {
 
 /// The whole program.
 fn command<'a>(alloc: Global) -> Result<Command<'a>, AllocError> {
-    let device = option(alloc, "device", "A.B.C.D:PORT", "The device's address").required(true);
+    let device = option(
+        alloc,
+        "device",
+        "A.B.C.D:PORT",
+        "The device's address and port",
+    )
+    .required(true);
     match named(alloc).arg(device) {
         Ok(command) => with_listen(alloc, command),
         Err(refused) => Err(refused),
@@ -82,8 +88,8 @@ fn with_listen<'a>(alloc: Global, command: Command<'a>) -> Result<Command<'a>, A
         alloc,
         "listen",
         "A.B.C.D:PORT",
-        "The address and port for browsers, an address of 127.0.0.0/8 [127.0.0.1:8080 unless given]; at port 0 the \
-        system chooses one",
+        "The address and port for browsers; the address is one of 127.0.0.0/8, and at port 0 the system chooses one \
+        [default: 127.0.0.1:8080]",
     );
     match command.arg(listen) {
         Ok(command) => with_span(alloc, command),
@@ -97,8 +103,8 @@ fn with_span<'a>(alloc: Global, command: Command<'a>) -> Result<Command<'a>, All
         alloc,
         "span",
         "S",
-        "How far above the oldest command whose answer was not taken the next handle may lie, 2 to 32 [16 unless \
-        given]; half of it is kept for what browsers ask to be set",
+        "The span, 2 to 32: the handles of the commands in flight are within S consecutive numbers; half of it is kept \
+        for orders from browsers [default: 16]",
     );
     match command.arg(span) {
         Ok(command) => with_port(alloc, command),
@@ -112,7 +118,7 @@ fn with_port<'a>(alloc: Global, command: Command<'a>) -> Result<Command<'a>, All
         alloc,
         "port",
         "PORT",
-        "The local port of the socket for the device [one of the system's choice unless given]",
+        "The local port of the socket for the device [default: the system chooses one]",
     );
     match command.arg(port) {
         Ok(command) => command.arg(verbose_option(alloc)),
@@ -155,8 +161,8 @@ const RULES: [Rule; 4] = [
 
 /// The note where each option has its form.
 const ELSEWHERE: &str =
-    "--listen is not of this machine alone: it is to be an address of 127.0.0.0/8, since the panel asks nobody who \
-    he is";
+    "--listen is not an address of this machine alone: it must be one of 127.0.0.0/8, because the panel does not ask \
+    who connects";
 
 /// What the words ask for, the program's name first, or why they ask for nothing.
 pub fn asked_for<S: AsStr>(alloc: Global, words: &[S]) -> Result<Asked, Failure> {

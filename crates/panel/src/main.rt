@@ -1,44 +1,50 @@
 //! A panel for the two-channel amplifier: an example of embedding a controller.
 //!
 //! `panel [PORT]` opens channel 1 of the amplifier at 127.0.0.1 and that port, sets its gain to -6 dB, and reads it
-//! back.
+//! back. `panel PORT objects` lists the objects of any device there.
 #![tactic(auto)]
 
+mod objects;
+mod words;
+
 use anyhow::Error;
+use objects::print_objects;
 use oca_model::{MuteState, Value, word_of};
 use oca_net::{UdpEnd, fill_standard_descriptors};
 use oca_panel::{Panel, Trouble};
 use oca_types::{Handle, Ono, Peer, Span};
-use std::env;
 use std::net::Net;
 use std::rt::Runtime;
+use words::asked;
 
 /// The mute and the gain of channel 1, which is in tenths of a decibel.
 const CHANNEL: [Ono; 2] = [Ono(4097), Ono(4098)];
 
-/// Sets a channel of the device at the port that the words say, and prints why where that fails.
+/// Does what the words ask for, and prints why where that fails.
 fn main(rt: HostRuntime) -> Result<(), Error> {
     let _ = fill_standard_descriptors(&rt);
-    if let Err(error) = set_channel(&rt) {
+    if let Err(error) = run(&rt) {
         println!(rt; "{error}")?;
     }
     Ok(())
 }
 
-/// The port that the command line names, and 9 without one.
-fn port<R: Runtime + AllocGlobal>(rt: &R) -> Result<u16, Error> {
-    let words = env::args(rt)?.collect::<Vec<String>>(rt.alloc())?;
-    match words.as_slice() {
-        [_, port] => Ok(port.parse::<u16>()?),
-        _ => Ok(9),
+/// Sets a channel of the device at the port that the words name, or lists its objects.
+fn run<R: Runtime + Net + AllocGlobal>(rt: &R) -> Result<(), Error> {
+    let (port, lists) = asked(rt)?;
+    let device = Peer::loopback(port);
+    if lists {
+        print_objects(rt, device)
+    } else {
+        set_channel(rt, device)
     }
 }
 
-/// Opens channel 1, sets its gain to -6 dB and reads it back. A command waits for 20 turns of at most 50 ms.
-fn set_channel<R: Runtime + Net + AllocGlobal>(rt: &R) -> Result<(), Error> {
-    let device = Peer::loopback(port(rt)?);
+/// Opens channel 1, sets its gain to -6 dB and reads it back. A command waits for 210 turns of at most 50 ms, as long as a
+/// link retransmits it.
+fn set_channel<R: Runtime + Net + AllocGlobal>(rt: &R, device: Peer) -> Result<(), Error> {
     let end = UdpEnd::bind(rt.alloc(), rt, device.ip, 0)?;
-    let mut panel = Panel::open(device, end, Handle(1), Span::default(), 20);
+    let mut panel = Panel::open(device, end, Handle(1), Span::default(), 210);
     let [mute, gain] = CHANNEL;
     let open = status(panel.set(mute, Value::Mute(MuteState::Unmuted)))?;
     println!(rt; "open channel 1: status {open}")?;

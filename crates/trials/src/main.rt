@@ -111,7 +111,8 @@ fn wrong<R: Runtime + AllocGlobal>(rt: &R) -> Result<u64, NoMemory> {
 /// The line of the damaged datagrams.
 fn tell_datagrams<R: Runtime>(rt: &R, tally: &hostile::Tally) {
     let _ = println!(rt;
-        "damaged datagrams: {} tried, {} refused with nothing changed, {} accepted, {} of them written back alike, {} wrong",
+        "damaged datagrams: {} tried, {} refused with nothing changed, {} accepted, {} of them written back alike, \
+         {} wrong",
         tally.tried, tally.refused, tally.accepted, tally.written_back, tally.wrong
     );
 }

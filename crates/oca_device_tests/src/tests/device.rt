@@ -2,6 +2,7 @@
 //! those of AES70-3's layouts, written out or put together here, and never the device's own.
 mod benches;
 mod blocks;
+mod bounded;
 mod commands;
 mod grouping;
 mod lapses;
@@ -50,6 +51,22 @@ const ONE_SECOND: Part = Part::Bytes(&[0x3b, 0, 1, 0, 0, 0, 0x0b, 4, 0, 1, 0, 1]
 const EXECUTED: Verdict = Verdict::Served {
     executed: 1,
     kept: 0,
+    old: 0,
+    reused: 0,
+};
+
+/// The verdict on 2 commands that are executed.
+const EXECUTED_2: Verdict = Verdict::Served {
+    executed: 2,
+    kept: 0,
+    old: 0,
+    reused: 0,
+};
+
+/// The verdict on one command that is executed and one duplicate.
+const EXECUTED_1_KEPT_1: Verdict = Verdict::Served {
+    executed: 1,
+    kept: 1,
     old: 0,
     reused: 0,
 };
@@ -106,4 +123,10 @@ fn scripts(rt: HostRuntime) {
     none_wrong(&rt, grouping::wrong(rt.alloc()));
     none_wrong(&rt, lapses::wrong(rt.alloc()));
     none_wrong(&rt, sessions::wrong(rt.alloc()));
+}
+
+#[test]
+fn bounded_outboxes(rt: HostRuntime) {
+    none_wrong(&rt, bounded::wrong(rt.alloc()));
+    assert!(rt; bounded::refuses_the_most(rt.alloc()));
 }

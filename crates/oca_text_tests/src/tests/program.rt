@@ -183,8 +183,8 @@ fn prints_note_of(alloc: Global, count: usize, length: usize) -> bool {
     }
 }
 
-/// Whether a note is one line behind its word, and stands before the fault's line, and one of more than 1,000 bytes is left
-/// out.
+/// Whether a note is one line behind its word, and stands before the fault's line, and one of more than 1,000 bytes is
+/// left out.
 fn are_notes(alloc: Global) -> bool {
     let text = b"note: error: no\nbad words\n";
     prints_note(alloc, RunFault::BadWords, "error: no\n\nmore", 2, text)
@@ -199,7 +199,8 @@ fn is_filled(room: usize) -> bool {
         && faults.sink().taken.len() == room
 }
 
-/// The first of these rooms that is not filled: a fault that can't be written ends the run with its status all the same.
+/// The first of these rooms that is not filled: a fault that can't be written ends the run with its status all the
+/// same.
 fn first_unfilled(rooms: usize) -> Option<usize> {
     for room in 0..rooms {
         if !is_filled(room) {

@@ -21,6 +21,7 @@ fn texts(rt: HostRuntime) {
         copies::all_that_is_stored(rt.alloc()),
     );
     none_in(&rt, "labels", copies::labels(rt.alloc()));
+    none_in(&rt, "local_sets", copies::local_sets(rt.alloc()));
     none_in(&rt, "refused_lines", copies::refused_lines(rt.alloc()));
     none_in(
         &rt,

@@ -141,8 +141,8 @@ const ASKINGS: &[Asking] = &[
     },
 ];
 
-/// Whether the command fares so over an end: it leaves at once, and each turn receives once.
-fn fares_over(end: &mut MemoryEnd, asking: &Asking) -> bool {
+/// Whether the command ends so over an end: it leaves at once, and each turn receives once.
+fn ends_over(end: &mut MemoryEnd, asking: &Asking) -> bool {
     let mut to = Printer::new(ShortWriter::new(5, NO_LIMIT));
     let exit = ask_once(&mut link(), end, GET, asking.turns, &mut to);
     exit == Ok(asking.exit)
@@ -151,18 +151,18 @@ fn fares_over(end: &mut MemoryEnd, asking: &Asking) -> bool {
         && !end.taken().is_empty()
 }
 
-/// Whether the command fares so.
-fn fares_so(alloc: Global, asking: &Asking) -> bool {
+/// Whether the command ends so.
+fn ends_so(alloc: Global, asking: &Asking) -> bool {
     match end(alloc, &[Quiet(0), Answer(1, asking.answer, 10)]) {
-        Some(mut end) => fares_over(&mut end, asking),
+        Some(mut end) => ends_over(&mut end, asking),
         None => false,
     }
 }
 
-/// The first command that fares otherwise.
+/// The first command that ends otherwise.
 pub fn first_other_status(alloc: Global) -> Option<usize> {
     for (at, asking) in ASKINGS.iter().enumerate() {
-        if !fares_so(alloc, asking) {
+        if !ends_so(alloc, asking) {
             return Some(at);
         }
     }
@@ -195,9 +195,10 @@ pub fn first_uncut(alloc: Global) -> Option<usize> {
     None
 }
 
-/// Lines, so many under way at once, over an end that delivers this; the reader gives pieces of at most `piece` bytes, of
-/// which it says `pauses` times before each that it is not there, and fails behind `given` or behind all
-/// of them, and the writer behind `room`. How it ends, whether a read failed and whether a command got no answer, and what is printed.
+/// Lines, so many in flight at once, over an end that delivers this; the reader gives pieces of at most `piece` bytes,
+/// of which it says `pauses` times before each that it is not there, and fails behind `given` or behind all of them,
+/// and the writer behind `room`. How it ends, whether a read failed and whether a command got no answer, and what is
+/// printed.
 #[derive(Clone, Copy)]
 struct Lines {
     ahead: u8,
@@ -273,7 +274,7 @@ const THEN_A_READ: Lines = Lines {
     ..NO_LINES
 };
 
-/// A session with so many under way at once, over an end that delivers this.
+/// A session with so many in flight at once, over an end that delivers this.
 fn session(alloc: Global, ahead: u8, deliveries: &[Delivery]) -> Option<Session<MemoryEnd>> {
     let ahead = Span::new(ahead)?;
     match end(alloc, deliveries) {
@@ -282,7 +283,7 @@ fn session(alloc: Global, ahead: u8, deliveries: &[Delivery]) -> Option<Session<
     }
 }
 
-/// Whether the lines fare so in a session.
+/// Whether the lines end so in a session.
 fn sends_over(session: &mut Session<MemoryEnd>, row: &Lines) -> bool {
     if row.piece == 0 {
         return false;
@@ -302,7 +303,7 @@ fn sends_over(session: &mut Session<MemoryEnd>, row: &Lines) -> bool {
         && to.sink().taken.as_slice() == row.output
 }
 
-/// Whether the lines fare so.
+/// Whether the lines end so.
 fn sends_so(alloc: Global, row: &Lines) -> bool {
     match session(alloc, row.ahead, row.deliveries) {
         Some(mut session) => sends_over(&mut session, row),
@@ -310,7 +311,7 @@ fn sends_so(alloc: Global, row: &Lines) -> bool {
     }
 }
 
-/// The first row that fares otherwise.
+/// The first row that ends otherwise.
 fn first_wrong(alloc: Global, rows: &[Lines]) -> Option<usize> {
     for (at, row) in rows.iter().enumerate() {
         if !sends_so(alloc, row) {
@@ -334,7 +335,8 @@ const THREE_CLOSE: &[u8] = b"4097 4 1 0 -\n4097 4 1 0 -\n4097 4 1 0 -\n";
 const IN_ORDER: &[u8] = b"answer 1 1 01\nanswer 2 1 01\nanswer 3 1 01\n";
 
 const ROWS: &[Lines] = &[
-    // one command at a time: the second is sent behind the answer to the first, and an answer that comes twice is taken once
+    // one command at a time: the second is sent behind the answer to the first, and an answer that comes twice is taken
+    // once
     Lines {
         ahead: 1,
         deliveries: &[
@@ -357,7 +359,7 @@ const ROWS: &[Lines] = &[
         output: b"lost\nlost\n",
         ..NO_LINES
     },
-    // three commands under way at once: answers that come in another order are printed in the order of the lines
+    // three commands in flight at once: answers that come in another order are printed in the order of the lines
     Lines {
         ahead: 3,
         deliveries: BACKWARDS,
@@ -402,7 +404,7 @@ const ROWS: &[Lines] = &[
         output: IN_ORDER,
         ..NO_LINES
     },
-    // the answer to a line is written before the next line is read, however many may be under way
+    // the answer to a line is written before the next line is read, however many may be in flight
     Lines {
         ahead: 1,
         ..FIRST_OF_TWO
@@ -435,8 +437,8 @@ const ROWS: &[Lines] = &[
 /// The answers to two commands, the last one's first.
 const TWO_BACKWARDS: &[Delivery] = &[Answer(2, 2, 10), Answer(1, 1, 20)];
 
-// While no more is there to be read what is under way is driven, whatever stands behind the last command: nothing, a comment, an empty line
-// or a part of a line. Commands of one piece are under way together.
+// While no more is there to be read what is in flight is driven, whatever stands behind the last command: nothing, a
+// comment, an empty line or a part of a line. Commands of one piece are in flight together.
 const IDLE: &[Lines] = &[
     Lines {
         lines: b"4097 4 2 1 01\n",
@@ -485,8 +487,8 @@ const SLOW: &[Delivery] = &[
     Quiet(3000),
 ];
 
-/// Whether a command in a session, behind which more comes in pieces of this size, is sent, sent again twice and answered, and a
-/// keep-alive sent, while input is awaited: the reader pauses often before each piece.
+/// Whether a command in a session, behind which more comes in pieces of this size, is sent, sent again twice and
+/// answered, and a keep-alive sent, while input is awaited: the reader pauses often before each piece.
 fn is_driven_over(session: &mut Session<MemoryEnd>, behind: &[u8], piece: usize) -> bool {
     if piece == 0 {
         return false;
@@ -599,17 +601,17 @@ const BAD: &[Lines] = &[
     },
 ];
 
-/// The first row of lines that fares otherwise.
+/// The first row of lines that ends otherwise.
 pub fn wrong_line(alloc: Global) -> Option<usize> {
     first_wrong(alloc, ROWS)
 }
 
-/// The first row of lines behind which no more is there that fares otherwise.
+/// The first row of lines behind which no more is there that ends otherwise.
 pub fn wrong_idle(alloc: Global) -> Option<usize> {
     first_wrong(alloc, IDLE)
 }
 
-/// The first bad line that fares otherwise.
+/// The first bad line that ends otherwise.
 pub fn wrong_bad(alloc: Global) -> Option<usize> {
     first_wrong(alloc, BAD)
 }

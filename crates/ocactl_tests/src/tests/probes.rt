@@ -23,14 +23,14 @@ const ANSWER: &str = "3b0001000000130300010000000a000000070000";
 
 /// What comes from where, and what is found by it.
 const FOUND: &[(&[(Peer, &str)], Found)] = &[
-    (&[], Found::Unheard),
-    (&[(DEVICE, ALIVE)], Found::Deaf),
+    (&[], Found::NotHeard),
+    (&[(DEVICE, ALIVE)], Found::NotAnswering),
     (&[(DEVICE, ALIVE), (DEVICE, ANSWER)], Found::Answering),
     (&[(DEVICE, ANSWER)], Found::Answering),
-    (&[(STRANGER, ANSWER), (STRANGER, ALIVE)], Found::Unheard),
+    (&[(STRANGER, ANSWER), (STRANGER, ALIVE)], Found::NotHeard),
 ];
 
-/// The bytes that a text stands for.
+/// The bytes that a text encodes.
 fn bytes(alloc: Global, text: &str) -> Option<Vec<u8>> {
     let mut room = [0u8; 20];
     let all = room.get_mut(..text.len() / 2)?;

@@ -35,8 +35,8 @@ fn link() -> Link {
     Link::new(DEVICE, Handle(1), 0, Span::default())
 }
 
-/// A script that is read in pieces of at most `piece` bytes by a reader that fails behind `given`, and whose text is written in pieces
-/// of at most `most` by a writer that fails behind `room`; how it ends, and what is written.
+/// A script that is read in pieces of at most `piece` bytes by a reader that fails behind `given`, and whose text is
+/// written in pieces of at most `most` by a writer that fails behind `room`; how it ends, and what is written.
 #[derive(Clone, Copy)]
 struct Pieces {
     script: &'static [u8],
@@ -152,8 +152,8 @@ fn lines_in(text: &[u8]) -> usize {
 // How many bytes the first lines of the exchange print.
 const PRINTED: [usize; 7] = [0, 9, 69, 77, 86, 97, 111];
 
-/// Whether a reader that fails behind so many bytes of the exchange leaves what the whole lines before print, and the link as after
-/// them: each but the first has the handle 1 submitted, and the fifth alone its answer held.
+/// Whether a reader that fails behind so many bytes of the exchange leaves what the whole lines before print, and the
+/// link as after them: each but the first has the handle 1 submitted, and the fifth alone its answer held.
 fn stops_reading_at(place: usize) -> bool {
     let mut link = link();
     let mut from = PieceReader::new(EXCHANGE, 50, place);
@@ -179,7 +179,8 @@ pub fn first_unread() -> Option<usize> {
     None
 }
 
-/// The same of a writer. In pieces of 43 bytes the lines come in groups: the first three, the fourth, the fifth, and the last two.
+/// The same of a writer. In pieces of 43 bytes the lines come in groups: the first three, the fourth, the fifth, and
+/// the last two.
 fn stops_writing_at(place: usize) -> bool {
     let mut link = link();
     let mut from = PieceReader::new(EXCHANGE, 43, NO_LIMIT);

@@ -1,7 +1,7 @@
 use Rattle.std.proofs.Common.{◌≡◌, ◌+◌, ◌*◌, ◌<◌, false}
 use Rattle.oca_net.specs.Ends.{last_u64}
 use Rattle.oca_control.specs.Driving.{DrivesEnd}
-use Rattle.oca_control.specs.PrivateDriving.{IsWithin}
+use Rattle.oca_control.specs.PrivateDriving.{IsReportWithin}
 use Rattle.oca_control.proofs.driving.drive.Given as goal
 
 abbrev pub invariant-loop-turn : goal.invariant-loop-turn
@@ -10,6 +10,6 @@ invariant-loop-turn g l = record {
   device : l.link.device ≡ l.fn.link.device;
   going : l.report.lost ≡ false;
   turns : l.report.turns ≡ l._turn;
-  within : IsWithin (l._turn * 4294967295) l.report;
+  within : IsReportWithin (l._turn * 4294967295) l.report;
   receives : (g.E.End.state l.end).receives < last_u64 → (g.E.End.state l.end).receives ≡ (g.E.End.state l.fn.end).receives + l.report.turns;
 }

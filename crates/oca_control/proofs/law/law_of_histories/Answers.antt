@@ -1,5 +1,5 @@
 use Rattle.oca_control.proofs.Histories.{lawful, one_content}
-use Rattle.oca_control.proofs.Telling.{tells}
+use Rattle.oca_control.proofs.AgreeingWithCalls.{agrees_with_calls}
 use Rattle.oca_control.proofs.Counting.{datagrams_counted}
 use Rattle.oca_control.proofs.law.law_of_histories.Goals as goal
 
@@ -10,7 +10,7 @@ pub returns-clause-content : goal.returns-clause-content
 returns-clause-content c = λ bytes one other a b. one_content c.law_one_list_of_messages.ensures bytes one other a b
 
 pub returns-clause-telling : goal.returns-clause-telling
-returns-clause-telling c = tells
+returns-clause-telling c = agrees_with_calls
 
 pub returns-clause-datagrams : goal.returns-clause-datagrams
 returns-clause-datagrams c = datagrams_counted

@@ -1,5 +1,5 @@
 //! The devices that scripts run on.
-use oca_device::{Device, Outbox};
+use oca_device::{BoundedOutbox, Device, Outbox};
 use oca_tree::{Kind, MuteState, Spec, Tree, TreeBuilder, bench};
 use oca_types::{Ono, Peers, Sizes, Window};
 use std::alloc::Global;
@@ -22,6 +22,13 @@ pub enum Setup {
 pub struct Bench {
     pub device: Device,
     pub outbox: Outbox,
+}
+
+/// A device and an outbox with room for some packets.
+#[derive(Drop)]
+pub struct Few {
+    pub device: Device,
+    pub outbox: BoundedOutbox,
 }
 
 /// Adds an object of this number to a block, with a role that does not matter.
@@ -124,6 +131,15 @@ pub fn bench_of(alloc: Global, setup: Setup) -> Option<Bench> {
     let outbox = Outbox::new(alloc).ok()?;
     match device_of(alloc, setup) {
         Some(device) => Some(Bench { device, outbox }),
+        None => None,
+    }
+}
+
+/// The device of this setup, with an outbox that has room for so many packets.
+pub fn few_of(alloc: Global, setup: Setup, room: usize) -> Option<Few> {
+    let outbox = BoundedOutbox::with_room(alloc, room).ok()?;
+    match device_of(alloc, setup) {
+        Some(device) => Some(Few { device, outbox }),
         None => None,
     }
 }

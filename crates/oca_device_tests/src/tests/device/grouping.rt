@@ -58,7 +58,7 @@ const FULL_OF_RESPONSES: &[Step] = &[
 ];
 
 /// 122 keep-alives of 1 second.
-const BEATS: Part = Times(122, &[0x3b, 0, 1, 0, 0, 0, 0x0b, 4, 0, 1, 0, 1]);
+pub const BEATS: Part = Times(122, &[0x3b, 0, 1, 0, 0, 0, 0x0b, 4, 0, 1, 0, 1]);
 
 /// As many keep-alives as fit come back, each in a packet of its own.
 const FULL_OF_KEEP_ALIVES: &[Step] = &[
@@ -69,24 +69,16 @@ const FULL_OF_KEEP_ALIVES: &[Step] = &[
 ];
 
 /// GetState of 4097 and 4098 in one PDU.
-const TWO_GETS: Part = Bytes(&[
+pub const TWO_GETS: Part = Bytes(&[
     0x3b, 0, 1, 0, 0, 0, 0x2b, 1, 0, 2, 0, 0, 0, 0x11, 0, 0, 0, 1, 0, 0, 0x10, 1, 0, 4, 0, 1, 0, 0,
     0, 0, 0x11, 0, 0, 0, 2, 0, 0, 0x10, 2, 0, 4, 0, 1, 0,
 ]);
 
 /// Its answer in one.
-const TWO_STATES: Part = Bytes(&[
+pub const TWO_STATES: Part = Bytes(&[
     0x3b, 0, 1, 0, 0, 0, 0x1f, 3, 0, 2, 0, 0, 0, 0x0b, 0, 0, 0, 1, 0, 1, 1, 0, 0, 0, 0x0b, 0, 0, 0,
     2, 0, 1, 1,
 ]);
-
-/// The verdict on 2 commands that are executed.
-const EXECUTED_2: Verdict = Verdict::Served {
-    executed: 2,
-    kept: 0,
-    old: 0,
-    reused: 0,
-};
 
 /// Two responses leave in one PDU.
 const NEIGHBOURS: &[Step] = &[Answers(A, 0, TWO_GETS, EXECUTED_2, TWO_STATES)];
@@ -125,14 +117,6 @@ const NO_END: &[Step] = &[
         &[TWICE],
     ),
 ];
-
-/// The verdict on one command that is executed and one duplicate.
-const EXECUTED_1_KEPT_1: Verdict = Verdict::Served {
-    executed: 1,
-    kept: 1,
-    old: 0,
-    reused: 0,
-};
 
 /// The same command twice in one datagram is executed once, and its response leaves twice in one PDU.
 const BESIDE: &[Step] = &[

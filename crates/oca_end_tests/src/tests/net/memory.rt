@@ -102,10 +102,12 @@ fn are_taken(taken: &[(Peer, Packet)], wanted: &[(Peer, &'static [u8])]) -> bool
     taken.len() == wanted.len()
 }
 
+/// Whether a receive answers so, and the packet then holds these bytes.
 fn hears(end: &mut MemoryEnd, packet: &mut Packet, heard: Heard, bytes: &[u8]) -> bool {
     end.receive(packet) == heard && packet.as_slice() == bytes
 }
 
+/// Whether a send of at most so many bytes as a datagram has is taken, or not.
 fn sends(end: &mut MemoryEnd, to: Peer, bytes: &[u8], taken: bool) -> bool {
     bytes.len() <= LARGEST && end.send(to, bytes) == taken
 }

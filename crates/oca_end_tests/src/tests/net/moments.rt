@@ -276,6 +276,7 @@ struct SetClock<'a> {
 }
 
 impl Clock for SetClock<'_> {
+    /// What the clock is set to.
     fn monotonic(&self) -> io::Result<Duration> {
         match self.time.get() {
             Some(time) => Ok(time),
@@ -283,24 +284,30 @@ impl Clock for SetClock<'_> {
         }
     }
 
+    /// The same.
     fn since_1970(&self) -> io::Result<Duration> {
         self.monotonic()
     }
 }
 
 impl Net for SetClock<'_> {
+    /// The system's.
     type Stream = TcpStream;
 
+    /// The system's.
     type Listener = TcpListener;
 
+    /// Listens as the system does.
     fn bind(&self, address: SocketAddr) -> io::Result<TcpListener> {
         self.system.bind(address)
     }
 
+    /// Connects as the system does.
     fn connect(&self, address: SocketAddr) -> io::Result<TcpStream> {
         self.system.connect(address)
     }
 
+    /// Binds as the system does.
     fn bind_udp(&self, address: SocketAddr) -> io::Result<UdpSocket> {
         self.system.bind_udp(address)
     }

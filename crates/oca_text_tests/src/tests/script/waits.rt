@@ -1,5 +1,5 @@
-//! Waiting for two descriptors, here of sockets. No clause says what the system's `poll` does, so these tests alone refuse a
-//! wait that takes one descriptor for the other, that waits though there is something, or that does not wait.
+//! Waiting for two descriptors, here of sockets. No clause says what the system's `poll` does, so these tests alone
+//! refuse a wait that takes one descriptor for the other, that waits though there is something, or that does not wait.
 use oca_wait::{Ready, is_terminal, wait_for};
 use std::net::{Ipv4Addr, UdpSocket};
 use std::os::fd::{AsRawFd, RawFd};

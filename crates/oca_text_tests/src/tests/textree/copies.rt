@@ -2,7 +2,7 @@
 use oca_fakes::ShortWriter;
 use oca_script::Printer;
 use oca_textree::{ObjectFault, TreeFault, print_tree, tree_from_text};
-use oca_tree::{Tree, bench_with_channels};
+use oca_tree::{MuteState, PolarityState, Tree, Value, bench_with_channels};
 use oca_types::Ono;
 use std::alloc::Global;
 
@@ -252,6 +252,89 @@ fn is_read_back(alloc: Global, tree: &Tree) -> bool {
     print_tree(tree, &mut to).is_ok()
         && to.flush().is_ok()
         && is_read_as(alloc, to.sink().taken.as_slice(), tree)
+}
+
+/// A text, the value to which the local front panel sets its object 4097, and the text that is written then: that as
+/// before where it cannot be set so.
+type Set = (&'static [u8], Value, &'static [u8]);
+
+/// Values at their limits, beyond them, of a position that is not enabled, and of another class.
+const SETS: &[Set] = &[
+    (
+        b"root on \"\"\nobject 4097 100 mute muted lockable \"m\" off \"A\"\n",
+        Value::Mute(MuteState::Unmuted),
+        b"root on \"\"\nobject 4097 100 mute unmuted lockable \"m\" off \"A\"\n",
+    ),
+    (
+        b"root on \"\"\nobject 4097 100 polarity inverted lockable \"p\" on \"\"\n",
+        Value::Polarity(PolarityState::NonInverted),
+        b"root on \"\"\nobject 4097 100 polarity non-inverted lockable \"p\" on \"\"\n",
+    ),
+    (
+        b"root on \"\"\nobject 4097 100 switch 101 \"a,b,c\" 0 lockable \"s\" on \"\"\n",
+        Value::Switch(2),
+        b"root on \"\"\nobject 4097 100 switch 101 \"a,b,c\" 2 lockable \"s\" on \"\"\n",
+    ),
+    (
+        b"root on \"\"\nobject 4097 100 switch 110 \"a,b,c\" 0 lockable \"s\" on \"\"\n",
+        Value::Switch(2),
+        b"root on \"\"\nobject 4097 100 switch 110 \"a,b,c\" 0 lockable \"s\" on \"\"\n",
+    ),
+    (
+        b"root on \"\"\nobject 4097 100 switch 111 \"a,b,c\" 0 lockable \"s\" on \"\"\n",
+        Value::Switch(3),
+        b"root on \"\"\nobject 4097 100 switch 111 \"a,b,c\" 0 lockable \"s\" on \"\"\n",
+    ),
+    (
+        b"root on \"\"\nobject 4097 100 boolean off no-lock \"b\" on \"\"\n",
+        Value::Boolean(true),
+        b"root on \"\"\nobject 4097 100 boolean on no-lock \"b\" on \"\"\n",
+    ),
+    (
+        b"root on \"\"\nobject 4097 100 int16 -600 600 0 lockable \"n\" on \"\"\n",
+        Value::Int16(-600),
+        b"root on \"\"\nobject 4097 100 int16 -600 600 -600 lockable \"n\" on \"\"\n",
+    ),
+    (
+        b"root on \"\"\nobject 4097 100 int16 -600 600 0 lockable \"n\" on \"\"\n",
+        Value::Int16(-601),
+        b"root on \"\"\nobject 4097 100 int16 -600 600 0 lockable \"n\" on \"\"\n",
+    ),
+    (
+        b"root on \"\"\nobject 4097 100 int16 -600 600 0 lockable \"n\" on \"\"\n",
+        Value::Int32(5),
+        b"root on \"\"\nobject 4097 100 int16 -600 600 0 lockable \"n\" on \"\"\n",
+    ),
+    (
+        b"root on \"\"\nobject 4097 100 uint64 0 18446744073709551615 0 lockable \"n\" on \"\"\n",
+        Value::Uint64(18_446_744_073_709_551_615),
+        b"root on \"\"\nobject 4097 100 uint64 0 18446744073709551615 18446744073709551615 lockable \"n\" on \"\"\n",
+    ),
+];
+
+/// Whether a tree is written as this text, and read back from it, once the object 4097 is set.
+fn is_set(alloc: Global, tree: &mut Tree, value: Value, written: &[u8]) -> bool {
+    let _ = tree.set(Ono(4097), value);
+    is_written_as(tree, written) && is_read_as(alloc, written, tree)
+}
+
+/// Whether the tree of a text is written so once its object is set, and read back.
+fn is_set_in(alloc: Global, row: &Set) -> bool {
+    let (text, value, written) = *row;
+    match tree_from_text(alloc, text) {
+        Ok(mut tree) => is_set(alloc, &mut tree, value, written),
+        Err(_) => false,
+    }
+}
+
+/// The first row that is otherwise: objects that the local front panel sets.
+pub fn local_sets(alloc: Global) -> Option<usize> {
+    for (at, row) in SETS.iter().enumerate() {
+        if !is_set_in(alloc, row) {
+            return Some(at);
+        }
+    }
+    None
 }
 
 /// Whether the bench's tree is read back.

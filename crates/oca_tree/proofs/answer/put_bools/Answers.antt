@@ -1,7 +1,7 @@
 use Rattle.std.proofs.Common.{◌≡◌, get_or, rules, false}
 use Rattle.std.proofs.lemmas.Result.{err_from_is_err_and}
 use Rattle.oca_types.specs.Numbers.{bool_encoding}
-use Rattle.oca_tree.proofs.Puts.{put_full}
+use Rattle.oca_model.proofs.Steps.{put_full}
 use Rattle.oca_tree.proofs.answer.put_bools.Goals as goal
 
 pub returns-in_err-put_bool : goal.returns-in_err-put_bool

@@ -1,6 +1,6 @@
 use Rattle.std.proofs.lemmas.Result.{err_from_is_err_and}
 use Rattle.oca_types.specs.Texts.{text_encoding}
-use Rattle.oca_tree.proofs.Puts.{put_full}
+use Rattle.oca_model.proofs.Steps.{put_full}
 use Rattle.oca_tree.proofs.answer.put_texts.Goals as goal
 
 pub returns-in_err-put_text : goal.returns-in_err-put_text

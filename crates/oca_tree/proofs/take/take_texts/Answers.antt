@@ -1,7 +1,7 @@
 use Rattle.std.proofs.Common.{arith, sym}
 use Rattle.oca_types.specs.Reading.{text_at}
 use Rattle.oca_types.specs.Taking.{bytes_left}
-use Rattle.oca_tree.proofs.Items.{items_step, items_fail, items_done}
+use Rattle.oca_model.proofs.Steps.{items_step, items_fail, items_done}
 use Rattle.oca_tree.proofs.take.take_texts.Goals as goal
 
 pub returns-in_default : goal.returns-in_default

@@ -2,7 +2,7 @@ use Rattle.std.proofs.Common.{◌≡◌, ◌-◌, length}
 use Rattle.oca_types.specs.Reading.{text_at}
 use Rattle.oca_types.specs.Taking.{bytes_left}
 use Rattle.oca_model.specs.Parameters.{items_at}
-use Rattle.oca_tree.proofs.Items.{behind}
+use Rattle.oca_model.proofs.Steps.{behind}
 use Rattle.oca_tree.proofs.take.take_texts.Given as goal
 
 -- the items so far and those that are left are all

@@ -3,4 +3,4 @@ use Rattle.ocactl_cli.proofs.MatchLemmas.{whole}
 use Rattle.ocactl_cli.proofs.command_line.program.Goals as goal
 
 pub returns : goal.returns
-returns c = whole c.args.plain c.with_commands.result _ _ c.without_commands.ensures.app refl c.with_commands.ensures
+returns c = whole c.with_commands.result _ _ c.without_commands.ensures.app refl c.with_commands.ensures

@@ -1,7 +1,8 @@
 use Rattle.std.proofs.Common.{◌≡◌, drop}
 use Rattle.std.specs.Prelude.{map}
 use Rattle.clap.specs.Simple.{app_of}
-use Rattle.ocactl_cli.specs.CommandLine.{IsOwn, with_rules}
+use Rattle.oca_program.specs.Commands.{with_rules}
+use Rattle.ocactl_cli.specs.CommandLine.{IsOwn}
 use Rattle.ocactl_cli.specs.PrivateCommandLine.{row_rule}
 use Rattle.ocactl_cli.proofs.command_line.with_options.Given as goal
 

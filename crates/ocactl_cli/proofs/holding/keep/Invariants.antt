@@ -1,5 +1,5 @@
 use Rattle.oca_script.specs.Ends.{input}
-use Rattle.ocactl_cli.specs.Hands.{KeepsOn}
+use Rattle.ocactl_cli.specs.Objects.{KeepsOn}
 use Rattle.ocactl_cli.proofs.holding.keep.Given as goal
 
 abbrev pub invariant-loop-turn : goal.invariant-loop-turn

@@ -1,7 +1,7 @@
 use Rattle.std.proofs.Common.{take}
 use Rattle.std.specs.Prelude.{map}
-use Rattle.ocactl_cli.specs.PrivateHands.{LocksEach, number_of}
+use Rattle.ocactl_cli.specs.PrivateObjects.{LocksEach, ono_number}
 use Rattle.ocactl_cli.proofs.holding.lock_each.Given as goal
 
 abbrev pub invariant-loop-ono : goal.invariant-loop-ono
-invariant-loop-ono g l = LocksEach (map number_of (take l.ono-index l.onos)) l.fn.panel l.panel l.status l.held.items l.fn.printer l.printer
+invariant-loop-ono g l = LocksEach (map ono_number (take l.ono-index l.onos)) l.fn.panel l.panel l.status l.held.items l.fn.printer l.printer

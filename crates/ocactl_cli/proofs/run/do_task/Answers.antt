@@ -1,5 +1,5 @@
 use Rattle.std.proofs.Common.{refl}
-use Rattle.ocactl_cli.proofs.RunLemmas.{done-so, on-err}
+use Rattle.ocactl_cli.proofs.RunLemmas.{done-so, holds-so, on-err}
 use Rattle.ocactl_cli.proofs.run.do_task.Goals as goal
 
 pub returns-in-Set : goal.returns-in-Set
@@ -9,7 +9,8 @@ returns-in-Set g c =
 
 pub returns-in-Hold : goal.returns-in-Hold
 returns-in-Hold g c =
-    rw (c.in-Hold.is, ← c.as_slice-in-Hold.ensures.value) (done-so _ c.hold.result _ c.hold.ensures.holds c.hold.ensures.fails)
+    rw (c.in-Hold.is, ← c.as_slice-in-Hold.ensures.value)
+    (holds-so _ _ _ c.hold.result _ _ _ _ c.hold.ensures.holds c.hold.ensures.stops)
 
 pub returns-in-Tree : goal.returns-in-Tree
 returns-in-Tree g c = rw c.in-Tree.is (done-so _ c.walk.result _ c.walk.ensures.tree c.walk.ensures.fails, refl)

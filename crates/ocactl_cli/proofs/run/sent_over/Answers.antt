@@ -2,7 +2,7 @@ use Rattle.ocactl_cli.proofs.RunLemmas.{sends-all, sends-part}
 use Rattle.ocactl_cli.proofs.run.sent_over.Goals as goal
 
 pub returns-in-Ok : goal.returns-in-Ok
-returns-in-Ok g c = sends-all c.args.reach c.args.sending.now c.own_port-own.result _ c.in-Ok.status _ _ c.own_port-own.ensures.own c.in-Ok.ensures
+returns-in-Ok g c = sends-all c.args.reach c.args.sending.now c.now-own.result _ c.in-Ok.status _ _ c.now-own.ensures.clock c.in-Ok.ensures
 
 pub returns : goal.returns
-returns g c = sends-part c.args.reach c.args.sending.now c.own_port-own.result _ c.in-Err.failed _ _ _ c.own_port-own.ensures.own c.from.ensures.0 c.in-Err.ensures
+returns g c = sends-part c.args.reach c.args.sending.now c.now-own.result _ c.in-Err.failed _ _ _ c.now-own.ensures.clock c.from.ensures.0 c.in-Err.ensures

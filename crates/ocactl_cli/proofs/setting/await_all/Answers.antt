@@ -1,4 +1,4 @@
-use Rattle.ocactl_cli.proofs.HandLemmas.{waits-none, waits-next}
+use Rattle.ocactl_cli.proofs.ObjectLemmas.{waits-none, waits-next}
 use Rattle.ocactl_cli.proofs.setting.await_all.Goals as goal
 
 pub loop-panel-init : goal.loop-panel-init

@@ -1,5 +1,5 @@
 use Rattle.std.proofs.Common.{arith}
-use Rattle.ocactl_cli.proofs.HandLemmas.{place-made-if}
+use Rattle.ocactl_cli.proofs.ObjectLemmas.{place-made-if}
 use Rattle.ocactl_cli.proofs.setting.make_place.Goals as goal
 
 pub returns-clause-makes : goal.returns-clause-makes

@@ -4,4 +4,4 @@ use Rattle.ocactl_cli.proofs.tasks.pairs_of.Goals as goal
 
 pub returns-clause-pairs : goal.returns-clause-pairs
 returns-clause-pairs c =
-    c.pairs.invariant.said [] (none-left c.pairs.rest.now c.in_default.len_below c.pairs.invariant.even) ∙ ap Some (append-nil _)
+    c.pairs.invariant.parsed [] (none-left c.pairs.rest.now c.in_default.len_below c.pairs.invariant.even) ∙ ap Some (append-nil _)

@@ -1,6 +1,6 @@
 use Rattle.std.proofs.Common.{◌≡◌, ◌+◌, ap, arith, length}
 use Rattle.oca_panel.specs.Walks.{WalkState}
-use Rattle.ocactl_cli.proofs.HandLemmas.{writes-none}
+use Rattle.ocactl_cli.proofs.ObjectLemmas.{writes-none}
 use Rattle.ocactl_cli.proofs.TreeLemmas.{walked-none, walked-step, one-more-step}
 use Rattle.ocactl_cli.proofs.walk.walk_on.Goals as goal
 

@@ -1,0 +1,371 @@
+//! Outboxes with room for some packets only. What is left out of one changes nothing else: beside each device that
+//! answers into one stands a device with an outbox for all packets, which takes the same datagrams.
+use super::benches::{Bench, Few, Setup, bench_of, few_of};
+use super::grouping::{BEATS, TWO_GETS, TWO_STATES};
+use super::parts::{Part, bytes_of, is_of};
+use super::*;
+use Part::*;
+use Step::*;
+use oca_device::BoundedOutbox;
+use oca_types::Ono;
+use std::alloc::Global;
+
+/// An event, and what must come of it.
+#[derive(Clone, Copy)]
+enum Step {
+    /// A peer sends a datagram at a moment: the verdict, the packets that are kept, and how many others are left out.
+    Hears(u16, u64, &'static [Part], Verdict, &'static [&'static [Part]], usize),
+    /// A peer sends a datagram at 0 that has no command: how many packets are kept, and how many others are left out.
+    Counts(u16, &'static [Part], usize, usize),
+    /// The last datagram wrote to so many objects.
+    Wrote(usize),
+    /// All packets are taken out of the outbox.
+    Clears,
+}
+
+/// A script by its name, the device that it is played on, and for how many packets its outbox has room.
+struct Script {
+    name: &'static str,
+    setup: Setup,
+    room: usize,
+    steps: &'static [Step],
+}
+
+/// Whether the packet of this number is kept, and is the one of the outbox for all.
+fn is_kept(all: &Bench, few: &Few, at: usize) -> bool {
+    match (few.outbox.get(at), all.outbox.get(at)) {
+        (Some(kept), Some(sent)) => kept.as_slice() == sent.as_slice(),
+        _ => false,
+    }
+}
+
+/// Whether the first so many of the packets for all are kept, the others are left out, and the outbox tells whether
+/// there are others.
+fn keeps(all: &Bench, few: &Few, kept: usize, left_out: usize) -> bool {
+    for at in 0..kept {
+        if !is_kept(all, few, at) {
+            return false;
+        }
+    }
+    few.outbox.packets().len() == kept
+        && few.outbox.get(kept).is_none()
+        && few.outbox.is_cut() == (left_out > 0)
+        && all.outbox.len() == kept.saturating_add(left_out)
+}
+
+/// Whether the packet of this number is of these parts.
+fn is_packet(few: &Few, at: usize, parts: &[Part]) -> bool {
+    match few.outbox.get(at) {
+        Some(packet) => is_of(packet.as_slice(), parts),
+        None => false,
+    }
+}
+
+/// Whether the first packets are of these parts.
+fn holds(few: &Few, packets: &[&[Part]]) -> bool {
+    for (at, parts) in packets.iter().enumerate() {
+        if !is_packet(few, at, parts) {
+            return false;
+        }
+    }
+    true
+}
+
+/// Whether both devices are in the same state, as far as they say.
+fn are_same(all: &Bench, few: &Few) -> bool {
+    few.device.sessions() == all.device.sessions()
+        && few.device.written() == all.device.written()
+        && few.device.next_lapse() == all.device.next_lapse()
+        && few.device.tree().is_but_for_locks(all.device.tree())
+        && few.device.tree().lock_of(Ono(4097)) == all.device.tree().lock_of(Ono(4097))
+}
+
+/// What the device makes of a datagram whose answers all have room.
+fn heard_by_all(all: &mut Bench, port: u16, now: u64, bytes: &[u8]) -> Verdict {
+    let outbox = &mut all.outbox;
+    all.device.datagram(peer(port), bytes, now, outbox)
+}
+
+/// What the device makes of a datagram of whose answers some have room.
+fn heard_by_few(few: &mut Few, port: u16, now: u64, bytes: &[u8]) -> Verdict {
+    let outbox = &mut few.outbox;
+    few.device.datagram_within(peer(port), bytes, now, outbox)
+}
+
+/// Whether both devices make this of a datagram, and are in the same state after it.
+fn both_hear(
+    all: &mut Bench,
+    few: &mut Few,
+    port: u16,
+    now: u64,
+    parts: &[Part],
+    verdict: Verdict,
+) -> bool {
+    let bytes = bytes_of(parts);
+    heard_by_all(all, port, now, bytes.as_slice()) == verdict
+        && heard_by_few(few, port, now, bytes.as_slice()) == verdict
+        && are_same(all, few)
+}
+
+/// Takes all packets out.
+fn clears(outbox: &mut BoundedOutbox) -> bool {
+    outbox.clear();
+    outbox.packets().is_empty() && !outbox.is_cut()
+}
+
+/// Whether this comes of an event.
+fn agrees(all: &mut Bench, few: &mut Few, step: Step) -> bool {
+    match step {
+        Hears(port, now, parts, verdict, packets, left_out) => {
+            both_hear(all, few, port, now, parts, verdict)
+                && keeps(all, few, packets.len(), left_out)
+                && holds(few, packets)
+        }
+        Counts(port, parts, kept, left_out) => {
+            both_hear(all, few, port, 0, parts, NOTHING) && keeps(all, few, kept, left_out)
+        }
+        Wrote(count) => few.device.written().len() == count,
+        Clears => clears(&mut few.outbox),
+    }
+}
+
+/// The first step of which something else comes, or after which the outbox has room for another number of packets.
+fn first_wrong(all: &mut Bench, few: &mut Few, script: &Script) -> Option<usize> {
+    for (at, step) in script.steps.iter().enumerate() {
+        if !agrees(all, few, *step) || few.outbox.room() != script.room {
+            return Some(at);
+        }
+    }
+    None
+}
+
+/// The first step of which something else comes beside this device; the last number where there is no other.
+fn wrong_beside(alloc: Global, all: &mut Bench, script: &Script) -> Option<usize> {
+    match few_of(alloc, script.setup, script.room) {
+        Some(mut few) => first_wrong(all, &mut few, script),
+        None => Some(usize::MAX),
+    }
+}
+
+/// The first step of the script of which something else comes; the last number where there is no device.
+fn wrong_step(alloc: Global, script: &Script) -> Option<usize> {
+    match bench_of(alloc, script.setup) {
+        Some(mut all) => wrong_beside(alloc, &mut all, script),
+        None => Some(usize::MAX),
+    }
+}
+
+/// GetState of 4097, a keep-alive, and GetState of 4098: each is answered in a packet of its own.
+const THREE: &[Part] = &[GET, ONE_SECOND, SECOND];
+
+/// GetState of 4098 under handle 2.
+const SECOND: Part = Command(1, 2, 4098, (4, 1), &[]);
+
+/// The verdict on two duplicates.
+const KEPT_2: Verdict = Verdict::Served {
+    executed: 0,
+    kept: 2,
+    old: 0,
+    reused: 0,
+};
+
+/// Where there is room for none, each answer is left out. What asks for none leaves none out, and neither does a
+/// malformed datagram.
+const NONE: &[Step] = &[
+    Hears(A, 0, &[GET], EXECUTED, &[], 1),
+    Hears(A, 0, &[GET], KEPT, &[], 1),
+    Counts(A, &[ONE_SECOND], 0, 1),
+    Hears(A, 0, THREE, EXECUTED_1_KEPT_1, &[], 3),
+    Hears(A, 0, &[Command(0, 3, 4097, (4, 1), &[])], EXECUTED, &[], 0),
+    Hears(A, 0, &[], EMPTY, &[], 0),
+];
+
+/// Where there is room for one, the first is kept. A response behind one that was left out joins no packet before that,
+/// and its command sent again gets the retained reply.
+const ONE: &[Step] = &[
+    Hears(A, 0, THREE, EXECUTED_2, &[&[MUTED]], 2),
+    Hears(A, 0, &[SECOND], KEPT, &[&[State(2, 1)]], 0),
+    Hears(A, 0, THREE, KEPT_2, &[&[MUTED]], 2),
+    Hears(A, 0, &[ONE_SECOND, GET], KEPT, &[&[ONE_SECOND]], 1),
+    Hears(A, 0, &[], EMPTY, &[], 0),
+];
+
+/// Where there is room for two, the first two are kept.
+const TWO: &[Step] = &[
+    Hears(A, 0, THREE, EXECUTED_2, &[&[MUTED], &[ONE_SECOND]], 1),
+    Hears(A, 0, THREE, KEPT_2, &[&[MUTED], &[ONE_SECOND]], 1),
+    Hears(A, 0, &[SECOND], KEPT, &[&[State(2, 1)]], 0),
+];
+
+/// Where there is room for all, none is left out.
+const ALL: &[Step] = &[
+    Hears(
+        A,
+        0,
+        THREE,
+        EXECUTED_2,
+        &[&[MUTED], &[ONE_SECOND], &[State(2, 1)]],
+        0,
+    ),
+    Hears(
+        A,
+        0,
+        THREE,
+        KEPT_2,
+        &[&[MUTED], &[ONE_SECOND], &[State(2, 1)]],
+        0,
+    ),
+];
+
+/// Two responses that leave in one PDU need room for one packet.
+const JOINED: &[Step] = &[
+    Hears(A, 0, &[TWO_GETS], EXECUTED_2, &[&[TWO_STATES]], 0),
+    Hears(A, 0, &[TWO_GETS, ONE_SECOND], KEPT_2, &[&[TWO_STATES]], 1),
+];
+
+/// Commands whose answers are left out are executed, once, and name what they wrote.
+const EXECUTES: &[Step] = &[
+    Hears(
+        A,
+        0,
+        &[ONE_SECOND, SetState(1, 2), SetState(2, 1)],
+        EXECUTED_2,
+        &[&[ONE_SECOND]],
+        1,
+    ),
+    Wrote(2),
+    Hears(A, 0, &[SetState(1, 2)], KEPT, &[&[Done(1)]], 0),
+    Wrote(0),
+    Hears(A, 0, &[GetState(3)], EXECUTED, &[&[State(3, 1)]], 0),
+];
+
+/// A lock whose answer is left out is held, and goes after three heartbeats of silence.
+const LOCKS: &[Step] = &[
+    Hears(A, 0, &[ONE_SECOND, Lock(1)], EXECUTED, &[&[ONE_SECOND]], 1),
+    Hears(
+        B,
+        3000,
+        &[SetState(1, 2)],
+        EXECUTED,
+        &[&[Response(1, 3, 0, &[])]],
+        0,
+    ),
+    Hears(B, 3001, &[SetState(2, 2)], EXECUTED, &[&[Done(2)]], 0),
+];
+
+/// A peer without a session gets no answer, so none is left out.
+const NO_SESSION: &[Step] = &[
+    Hears(A, 0, &[GET, ONE_SECOND], EXECUTED, &[&[MUTED]], 1),
+    Hears(B, 0, &[GET, ONE_SECOND], Verdict::NoRoom, &[], 0),
+];
+
+/// Behind a datagram of which packets were left out, the outbox is emptied by itself.
+const EMPTIED: &[Step] = &[
+    Hears(A, 0, THREE, EXECUTED_2, &[&[MUTED]], 2),
+    Clears,
+    Hears(A, 0, &[SECOND], KEPT, &[&[State(2, 1)]], 0),
+    Clears,
+];
+
+/// The scripts, by their names.
+const SCRIPTS: &[Script] = &[
+    Script {
+        name: "room_for_none",
+        setup: Setup::Window(32),
+        room: 0,
+        steps: NONE,
+    },
+    Script {
+        name: "room_for_one",
+        setup: Setup::Window(32),
+        room: 1,
+        steps: ONE,
+    },
+    Script {
+        name: "room_for_two",
+        setup: Setup::Window(32),
+        room: 2,
+        steps: TWO,
+    },
+    Script {
+        name: "room_for_all",
+        setup: Setup::Window(32),
+        room: 3,
+        steps: ALL,
+    },
+    Script {
+        name: "room_for_more_than_all",
+        setup: Setup::Window(32),
+        room: 4,
+        steps: ALL,
+    },
+    Script {
+        name: "what_joins_needs_no_room",
+        setup: Setup::Window(32),
+        room: 1,
+        steps: JOINED,
+    },
+    Script {
+        name: "what_is_left_out_is_executed",
+        setup: Setup::Window(32),
+        room: 1,
+        steps: EXECUTES,
+    },
+    Script {
+        name: "a_lock_is_taken_without_an_answer",
+        setup: Setup::Window(32),
+        room: 1,
+        steps: LOCKS,
+    },
+    Script {
+        name: "a_refused_peer_has_no_answer",
+        setup: Setup::Peers(1),
+        room: 1,
+        steps: NO_SESSION,
+    },
+    Script {
+        name: "an_outbox_is_emptied",
+        setup: Setup::Window(32),
+        room: 1,
+        steps: EMPTIED,
+    },
+    Script {
+        name: "122_packets_and_room_for_1",
+        setup: Setup::Window(1),
+        room: 1,
+        steps: &[Counts(A, &[BEATS], 1, 121)],
+    },
+    Script {
+        name: "122_packets_and_room_for_121",
+        setup: Setup::Window(1),
+        room: 121,
+        steps: &[Counts(A, &[BEATS], 121, 1)],
+    },
+    Script {
+        name: "122_packets_and_room_for_122",
+        setup: Setup::Window(1),
+        room: 122,
+        steps: &[Counts(A, &[BEATS], 122, 0)],
+    },
+    Script {
+        name: "122_packets_and_room_for_123",
+        setup: Setup::Window(1),
+        room: 123,
+        steps: &[Counts(A, &[BEATS], 122, 0)],
+    },
+];
+
+/// The first script that goes otherwise, and where.
+pub fn wrong(alloc: Global) -> Option<(&'static str, usize)> {
+    for script in SCRIPTS {
+        if let Some(at) = wrong_step(alloc, script) {
+            return Some((script.name, at));
+        }
+    }
+    None
+}
+
+/// Whether an outbox is refused that no memory has room for.
+pub fn refuses_the_most(alloc: Global) -> bool {
+    BoundedOutbox::with_room(alloc, usize::MAX).is_err()
+}

@@ -1,0 +1,461 @@
+-- Several objects.
+use Rattle.std.proofs.Common.{◌≡◌, inl, inr, ℕ, zero, suc, ◌+◌, ◌<◌, ◌≤◌, Bool, true, false, List, [], ◌∷◌, ◌++◌, length, take, drop, get_or, Result, Ok, Err, refl, sym, ap, ◌∙◌, subst, arith, append-nil}
+use Rattle.std.specs.Prelude.{map, IfOk, IfErr, OnOk, OnErr, ◌==◌}
+use Rattle.std.proofs.lemmas.List.{append_assoc, length-append, map-append, length-map, flat_map_more, take_all, take-append-drop}
+use Rattle.std.proofs.lemmas.List.Sums.{fold-append}
+use Rattle.std.specs.Io.KnownBytes.{Appends}
+use Rattle.std.proofs.KnownBytes.{Appends-nil, Appends-trans}
+use Rattle.oca_types.specs.declared.words.Handle.{Handle}
+use Rattle.oca_types.specs.declared.words.Ono.{Ono}
+use Rattle.oca_script.specs.declared.fault.WriteFailed.{WriteFailed}
+use Rattle.oca_script.specs.Ends.{Output}
+use Rattle.oca_script.specs.Printing.{PrintsAll, PrintsPart, WritesWhole}
+use Rattle.oca_script.proofs.PrintLemmas.{whole, front as front_written}
+use Rattle.oca_program.specs.declared.fault.Failure.{Failure}
+use Rattle.oca_control.specs.declared.fault.ControlFault.{ControlFault}
+use Rattle.oca_control.specs.declared.outcome.Outcome.{Outcome}
+use Rattle.oca_model.specs.declared.value.Value.{Value}
+use Rattle.oca_panel.specs.declared.trouble.Trouble.{Trouble}
+use Rattle.oca_panel.specs.Panels.{PanelState, EndsIn}
+use Rattle.ocactl_cli.specs.declared.objects.Pair.{Pair}
+use Rattle.ocactl_cli.specs.declared.objects.Search.{Search}
+use Rattle.ocactl_cli.specs.declared.setting.Assignment.{Assignment}
+use Rattle.ocactl_cli.specs.declared.setting.Submitted.{Submitted}
+use Rattle.ocactl_cli.specs.declared.object_line.ObjectLine.{ObjectLine}
+use Rattle.ocactl_cli.specs.declared.object_line.ObjectLine.TheVariants as shown
+use Rattle.ocactl_cli.specs.Objects.{FindsValue, FindsAll, NoneSought, OneFound, OneMissed, OnlyFinds, GivesUp, SetsNoneUnfound, SetCommand, BeginsSet, IsAwaited, NoneBegun, OneBegun, OneEnded, SetsAll, OneAsked, NoneAsked, AsksAll, AsksPart, assignment_in, reported_by, reported_line, reported_lines, max_severity, is_refused, last_refused, line_of_object, object_status}
+use Rattle.ocactl_cli.specs.PrivateObjects.{ono_number, pair_of, assignment_of, set_command_of, is_none, AddsFound, AllAwaited, FindsAllTo, FindsOneTo, GivesUpFinding, MakesPlace, SetsEachTo, SetsFound, SetsOn, SetsOnlyIf, SoFar, ReportsAll, ReportsNext, ReportsOne, WaitsForFirst, WaitsOn, WritesLine}
+use Rattle.ocactl_cli.proofs.TurnLemmas.{in-turn}
+
+module _ {A B : Type 0} (f : A → B) where
+  -- the first items and the next one
+  pub map-take : (xs : List A) (i : ℕ) (d : A) → i < length xs → map f (take (i + 1) xs) ≡ map f (take i xs) ++ f (get_or xs i d) ∷ []
+  map-take [] i d h = absurd (omega arith)
+  map-take (x ∷ xs) zero d h = refl
+  map-take (x ∷ xs) (suc i) d h = let e : suc i + 1 ≡ suc (i + 1) = omega arith in rw e (ap (λ (l : List B). f x ∷ l) (map-take xs i d (omega arith)))
+
+  -- the first items, the next one, and the rest
+  pub map-split : (xs : List A) (i : ℕ) (d : A) → i < length xs
+      → map f xs ≡ map f (take i xs) ++ f (get_or xs i d) ∷ map f (drop (i + 1) xs)
+  map-split xs i d h =
+      ap (map f) (sym (take-append-drop (i + 1) xs)) ∙ map-append f (take (i + 1) xs) (drop (i + 1) xs)
+      ∙ ap (λ (l : List B). l ++ map f (drop (i + 1) xs)) (map-take xs i d h)
+      ∙ append_assoc (map f (take i xs)) (f (get_or xs i d) ∷ []) (map f (drop (i + 1) xs))
+
+-- ---- what is written
+
+-- what was held before is flushed
+pub writes-none : (a b : Output) → PrintsAll a b [] → b.held ≡ [] → WritesWhole a b []
+writes-none a b h empty = whole a b [] h empty
+
+pub writes-nothing : (a : Output) → a.held ≡ [] → WritesWhole a a []
+writes-nothing a empty = record {
+  appends = subst (Appends a.contents a.contents) (sym empty ∙ sym (append-nil a.held)) (Appends-nil a.contents);
+  none_held = empty;
+  failed = refl;
+}
+
+pub writes-then : (a b c : Output) (x y : List ℕ) → WritesWhole a b x → WritesWhole b c y → WritesWhole a c (x ++ y)
+writes-then a b c x y h k =
+    let second : Appends b.contents c.contents y = subst (λ (l : List ℕ). Appends b.contents c.contents (l ++ y)) h.none_held k.appends in
+    record {
+      appends = subst (Appends a.contents c.contents) (append_assoc a.held x y) (Appends-trans a.contents b.contents c.contents (a.held ++ x) y h.appends second);
+      none_held = k.none_held;
+      failed = k.failed ∙ h.failed;
+    }
+
+-- ---- lines of objects
+
+is_none-more : (missed : List (ℕ × ObjectLine)) (one : ℕ × ObjectLine) → is_none (missed ++ one ∷ []) ≡ false
+is_none-more [] one = refl
+is_none-more (m ∷ missed) one = refl
+
+pub reports-none : (a b : Output) → WritesWhole a b [] → ReportsAll [] 0 a b
+reports-none a b h = record { worst = refl; writes = h }
+
+pub reports-next : (lines : List (ℕ × ObjectLine)) (one : ℕ × ObjectLine) (status now : ℕ) (a b c : Output)
+    → ReportsAll lines status a b → ReportsNext one status now b c → ReportsAll (lines ++ one ∷ []) now a c
+reports-next lines one status now a b c h k = record {
+  worst =
+      k.worst ∙ ap (λ (n : ℕ). max_severity n (object_status one.1)) h.worst
+      ∙ sym (fold-append (λ (n : ℕ) (f : ℕ × ObjectLine). max_severity n (object_status f.1)) 0 lines (one ∷ []));
+  writes = subst (WritesWhole a c) (flat_map_more reported_line [] lines one) (writes-then a b c (reported_lines lines) (reported_line one) h.writes k.writes);
+}
+
+-- a line was written behind others
+pub line-reported : (target : ℕ) (line : ObjectLine) (status own now : ℕ) (a b : Output) → WritesLine (object_status line) (line_of_object target line) (Ok own) a b → now ≡ max_severity status own
+    → ReportsNext (target, line) status now a b
+line-reported target line status own now a b h worst = record { worst = worst ∙ ap (max_severity status) h.0; writes = h.1 }
+
+-- ---- values that are sought
+
+pub finds-none : (search : Search) (assignments : List Assignment) (s : PanelState) (a b : Output) → assignments ≡ [] → search.all ≡ true → search.status ≡ 0 → WritesWhole a b []
+    → FindsAllTo [] assignments search s s a b
+finds-none search assignments s a b none all status writes =
+    subst (λ (ws : List Assignment). FindsAllTo [] ws search s s a b) (sym none)
+    (record { missed = []; finds = NoneSought; all = all; reports = subst (λ (n : ℕ). ReportsAll [] n a b) (sym status) (reports-none a b writes) })
+
+found-one : (found : Result Value Trouble) (pairs : List (ℕ × List ℕ)) (assignments more : List Assignment) (sought now : Search) (target : ℕ) (word : List ℕ) (r s t : PanelState) (a b c : Output)
+    → FindsAllTo pairs assignments sought r s a b → FindsValue target word s t found → AddsFound found target assignments sought more (Ok now) b c
+    → FindsAllTo (pairs ++ (target, word) ∷ []) more now r t a c
+found-one (Ok v) pairs assignments more sought now target word r s t a b c h k x = record {
+  missed = h.missed;
+  finds = subst (λ (ws : List (ℕ × Value)). FindsAll (pairs ++ (target, word) ∷ []) ws h.missed r t) (sym x.0.0) (OneFound target word v h.finds k);
+  all = ap (λ (z : Search). z.all) x.0.1 ∙ h.all;
+  reports = subst (λ (o : Output). ReportsAll h.missed now.status a o) (sym x.1)
+      (subst (λ (z : Search). ReportsAll h.missed z.status a b) (sym x.0.1) h.reports);
+}
+found-one (Err e) pairs assignments more sought now target word r s t a b c h k x = record {
+  missed = h.missed ++ (target, shown.Failed e) ∷ [];
+  finds = subst (λ (ws : List Assignment). FindsAll (pairs ++ (target, word) ∷ []) (map assignment_of ws) (h.missed ++ (target, shown.Failed e) ∷ []) r t) (sym x.1)
+      (OneMissed target word e h.finds k);
+  all = x.0.0 ∙ sym (is_none-more h.missed (target, shown.Failed e));
+  reports = reports-next h.missed (target, shown.Failed e) sought.status now.status a b c h.reports x.0.1;
+}
+
+next-pair : (ps : List Pair) (i : ℕ) (item : Pair) → i < length ps → item ≡ get_or ps i item → map pair_of (take (i + 1) ps) ≡ map pair_of (take i ps) ++ pair_of item ∷ []
+next-pair ps i item h is = map-take pair_of ps i item h ∙ ap (λ (p : Pair). map pair_of (take i ps) ++ pair_of p ∷ []) (sym is)
+
+pub finds-next : (ps : List Pair) (i : ℕ) (item : Pair) (assignments more : List Assignment) (search now : Search) (r s t : PanelState) (a b c : Output) → i < length ps → item ≡ get_or ps i item
+    → FindsAllTo (map pair_of (take i ps)) assignments search r s a b → FindsOneTo (pair_of item) assignments search s more (Ok now) t b c → FindsAllTo (map pair_of (take (i + 1) ps)) more now r t a c
+finds-next ps i item assignments more search now r s t a b c h is x y =
+    subst (λ (xs : List (ℕ × List ℕ)). FindsAllTo xs more now r t a c) (sym (next-pair ps i item h is))
+    (found-one y.found (map pair_of (take i ps)) assignments more search now (pair_of item).0 (pair_of item).1 r s t a b c x y.finds y.adds)
+
+-- the search was given up at once
+pub gives-up-first : (pairs : List (ℕ × List ℕ)) (failure : Failure) (s : PanelState) (a : Output) → GivesUp failure a → GivesUpFinding pairs failure s s a
+gives-up-first pairs failure s a h = (h, record { front = []; rest = pairs; assignments = []; missed = []; whole = refl; finds = NoneSought })
+
+gave-up : (found : Result Value Trouble) (target : ℕ) (assignments more : List Assignment) (search : Search) (failure : Failure) (a b : Output)
+    → AddsFound found target assignments search more (Err failure) a b → GivesUp failure b
+gave-up (Ok v) target assignments more search failure a b h = inr h.0
+gave-up (Err e) target assignments more search failure a b h = inl h.0
+
+found-front : (found : Result Value Trouble) (pairs rest : List (ℕ × List ℕ)) (all : List (ℕ × List ℕ)) (target : ℕ) (word : List ℕ) (assignments : List (ℕ × Value)) (missed : List (ℕ × ObjectLine)) (r s t : PanelState)
+    → all ≡ (pairs ++ (target, word) ∷ []) ++ rest → FindsAll pairs assignments missed r s → FindsValue target word s t found → OnlyFinds all r t
+found-front (Ok v) pairs rest all target word assignments missed r s t e h k = record {
+  front = pairs ++ (target, word) ∷ [];
+  rest = rest;
+  assignments = assignments ++ (target, v) ∷ [];
+  missed = missed;
+  whole = e;
+  finds = OneFound target word v h k;
+}
+found-front (Err why) pairs rest all target word assignments missed r s t e h k = record {
+  front = pairs ++ (target, word) ∷ [];
+  rest = rest;
+  assignments = assignments;
+  missed = missed ++ (target, shown.Failed why) ∷ [];
+  whole = e;
+  finds = OneMissed target word why h k;
+}
+
+-- the search was given up at one of the objects
+pub gives-up-at : (ps : List Pair) (i : ℕ) (item : Pair) (assignments more : List Assignment) (search : Search) (failure : Failure) (r s t : PanelState) (a b c : Output) → i < length ps → item ≡ get_or ps i item
+    → FindsAllTo (map pair_of (take i ps)) assignments search r s a b → FindsOneTo (pair_of item) assignments search s more (Err failure) t b c → GivesUpFinding (map pair_of ps) failure r t c
+gives-up-at ps i item assignments more search failure r s t a b c h is x y =
+    let split : map pair_of ps ≡ map pair_of (take (i + 1) ps) ++ map pair_of (drop (i + 1) ps) =
+    ap (map pair_of) (sym (take-append-drop (i + 1) ps)) ∙ map-append pair_of (take (i + 1) ps) (drop (i + 1) ps) in
+    let front : map pair_of ps ≡ (map pair_of (take i ps) ++ pair_of item ∷ []) ++ map pair_of (drop (i + 1) ps) =
+    split ∙ ap (λ (l : List (ℕ × List ℕ)). l ++ map pair_of (drop (i + 1) ps)) (next-pair ps i item h is) in (
+      gave-up y.found (pair_of item).0 assignments more search failure b c y.adds,
+      found-front y.found (map pair_of (take i ps)) (map pair_of (drop (i + 1) ps)) (map pair_of ps) (pair_of item).0 (pair_of item).1 (map assignment_of assignments) x.missed r s t front x.finds y.finds,
+    )
+
+-- ---- set commands
+
+-- the last command of several
+pub last-is : (waiting : List SetCommand) (c : SetCommand) → last_refused (waiting ++ c ∷ []) ≡ is_refused c.returned
+last-is waiting c = fold-append (λ (before : Bool) (command : SetCommand). is_refused command.returned) false waiting (c ∷ [])
+
+pub rest-accepted : (c : SetCommand) (more : List SetCommand) → last_refused (c ∷ more) ≡ false → last_refused more ≡ false
+rest-accepted c [] h = refl
+rest-accepted c (d ∷ more) h = h
+
+rest-last : (c : SetCommand) (more : List SetCommand) → 0 < length more → last_refused more ≡ last_refused (c ∷ more)
+rest-last c [] h = absurd (omega (arith, h))
+rest-last c (d ∷ more) h = refl
+
+pub set-none : (ahead : ℕ) (assignments : List (ℕ × Value)) (s : PanelState) (a : Output) (left : List Submitted) → a.held ≡ [] → left ≡ []
+    → SoFar ahead assignments s a [] s (map set_command_of left) 0 a
+set-none ahead assignments s a left empty e = subst (λ (cs : List Submitted). SoFar ahead assignments s a [] s (map set_command_of cs) 0 a) (sym e)
+    (record { lines = []; sets = NoneBegun; reports = reports-none a a (writes-nothing a empty) })
+
+first-ended : (ahead : ℕ) (assignments : List (ℕ × Value)) (start : PanelState) (before : Output) (begun : List (ℕ × Value)) (c : SetCommand) (more : List SetCommand) (old new : PanelState) (o : Outcome) (status now : ℕ) (a b : Output)
+    → IsAwaited ahead assignments begun (c ∷ more) → EndsIn c.returned old new o → ReportsNext (reported_by c o) status now a b
+    → SoFar ahead assignments start before begun old (c ∷ more) status a → SoFar ahead assignments start before begun new more now b
+first-ended ahead assignments start before begun c more old new o status now a b why ends line h = record {
+  lines = h.lines ++ reported_by c o ∷ [];
+  sets = OneEnded c o h.sets why ends;
+  reports = reports-next h.lines (reported_by c o) status now before a b h.reports line;
+}
+
+pub waits-first : (old new : PanelState) (waiting more : List Submitted) (status now : ℕ) (a b : Output)
+    → WaitsForFirst old new waiting more status now a b → WaitsOn old new (map set_command_of waiting) (map set_command_of more) status now a b
+waits-first old new waiting more status now a b w =
+    let all : map set_command_of waiting ≡ set_command_of w.command ∷ map set_command_of more = ap (map set_command_of) w.first in
+    subst (λ (cs : List SetCommand). WaitsOn old new cs (map set_command_of more) status now a b) (sym all)
+    (record {
+      on = λ (ahead : ℕ) (assignments : List (ℕ × Value)) (start : PanelState) (before : Output) (begun : List (ℕ × Value)) (due : AllAwaited assignments begun (set_command_of w.command ∷ map set_command_of more)) (h : SoFar ahead assignments start before begun old (set_command_of w.command ∷ map set_command_of more) status a).
+          first-ended ahead assignments start before begun (set_command_of w.command) (map set_command_of more) old new w.outcome status now a b (inr due) w.ends w.reports h;
+      last = rest-last (set_command_of w.command) (map set_command_of more);
+    })
+
+pub waits-none : (s : PanelState) (waiting : List SetCommand) (status : ℕ) (a : Output) → WaitsOn s s waiting waiting status status a a
+waits-none s waiting status a = record {
+  on = λ (ahead : ℕ) (assignments : List (ℕ × Value)) (start : PanelState) (before : Output) (begun : List (ℕ × Value)) (due : AllAwaited assignments begun waiting) (h : SoFar ahead assignments start before begun s waiting status a). h;
+  last = λ (some : 0 < length waiting). refl;
+}
+
+-- all are still to be waited for
+still : (assignments begun : List (ℕ × Value)) (x y : List SetCommand) → last_refused y ≡ last_refused x → AllAwaited assignments begun x → AllAwaited assignments begun y
+still assignments begun x y same (inl all) = inl all
+still assignments begun x y same (inr refused) = inr (same ∙ refused)
+
+pub waits-more : (r s t : PanelState) (x y z : List SetCommand) (l m n : ℕ) (a b c : Output) → 0 < length y → WaitsOn r s x y l m a b → WaitsOn s t y z m n b c → WaitsOn r t x z l n a c
+waits-more r s t x y z l m n a b c some h k = record {
+  on = λ (ahead : ℕ) (assignments : List (ℕ × Value)) (start : PanelState) (before : Output) (begun : List (ℕ × Value)) (due : AllAwaited assignments begun x) (so : SoFar ahead assignments start before begun r x l a).
+      k.on ahead assignments start before begun (still assignments begun x y (h.last some) due) (h.on ahead assignments start before begun due so);
+  last = λ (more : 0 < length z). k.last more ∙ h.last some;
+}
+
+not-true : false ≡ true → ⊥
+not-true x = cc x
+
+pub waits-next : (r s t : PanelState) (x : List SetCommand) (y z : List Submitted) (l m n : ℕ) (a b c : Output) → false ≡ (length y == 0)
+    → WaitsOn r s x (map set_command_of y) l m a b → WaitsForFirst s t y z m n b c → WaitsOn r t x (map set_command_of z) l n a c
+waits-next r s t x [] z l m n a b c some h w = absurd (not-true some)
+waits-next r s t x (one ∷ y) z l m n a b c some h w =
+    waits-more r s t x (map set_command_of (one ∷ y)) (map set_command_of z) l m n a b c (omega arith) h (waits-first s t (one ∷ y) z m n b c w)
+
+-- room is there, or was made
+pub place-left : (ahead : ℕ) (s : PanelState) (waiting : List Submitted) (status : ℕ) (a : Output) → length waiting < ahead → last_refused (map set_command_of waiting) ≡ false
+    → MakesPlace ahead s s (map set_command_of waiting) (map set_command_of waiting) status status a a
+place-left ahead s waiting status a few accepted =
+    let size : length (map set_command_of waiting) ≡ length waiting = length-map waiting set_command_of in
+    record {
+      on = λ (assignments : List (ℕ × Value)) (start : PanelState) (before : Output) (begun : List (ℕ × Value)) (h : SoFar ahead assignments start before begun s (map set_command_of waiting) status a). h;
+      few = omega (arith, size, few);
+      accepted = accepted;
+    }
+
+pub place-made : (ahead : ℕ) (old new : PanelState) (waiting more : List Submitted) (status now : ℕ) (a b : Output) → length waiting ≤ ahead → ahead ≤ length waiting
+    → last_refused (map set_command_of waiting) ≡ false → WaitsForFirst old new waiting more status now a b → MakesPlace ahead old new (map set_command_of waiting) (map set_command_of more) status now a b
+place-made ahead old new waiting more status now a b most full accepted w =
+    let all : map set_command_of waiting ≡ set_command_of w.command ∷ map set_command_of more = ap (map set_command_of) w.first in
+    let size : length (map set_command_of waiting) ≡ length waiting = length-map waiting set_command_of in
+    let rest : length (map set_command_of waiting) ≡ length (map set_command_of more) + 1 = ap length all ∙ omega arith in
+    let due : length (set_command_of w.command ∷ map set_command_of more) ≡ ahead = omega (arith, size, rest, most, full) in
+    subst (λ (cs : List SetCommand). MakesPlace ahead old new cs (map set_command_of more) status now a b) (sym all)
+    (record {
+      on = λ (assignments : List (ℕ × Value)) (start : PanelState) (before : Output) (begun : List (ℕ × Value)) (h : SoFar ahead assignments start before begun old (set_command_of w.command ∷ map set_command_of more) status a).
+          first-ended ahead assignments start before begun (set_command_of w.command) (map set_command_of more) old new w.outcome status now a b (inl due) w.ends w.reports h;
+      few = omega (arith, size, rest, most, full);
+      accepted = rest-accepted (set_command_of w.command) (map set_command_of more) (subst (λ (cs : List SetCommand). last_refused cs ≡ false) all accepted);
+    })
+
+pub place-made-if : (ahead : ℕ) (old new : PanelState) (waiting more : List Submitted) (status : ℕ) (q : Result ℕ WriteFailed) (a b : Output) → length waiting ≤ ahead → ahead ≤ length waiting
+    → last_refused (map set_command_of waiting) ≡ false → IfOk q (λ now. WaitsForFirst old new waiting more status now a b)
+    → IfOk q (λ now. MakesPlace ahead old new (map set_command_of waiting) (map set_command_of more) status now a b)
+place-made-if ahead old new waiting more status (Ok now) a b most full accepted w = place-made ahead old new waiting more status now a b most full accepted w
+place-made-if ahead old new waiting more status (Err e) a b most full accepted w = tt
+
+begun-one : (ahead : ℕ) (assignments : List (ℕ × Value)) (start : PanelState) (before : Output) (begun : List (ℕ × Value)) (c : SetCommand) (waiting : List SetCommand) (old new : PanelState) (status : ℕ) (a : Output)
+    → length waiting < ahead → last_refused waiting ≡ false → BeginsSet c old new → SoFar ahead assignments start before begun old waiting status a
+    → SoFar ahead assignments start before (begun ++ assignment_in c ∷ []) new (waiting ++ c ∷ []) status a
+begun-one ahead assignments start before begun c waiting old new status a few accepted begins h = record {
+  lines = h.lines;
+  sets = OneBegun c h.sets few accepted begins;
+  reports = h.reports;
+}
+
+-- whatever was submitted so far, one more was, and is in flight
+record BeginsOn (ahead : ℕ) (assignment : ℕ × Value) (old new : PanelState) (waiting more : List SetCommand) (status now : ℕ) (was is : Output) : Type 0 where
+  pub on : (assignments : List (ℕ × Value)) (start : PanelState) (before : Output) (begun : List (ℕ × Value))
+      → SoFar ahead assignments start before begun old waiting status was → SoFar ahead assignments start before (begun ++ assignment ∷ []) new more now is
+
+begins-next : (ahead : ℕ) (assignment : Assignment) (one : Submitted) (r s t : PanelState) (waiting mid more : List Submitted) (status now : ℕ) (a b : Output)
+    → MakesPlace ahead r s (map set_command_of waiting) (map set_command_of mid) status now a b → one.assignment ≡ assignment → BeginsSet (set_command_of one) s t → more ≡ mid ++ one ∷ []
+    → BeginsOn ahead (assignment_of assignment) r t (map set_command_of waiting) (map set_command_of more) status now a b
+begins-next ahead assignment one r s t waiting mid more status now a b p of begins are = record {
+  on = λ (assignments : List (ℕ × Value)) (start : PanelState) (before : Output) (begun : List (ℕ × Value)) (h : SoFar ahead assignments start before begun r (map set_command_of waiting) status a).
+      let both : map set_command_of more ≡ map set_command_of mid ++ set_command_of one ∷ [] = ap (map set_command_of) are ∙ map-append set_command_of mid (one ∷ []) in
+      subst (λ (cs : List SetCommand). SoFar ahead assignments start before (begun ++ assignment_of assignment ∷ []) t cs now b) (sym both)
+      (subst (λ (x : Assignment). SoFar ahead assignments start before (begun ++ assignment_of x ∷ []) t (map set_command_of mid ++ set_command_of one ∷ []) now b) of
+      (begun-one ahead assignments start before begun (set_command_of one) (map set_command_of mid) s t now b p.few p.accepted begins (p.on assignments start before begun h)));
+}
+
+last-of : (mid more : List Submitted) (one : Submitted) → more ≡ mid ++ one ∷ [] → last_refused (map set_command_of more) ≡ is_refused one.returned
+last-of mid more one are =
+    ap (λ (cs : List Submitted). last_refused (map set_command_of cs)) are ∙ ap last_refused (map-append set_command_of mid (one ∷ [])) ∙ last-is (map set_command_of mid) (set_command_of one)
+
+-- it was accepted
+pub sets-next : (ahead : ℕ) (assignment : Assignment) (one : Submitted) (h : Handle) (r s t : PanelState) (waiting mid more : List Submitted) (status now : ℕ) (a b : Output)
+    → MakesPlace ahead r s (map set_command_of waiting) (map set_command_of mid) status now a b → one.assignment ≡ assignment → BeginsSet (set_command_of one) s t → more ≡ mid ++ one ∷ [] → one.returned ≡ Ok h
+    → SetsOn ahead (assignment_of assignment) r t (map set_command_of waiting) (map set_command_of more) status now a b
+sets-next ahead assignment one h r s t waiting mid more status now a b p of begins are ok =
+    let next = begins-next ahead assignment one r s t waiting mid more status now a b p of begins are in
+    let size : length (map set_command_of more) ≡ length (map set_command_of mid) + 1 =
+    ap (λ (cs : List Submitted). length (map set_command_of cs)) are ∙ ap length (map-append set_command_of mid (one ∷ [])) ∙ length-append (map set_command_of mid) (set_command_of one ∷ []) in
+    let few : length (map set_command_of mid) < ahead = p.few in
+    record {
+      on = next.on;
+      few = omega (arith, size, few);
+      accepted = last-of mid more one are ∙ ap is_refused ok;
+    }
+
+-- it was refused, and its line was written
+pub sets-refused : (ahead : ℕ) (assignment : Assignment) (one : Submitted) (f : ControlFault) (r s t u : PanelState) (waiting mid more none : List Submitted) (status now : ℕ) (q : Result ℕ WriteFailed) (a b c : Output)
+    → MakesPlace ahead r s (map set_command_of waiting) (map set_command_of mid) status now a b → one.assignment ≡ assignment → BeginsSet (set_command_of one) s t → more ≡ mid ++ one ∷ [] → one.returned ≡ Err f
+    → IfOk q (λ n. WaitsOn t u (map set_command_of more) [] now n b c) → OnOk q (none ≡ [])
+    → IfOk q (λ n. SetsOn ahead (assignment_of assignment) r u (map set_command_of waiting) (map set_command_of none) status n a c)
+sets-refused ahead assignment one f r s t u waiting mid more none status now (Ok n) a b c p of begins are refused w empty =
+    let next = begins-next ahead assignment one r s t waiting mid more status now a b p of begins are in
+    let few : length (map set_command_of mid) < ahead = p.few in
+    subst (λ (cs : List Submitted). SetsOn ahead (assignment_of assignment) r u (map set_command_of waiting) (map set_command_of cs) status n a c) (sym empty)
+    (record {
+      on = λ (assignments : List (ℕ × Value)) (start : PanelState) (before : Output) (begun : List (ℕ × Value)) (h : SoFar ahead assignments start before begun r (map set_command_of waiting) status a).
+          w.on ahead assignments start before (begun ++ assignment_of assignment ∷ []) (inr (last-of mid more one are ∙ ap is_refused refused)) (next.on assignments start before begun h);
+      few = omega (arith, few);
+      accepted = refl;
+    })
+sets-refused ahead assignment one f r s t u waiting mid more none status now (Err e) a b c p of begins are refused w empty = tt
+
+-- the first assignments and the next one
+pub set-so-far : (ahead : ℕ) (ws : List Assignment) (i : ℕ) (d : Assignment) (r s t : PanelState) (x y : List SetCommand) (m n : ℕ) (a b c : Output) → i < length ws
+    → SoFar ahead (map assignment_of ws) r a (map assignment_of (take i ws)) s x m b → SetsOn ahead (assignment_of (get_or ws i d)) s t x y m n b c
+    → SoFar ahead (map assignment_of ws) r a (map assignment_of (take (i + 1) ws)) t y n c
+set-so-far ahead ws i d r s t x y m n a b c h so next =
+    subst (λ (xs : List (ℕ × Value)). SoFar ahead (map assignment_of ws) r a xs t y n c) (sym (map-take assignment_of ws i d h)) (next.on (map assignment_of ws) r a (map assignment_of (take i ws)) so)
+
+-- so many are in flight
+pub few-commands : (waiting : List Submitted) (ahead : ℕ) → length (map set_command_of waiting) ≤ ahead → length waiting ≤ ahead
+few-commands waiting ahead few = let size : length (map set_command_of waiting) ≡ length waiting = length-map waiting set_command_of in omega (arith, size, few)
+
+-- all were waited for
+set-each : (ahead : ℕ) (assignments : List (ℕ × Value)) (r t : PanelState) (n : ℕ) (a c : Output) → SoFar ahead assignments r a assignments t [] n c → SetsEachTo ahead assignments n r t a c
+set-each ahead assignments r t n a c h = record {
+  lines = h.lines;
+  sets = record { sets = h.sets; one_at_a_time = λ (one : ahead ≡ 1). in-turn ahead assignments h.lines r t h.sets one };
+  reports = h.reports;
+}
+
+pub set-done : (ahead : ℕ) (ws : List Assignment) (i : ℕ) (r s t : PanelState) (x : List SetCommand) (m : ℕ) (z : Result ℕ WriteFailed) (a b c : Output)
+    → length ws ≤ i → SoFar ahead (map assignment_of ws) r a (map assignment_of (take i ws)) s x m b → IfOk z (λ n. WaitsOn s t x [] m n b c)
+    → IfOk z (λ n. SetsEachTo ahead (map assignment_of ws) n r t a c)
+set-done ahead ws i r s t x m (Ok n) a b c end so w =
+    let all : map assignment_of (take i ws) ≡ map assignment_of ws = ap (map assignment_of) (take_all i ws end) in
+    let done : SoFar ahead (map assignment_of ws) r a (map assignment_of (take i ws)) t [] n c = w.on ahead (map assignment_of ws) r a (map assignment_of (take i ws)) (inl all) so in
+    set-each ahead (map assignment_of ws) r t n a c (subst (λ (xs : List (ℕ × Value)). SoFar ahead (map assignment_of ws) r a xs t [] n c) all done)
+set-done ahead ws i r s t x m (Err e) a b c end so w = tt
+
+-- ---- all of it
+
+ok-same : (q : Result ℕ Failure) (x y : ℕ) → q ≡ Ok x → q ≡ Ok y → x ≡ y
+ok-same q x y h k = cc (h, k)
+
+not-ok : (f : Failure) (n : ℕ) → Err f ≡ Ok n → ⊥
+not-ok f n h = cc h
+
+found-all : (ahead : ℕ) (pairs : List (ℕ × List ℕ)) (assignments : List Assignment) (missed : List (ℕ × ObjectLine)) (before status : ℕ) (r s t : PanelState) (a b c : Output)
+    → FindsAll pairs (map assignment_of assignments) missed r s → ReportsAll missed before a b → SetsOnlyIf (is_none missed) ahead (map assignment_of assignments) before s t (Ok status) b c → SetsAll ahead pairs r t status a c
+found-all ahead pairs assignments [] before status r s t a b c finds line e = record {
+  assignments = map assignment_of assignments;
+  missed = [];
+  lines = e.lines;
+  between = s;
+  finds = finds;
+  sets = e.sets;
+  worst = e.reports.worst;
+  writes = writes-then a b c [] (reported_lines e.lines) line.writes e.reports.writes;
+}
+found-all ahead pairs assignments (m ∷ missed) before status r s t a b c finds line e =
+    let same : status ≡ before = ok-same (Ok status) status before refl e.0 in
+    record {
+      assignments = map assignment_of assignments;
+      missed = m ∷ missed;
+      lines = m ∷ missed;
+      between = s;
+      finds = finds;
+      sets = (refl, e.1);
+      worst = same ∙ line.worst;
+      writes = subst (λ (o : Output). WritesWhole a o (reported_lines (m ∷ missed))) (sym e.2) line.writes;
+    }
+
+gave-up-setting : (ahead : ℕ) (pairs : List (ℕ × List ℕ)) (assignments : List Assignment) (missed : List (ℕ × ObjectLine)) (before : ℕ) (failure : Failure) (r s t : PanelState) (b c : Output)
+    → FindsAll pairs (map assignment_of assignments) missed r s → SetsOnlyIf (is_none missed) ahead (map assignment_of assignments) before s t (Err failure) b c
+    → GivesUp failure c × SetsNoneUnfound pairs r t
+gave-up-setting ahead pairs assignments [] before failure r s t b c finds e = (inl e, inr (record { assignments = map assignment_of assignments; between = s; finds = finds }))
+gave-up-setting ahead pairs assignments (m ∷ missed) before failure r s t b c finds e = absurd (not-ok failure before e.0)
+
+as-found : (ahead : ℕ) (pairs : List (ℕ × List ℕ)) (assignments : List Assignment) (search : Search) (r s t : PanelState) (q : Result ℕ Failure) (a b c : Output)
+    → (h : FindsAllTo pairs assignments search r s a b) → SetsFound ahead (map assignment_of assignments) search s t q b c → SetsOnlyIf (is_none h.missed) ahead (map assignment_of assignments) search.status s t q b c
+as-found ahead pairs assignments search r s t q a b c h e = subst (λ (all : Bool). SetsOnlyIf all ahead (map assignment_of assignments) search.status s t q b c) h.all e
+
+pub sets-found : (ahead : ℕ) (pairs : List (ℕ × List ℕ)) (assignments : List Assignment) (search : Search) (r s t : PanelState) (q : Result ℕ Failure) (a b c : Output)
+    → FindsAllTo pairs assignments search r s a b → SetsFound ahead (map assignment_of assignments) search s t q b c → IfOk q (λ status. SetsAll ahead pairs r t status a c)
+sets-found ahead pairs assignments search r s t (Ok status) a b c h e =
+    found-all ahead pairs assignments h.missed search.status status r s t a b c h.finds h.reports (as-found ahead pairs assignments search r s t (Ok status) a b c h e)
+sets-found ahead pairs assignments search r s t (Err failure) a b c h e = tt
+
+pub sets-failed : (ahead : ℕ) (pairs : List (ℕ × List ℕ)) (assignments : List Assignment) (search : Search) (r s t : PanelState) (q : Result ℕ Failure) (a b c : Output)
+    → FindsAllTo pairs assignments search r s a b → SetsFound ahead (map assignment_of assignments) search s t q b c → IfErr q (λ failure. GivesUp failure c)
+sets-failed ahead pairs assignments search r s t (Ok status) a b c h e = tt
+sets-failed ahead pairs assignments search r s t (Err failure) a b c h e =
+    (gave-up-setting ahead pairs assignments h.missed search.status failure r s t b c h.finds (as-found ahead pairs assignments search r s t (Err failure) a b c h e)).0
+
+pub sets-unset : (ahead : ℕ) (pairs : List (ℕ × List ℕ)) (assignments : List Assignment) (search : Search) (r s t : PanelState) (q : Result ℕ Failure) (a b c : Output)
+    → FindsAllTo pairs assignments search r s a b → SetsFound ahead (map assignment_of assignments) search s t q b c → OnErr q (SetsNoneUnfound pairs r t)
+sets-unset ahead pairs assignments search r s t (Ok status) a b c h e = tt
+sets-unset ahead pairs assignments search r s t (Err failure) a b c h e =
+    (gave-up-setting ahead pairs assignments h.missed search.status failure r s t b c h.finds (as-found ahead pairs assignments search r s t (Err failure) a b c h e)).1
+
+-- ---- objects that are read or locked
+
+module _ (One : ℕ → PanelState → PanelState → ObjectLine → Type 0) where
+  pub asked-none : (s : PanelState) (a b : Output) → PrintsAll a b [] → b.held ≡ [] → AsksAll One [] s s 0 a b
+  asked-none s a b h empty = record { lines = []; turns = NoneAsked; worst = refl; writes = writes-none a b h empty }
+
+  asked-more : (targets : List ℕ) (target status own now : ℕ) (r s t : PanelState) (a b c : Output)
+      → AsksAll One targets r s status a b → ReportsOne One target s t (Ok own) b c → now ≡ max_severity status own → AsksAll One (targets ++ target ∷ []) r t now a c
+  asked-more targets target status own now r s t a b c h k worst =
+      let line : ReportsNext (target, k.line) status now b c = line-reported target k.line status own now b c k.writes worst in
+      let all : ReportsAll (h.lines ++ (target, k.line) ∷ []) now a c =
+      reports-next h.lines (target, k.line) status now a b c (record { worst = h.worst; writes = h.writes }) line in
+      record {
+        lines = h.lines ++ (target, k.line) ∷ [];
+        turns = OneAsked target k.line h.turns k.asks;
+        worst = all.worst;
+        writes = all.writes;
+      }
+
+  -- the first objects and the next one
+  pub asked-next : (onos : List Ono) (i : ℕ) (d : Ono) (status own now : ℕ) (r s t : PanelState) (a b c : Output) → i < length onos
+      → AsksAll One (map ono_number (take i onos)) r s status a b → ReportsOne One (ono_number (get_or onos i d)) s t (Ok own) b c → now ≡ max_severity status own
+      → AsksAll One (map ono_number (take (i + 1) onos)) r t now a c
+  asked-next onos i d status own now r s t a b c h x y worst =
+      subst (λ (ns : List ℕ). AsksAll One ns r t now a c) (sym (map-take ono_number onos i d h))
+      (asked-more (map ono_number (take i onos)) (ono_number (get_or onos i d)) status own now r s t a b c x y worst)
+
+  -- nothing was asked
+  pub asked-nothing : (targets : List ℕ) (r : Result ℕ WriteFailed) (s : PanelState) (a b : Output) → PrintsPart a b []
+      → OnErr r (AsksPart One targets s s a b)
+  asked-nothing targets (Ok status) s a b h = tt
+  asked-nothing targets (Err e) s a b h = inl (refl, front_written a b [] h)
+
+  -- the line of an object was not written
+  pub asked-until : (onos : List Ono) (i : ℕ) (d : Ono) (status : ℕ) (e : WriteFailed) (q : Result ℕ WriteFailed) (r s t : PanelState)
+      (a b c : Output) → i < length onos → AsksAll One (map ono_number (take i onos)) r s status a b
+      → ReportsOne One (ono_number (get_or onos i d)) s t (Err e) b c → OnErr q (AsksPart One (map ono_number onos) r t a c)
+  asked-until onos i d status e (Ok n) r s t a b c h x y = tt
+  asked-until onos i d status e (Err f) r s t a b c h x y = inr (record {
+    asked = map ono_number (take i onos);
+    rest = ono_number (get_or onos i d) ∷ map ono_number (drop (i + 1) onos);
+    lines = x.lines;
+    before = s;
+    between = b;
+    whole = map-split ono_number onos i d h;
+    turns = x.turns;
+    writes = x.writes;
+    stops = (y.line, y.asks, y.writes);
+  })

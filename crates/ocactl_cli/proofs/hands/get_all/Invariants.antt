@@ -1,8 +1,0 @@
-use Rattle.std.proofs.Common.{take}
-use Rattle.std.specs.Prelude.{map}
-use Rattle.ocactl_cli.specs.Hands.{Gets, AsksAll}
-use Rattle.ocactl_cli.specs.PrivateHands.{number_of}
-use Rattle.ocactl_cli.proofs.hands.get_all.Given as goal
-
-abbrev pub invariant-loop-ono : goal.invariant-loop-ono
-invariant-loop-ono g l = AsksAll Gets (map number_of (take l.ono-index l.onos)) l.fn.panel l.panel l.status l.fn.printer l.printer

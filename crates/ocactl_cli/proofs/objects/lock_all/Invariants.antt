@@ -1,0 +1,8 @@
+use Rattle.std.proofs.Common.{take}
+use Rattle.std.specs.Prelude.{map}
+use Rattle.ocactl_cli.specs.Objects.{Locks, AsksAll}
+use Rattle.ocactl_cli.specs.PrivateObjects.{ono_number}
+use Rattle.ocactl_cli.proofs.objects.lock_all.Given as goal
+
+abbrev pub invariant-loop-ono : goal.invariant-loop-ono
+invariant-loop-ono g l = AsksAll (Locks l.locks) (map ono_number (take l.ono-index l.onos)) l.fn.panel l.panel l.status l.fn.printer l.printer

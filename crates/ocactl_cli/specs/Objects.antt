@@ -1,0 +1,508 @@
+-- What is asked of objects in words, and the lines that are printed of them (AES70-2; the words are the profile's).
+use Rattle.std.specs.Prelude.{◌≡◌, ◌⊎◌, ◌+◌, ◌<◌, ℕ, Bool, true, false, ◌==◌, ◌||◌, if◌then◌else◌, List, [], ◌∷◌, ◌++◌}
+use Rattle.std.specs.Prelude.{length, codes, decimal, Option, Some, None, Result, Ok, Err}
+use Rattle.std.specs.List.{position, flat_map, fold}
+use Rattle.std.specs.Str.{bytes_eq}
+use Rattle.oca_types.specs.declared.class.Class.{Class}
+use Rattle.oca_types.specs.declared.class.Class.TheVariants as class
+use Rattle.oca_types.specs.declared.words.Handle.{Handle}
+use Rattle.oca_script.specs.Escapes.{escaped}
+use Rattle.oca_script.specs.Fields.{number_of}
+use Rattle.oca_script.specs.Ends.{Input, Output, Remembers}
+use Rattle.oca_script.specs.declared.fault.ReadFailed.{ReadFailed}
+use Rattle.std.specs.Io.KnownBytes.{ReadConsumes}
+use Rattle.oca_net.specs.Ends.{last_u64}
+use Rattle.oca_script.specs.Printing.{WritesFront, WritesWhole}
+use Rattle.oca_program.specs.declared.fault.Failure.{Failure}
+use Rattle.oca_program.specs.declared.fault.RunFault.{RunFault}
+use Rattle.oca_program.specs.declared.fault.RunFault.TheVariants as runs
+use Rattle.oca_control.specs.declared.fault.ControlFault.{ControlFault}
+use Rattle.oca_control.specs.declared.fault.ControlFault.TheVariants as faults
+use Rattle.oca_control.specs.declared.outcome.Outcome.{Outcome}
+use Rattle.oca_model.specs.declared.request.Request.TheVariants as requests
+use Rattle.oca_model.specs.declared.value.Value.{Value}
+use Rattle.oca_model.specs.declared.value.Value.TheVariants as values
+use Rattle.oca_model.specs.Words.{IsRead, word_of}
+use Rattle.oca_model.specs.Statuses.{status_name_of}
+use Rattle.oca_panel.specs.declared.trouble.Trouble.{Trouble}
+use Rattle.oca_panel.specs.declared.trouble.Trouble.TheVariants as trouble
+use Rattle.oca_panel.specs.Panels.{PanelState, EndsIn, TurnsOnce}
+use Rattle.oca_panel.specs.Outcomes.{done_answered, names_answered, text_answered}
+use Rattle.oca_panel.specs.Objects.{AsksClass, BeginsSetting, GetsValue, Reads, SetsValue}
+use Rattle.ocactl_cli.specs.declared.tasks.Task.{Task}
+use Rattle.ocactl_cli.specs.declared.tasks.Task.TheVariants as task
+use Rattle.ocactl_cli.specs.declared.object_line.ObjectLine.{ObjectLine}
+use Rattle.ocactl_cli.specs.declared.object_line.ObjectLine.TheVariants as shown
+
+-- ---- a word for a value
+
+abbrev pub found_position : Option ℕ → Result Value Trouble
+found_position None = Err trouble.NoSuchWord
+found_position (Some n) = Ok (values.Switch n)
+
+-- the first position whose name is printed so
+abbrev pub position_of : List ℕ → Result (List (List ℕ)) Trouble → Result Value Trouble
+position_of word (Ok names) = found_position (position (λ name. bytes_eq (escaped name) word) names)
+position_of word (Err t) = Err t
+
+abbrev pub FindsPosition : ℕ → List ℕ → PanelState → PanelState → Result Value Trouble → Type 0
+FindsPosition target word old new result =
+    (names : Result (List (List ℕ)) Trouble)
+    × Reads target class.Switch requests.GetPositionNames names_answered old new names
+    × (result ≡ position_of word names)
+
+-- A word that is none of the class's: of a switch it may be the name of a position, by GetPositionNames.
+abbrev pub FindsName : ℕ → List ℕ → Class → PanelState → PanelState → Result Value Trouble → Type 0
+FindsName target word class.Block old new result = (new ≡ old) × (result ≡ Err trouble.NoValue)
+FindsName target word class.Switch old new result = FindsPosition target word old new result
+FindsName target word _ old new result = (new ≡ old) × (result ≡ Err trouble.NoSuchWord)
+
+-- the value that a word of the class means, where it is one
+abbrev pub FindsBy : ℕ → List ℕ → Class → Option Value → PanelState → PanelState → Result Value Trouble → Type 0
+FindsBy target word of None old new result = FindsName target word of old new result
+FindsBy target word of (Some v) old new result = (new ≡ old) × (result ≡ Ok v)
+
+abbrev pub FindsOf : ℕ → List ℕ → Class → PanelState → PanelState → Result Value Trouble → Type 0
+FindsOf target word of old new result =
+    (found : Option Value) × IsRead of word found × FindsBy target word of found old new result
+
+abbrev pub FindsFor : ℕ → List ℕ → Result Class Trouble → PanelState → PanelState → Result Value Trouble → Type 0
+FindsFor target word (Ok of) old new result = FindsOf target word of old new result
+FindsFor target word (Err t) old new result = (new ≡ old) × (result ≡ Err t)
+
+-- THE VALUE THAT A WORD NAMES of an object: its class was asked first, and of a switch maybe the names of its
+-- positions.
+abbrev pub FindsValue : ℕ → List ℕ → PanelState → PanelState → Result Value Trouble → Type 0
+FindsValue target word old new result =
+    (s : PanelState) × (of : Result Class Trouble) × AsksClass target old s of × FindsFor target word of s new result
+
+-- ---- lines
+
+-- the name of a status, or its number
+abbrev pub or_number : ℕ → Option (List ℕ) → List ℕ
+or_number number None = codes "status " ++ decimal number
+or_number number (Some name) = name
+
+abbrev pub refused_text : ControlFault → List ℕ
+refused_text faults.Lost = codes "not sent"
+refused_text faults.HandlesSpent = codes "refused 2 handles-spent"
+refused_text faults.SpanFull = codes "refused 3 span-full"
+refused_text faults.TooLong = codes "refused 4 too-long"
+
+-- why an object is not as it was asked for
+abbrev pub trouble_text : Trouble → List ℕ
+trouble_text (trouble.Refused status) = or_number status (status_name_of status)
+trouble_text trouble.Unreadable = codes "unreadable answer"
+trouble_text trouble.NoValue = codes "no value"
+trouble_text trouble.NoSuchWord = codes "no such value"
+trouble_text (trouble.NotSubmitted fault) = refused_text fault
+trouble_text trouble.Lost = codes "lost"
+trouble_text trouble.Unanswered = codes "no answer"
+
+-- what the line of an object shows: a value by its word, the name of a position behind it as a text is printed
+abbrev pub shown_text : ObjectLine → List ℕ
+shown_text (shown.Value value) = word_of value
+shown_text (shown.Position n name) = word_of (values.Switch n) ++ codes " " ++ escaped name
+shown_text shown.Locked = codes "locked"
+shown_text shown.Unlocked = codes "unlocked"
+shown_text (shown.Failed why) = trouble_text why
+
+-- the line of an object
+abbrev pub line_of_object : ℕ → ObjectLine → List ℕ
+line_of_object ono line = decimal ono ++ codes " " ++ shown_text line ++ codes "\n"
+
+-- the fields of a class's identifier
+abbrev pub dotted_fields : List ℕ → List ℕ
+dotted_fields fields = flat_map (λ field. codes "." ++ decimal field) fields
+
+abbrev pub class_text : List ℕ → List ℕ
+class_text [] = []
+class_text (field ∷ fields) = codes " " ++ decimal field ++ dotted_fields fields
+
+-- the line of an object in a tree, with its role as a text is printed
+abbrev pub place_text : ℕ → List ℕ → ℕ → List ℕ → List ℕ
+place_text ono fields container role =
+    decimal ono ++ class_text fields ++ codes " " ++ decimal container ++ codes " " ++ escaped role ++ codes "\n"
+
+-- ---- the exit status
+
+-- 4 for another status than OK, or an answer of which nothing is made; 2 for a word that is for no value; 3 where there
+-- is no answer
+abbrev pub trouble_status : Trouble → ℕ
+trouble_status (trouble.Refused status) = 4
+trouble_status trouble.Unreadable = 4
+trouble_status trouble.NoValue = 4
+trouble_status trouble.NoSuchWord = 2
+trouble_status (trouble.NotSubmitted fault) = 3
+trouble_status trouble.Lost = 3
+trouble_status trouble.Unanswered = 3
+
+abbrev pub object_status : ObjectLine → ℕ
+object_status (shown.Value value) = 0
+object_status (shown.Position n name) = 0
+object_status shown.Locked = 0
+object_status shown.Unlocked = 0
+object_status (shown.Failed why) = trouble_status why
+
+-- of two statuses: 3 before 2 before 4 before 0
+abbrev pub max_severity : ℕ → ℕ → ℕ
+max_severity a b =
+    if (a == 3) || (b == 3) then 3
+    else if (a == 2) || (b == 2) then 2
+    else if (a == 4) || (b == 4) then 4
+    else 0
+
+-- ---- several objects
+
+-- the line of an object and what it shows
+abbrev pub reported_line : ℕ × ObjectLine → List ℕ
+reported_line line = line_of_object line.0 line.1
+
+abbrev pub reported_lines : List (ℕ × ObjectLine) → List ℕ
+reported_lines lines = flat_map reported_line lines
+
+abbrev pub most_severe : List (ℕ × ObjectLine) → ℕ
+most_severe lines = fold (λ worst one. max_severity worst (object_status one.1)) 0 lines
+
+-- this line where it was done, else why it was not
+abbrev pub done_line : ObjectLine → Result Unit Trouble → ObjectLine
+done_line line (Ok u) = line
+done_line line (Err why) = shown.Failed why
+
+-- The values that words name were found, one after another: those that there are, in order, and the objects for which
+-- there is none, and why.
+pub data FindsAll : List (ℕ × List ℕ) → List (ℕ × Value) → (missed : List (ℕ × ObjectLine))
+    → (old new : PanelState) → Type 0 where
+  NoneSought : {s : PanelState} → FindsAll [] [] [] s s
+  OneFound : {pairs : List (ℕ × List ℕ)} {assignments : List (ℕ × Value)} {missed : List (ℕ × ObjectLine)}
+      {r s t : PanelState}
+      (target : ℕ) (word : List ℕ) (value : Value)
+      → FindsAll pairs assignments missed r s → FindsValue target word s t (Ok value)
+      → FindsAll (pairs ++ (target, word) ∷ []) (assignments ++ (target, value) ∷ []) missed r t
+  OneMissed : {pairs : List (ℕ × List ℕ)} {assignments : List (ℕ × Value)} {missed : List (ℕ × ObjectLine)}
+      {r s t : PanelState}
+      (target : ℕ) (word : List ℕ) (why : Trouble)
+      → FindsAll pairs assignments missed r s → FindsValue target word s t (Err why)
+      → FindsAll (pairs ++ (target, word) ∷ []) assignments (missed ++ (target, shown.Failed why) ∷ []) r t
+
+-- A set command that was to be submitted: its object, the value, and its handle, or why the link refused it.
+pub record SetCommand : Type 0 where
+  pub target : ℕ
+  pub value : Value
+  pub returned : Result Handle ControlFault
+
+abbrev pub assignment_in : SetCommand → ℕ × Value
+assignment_in command = (command.target, command.value)
+
+-- It was submitted, as the set method of the value's class.
+abbrev pub BeginsSet : SetCommand → PanelState → PanelState → Type 0
+BeginsSet command old new = BeginsSetting command.target command.value command.returned old new
+
+-- its line, by its outcome
+abbrev pub reported_by : SetCommand → Outcome → ℕ × ObjectLine
+reported_by command outcome = (command.target, done_line (shown.Value command.value) (done_answered outcome))
+
+-- the link refused it
+abbrev pub is_refused : Result Handle ControlFault → Bool
+is_refused (Ok handle) = false
+is_refused (Err fault) = true
+
+-- the link refused the last of these
+abbrev pub last_refused : List SetCommand → Bool
+last_refused commands = fold (λ before command. is_refused command.returned) false commands
+
+-- A command is waited for where as many are in flight as may be, where all are submitted, or where the last one was
+-- refused.
+abbrev pub IsAwaited : ℕ → (assignments begun : List (ℕ × Value)) → List SetCommand → Type 0
+IsAwaited ahead assignments begun waiting =
+    (length waiting ≡ ahead) ⊎ (begun ≡ assignments) ⊎ (last_refused waiting ≡ true)
+
+-- SET COMMANDS WERE SUBMITTED for these assignments, one after another: for those that were begun. Some of them are in
+-- flight, and the others were waited for and ended so: in the same order, each by its own handle. Never are more than
+-- `ahead` in flight, and none is waited for earlier than need be; behind one that was refused none is submitted before
+-- its line was written.
+pub data SetsUpTo (ahead : ℕ) (assignments : List (ℕ × Value)) : (begun : List (ℕ × Value)) (waiting : List SetCommand)
+    (lines : List (ℕ × ObjectLine)) (old new : PanelState) → Type 0 where
+  NoneBegun : {s : PanelState} → SetsUpTo ahead assignments [] [] [] s s
+  OneBegun : {begun : List (ℕ × Value)} {waiting : List SetCommand} {lines : List (ℕ × ObjectLine)} {r s t : PanelState}
+      (command : SetCommand)
+      → SetsUpTo ahead assignments begun waiting lines r s → length waiting < ahead → last_refused waiting ≡ false
+      → BeginsSet command s t
+      → SetsUpTo ahead assignments (begun ++ assignment_in command ∷ []) (waiting ++ command ∷ []) lines r t
+  OneEnded : {begun : List (ℕ × Value)} {waiting : List SetCommand} {lines : List (ℕ × ObjectLine)} {r s t : PanelState}
+      (command : SetCommand) (outcome : Outcome)
+      → SetsUpTo ahead assignments begun (command ∷ waiting) lines r s
+      → IsAwaited ahead assignments begun (command ∷ waiting) → EndsIn command.returned s t outcome
+      → SetsUpTo ahead assignments begun waiting (lines ++ reported_by command outcome ∷ []) r t
+
+-- Objects were set to values, one after another in this order, and ended so.
+pub data SetsInTurn : List (ℕ × Value) → (lines : List (ℕ × ObjectLine)) → (old new : PanelState) → Type 0 where
+  NoneSet : {s : PanelState} → SetsInTurn [] [] s s
+  OneSet : {assignments : List (ℕ × Value)} {lines : List (ℕ × ObjectLine)} {r s t : PanelState} (target : ℕ)
+      (value : Value) (result : Result Unit Trouble)
+      → SetsInTurn assignments lines r s → SetsValue target value s t result
+      → SetsInTurn (assignments ++ (target, value) ∷ [])
+      (lines ++ (target, done_line (shown.Value value) result) ∷ []) r t
+
+-- Each of these assignments was submitted, in this order, and each was waited for. One at a time: each was asked, and
+-- waited for before the next.
+pub record SetsEach (ahead : ℕ) (assignments : List (ℕ × Value)) (lines : List (ℕ × ObjectLine))
+    (old new : PanelState) : Type 0 where
+  pub sets : SetsUpTo ahead assignments assignments [] lines old new
+  pub one_at_a_time : ahead ≡ 1 → SetsInTurn assignments lines old new
+
+-- where there is a value for each, they are set; else nothing is, and there is a line for each that has none
+abbrev pub SetsWhere : ℕ → List (ℕ × Value) → (missed lines : List (ℕ × ObjectLine)) → PanelState → PanelState → Type 0
+SetsWhere ahead assignments [] lines old new = SetsEach ahead assignments lines old new
+SetsWhere ahead assignments (m ∷ missed) lines old new = (lines ≡ m ∷ missed) × (new ≡ old)
+
+-- ALL OBJECTS WERE SET to what words name, `ahead` commands at once, or none: all values were found first, which sets
+-- nothing. The line of each that has an outcome was written, in the order of the words, and the exit status is the
+-- most severe.
+pub record SetsAll (ahead : ℕ) (pairs : List (ℕ × List ℕ)) (old new : PanelState) (status : ℕ)
+    (was is : Output) : Type 0 where
+  pub assignments : List (ℕ × Value)
+  pub missed : List (ℕ × ObjectLine)
+  pub lines : List (ℕ × ObjectLine)
+  pub between : PanelState
+  pub finds : FindsAll pairs assignments missed old between
+  pub sets : SetsWhere ahead assignments missed lines between new
+  pub worst : status ≡ most_severe lines
+  pub writes : WritesWhole was is (reported_lines lines)
+
+-- the values of the first of these objects were sought, and nothing else was asked
+pub record OnlyFinds (pairs : List (ℕ × List ℕ)) (old new : PanelState) : Type 0 where
+  pub front : List (ℕ × List ℕ)
+  pub rest : List (ℕ × List ℕ)
+  pub assignments : List (ℕ × Value)
+  pub missed : List (ℕ × ObjectLine)
+  pub whole : pairs ≡ front ++ rest
+  pub finds : FindsAll front assignments missed old new
+
+-- a value was found for each of these objects
+pub record FindsForEach (pairs : List (ℕ × List ℕ)) (old : PanelState) : Type 0 where
+  pub assignments : List (ℕ × Value)
+  pub between : PanelState
+  pub finds : FindsAll pairs assignments [] old between
+
+-- NOTHING WAS SET WHERE A VALUE IS MISSING, also where setting was given up.
+abbrev pub SetsNoneUnfound : List (ℕ × List ℕ) → PanelState → PanelState → Type 0
+SetsNoneUnfound pairs old new = OnlyFinds pairs old new ⊎ FindsForEach pairs old
+
+-- It was given up since the sink failed, or memory was refused.
+abbrev pub GivesUp : Failure → Output → Type 0
+GivesUp failure is = ((failure.fault ≡ runs.Write) × (is.failed ≡ true)) ⊎ (failure.fault ≡ runs.NoMemory)
+
+-- ---- objects that are read or locked
+
+-- The line of an object shows that it is locked, or that it is not any more, or why not: by LockTotal or Unlock.
+abbrev pub Locks : Bool → ℕ → PanelState → PanelState → ObjectLine → Type 0
+Locks true target old new line =
+    (done : Result Unit Trouble) × Reads target class.Block requests.LockTotal done_answered old new done
+    × (line ≡ done_line shown.Locked done)
+Locks false target old new line =
+    (done : Result Unit Trouble) × Reads target class.Block requests.Unlock done_answered old new done
+    × (line ≡ done_line shown.Unlocked done)
+
+-- a position, with its name where there is one
+abbrev pub named : ℕ → Result (List ℕ) Trouble → ObjectLine
+named n (Ok name) = shown.Position n name
+named n (Err why) = shown.Value (values.Switch n)
+
+-- Of a position of a switch its name was asked, which is shown too.
+abbrev pub ShowsPosition : ℕ → ℕ → PanelState → PanelState → ObjectLine → Type 0
+ShowsPosition n target old new line =
+    (name : Result (List ℕ) Trouble) × Reads target class.Switch (requests.GetPositionName n) text_answered old new name
+    × (line ≡ named n name)
+
+-- A value is shown.
+abbrev pub ShowsValue : Value → ℕ → PanelState → PanelState → ObjectLine → Type 0
+ShowsValue (values.Switch n) target old new line = ShowsPosition n target old new line
+ShowsValue value target old new line = (new ≡ old) × (line ≡ shown.Value value)
+
+abbrev pub ShowsRead : Result Value Trouble → ℕ → PanelState → PanelState → ObjectLine → Type 0
+ShowsRead (Ok value) target old new line = ShowsValue value target old new line
+ShowsRead (Err why) target old new line = (new ≡ old) × (line ≡ shown.Failed why)
+
+-- Of an object its value was read, and is shown.
+abbrev pub Gets : ℕ → PanelState → PanelState → ObjectLine → Type 0
+Gets target old new line =
+    (read : Result Value Trouble) × (s : PanelState) × GetsValue target old s read × ShowsRead read target s new line
+
+-- One thing was asked of objects, one after another in this order, and these are their lines.
+pub data InTurn (One : ℕ → PanelState → PanelState → ObjectLine → Type 0) : List ℕ → (lines : List (ℕ × ObjectLine))
+    → (old new : PanelState) → Type 0 where
+  NoneAsked : {s : PanelState} → InTurn One [] [] s s
+  OneAsked : {targets : List ℕ} {lines : List (ℕ × ObjectLine)} {r s t : PanelState} (target : ℕ) (line : ObjectLine)
+      → InTurn One targets lines r s → One target s t line
+      → InTurn One (targets ++ target ∷ []) (lines ++ (target, line) ∷ []) r t
+
+-- ALL OBJECTS WERE ASKED so: the line of each was written, in their order, and the exit status is the most severe.
+pub record AsksAll (One : ℕ → PanelState → PanelState → ObjectLine → Type 0) (targets : List ℕ) (old new : PanelState)
+    (status : ℕ) (was is : Output) : Type 0 where
+  pub lines : List (ℕ × ObjectLine)
+  pub turns : InTurn One targets lines old new
+  pub worst : status ≡ most_severe lines
+  pub writes : WritesWhole was is (reported_lines lines)
+
+-- the next one of these was asked, and its line was not written, but for a front of it
+abbrev pub StopsAtNext : (ℕ → PanelState → PanelState → ObjectLine → Type 0) → List ℕ → PanelState → PanelState → Output
+    → Output → Type 0
+StopsAtNext One [] old new was is = ⊥
+StopsAtNext One (target ∷ rest) old new was is =
+    (line : ObjectLine) × One target old new line × WritesFront was is (line_of_object target line)
+
+-- Of the first of these objects it was asked so, one after another, until the line of one could not be written.
+pub record AsksUntil (One : ℕ → PanelState → PanelState → ObjectLine → Type 0) (targets : List ℕ) (old new : PanelState)
+    (was is : Output) : Type 0 where
+  pub asked : List ℕ
+  pub rest : List ℕ
+  pub lines : List (ℕ × ObjectLine)
+  pub before : PanelState
+  pub between : Output
+  pub whole : targets ≡ asked ++ rest
+  pub turns : InTurn One asked lines old before
+  pub writes : WritesWhole was between (reported_lines lines)
+  pub stops : StopsAtNext One rest before new between is
+
+-- nothing was asked, since what was held before could not be written
+abbrev pub AsksNone : PanelState → PanelState → Output → Output → Type 0
+AsksNone old new was is = (new ≡ old) × WritesFront was is []
+
+-- OBJECTS WERE ASKED UNTIL A WRITE FAILED: just those, in their order, and none behind the one whose line was not
+-- written.
+abbrev pub AsksPart : (ℕ → PanelState → PanelState → ObjectLine → Type 0) → List ℕ → PanelState → PanelState → Output
+    → Output → Type 0
+AsksPart One targets old new was is = AsksNone old new was is ⊎ AsksUntil One targets old new was is
+
+-- ---- locks that are kept
+
+-- the objects that were locked: those whose status is 0
+abbrev pub held_if : ℕ → ℕ → List ℕ
+held_if target status = if status == 0 then target ∷ [] else []
+
+abbrev pub held_one : ℕ × ObjectLine → List ℕ
+held_one line = held_if line.0 (object_status line.1)
+
+abbrev pub held_of : List (ℕ × ObjectLine) → List ℕ
+held_of lines = flat_map held_one lines
+
+-- nothing more comes of an input whose read gave no byte, or failed
+abbrev pub ends_input : Result ℕ ReadFailed → Bool
+ends_input (Ok count) = count == 0
+ends_input (Err e) = true
+
+-- The input was read once, with room for 4,096 bytes, and that gave this.
+pub record ReadsOnce (read : Result ℕ ReadFailed) (had has : Input) : Type 0 where
+  pub bytes : List ℕ
+  pub room : length bytes ≡ 4096
+  pub consumes : ReadConsumes had.remaining has.remaining read bytes
+  pub failed : Remembers read had.failed has.failed
+
+-- It was read where a read does not wait; and whether it has ended.
+abbrev pub LooksAtInput : (ended : Bool) → Input → Input → Type 0
+LooksAtInput ended had has =
+    ((ended ≡ false) × (has ≡ had))
+    ⊎ ((read : Result ℕ ReadFailed) × ReadsOnce read had has × (ended ≡ ends_input read))
+
+-- So many turns were taken, each of which the link went on from, and before each the input had not ended.
+pub data KeepsOn : (turns : ℕ) (old new : PanelState) (had has : Input) → Type 0 where
+  KeptNoTurn : {s : PanelState} {i : Input} → KeepsOn 0 s s i i
+  KeptOneTurn : {n : ℕ} {r s t : PanelState} {i j k : Input} → KeepsOn n r s i j → LooksAtInput false j k
+      → TurnsOnce s t true
+      → KeepsOn (n + 1) r t i k
+
+-- no more turns were taken: the input had ended, or the link did not go on from a turn, or there were as many turns as
+-- a number of 64 bits counts
+abbrev pub StopsKeeping : (turns : ℕ) → PanelState → PanelState → Input → Input → Type 0
+StopsKeeping n s t i j =
+    ((t ≡ s) × LooksAtInput true i j)
+    ⊎ ((LooksAtInput false i j × TurnsOnce s t false) ⊎ ((n ≡ last_u64) × (t ≡ s) × (j ≡ i)))
+
+-- THE LINK WAS DRIVEN until the input ended.
+pub record KeepsUntilEnd (old new : PanelState) (had has : Input) : Type 0 where
+  pub turns : ℕ
+  pub last : PanelState
+  pub left : Input
+  pub keeps : KeepsOn turns old last had left
+  pub stops : StopsKeeping turns last new left has
+
+-- Their locks were kept until the input ended, and then taken off; the exit status is the worse one.
+pub record KeepsLocks (held : List ℕ) (before : ℕ) (old new : PanelState) (status : ℕ) (had has : Input)
+    (was is : Output) : Type 0 where
+  pub kept : PanelState
+  pub after : ℕ
+  pub keeps : KeepsUntilEnd old kept had has
+  pub unlocks : AsksAll (Locks false) held kept new after was is
+  pub worst : status ≡ max_severity before after
+
+-- where there are any
+abbrev pub KeepsHeld : List ℕ → (before : ℕ) → PanelState → PanelState → (status : ℕ) → Input → Input → Output → Output
+    → Type 0
+KeepsHeld [] before old new status had has was is = (status ≡ before) × (new ≡ old) × (has ≡ had) × (is ≡ was)
+KeepsHeld (target ∷ held) before old new status had has was is =
+    KeepsLocks (target ∷ held) before old new status had has was is
+
+-- ALL OBJECTS WERE LOCKED, and those that are locked kept so until the input ended, and unlocked then.
+pub record HoldsAll (targets : List ℕ) (old new : PanelState) (status : ℕ) (had has : Input)
+    (was is : Output) : Type 0 where
+  pub lines : List (ℕ × ObjectLine)
+  pub locked : PanelState
+  pub between : Output
+  pub locks : InTurn (Locks true) targets lines old locked
+  pub writes : WritesWhole was between (reported_lines lines)
+  pub keeps : KeepsHeld (held_of lines) (most_severe lines) locked new status had has between is
+
+-- The first of these objects were asked for their locks, and the line of each was written; the last one of them is
+-- locked.
+pub record LocksSome (targets : List ℕ) (old new : PanelState) (was is : Output) : Type 0 where
+  pub asked : List ℕ
+  pub last : ℕ
+  pub line : ObjectLine
+  pub rest : List ℕ
+  pub lines : List (ℕ × ObjectLine)
+  pub whole : targets ≡ asked ++ last ∷ rest
+  pub locks : InTurn (Locks true) (asked ++ last ∷ []) (lines ++ (last, line) ∷ []) old new
+  pub locked : object_status line ≡ 0
+  pub writes : WritesWhole was is (reported_lines (lines ++ (last, line) ∷ []))
+
+-- Locking stopped: a write failed, or there was no memory to list the object that was locked last. None is unlocked.
+abbrev pub StopsLocking : List ℕ → RunFault → PanelState → PanelState → Output → Output → Type 0
+StopsLocking targets why old new was is =
+    ((why ≡ runs.Write) × AsksPart (Locks true) targets old new was is)
+    ⊎ ((why ≡ runs.NoMemory) × LocksSome targets old new was is)
+
+-- the locks of these were kept until the input ended, and taken off until a write failed
+pub record StopsUnlocking (held : List ℕ) (old new : PanelState) (had has : Input) (was is : Output) : Type 0 where
+  pub kept : PanelState
+  pub keeps : KeepsUntilEnd old kept had has
+  pub unlocks : AsksPart (Locks false) held kept new was is
+
+-- all objects were asked for their locks, and a write failed while those that are locked were unlocked
+pub record HoldsPart (targets : List ℕ) (old new : PanelState) (had has : Input) (was is : Output) : Type 0 where
+  pub lines : List (ℕ × ObjectLine)
+  pub locked : PanelState
+  pub between : Output
+  pub locks : InTurn (Locks true) targets lines old locked
+  pub writes : WritesWhole was between (reported_lines lines)
+  pub stops : StopsUnlocking (held_of lines) locked new had has between is
+
+-- HOLDING STOPPED while the objects were locked, before any input was read; or while they were unlocked.
+abbrev pub StopsHolding : List ℕ → RunFault → PanelState → PanelState → Input → Input → Output → Output → Type 0
+StopsHolding targets why old new had has was is =
+    ((has ≡ had) × StopsLocking targets why old new was is)
+    ⊎ ((why ≡ runs.Write) × HoldsPart targets old new had has was is)
+
+-- ---- the words of the command line
+
+abbrev pub parsed_ono : List ℕ → Option ℕ
+parsed_ono word = number_of 10 4294967295 word
+
+-- it takes locks or takes them off
+abbrev pub is_locking : Task → Bool
+is_locking (task.Lock onos) = true
+is_locking (task.Unlock onos) = true
+is_locking (task.Hold onos) = true
+is_locking (task.Get onos) = false
+is_locking (task.Set ahead pairs) = false
+is_locking task.Tree = false

@@ -1,0 +1,221 @@
+-- For private contracts: objects and values as the program has them, and what is done for one of several.
+use Rattle.std.specs.Prelude.{◌≡◌, ◌⊎◌, ◌<◌, ◌≤◌, ℕ, Bool, true, false, List, [], ◌∷◌, ◌++◌, length, map, Some, Result}
+use Rattle.std.specs.Prelude.{Ok, Err}
+use Rattle.oca_types.specs.declared.words.Ono.{Ono}
+use Rattle.oca_script.specs.declared.fault.WriteFailed.{WriteFailed}
+use Rattle.oca_script.specs.Ends.{Input, Output}
+use Rattle.oca_script.specs.Printing.{WritesWhole, WritesFront}
+use Rattle.oca_program.specs.declared.fault.Failure.{Failure}
+use Rattle.oca_program.specs.declared.fault.RunFault.TheVariants.{NoMemory, Write}
+use Rattle.oca_control.specs.declared.outcome.Outcome.{Outcome}
+use Rattle.oca_model.specs.declared.value.Value.{Value}
+use Rattle.oca_panel.specs.declared.trouble.Trouble.{Trouble}
+use Rattle.oca_panel.specs.Panels.{PanelState, EndsIn}
+use Rattle.ocactl_cli.specs.declared.objects.Pair.{Pair}
+use Rattle.ocactl_cli.specs.declared.objects.Search.{Search}
+use Rattle.ocactl_cli.specs.declared.setting.Assignment.{Assignment}
+use Rattle.ocactl_cli.specs.declared.setting.Submitted.{Submitted}
+use Rattle.ocactl_cli.specs.declared.object_line.ObjectLine.{ObjectLine}
+use Rattle.ocactl_cli.specs.declared.object_line.ObjectLine.TheVariants.{Failed}
+use Rattle.oca_script.specs.declared.fault.ReadFailed.{ReadFailed}
+use Rattle.ocactl_cli.specs.Matching.{without_blank}
+use Rattle.ocactl_cli.specs.Objects.{InTurn, KeepsHeld, StopsUnlocking, ReadsOnce, ends_input, Locks, held_if, held_of}
+use Rattle.ocactl_cli.specs.Objects.{FindsValue, FindsAll, OnlyFinds, GivesUp, SetCommand, SetsUpTo, SetsEach}
+use Rattle.ocactl_cli.specs.Objects.{reported_by, reported_line, reported_lines, most_severe, max_severity}
+use Rattle.ocactl_cli.specs.Objects.{last_refused, line_of_object, parsed_ono, object_status}
+
+abbrev pub pair_of : Pair → ℕ × List ℕ
+pair_of p = (p.ono.0, p.word)
+
+abbrev pub ono_number : Ono → ℕ
+ono_number ono = ono.0
+
+abbrev pub assignment_of : Assignment → ℕ × Value
+assignment_of w = (w.ono.0, w.value)
+
+abbrev pub set_command_of : Submitted → SetCommand
+set_command_of s = record { target = s.assignment.ono.0; value = s.assignment.value; returned = s.returned }
+
+-- one more pair was listed, as two words say it
+pub record AddsPair (first second : List ℕ) (old new : List Pair) : Type 0 where
+  pub ono : ℕ
+  pub parsed : parsed_ono first ≡ Some ono
+  pub adds : map pair_of new ≡ map pair_of old ++ (ono, without_blank second) ∷ []
+
+-- a line was written, and this is its status; or a write failed
+abbrev pub WritesLine : (status : ℕ) (line : List ℕ) → Result ℕ WriteFailed → Output → Output → Type 0
+WritesLine status line (Ok s) was is = (s ≡ status) × WritesWhole was is line
+WritesLine status line (Err e) was is = WritesFront was is line
+
+-- one object was asked so, and its line was written, or a write failed
+pub record ReportsOne (One : ℕ → PanelState → PanelState → ObjectLine → Type 0) (target : ℕ) (old new : PanelState)
+    (result : Result ℕ WriteFailed) (was is : Output) : Type 0 where
+  pub line : ObjectLine
+  pub asks : One target old new line
+  pub writes : WritesLine (object_status line) (line_of_object target line) result was is
+
+-- the line of one more was written
+pub record ReportsNext (line : ℕ × ObjectLine) (status now : ℕ) (was is : Output) : Type 0 where
+  pub worst : now ≡ max_severity status (object_status line.1)
+  pub writes : WritesWhole was is (reported_line line)
+
+-- all lines that were written so far
+pub record ReportsAll (lines : List (ℕ × ObjectLine)) (status : ℕ) (was is : Output) : Type 0 where
+  pub worst : status ≡ most_severe lines
+  pub writes : WritesWhole was is (reported_lines lines)
+
+-- ---- values that are sought
+
+abbrev pub is_none : List (ℕ × ObjectLine) → Bool
+is_none [] = true
+is_none (m ∷ missed) = false
+
+pub record FindsAllTo (pairs : List (ℕ × List ℕ)) (assignments : List Assignment) (search : Search)
+    (old new : PanelState) (was is : Output) : Type 0 where
+  pub missed : List (ℕ × ObjectLine)
+  pub finds : FindsAll pairs (map assignment_of assignments) missed old new
+  pub all : search.all ≡ is_none missed
+  pub reports : ReportsAll missed search.status was is
+
+-- it was given up, and nothing was set
+abbrev pub GivesUpFinding : List (ℕ × List ℕ) → Failure → PanelState → PanelState → Output → Type 0
+GivesUpFinding pairs failure old new is = GivesUp failure is × OnlyFinds pairs old new
+
+-- what was found is behind what was found before, or memory was refused
+abbrev pub AddsAssignment : ℕ × Value → List Assignment → Search → List Assignment → Result Search Failure → Type 0
+AddsAssignment assignment assignments search more (Ok now) =
+    (map assignment_of more ≡ map assignment_of assignments ++ assignment ∷ []) × (now ≡ search)
+AddsAssignment assignment assignments search more (Err failure) = failure.fault ≡ NoMemory
+
+-- the line of what was not found is written, and there is not a value for each then; or the sink failed
+abbrev pub ReportsMissing : ℕ × ObjectLine → Search → Result Search Failure → Output → Output → Type 0
+ReportsMissing missed search (Ok now) was is = (now.all ≡ false) × ReportsNext missed search.status now.status was is
+ReportsMissing missed search (Err failure) was is = (failure.fault ≡ Write) × (is.failed ≡ true)
+
+abbrev pub AddsFound : Result Value Trouble → ℕ → List Assignment → Search → List Assignment → Result Search Failure
+    → Output → Output → Type 0
+AddsFound (Ok v) target assignments search more result was is =
+    AddsAssignment (target, v) assignments search more result × (is ≡ was)
+AddsFound (Err why) target assignments search more result was is =
+    ReportsMissing (target, Failed why) search result was is × (more ≡ assignments)
+
+pub record FindsOneTo (pair : ℕ × List ℕ) (assignments : List Assignment) (search : Search) (old : PanelState)
+    (more : List Assignment) (result : Result Search Failure) (new : PanelState) (was is : Output) : Type 0 where
+  pub found : Result Value Trouble
+  pub finds : FindsValue pair.0 pair.1 old new found
+  pub adds : AddsFound found pair.0 assignments search more result was is
+
+-- ---- set commands
+
+-- the commands of the first assignments were submitted from a start on, of which these are in flight, and the lines of
+-- the others
+pub record SoFar (ahead : ℕ) (assignments : List (ℕ × Value)) (start : PanelState) (before : Output)
+    (begun : List (ℕ × Value)) (panel : PanelState) (waiting : List SetCommand) (status : ℕ)
+    (is : Output) : Type 0 where
+  pub lines : List (ℕ × ObjectLine)
+  pub sets : SetsUpTo ahead assignments begun waiting lines start panel
+  pub reports : ReportsAll lines status before is
+
+-- all are to be waited for: all are submitted, or the last one was refused
+abbrev pub AllAwaited : (assignments begun : List (ℕ × Value)) → List SetCommand → Type 0
+AllAwaited assignments begun waiting = (begun ≡ assignments) ⊎ (last_refused waiting ≡ true)
+
+-- whatever was submitted so far, some more of it was waited for and its lines were written, where all is to be waited
+-- for
+pub record WaitsOn (old new : PanelState) (waiting more : List SetCommand) (status now : ℕ)
+    (was is : Output) : Type 0 where
+  pub on : (ahead : ℕ) (assignments : List (ℕ × Value)) (start : PanelState) (before : Output)
+      (begun : List (ℕ × Value)) → AllAwaited assignments begun waiting
+      → SoFar ahead assignments start before begun old waiting status was
+      → SoFar ahead assignments start before begun new more now is
+  pub last : 0 < length more → last_refused more ≡ last_refused waiting
+
+-- whatever was submitted so far, the first was waited for and its line was written, if as many are in flight as may be:
+-- one more may be then
+pub record MakesPlace (ahead : ℕ) (old new : PanelState) (waiting more : List SetCommand) (status now : ℕ)
+    (was is : Output) : Type 0 where
+  pub on : (assignments : List (ℕ × Value)) (start : PanelState) (before : Output) (begun : List (ℕ × Value))
+      → SoFar ahead assignments start before begun old waiting status was
+      → SoFar ahead assignments start before begun new more now is
+  pub few : length more < ahead
+  pub accepted : last_refused more ≡ false
+
+-- whatever was submitted so far, one more was
+pub record SetsOn (ahead : ℕ) (assignment : ℕ × Value) (old new : PanelState) (waiting more : List SetCommand)
+    (status now : ℕ) (was is : Output) : Type 0 where
+  pub on : (assignments : List (ℕ × Value)) (start : PanelState) (before : Output) (begun : List (ℕ × Value))
+      → SoFar ahead assignments start before begun old waiting status was
+      → SoFar ahead assignments start before (begun ++ assignment ∷ []) new more now is
+  pub few : length more ≤ ahead
+  pub accepted : last_refused more ≡ false
+
+-- the first that is waited for ended so, and its line was written
+pub record WaitsForFirst (old new : PanelState) (waiting more : List Submitted) (status now : ℕ)
+    (was is : Output) : Type 0 where
+  pub command : Submitted
+  pub outcome : Outcome
+  pub first : waiting ≡ command ∷ more
+  pub ends : EndsIn command.returned old new outcome
+  pub reports : ReportsNext (reported_by (set_command_of command) outcome) status now was is
+
+-- all assignments were submitted and waited for, and their lines were written
+pub record SetsEachTo (ahead : ℕ) (assignments : List (ℕ × Value)) (status : ℕ) (old new : PanelState)
+    (was is : Output) : Type 0 where
+  pub lines : List (ℕ × ObjectLine)
+  pub sets : SetsEach ahead assignments lines old new
+  pub reports : ReportsAll lines status was is
+
+-- where there is a value for each, they are set; else nothing is
+abbrev pub SetsOnlyIf : Bool → ℕ → List (ℕ × Value) → (before : ℕ) → PanelState → PanelState → Result ℕ Failure → Output
+    → Output → Type 0
+SetsOnlyIf true ahead assignments before old new (Ok status) was is = SetsEachTo ahead assignments status old new was is
+SetsOnlyIf true ahead assignments before old new (Err failure) was is = (failure.fault ≡ Write) × (is.failed ≡ true)
+SetsOnlyIf false ahead assignments before old new result was is = (result ≡ Ok before) × (new ≡ old) × (is ≡ was)
+
+abbrev pub SetsFound : ℕ → List (ℕ × Value) → Search → PanelState → PanelState → Result ℕ Failure → Output → Output
+    → Type 0
+SetsFound ahead assignments search old new result was is =
+    SetsOnlyIf search.all ahead assignments search.status old new result was is
+
+-- ---- locks that are kept
+
+-- each of these objects was locked, and those that are locked are listed
+pub record LocksEach (targets : List ℕ) (old new : PanelState) (status : ℕ) (held : List Ono)
+    (was is : Output) : Type 0 where
+  pub lines : List (ℕ × ObjectLine)
+  pub locks : InTurn (Locks true) targets lines old new
+  pub worst : status ≡ most_severe lines
+  pub writes : WritesWhole was is (reported_lines lines)
+  pub listed : map ono_number held ≡ held_of lines
+
+-- one more was listed where its status is 0
+pub record ListsHeld (target own status now : ℕ) (held more : List Ono) : Type 0 where
+  pub worst : now ≡ max_severity status own
+  pub listed : map ono_number more ≡ map ono_number held ++ held_if target own
+
+-- one more was locked, and its line was written
+pub record LocksNext (target : ℕ) (old new : PanelState) (status now : ℕ) (held more : List Ono)
+    (was is : Output) : Type 0 where
+  pub own : ℕ
+  pub reports : ReportsOne (Locks true) target old new (Ok own) was is
+  pub lists : ListsHeld target own status now held more
+
+-- one more was locked; or the sink failed, or there was no memory to list the object, which was locked then
+abbrev pub LocksNextOr : (target : ℕ) → PanelState → PanelState → (status : ℕ) → Result ℕ Failure
+    → (held more : List Ono) → Output → Output → Type 0
+LocksNextOr target old new status (Ok now) held more was is = LocksNext target old new status now held more was is
+LocksNextOr target old new status (Err failure) held more was is =
+    ((failure.fault ≡ Write) × (e : WriteFailed) × ReportsOne (Locks true) target old new (Err e) was is)
+    ⊎ ((failure.fault ≡ NoMemory) × ReportsOne (Locks true) target old new (Ok 0) was is)
+
+-- the input was read, unless it was not ready
+abbrev pub ReadsWhereReady : (ready ended : Bool) → Input → Input → Type 0
+ReadsWhereReady ready ended had has =
+    (ready ≡ false) ⊎ ((read : Result ℕ ReadFailed) × ReadsOnce read had has × (ended ≡ ends_input read))
+
+-- what was held is kept and taken off, or a write failed meanwhile
+abbrev pub KeepsOrFails : List ℕ → ℕ → PanelState → PanelState → Result ℕ Failure → Input → Input → Output → Output
+    → Type 0
+KeepsOrFails held before old new (Ok status) had has was is = KeepsHeld held before old new status had has was is
+KeepsOrFails held before old new (Err failure) had has was is =
+    (failure.fault ≡ Write) × StopsUnlocking held old new had has was is

@@ -1,0 +1,264 @@
+//! Several objects: read, set, locked, unlocked. Each has its line.
+ghost use Rattle.std.specs.Prelude.{◌≡◌, [], map, IfOk, IfErr, OnErr};
+ghost use Rattle.oca_types.specs.Sizes.{span_size};
+ghost use Rattle.ocactl_cli.specs.declared.object_line.ObjectLine.TheVariants.{Failed};
+ghost use Rattle.ocactl_cli.specs.Objects.{AsksAll, AsksPart, Gets, Locks, SetsAll, SetsNoneUnfound, GivesUp};
+ghost use Rattle.ocactl_cli.specs.Objects.{ShowsValue, ShowsPosition, done_line};
+ghost use Rattle.ocactl_cli.specs.PrivateObjects.{ono_number, pair_of, assignment_of, AddsAssignment, FindsAllTo};
+ghost use Rattle.ocactl_cli.specs.PrivateObjects.{FindsOneTo, GivesUpFinding, SetsFound, ReportsMissing, ReportsOne};
+
+use super::object_line::{ObjectLine, max_severity, report_object};
+use super::setting::{Assignment, set_assignments};
+use super::wanted::wanted;
+use oca_model::Value;
+use oca_net::End;
+use oca_panel::{Panel, Trouble};
+use oca_program::{Failure, RunFault};
+use oca_script::{Printer, Sink, WriteFailed};
+use oca_types::{Ono, Span, Text};
+use std::alloc::Global;
+
+/// An object, and the word for the value that it is to have.
+#[derive(Drop)]
+pub struct Pair {
+    pub ono: Ono,
+    pub word: Text,
+}
+
+/// Reads the objects one after another, and prints the value of each. Returns the exit status.
+pub fn get_all<E: End, W: Sink>(
+    panel: &mut Panel<E>,
+    onos: &[Ono],
+    printer: &mut Printer<W>,
+) -> Result<u8, WriteFailed>
+    ensures all { IfOk result (λ status. AsksAll Gets (map ono_number onos.now) panel.old panel.new status printer.old
+        printer.new) }
+    ensures part { OnErr result (AsksPart Gets (map ono_number onos.now) panel.old panel.new printer.old printer.new) }
+{
+    printer.flush()?;
+    let mut status = 0;
+    for ono in onos {
+        status = max_severity(status, get_one(panel, *ono, printer)?);
+    }
+    Ok(status)
+}
+
+/// Reads an object, and prints its value, or why there is none. Returns the exit status.
+fn get_one<E: End, W: Sink>(
+    panel: &mut Panel<E>,
+    ono: Ono,
+    printer: &mut Printer<W>,
+) -> Result<u8, WriteFailed>
+    ensures { ReportsOne Gets ono.0 panel.old panel.new result printer.old printer.new }
+{
+    let line = read(panel, ono);
+    report_object(ono, &line, printer)
+}
+
+/// Reads an object: its value, or why there is none.
+fn read<E: End>(panel: &mut Panel<E>, ono: Ono) -> ObjectLine
+    ensures { Gets ono.0 panel.old panel.new result }
+{
+    match panel.get(ono) {
+        Ok(value) => line_of_value(panel, ono, value),
+        Err(trouble) => ObjectLine::Failed(trouble),
+    }
+}
+
+/// What the line of an object with this value shows: of a switch the position's name too.
+fn line_of_value<E: End>(panel: &mut Panel<E>, ono: Ono, value: Value) -> ObjectLine
+    ensures { ShowsValue value ono.0 panel.old panel.new result }
+{
+    match value {
+        Value::Switch(position) => position_of(panel, ono, position),
+        other => ObjectLine::Value(other),
+    }
+}
+
+/// The position of a switch, with its name where the switch gives it.
+fn position_of<E: End>(panel: &mut Panel<E>, ono: Ono, position: u16) -> ObjectLine
+    ensures { ShowsPosition position ono.0 panel.old panel.new result }
+{
+    match panel.position_name(ono, position) {
+        Ok(name) => ObjectLine::Position(position, name),
+        Err(_) => ObjectLine::Value(Value::Switch(position)),
+    }
+}
+
+/// Sets the objects, so many at once, and prints the value of each, in the order of the pairs. Where the word of one is
+/// for no value of it, or its class can't be read, nothing is set, and this is printed of each such object. Returns the
+/// exit status.
+pub fn set_all<E: End, W: Sink>(
+    alloc: Global,
+    panel: &mut Panel<E>,
+    pairs: &[Pair],
+    ahead: Span,
+    printer: &mut Printer<W>,
+) -> Result<u8, Failure>
+    ensures all { IfOk result (λ status. SetsAll (span_size ahead) (map pair_of pairs.now) panel.old panel.new status
+        printer.old printer.new) }
+    ensures fails { IfErr result (λ failure. GivesUp failure printer.new) }
+    ensures unset { OnErr result (SetsNoneUnfound (map pair_of pairs.now) panel.old panel.new) }
+{
+    let mut assignments = Vec::new(alloc);
+    match find_assignments(panel, pairs, &mut assignments, printer) {
+        Ok(search) => set_found(panel, assignments.as_slice(), search, ahead, printer),
+        Err(failure) => Err(failure),
+    }
+}
+
+/// What a search for values came to: the exit status so far, and whether there is a value for each.
+#[derive(Clone, Copy)]
+struct Search {
+    status: u8,
+    all: bool,
+}
+
+/// Sets the objects where there is a value for each.
+fn set_found<E: End, W: Sink>(
+    panel: &mut Panel<E>,
+    assignments: &[Assignment],
+    search: Search,
+    ahead: Span,
+    printer: &mut Printer<W>,
+) -> Result<u8, Failure>
+    requires { printer.old.held ≡ [] }
+    ensures { SetsFound (span_size ahead) (map assignment_of assignments.now) search panel.old panel.new result
+        printer.old printer.new }
+{
+    if search.all {
+        Ok(set_assignments(panel, assignments, ahead, printer)?)
+    } else {
+        Ok(search.status)
+    }
+}
+
+/// Finds the values that words name, and prints of each object where there is none.
+fn find_assignments<E: End, W: Sink>(
+    panel: &mut Panel<E>,
+    pairs: &[Pair],
+    assignments: &mut Vec<Assignment>,
+    printer: &mut Printer<W>,
+) -> Result<Search, Failure>
+    requires { assignments.old.items ≡ [] }
+    ensures finds { IfOk result (λ s. FindsAllTo (map pair_of pairs.now) assignments.new.items s panel.old panel.new
+        printer.old printer.new) }
+    ensures fails { IfErr result (λ failure. GivesUpFinding (map pair_of pairs.now) failure panel.old panel.new
+        printer.new) }
+{
+    printer.flush()?;
+    let mut search = Search {
+        status: 0,
+        all: true,
+    };
+    for pair in pairs {
+        search = find_one(panel, pair, assignments, search, printer)?;
+    }
+    Ok(search)
+}
+
+/// Finds the value that a word names, or prints why there is none.
+fn find_one<E: End, W: Sink>(
+    panel: &mut Panel<E>,
+    pair: &Pair,
+    assignments: &mut Vec<Assignment>,
+    search: Search,
+    printer: &mut Printer<W>,
+) -> Result<Search, Failure>
+    ensures { FindsOneTo (pair_of pair.now) assignments.old.items search panel.old assignments.new.items result
+        panel.new printer.old printer.new }
+{
+    let found = wanted(panel, pair.ono, pair.word.as_str());
+    match found {
+        Ok(value) => add_assignment(pair.ono, value, assignments, search),
+        Err(trouble) => report_missing(pair.ono, trouble, search, printer),
+    }
+}
+
+/// Lists a value that was found.
+fn add_assignment(
+    ono: Ono,
+    value: Value,
+    assignments: &mut Vec<Assignment>,
+    search: Search,
+) -> Result<Search, Failure>
+    ensures { AddsAssignment (ono.0, value) assignments.old.items search assignments.new.items result }
+{
+    match assignments.push(Assignment { ono, value }) {
+        Ok(()) => Ok(search),
+        Err(_) => Err(Failure::from(RunFault::NoMemory)),
+    }
+}
+
+/// Prints why there is no value for an object.
+fn report_missing<W: Sink>(
+    ono: Ono,
+    trouble: Trouble,
+    search: Search,
+    printer: &mut Printer<W>,
+) -> Result<Search, Failure>
+    ensures { ReportsMissing (ono.0, Failed trouble) search result printer.old printer.new }
+{
+    let status = report_object(ono, &ObjectLine::Failed(trouble), printer)?;
+    Ok(Search {
+        status: max_severity(search.status, status),
+        all: false,
+    })
+}
+
+/// Locks the objects one after another, or takes their locks off, and prints the outcome of each. Returns the exit
+/// status.
+pub fn lock_all<E: End, W: Sink>(
+    panel: &mut Panel<E>,
+    onos: &[Ono],
+    locks: bool,
+    printer: &mut Printer<W>,
+) -> Result<u8, WriteFailed>
+    ensures all { IfOk result (λ status. AsksAll (Locks locks) (map ono_number onos.now) panel.old panel.new status
+        printer.old printer.new) }
+    ensures part { OnErr result (AsksPart (Locks locks) (map ono_number onos.now) panel.old panel.new printer.old
+        printer.new) }
+{
+    printer.flush()?;
+    let mut status = 0;
+    for ono in onos {
+        status = max_severity(status, lock_one(panel, *ono, locks, printer)?);
+    }
+    Ok(status)
+}
+
+/// Locks an object, or takes its lock off, and prints its outcome. Returns the exit status.
+pub fn lock_one<E: End, W: Sink>(
+    panel: &mut Panel<E>,
+    ono: Ono,
+    locks: bool,
+    printer: &mut Printer<W>,
+) -> Result<u8, WriteFailed>
+    ensures { ReportsOne (Locks locks) ono.0 panel.old panel.new result printer.old printer.new }
+{
+    let line = lock(panel, ono, locks);
+    report_object(ono, &line, printer)
+}
+
+/// Locks an object, or takes its lock off.
+fn lock<E: End>(panel: &mut Panel<E>, ono: Ono, locks: bool) -> ObjectLine
+    ensures { Locks locks ono.0 panel.old panel.new result }
+{
+    if locks {
+        let done = panel.lock(ono);
+        done_line(done, ObjectLine::Locked)
+    } else {
+        let done = panel.unlock(ono);
+        done_line(done, ObjectLine::Unlocked)
+    }
+}
+
+/// This line where it was done, else why it was not.
+fn done_line(done: Result<(), Trouble>, line: ObjectLine) -> ObjectLine
+    ensures { result ≡ done_line line done }
+{
+    match done {
+        Ok(()) => line,
+        Err(trouble) => ObjectLine::Failed(trouble),
+    }
+}

@@ -1,0 +1,57 @@
+//! The objects of a device, as a walk finds them.
+use anyhow::Error;
+use oca_model::{class_with, word_of};
+use oca_net::{End, UdpEnd};
+use oca_panel::{Description, Found, MOST_PLACES, Panel, Walk};
+use oca_types::{Handle, Ono, Peer, Span};
+use std::fmt::Display;
+use std::net::Net;
+use std::rt::Runtime;
+
+/// Prints the objects of the device, a line for each.
+pub fn print_objects<R: Runtime + Net + AllocGlobal>(rt: &R, device: Peer) -> Result<(), Error> {
+    let end = UdpEnd::bind(rt.alloc(), rt, device.ip, 0)?;
+    let mut panel = Panel::open(device, end, Handle(1), Span::default(), 210);
+    let mut walk = Walk::new(rt.alloc())?;
+    for _place in 0..MOST_PLACES {
+        let Some(visit) = walk.next(&mut panel)? else {
+            return Ok(());
+        };
+        print_found(rt, &mut panel, visit.place.ono, &visit.found)?;
+    }
+    Ok(())
+}
+
+/// Prints what was found: an object with its value, a block, or why there is neither.
+fn print_found<R: Runtime, E: End>(
+    rt: &R,
+    panel: &mut Panel<E>,
+    ono: Ono,
+    found: &Found,
+) -> Result<(), Error> {
+    match found {
+        Found::Object(object) => match panel.get(ono) {
+            Ok(value) => print_line(rt, ono, object, &word_of(value).as_str()),
+            Err(trouble) => print_line(rt, ono, object, &trouble),
+        },
+        Found::Block(block, Ok(())) => print_line(rt, ono, block, &"its members follow"),
+        Found::Block(block, Err(trouble)) => print_line(rt, ono, block, trouble),
+        Found::Undescribed(trouble) => Ok(println!(rt; "{}: {trouble}", ono.0)?),
+        Found::Again => Ok(()),
+    }
+}
+
+/// Prints the line of an object: its number, its class, its role, and what its value is.
+fn print_line<R: Runtime, T: Display>(
+    rt: &R,
+    ono: Ono,
+    object: &Description,
+    value: &T,
+) -> Result<(), Error> {
+    let class = match class_with(object.fields.as_slice()) {
+        Some(class) => class.name(),
+        None => "of another class",
+    };
+    println!(rt; "{} {class} {:?}: {value}", ono.0, object.role.as_str())?;
+    Ok(())
+}

@@ -1,0 +1,15 @@
+//! What the command line asks for.
+use anyhow::{Error, bail};
+use std::env;
+use std::rt::Runtime;
+
+/// The port that the command line names, 9 without one, and whether the objects are to be listed.
+pub fn asked<R: Runtime + AllocGlobal>(rt: &R) -> Result<(u16, bool), Error> {
+    let words = env::args(rt)?.collect::<Vec<String>>(rt.alloc())?;
+    match words.as_slice() {
+        [_] => Ok((9, false)),
+        [_, port] => Ok((port.parse::<u16>()?, false)),
+        [_, port, word] if word.as_str() == "objects" => Ok((port.parse::<u16>()?, true)),
+        _ => bail!("usage: panel [PORT [objects]]"),
+    }
+}
