@@ -1,5 +1,7 @@
 //! A panel: a link to a device, driven over an end, and commands one at a time or several in flight.
 ghost use Rattle.std.specs.Prelude.{◌≡◌};
+ghost use Rattle.std.specs.Option.{option_map};
+ghost use Rattle.oca_control.specs.Untaken.{first_answered};
 ghost use Rattle.oca_panel.specs.Panels.{is_lost_or_unanswered};
 
 use oca_control::{ControlFault, Link, Outcome, begin, is_late, turn, wait_for};
@@ -55,7 +57,8 @@ impl<E: End> Panel<E> {
     /// A panel for the device at this address, over an end, with a new link that is made at the end's present moment.
     ///
     /// `first` is the handle of the first command: on a port that this device has heard before, above all handles used
-    /// there in the last two minutes ([`OwnPort`](crate::OwnPort) chooses such a handle). `span` is how far above the
+    /// there since the last pause of more than two minutes in which nothing was sent from it
+    /// ([`OwnPort`](crate::OwnPort) chooses such a handle). `span` is how far above the
     /// lowest untaken command the next handle may lie, and so how many commands can be in flight. A command waits for
     /// its answer for `turns` turns, at a socket 50 ms at most each; where the device is silent the link is lost after
     /// some 5 seconds.
@@ -131,6 +134,21 @@ impl<E: End> Panel<E> {
         self.link.is_lost() || is_late(&self.link, self.end.now())
     }
 
+    /// The lowest handle whose answer came and was not taken yet. So a program finds the answer to a command that a call
+    /// gave up: `try_finish` takes it.
+    pub fn answered(&self) -> Option<Handle>
+        ensures { option_map (λ h. h.0) result ≡ first_answered self.now.link.untaken }
+    {
+        self.link.answered()
+    }
+
+    /// The handle that the next command gets; `None` after the last one, 4294967295.
+    pub fn next_handle(&self) -> Option<Handle>
+        ensures { option_map (λ h. h.0) result ≡ self.now.link.next }
+    {
+        self.link.next_handle()
+    }
+
     /// Whether a command that was waited for got no answer so far.
     pub fn unanswered(&self) -> bool
         ensures { result ≡ self.now.unanswered }
@@ -139,7 +157,8 @@ impl<E: End> Panel<E> {
     }
 
     /// Asks for one command, and waits for its answer. `Refused` where the link refuses it, so that it is never sent:
-    /// that changes nothing.
+    /// that changes nothing. Where no answer comes in the panel's turns, the command stays in flight, under the handle that
+    /// [`next_handle`](Panel::next_handle) told before, and takes room in the span until its answer is taken.
     pub fn ask(&mut self, request: Request<'_>) -> Outcome
         ensures { AsksIn (request_of request.entry) self.old self.new result }
     {

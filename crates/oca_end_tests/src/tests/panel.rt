@@ -5,6 +5,7 @@ use oca_types::{Handle, Peer, Span};
 use std::alloc::Global;
 use std::process::Abort;
 
+mod given_up;
 mod objects;
 mod ports;
 mod walks;
@@ -87,5 +88,10 @@ fn tables_of_rows(rt: HostRuntime) {
     none_wrong(&rt, "objects", objects::first_wrong(rt.alloc()));
     none_wrong(&rt, "texts", objects::first_other_text(rt.alloc()));
     none_wrong(&rt, "turns", ports::first_other_turn());
+    none_wrong(
+        &rt,
+        "answers to what was given up",
+        given_up::first_wrong(rt.alloc()),
+    );
     none_wrong(&rt, "walks", walks::first_wrong(rt.alloc()));
 }
