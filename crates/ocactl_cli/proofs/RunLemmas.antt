@@ -1,7 +1,7 @@
 -- How a run ends, by what its last call gave.
-use Rattle.std.proofs.Common.{◌≡◌, Bool, true, false, ℕ, List, Result, Ok, Err, refl, sym, ap, subst}
-use Rattle.std.specs.Prelude.{IfOk, IfErr, OnErr, if◌then◌else◌, map}
-use Rattle.ocactl_cli.specs.Matching.{is_set, matched_words, with_blank}
+use Rattle.std.proofs.Common.{◌≡◌, ℕ, List, Result, Ok, Err, refl, ap, subst}
+use Rattle.std.specs.Prelude.{IfOk, IfErr, OnErr, if◌then◌else◌, string_bytes}
+use Rattle.std.specs.Option.{option_map}
 use Rattle.oca_types.specs.Sizes.{span_size}
 use Rattle.oca_control.specs.Links.{LinkState, new_link}
 use Rattle.oca_net.specs.EndStates.{EndState}
@@ -12,7 +12,7 @@ use Rattle.oca_script.specs.declared.fault.WriteFailed.{WriteFailed}
 use Rattle.oca_script.specs.Ends.{Input, Output}
 use Rattle.oca_script.specs.Printing.{WritesOut}
 use Rattle.oca_script.specs.Replaying.{NeverIdles, Outcome}
-use Rattle.oca_program.specs.Faults.{fault_in, run_fault}
+use Rattle.oca_program.specs.Faults.{PrintsFault, failure_text, fault_in, run_fault}
 use Rattle.oca_program.specs.declared.fault.Failure.{Failure}
 use Rattle.oca_program.specs.declared.fault.RunFault.{RunFault}
 use Rattle.oca_program.specs.declared.fault.RunFault.TheVariants.{Write}
@@ -21,7 +21,7 @@ use Rattle.ocactl_replay.specs.Replaying.{Serves as CallsLink}
 use Rattle.ocactl_cli.specs.Exchanges.{SendsLines, SessionState}
 use Rattle.oca_panel.specs.Panels.{PanelState}
 use Rattle.ocactl_cli.specs.Objects.{GivesUp, HoldsAll, StopsHolding}
-use Rattle.ocactl_cli.specs.Runs.{AsksOver, HoldsObjects, IsDone, ReplaysScript, RunsFrom, RunsProgram, RunsWords, SendsOne, EndsWithText}
+use Rattle.ocactl_cli.specs.Runs.{AsksOver, HoldsObjects, IsDone, ReplaysScript, RunsFrom, RunsWords, SendsOne, EndsWithText}
 use Rattle.ocactl_cli.specs.declared.words.Linking.{Linking}
 use Rattle.ocactl_cli.specs.declared.words.Reach.{Reach}
 use Rattle.ocactl_cli.specs.declared.words.Sending.{Sending}
@@ -86,23 +86,15 @@ holds-so targets old new (Err failure) had has was is h k = k
 
 -- ---- the words of a run
 
-pub runs-as : (ws vs : List (List ℕ)) (status : ℕ) (had has : Input) (was is : Output) → ws ≡ vs
-    → RunsWords ws status had has was is → RunsWords vs status had has was is
-runs-as ws vs status had has was is same h = subst (λ (xs : List (List ℕ)). RunsWords xs status had has was is) same h
-
-by-set : (b : Bool) (ws : List (List ℕ)) → b ≡ is_set ws → matched_words ws ≡ (if b then map with_blank ws else ws)
-by-set b ws is = ap (λ (t : Bool). if t then map with_blank ws else ws) (sym is)
-
-pub runs-set : (ws : List (List ℕ)) (status : ℕ) (had has : Input) (was is : Output) → true ≡ is_set ws
-    → RunsWords (map with_blank ws) status had has was is → RunsProgram ws status had has was is
-runs-set ws status had has was is set h =
-    runs-as (map with_blank ws) (matched_words ws) status had has was is (sym (by-set true ws set)) h
-
-pub runs-others : (ws : List (List ℕ)) (status : ℕ) (had has : Input) (was is : Output) → false ≡ is_set ws
-    → RunsWords ws status had has was is → RunsProgram ws status had has was is
-runs-others ws status had has was is set h =
-    runs-as ws (matched_words ws) status had has was is (sym (by-set false ws set)) h
+pub runs-as : (ws vs : List (List ℕ)) (status : ℕ) (had has : Input) (was is before after : Output) → ws ≡ vs
+    → RunsWords ws status had has was is before after → RunsWords vs status had has was is before after
+runs-as ws vs status had has was is before after same h = subst (λ (xs : List (List ℕ)). RunsWords xs status had has was is before after) same h
 
 pub on-err : (P : Type 0) (r : Result ℕ Failure) → OnErr r P → OnErr (fault_in r) P
 on-err P (Ok status) h = h
 on-err P (Err failure) h = h
+
+-- the line of a fault was printed, behind that of its note
+pub prints-fault : (r : Result ℕ Failure) (f : Failure) (was is : Output) (w : Result Unit WriteFailed) → r ≡ Err f → WritesOut w was is (failure_text f)
+    → PrintsFault (fault_in r) was is
+prints-fault r f was is w e h = rw e (option_map string_bytes f.note, w, h)

@@ -15,7 +15,7 @@ use Rattle.oca_script.specs.Ends.{Input, Output}
 use Rattle.oca_script.specs.Printing.{WritesOut}
 use Rattle.oca_script.specs.Replaying.{NeverIdles, Outcome}
 use Rattle.oca_program.specs.Commands.{IsCommand}
-use Rattle.oca_program.specs.Faults.{fault_status, run_fault, words_fault}
+use Rattle.oca_program.specs.Faults.{PrintsFault, fault_status, run_fault, words_fault}
 use Rattle.oca_program.specs.declared.fault.RunFault.{RunFault}
 use Rattle.oca_program.specs.declared.fault.RunFault.TheVariants as fault
 use Rattle.oca_panel.specs.Panels.{PanelState}
@@ -283,20 +283,26 @@ AnswersUnmatched kinds.DisplayHelp ended was is = PrintsHelp ended was is
 AnswersUnmatched kinds.DisplayVersion ended was is = PrintsHelp ended was is
 AnswersUnmatched kind ended was is = FailsUnwritten (words_fault kind) ended was is
 
--- by what matching the words gave
-abbrev pub DoesByMatches : Result ArgMatches Error → Result ℕ RunFault → Input → Input → Output → Output → Type 0
-DoesByMatches (Ok matches) ended had has was is = DoesMatchedCommand matches ended had has was is
-DoesByMatches (Err error) ended had has was is = AnswersUnmatched (kind_of error) ended was is × (has ≡ had)
+-- By what matching the words gave. Where they do not match, nothing was read, and nothing printed where faults are.
+abbrev pub DoesByMatches : Result ArgMatches Error → Result ℕ RunFault → Input → Input → Output → Output → Output
+    → Output → Type 0
+DoesByMatches (Ok matches) ended had has was is before after = DoesMatchedCommand matches ended had has was is
+DoesByMatches (Err error) ended had has was is before after =
+    AnswersUnmatched (kind_of error) ended was is × (has ≡ had) × (after ≡ before)
 
 -- These words were matched with the program's own command line, and what that gave decides what was done. The exit
--- status is that of how it ended.
-pub record RunsWords (words : List (List ℕ)) (status : ℕ) (had has : Input) (was is : Output) : Type 0 where
+-- status is that of how it ended. Printed last, where faults are, is why it failed.
+pub record RunsWords (words : List (List ℕ)) (status : ℕ) (had has : Input) (was is before after : Output)
+    : Type 0 where
   pub matched : Result ArgMatches Error
   pub ended : Result ℕ RunFault
+  pub between : Output
   pub matches : MatchingGives own_app words matched
   pub ends : status ≡ run_status ended
-  pub does : DoesByMatches matched ended had has was is
+  pub does : DoesByMatches matched ended had has was is before between
+  pub fault : PrintsFault ended between after
 
 -- THE PROGRAM'S RUN on these words. A negative number among those of `set` is matched behind a blank.
-abbrev pub RunsProgram : List (List ℕ) → (status : ℕ) → (had has : Input) → (was is : Output) → Type 0
-RunsProgram words status had has was is = RunsWords (matched_words words) status had has was is
+abbrev pub RunsProgram : List (List ℕ) → (status : ℕ) → (had has : Input) → (was is before after : Output) → Type 0
+RunsProgram words status had has was is before after =
+    RunsWords (matched_words words) status had has was is before after

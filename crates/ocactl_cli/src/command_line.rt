@@ -52,8 +52,9 @@ const DEVICE: OptionRow = OptionRow {
 const SPAN: OptionRow = OptionRow {
     name: "span",
     value: "S",
-    help: "The span, 1 to 32: the handles of the commands in flight are within S consecutive numbers. The device needs \
-        a reply window of at least 2 * S - 1 commands; its default of 32 is enough for a span of 16 [default: 16]",
+    help: "The span, 1 to 32: the handles of the commands whose answers were not yet taken are within S consecutive \
+        numbers. The device needs a reply window of at least 2 * S - 1 commands; its default of 32 is enough for a \
+        span of 16 [default: 16]",
     required: false,
 };
 
@@ -61,8 +62,8 @@ const FIRST_HANDLE: OptionRow = OptionRow {
     name: "first-handle",
     value: "H",
     help: "The handle of the first command, 0 to 4294967295; it must be above every handle that was used from the same \
-        local port in the last two minutes [default: from the clock; it rises by 100000 a second, and starts again \
-        from 0 when it reaches 2147483648]",
+        local port since the last pause of more than two minutes in which nothing was sent from there [default: from \
+        the clock; it rises by 100000 a second, and starts again from 0 when it reaches 2147483648]",
     required: false,
 };
 
@@ -84,7 +85,8 @@ const IP: OptionRow = OptionRow {
 const AHEAD: OptionRow = OptionRow {
     name: "ahead",
     value: "N",
-    help: "How many commands may be in flight at once, 1 to the span; they may be executed in any order [default: 1]",
+    help: "How many commands may wait for their answers at once, 1 to the span; commands in flight together may be \
+        executed in any order [default: 1]",
     required: false,
 };
 
@@ -226,7 +228,7 @@ const LOCK_EXAMPLE: &str =
     "While an object is locked, other controllers can neither read nor set it.
 Without --hold a lock is released once its holder (this address and port) has
 been silent for more than 15 seconds; with --hold it is kept until standard
-input ends.
+input ends. The lock of a block does not lock its members.
 
 Example: ocactl lock --device 127.0.0.1:65000 4097";
 

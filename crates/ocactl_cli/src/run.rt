@@ -4,7 +4,7 @@ ghost use Rattle.clap.specs.Words.{kind_of};
 ghost use Rattle.oca_types.specs.Sizes.{span_size};
 ghost use Rattle.oca_script.specs.Ends.{input};
 ghost use Rattle.oca_script.specs.Printing.{WritesOut};
-ghost use Rattle.oca_program.specs.Faults.{fault_in, words_fault};
+ghost use Rattle.oca_program.specs.Faults.{PrintsFault, fault_in, words_fault};
 ghost use Rattle.oca_panel.specs.Panels.{PanelState};
 ghost use Rattle.ocactl_cli.specs.Objects.{Gets, Locks};
 ghost use Rattle.ocactl_cli.specs.PrivateObjects.{ono_number, pair_of};
@@ -64,7 +64,7 @@ pub fn run<N: Net + Clock, S: AsStr, R: Source, W: Sink, F: Sink>(
 ) -> u8
     ensures { RunsProgram (map S.text words.now) result
         (input (R.remaining reader.old) (R.failed reader.old))
-        (input (R.remaining reader.new) (R.failed reader.new)) printer.old printer.new }
+        (input (R.remaining reader.new) (R.failed reader.new)) printer.old printer.new faults.old faults.new }
 {
     if is_set(words) {
         return run_set(alloc, system, words, reader, printer, faults);
@@ -83,7 +83,7 @@ fn run_set<N: Net + Clock, S: AsStr, R: Source, W: Sink, F: Sink>(
 ) -> u8
     ensures { RunsWords (map with_blank (map S.text words.now)) result
         (input (R.remaining reader.old) (R.failed reader.old))
-        (input (R.remaining reader.new) (R.failed reader.new)) printer.old printer.new }
+        (input (R.remaining reader.new) (R.failed reader.new)) printer.old printer.new faults.old faults.new }
 {
     match with_blanks(alloc, words) {
         Ok(texts) => run_words(alloc, system, texts.as_slice(), reader, printer, faults),
@@ -103,7 +103,7 @@ fn run_refused<N: Net + Clock, S: AsStr, R: Source, W: Sink, F: Sink>(
 ) -> u8
     ensures { RunsWords (map with_blank (map S.text words.now)) result
         (input (R.remaining reader.old) (R.failed reader.old))
-        (input (R.remaining reader.new) (R.failed reader.new)) printer.old printer.new }
+        (input (R.remaining reader.new) (R.failed reader.new)) printer.old printer.new faults.old faults.new }
 {
     let matched: Result<ArgMatches<'_>, Error> = Err(Error::from(refused));
     let ended = matched_run(alloc, system, &matched, reader, printer, faults);
@@ -121,7 +121,7 @@ fn run_words<N: Net + Clock, S: AsStr, R: Source, W: Sink, F: Sink>(
 ) -> u8
     ensures { RunsWords (map S.text words.now) result
         (input (R.remaining reader.old) (R.failed reader.old))
-        (input (R.remaining reader.new) (R.failed reader.new)) printer.old printer.new }
+        (input (R.remaining reader.new) (R.failed reader.new)) printer.old printer.new faults.old faults.new }
 {
     let matched = matches_of(alloc, words);
     let ended = matched_run(alloc, system, &matched, reader, printer, faults);
@@ -139,7 +139,7 @@ fn matched_run<N: Net + Clock, R: Source, W: Sink, F: Sink>(
 ) -> Result<u8, Failure>
     ensures { DoesByMatches matched.now (fault_in result)
         (input (R.remaining reader.old) (R.failed reader.old))
-        (input (R.remaining reader.new) (R.failed reader.new)) printer.old printer.new }
+        (input (R.remaining reader.new) (R.failed reader.new)) printer.old printer.new faults.old faults.new }
 {
     match matched {
         Ok(matches) => do_matched(alloc, system, matches, reader, printer, faults),
@@ -149,7 +149,8 @@ fn matched_run<N: Net + Clock, R: Source, W: Sink, F: Sink>(
 
 /// The exit status of a run that ended so. Why it failed, where it did, is printed.
 fn status_of<F: Sink>(ended: Result<u8, Failure>, faults: &mut Printer<F>) -> u8
-    ensures { result ≡ run_status (fault_in ended) }
+    ensures status { result ≡ run_status (fault_in ended) }
+    ensures fault { PrintsFault (fault_in ended) faults.old faults.new }
 {
     match ended {
         Ok(status) => status,

@@ -7,6 +7,8 @@ returns g c = record {
   matched = Err c.from.result;
   ended = fault_in c.matched_run-ended.result;
   matches = inl c.from.ensures;
-  ends = c.status_of.ensures;
+  between = c.matched_run-ended.new.faults;
+  ends = c.status_of.ensures.status;
   does = c.matched_run-ended.ensures;
+  fault = c.status_of.ensures.fault;
 }
