@@ -2,7 +2,7 @@
 """What `ocactl tree`, `get`, `set`, `lock` and `unlock` print, ask and leave, against an independent device: the second
 implementation behind a socket (served.py), and devices that answer what no device of the profile does.
 
-Usage: hands.py BIN     BIN is the folder with `ocactl`
+Usage: hands.py BIN     BIN is the folder with `ocactl` and `ocadev`
 
 What is to be printed is made here from the objects of the second implementation and the rules of docs/PROTOCOL.md. The
 last line is 'N passed, M failed'."""
@@ -15,6 +15,7 @@ import signal
 import socket
 import subprocess
 import sys
+import tempfile
 import threading
 import time
 
@@ -338,6 +339,36 @@ def bad_words(checks):
         checks.same("bad words: what is heard", device.heard, [])
 
 
+def ran(checks, program, *words):
+    """What a program prints for these words, what it says of faults, and its status."""
+    done = subprocess.run([f"{checks.folder}/{program}", *words], capture_output=True, text=True, timeout=60)
+    return done.stdout, done.stderr, done.returncode
+
+
+def long_words(checks):
+    """The note on a word that is not valid has the word, where that has 200 bytes at most."""
+    form = "A.B.C.D:PORT, the address of one host (1.0.0.0 to 223.255.255.255) and a port from 1 to 65535"
+    for count in (199, 200, 201, 900, 2000):
+        shown = "x" * count + " " if count <= 200 else ""
+        said = f"note: --device {shown}is not valid: it must be {form}\nbad words\n"
+        got = ran(checks, "ocactl", "get", "--device", "x" * count, "4097")
+        checks.same(f"get: a word of {count} bytes", got, ("", said, 2))
+
+
+def helps(checks):
+    """The help of each command has the name of its own program and command, in its form and in its examples."""
+    for program in ("ocactl", "ocadev"):
+        text = ran(checks, program, "--help")[0]
+        checks.same(f"{program} --help: its form", re.findall(r"^Usage: (.*)", text, re.M), [f"{program} <COMMAND>"])
+        commands = [name for name in re.findall(r"^  (\w+)  ", text.split("Options:")[0], re.M) if name != "help"]
+        for name in [f"{program} {command}" for command in commands]:
+            text = ran(checks, *name.split(), "--help")[0]
+            checks.same(f"{name} --help: its form", re.findall(r"^Usage: (\S+ \S+)", text, re.M), [name])
+            shown = [line.split(":", 1)[1] for line in re.findall(r"^Example.*", text, re.M)]
+            named = [re.findall(r"\boca\w+ \w+", line) for line in shown]
+            checks.same(f"{name} --help: its examples", named, [[name]])
+
+
 def locks(checks):
     """`lock` and `unlock`: who holds the lock, and what is refused."""
     tree = stagebox()
@@ -582,29 +613,95 @@ def at_a_terminal(checks):
         checks.same("lock --hold at a terminal: no lock", [o.lock for o in device.tree], [None] * len(device.tree))
 
 
-# Runs a command in the background of its terminal, prints its number, and waits for it.
-IN_THE_BACKGROUND = "import os, subprocess, sys; run = subprocess.Popen(sys.argv[1:], preexec_fn=os.setpgrp); " \
-    "print(run.pid, 'is there', flush=True); run.wait()"
+def at_a_terminal_alone(checks):
+    """A terminal is known by the input alone: lines that are typed there are read where the output goes to a file, and
+    Ctrl-D ends the run."""
+    with Served(stagebox()) as device, tempfile.TemporaryDirectory() as place:
+        words = [f"{checks.folder}/ocactl", "run", "--device", f"127.0.0.1:{device.port}", "--port", str(free_port())]
+        run = Terminal("sh", "-c", f"{' '.join(words)} > {place}/said 2>&1; exit $?")
+        for count in (1, 2):
+            run.write(b"4097 4 1 0 -\n")
+            printed = says_in(f"{place}/said", "answer 0 1 01\n" * count)
+            checks.same(f"run at a terminal, its output in a file: answer {count}", printed, "answer 0 1 01\n" * count)
+        run.write(b"\x04")
+        checks.same("run at a terminal, its output in a file: its end", run.ends(), 0)
+
+
+def says_in(path, wanted, seconds=10):
+    """What a file has, as soon as that is what is wanted, or at last in so many seconds."""
+    until = time.monotonic() + seconds
+    while True:
+        with contextlib.suppress(FileNotFoundError), open(path, encoding="utf-8") as file:
+            found = file.read()
+            if found == wanted or time.monotonic() > until:
+                return found
+        time.sleep(0.02)
+
+
+# Runs a command in the background of its terminal, prints its number, waits for it and prints its status. Of the words
+# before the command the first is its input, in place of the terminal, and the second the file of its output: each where
+# there is one.
+IN_THE_BACKGROUND = """import os, subprocess, sys
+given, place, *words = sys.argv[1:]
+run = subprocess.Popen(words, preexec_fn=os.setpgrp, stdin=subprocess.PIPE if given else None,
+                       stdout=open(place, "w") if place else None)
+print(run.pid, "is there", flush=True)
+run.communicate(given.encode() if given else None)
+print("its status is", run.returncode, flush=True)
+"""
+
+
+def in_the_background(checks, device, *words, given="", place=""):
+    """A terminal, and in its background a run of `ocactl` at this device."""
+    command, *more = words
+    return Terminal(sys.executable, "-c", IN_THE_BACKGROUND, given, place, f"{checks.folder}/ocactl", command,
+                    "--device", f"127.0.0.1:{device.port}", "--port", str(free_port()), *more)
 
 
 def behind_a_terminal(checks):
     """In the background of a terminal `lock --hold` reads nothing that is typed there, and is not stopped by it: it
     keeps its lock."""
     with Served(stagebox()) as device:
-        run = Terminal(sys.executable, "-c", IN_THE_BACKGROUND, f"{checks.folder}/ocactl", "lock", "--hold", "--device",
-                       f"127.0.0.1:{device.port}", "--port", str(free_port()), "4097")
+        run = in_the_background(checks, device, "lock", "--hold", "4097")
         checks.same("lock --hold in the background", (run.says(b" is there"), run.says(b"4097 locked")), (True, True))
         pid = int(re.search(rb"(\d+) is there", run.said)[1])
         for line in (b"a line of another program\n", b"and one more\n"):
             run.write(line)
             checks.same("lock --hold in the background: it goes on", run.says(b"unlocked", 1), False)
-            with open(f"/proc/{pid}/stat", encoding="ascii") as file:
-                state = file.read().rsplit(")", 1)[1].split()[0]
+            state = state_of(pid)
             checks.same(f"lock --hold in the background: it is not stopped, but {state}", state in "RS", True)
         is_locked = [o.lock is not None for o in device.tree if o.ono == 4097]
         checks.same("lock --hold in the background: its lock", is_locked, [True])
         os.kill(pid, signal.SIGKILL)
         checks.same("lock --hold in the background: its end", run.ends(), 0)
+
+
+def state_of(pid):
+    """The letter by which the system says what a process does: T where it is stopped."""
+    with open(f"/proc/{pid}/stat", encoding="ascii") as file:
+        return file.read().rsplit(")", 1)[1].split()[0]
+
+
+def behind_a_terminal_alone(checks):
+    """In the background of a terminal it is the input alone that is not read: the terminal's is not where the output
+    goes to a file, and that of another program is where the output is the terminal."""
+    name = "lock --hold in the background, its output in a file"
+    with Served(stagebox()) as device, tempfile.TemporaryDirectory() as place:
+        run = in_the_background(checks, device, "lock", "--hold", "4097", place=f"{place}/said")
+        is_there, said = run.says(b" is there"), says_in(f"{place}/said", "4097 locked\n")
+        checks.same(name, (is_there, said), (True, "4097 locked\n"))
+        pid = int(re.search(rb"(\d+) is there", run.said)[1])
+        run.write(b"a line of another program\n")
+        checks.same(f"{name}: it goes on", run.says(b"its status", 1), False)
+        state = state_of(pid)
+        checks.same(f"{name}: it is not stopped, but {state}", state in "RS", True)
+        os.kill(pid, signal.SIGKILL)
+        checks.same(f"{name}: its end", (run.says(b"its status is -9"), run.ends()), (True, 0))
+    name = "run in the background, its input of another program"
+    with Served(stagebox()) as device:
+        run = in_the_background(checks, device, "run", given="4097 4 1 0 -\n")
+        checks.same(name, (run.says(b"answer 0 1 01"), run.says(b"its status is 0")), (True, True))
+        checks.same(f"{name}: its end", run.ends(), 0)
 
 
 class OldSession(Served):
@@ -639,6 +736,16 @@ def old_sessions(checks):
         checks.same("two old sessions", (run.stdout, run.stderr.splitlines(), run.returncode), ("4097 no answer\n", said, 3))
 
 
+def no_other_port(checks):
+    """A session that is ahead of the clock, while the other port is in use: the command goes on from its own port, and
+    what is told is that the device is heard there and answers nothing."""
+    own, other = own_ports.by_turns()
+    with OldSession(stagebox(), [own]) as device, socket.socket(socket.AF_INET, socket.SOCK_DGRAM) as taken:
+        taken.bind(("127.0.0.1", other))
+        got = ran(checks, "ocactl", "get", "--turns", "2", "--device", f"127.0.0.1:{device.port}", "4097")
+        checks.same("an old session, and no other port", got, ("4097 no answer\n", is_deaf(device.port, own), 3))
+
+
 def own_port_in_use(checks):
     """`lock` and `unlock` take no other port than the program's own, and neither of its two may be in use; `get` takes another."""
     for used in own_ports.by_turns():
@@ -647,12 +754,18 @@ def own_port_in_use(checks):
             for command in ("lock", "unlock"):
                 run = subprocess.run([f"{checks.folder}/ocactl", command, "--device", f"127.0.0.1:{device.port}", "4097"],
                                      capture_output=True, text=True, timeout=60)
-                said = re.fullmatch(rf"note: port {used}: .+\nsocket failed\n", run.stderr)
-                checks.same(f"{command}: port {used} is in use", (run.stdout, bool(said), run.returncode), ("", True, 1))
+                said = f"note: port {used}: Address already in use (os error 98)\nsocket failed\n"
+                got = (run.stdout, run.stderr, run.returncode)
+                checks.same(f"{command}: port {used} is in use", got, ("", said, 1))
             checks.same("a port in use: what is heard", device.heard, [])
             run = subprocess.run([f"{checks.folder}/ocactl", "get", "--device", f"127.0.0.1:{device.port}", "4097"],
                                  capture_output=True, text=True, timeout=60)
             checks.same(f"get: port {used} is in use", (run.stdout, run.stderr, run.returncode), ("4097 muted\n", "", 0))
+    with Served(stagebox()) as device, contextlib.ExitStack() as taken:
+        for used in own_ports.by_turns():
+            taken.enter_context(socket.socket(socket.AF_INET, socket.SOCK_DGRAM)).bind(("127.0.0.1", used))
+        got = ran(checks, "ocactl", "get", "--device", f"127.0.0.1:{device.port}", "4097")
+        checks.same("get: both ports are in use", got, ("4097 muted\n", "", 0))
 
 
 def held(checks):
@@ -687,13 +800,17 @@ def held(checks):
         checks.same("lock --hold: nothing is locked", (run.wait(30), run.stdout.read()), (4, "77 BadONo\n"))
 
 
+# The parts that use the program's own ports, or hold one of them.
+ALONE = (old_sessions, no_other_port, own_port_in_use, missed_first)
+
+
 def main():
     checks = Checks(sys.argv[1])
-    for part in (trees, gets, sets, sets_at_once, tells_at_once, refusals, bad_words, locks, strange_answers, silence,
-                 silence_of_a_run, failed_sends, old_sessions, own_port_in_use, missed_first, at_a_terminal,
-                 behind_a_terminal, held):
+    for part in (trees, gets, sets, sets_at_once, tells_at_once, refusals, bad_words, long_words, helps, locks,
+                 strange_answers, silence, silence_of_a_run, failed_sends, old_sessions, no_other_port, own_port_in_use,
+                 missed_first, at_a_terminal, at_a_terminal_alone, behind_a_terminal, behind_a_terminal_alone, held):
         try:
-            with own_ports.alone() if part in (old_sessions, own_port_in_use, missed_first) else contextlib.nullcontext():
+            with own_ports.alone() if part in ALONE else contextlib.nullcontext():
                 part(checks)
         except (OSError, KeyError, subprocess.TimeoutExpired) as fault:
             checks.failed += 1

@@ -3,9 +3,10 @@
 
 Usage: network.py BIN     BIN is the folder with `ocadev` and `ocactl`
 
-Signals and failing calls come from the layer of `unreliable.c`. What the programs print and how long they take is compared. What is
-timed is held against waits of the same length that this script makes meanwhile, and tried again while it is too long, since a
-machine may be busy: a part is repeated only where nothing but times was wrong, and how often one was stands before the last line.
+Signals and failing calls come from the layer of `unreliable.c`, and what a send buffer is granted from that of
+`granted.c`. What the programs print and how long they take is compared. What is timed is held against waits of the same
+length that this script makes meanwhile, and tried again while it is too long, since a machine may be busy: a part is
+repeated only where nothing but times was wrong, and how often one was stands before the last line.
 The last line is 'N passed, M failed'."""
 import contextlib
 import errno
@@ -14,6 +15,7 @@ import os
 import re
 import select
 import socket
+import struct
 import subprocess
 import sys
 import tempfile
@@ -28,7 +30,10 @@ from own_ports import free_port
 HERE = Path(__file__).resolve().parent
 GET = (4097, 4, 1, 0, b"")
 WAIT_MS = 50
+# Linux's option by which the system tells when a datagram came
+SO_TIMESTAMPNS = 35
 TRIES = 12
+LAYERS = ("unreliable", "granted")
 # so many turns that no run comes to their end by waiting: it is ended by datagrams, each of which is a turn
 TURNS_OF_A_COPY = 4000
 
@@ -46,6 +51,17 @@ def get_command(handle):
 
 def response(handle, params=b"\1"):
     return oca.pdu(3, [oca.response_body(handle, 0, 1, params)])
+
+
+def next_command(device):
+    """The next command that comes, and from where; nothing where none comes in ten seconds. Keep-alives are passed
+    over."""
+    with contextlib.suppress(TimeoutError):
+        while True:
+            data, sender = device.recvfrom(2000)
+            if data[7:8] != b"\4":
+                return data, sender
+    return b"", None
 
 
 def answers_earlier(data, handle):
@@ -99,13 +115,14 @@ class Checks:
     def same(self, what, got, expected, is_time=False):
         self.expect(what, got == expected, f"{got!r:.300} in place of {expected!r:.300}", is_time)
 
-    def start(self, *words, stdin=subprocess.DEVNULL, close=(), cwd=None, **settings):
-        """A run in this folder, with these descriptors closed and this done by the layer."""
+    def start(self, *words, stdin=subprocess.DEVNULL, stdout=subprocess.PIPE, stderr=subprocess.PIPE, close=(),
+              cwd=None, **settings):
+        """A run in this folder, with these descriptors closed and this done by the layers."""
         env = dict(os.environ, **{name: str(value) for name, value in settings.items()})
         if settings:
             env["LD_PRELOAD"] = self.layer
-        run = subprocess.Popen([f"{self.folder}/{words[0]}", *map(str, words[1:])], stdin=stdin, stdout=subprocess.PIPE,
-                               stderr=subprocess.PIPE, text=True, env=env, cwd=cwd,
+        run = subprocess.Popen([f"{self.folder}/{words[0]}", *map(str, words[1:])], stdin=stdin, stdout=stdout,
+                               stderr=stderr, text=True, env=env, cwd=cwd,
                                preexec_fn=lambda: [os.close(fd) for fd in close])
         self.runs.append(run)
         return run
@@ -236,11 +253,151 @@ def refused_sends(checks):
         counted = [counts.get("executed"), counts.get("kept", 0) >= count, counts.get("failed-sends")]
         checks.same(f"error {number} {words}: executed, kept, failed sends", counted, [1, True, count])
         notes = [line for line in lines if line.startswith("note: ")]
-        checks.expect(f"error {number} {words}: a note", len(notes) == 1 and notes[0].startswith(f"note: failed sends: {count}, the last: ")
-                      and len(notes[0]) > len("note: failed sends: 1, the last: ") and lines[-1] == notes[0], told[-300:])
+        note = f"note: failed sends: {count}, the last: {os.strerror(number)} (os error {number})"
+        checks.same(f"error {number} {words}: a note, and the last line", (notes, lines[-1:]), ([note], [note]))
         if "--verbose" in words:
             shown = [line.split(" served ")[1] for line in lines if " served " in line][:count + 1]
             checks.same("--verbose: each failed send", shown, ["1 0 0 failed-sends 1"] + ["0 1 0 failed-sends 1"] * (count - 1) + ["0 1 0"])
+
+
+# One command of `ocactl send` to a device, without its address.
+SENT = ("--target", 1, "--level", 1, "--index", 1, "--count", 0)
+
+
+def ended_so(run):
+    """What a run printed, what it said of faults, and its status."""
+    return (*run.communicate(timeout=60), run.returncode)
+
+
+def refused_sockets(checks):
+    """A socket that the system refuses: a note has the system's reason, with the port where the program chose one or
+    was given one for objects."""
+    in_use = "Address already in use (os error 98)"
+    nowhere = "Cannot assign requested address (os error 99)"
+    with bound() as taken, bound() as device:
+        port, to = taken.getsockname()[1], ("--device", f"127.0.0.1:{device.getsockname()[1]}")
+        # 192.0.2.1 is an address of no machine
+        for words, why in ((("ocadev", "serve", "--port", port), in_use),
+                           (("ocadev", "serve", "--ip", "192.0.2.1", "--port", 0), nowhere),
+                           (("ocactl", "send", *to, *SENT, "--port", port), in_use),
+                           (("ocactl", "send", *to, *SENT, "--ip", "192.0.2.1"), nowhere),
+                           (("ocactl", "run", *to, "--port", port), f"port {port}: {in_use}"),
+                           (("ocactl", "get", *to, "--port", port, 4097), f"port {port}: {in_use}"),
+                           (("ocactl", "lock", *to, "--port", port, 4097), f"port {port}: {in_use}")):
+            checks.same(f"a refused socket of {words}", ended_so(checks.start(*words)),
+                        ("", f"note: {why}\nsocket failed\n", 1))
+
+
+def with_a_buffer(checks, granted, *words):
+    """A run to which so many bytes are granted for a send buffer: the notes on that, its status, and what it asked."""
+    with tempfile.TemporaryDirectory() as place:
+        run = checks.start(*words, GRANTED=granted, ASKED=f"{place}/asked")
+        said, asked = run.communicate(timeout=60)[1], Path(place, "asked")
+        notes = [line.split(":")[1] for line in said.splitlines() if "send buffer" in line]
+        return notes, run.returncode, asked.read_text() if asked.exists() else ""
+
+
+def send_buffers(checks):
+    """Each program asks for a send buffer of 4,000,000 bytes, once. `ocadev serve` says how many are granted where
+    these are fewer than 500,000, and says nothing where the system does not tell."""
+    for granted, is_said in ((1, True), (499999, True), (500000, False), (8000000, False), (0, False), (-1, False)):
+        got = with_a_buffer(checks, granted, "ocadev", "serve", "--port", 0, "--turns", 1)
+        note = f" the system grants a send buffer of {granted} bytes"
+        wanted = ([note] * is_said, 0, "4000000\n")
+        checks.same(f"{granted} bytes are granted: notes, status, what is asked", got, wanted)
+    with bound() as device:
+        to = ("--device", f"127.0.0.1:{device.getsockname()[1]}")
+        got = with_a_buffer(checks, 1, "ocactl", "send", *to, *SENT, "--turns", 0)
+        checks.same("`send`: notes, status, what is asked", got, ([], 3, "4000000\n"))
+
+
+def arrivals(device):
+    """The datagrams that lie at a socket: each with where it came from, and the second in which the system took it."""
+    device.setblocking(False)
+    found = []
+    with contextlib.suppress(BlockingIOError):
+        while True:
+            data, told, _, sender = device.recvmsg(2000, 100)
+            moment = struct.unpack("qq", told[0][2][:16])
+            found.append((data, sender, moment[0] + moment[1] / 1e9))
+    return found
+
+
+def asks_the_host(checks):
+    """A run of `ocactl get` at 127.0.0.2 that no device answers: what the host is asked last, from which address, and
+    whether from a port of its own; for how many milliseconds that is awaited; and how long a wait of 50 ms is
+    meanwhile."""
+    with bound() as device:
+        device.setsockopt(socket.SOL_SOCKET, SO_TIMESTAMPNS, 1)
+        own, to = free_port(), f"127.0.0.1:{device.getsockname()[1]}"
+        run = checks.start("ocactl", "get", "--ip", "127.0.0.2", "--port", own, "--device", to, "--turns", 1, 4097)
+        with Waits() as waits:
+            run.communicate(timeout=60)
+            ended = time.time()
+        data, sender, moment = (arrivals(device) or [(None, ("nowhere", 0), 0)])[-1]
+    return (data, sender[0], sender[1] != own), (ended - moment) * 1000, waits.one
+
+
+def is_a_program_there(checks):
+    """Where a device is not heard, its host is asked whether a program has its port: by an empty datagram, from the
+    address that the words give and a port of its own, for 200 ms: as long as four waits that this script makes
+    meanwhile."""
+    asked, took = set(), []
+    for _ in range(TRIES):
+        what, ms, wait = asks_the_host(checks)
+        asked.add(what)
+        took.append((ms, ms / wait))
+        if took[-1][1] < 6:
+            break
+    checks.same("what a host is asked that may have no program there", asked, {(b"", "127.0.0.2", True)})
+    told = f"{took}: in milliseconds, and by waits of 50 ms"
+    checks.expect("a host is asked for 200 ms at least", min(took)[0] > 180, told)
+    checks.expect("a host is asked for 200 ms at most", took[-1][1] < 6, told, is_time=True)
+
+
+def line_of(run):
+    """The next line that a run prints; nothing where none comes in ten seconds."""
+    return run.stdout.readline() if select.select([run.stdout], [], [], 10)[0] else None
+
+
+def sends_lines(checks, device, count):
+    """A run of `ocactl run` whose input stays open, and which is given so many lines, each 60 ms behind the answer to
+    the one before: a program that looks for input each 50 ms has not looked for 10 ms then. How long each line took to
+    be sent, in milliseconds, up to the first that was not sent and answered."""
+    words = ("--device", f"127.0.0.1:{device.getsockname()[1]}", "--first-handle", 1, "--port", free_port())
+    run = checks.start("ocactl", "run", *words, stdin=subprocess.PIPE)
+    took, given = [], []
+    for handle in range(1, count + 1):
+        begun = time.monotonic()
+        run.stdin.write("4097 4 1 0 -\n")
+        run.stdin.flush()
+        data, sender = next_command(device)
+        took.append((time.monotonic() - begun) * 1000)
+        if sender:
+            device.sendto(response(handle), sender)
+        given.append((data, sender and line_of(run)))
+        if not given[-1][1]:
+            break
+        time.sleep(1.2 * WAIT_MS / 1000)
+    checks.same("`run`: its lines", given, [(get_command(handle), "answer 0 1 01\n") for handle in range(1, count + 1)])
+    checks.same("`run`: its end", ended_so(run), ("", "", 0))
+    return took
+
+
+def lines_at_once(checks):
+    """A line of `ocactl run` is sent at once where nothing is under way: the fourth of seven sooner than half a wait of
+    50 ms ends."""
+    fourth = []
+    for _ in range(TRIES):
+        with bound() as device, Waits() as waits:
+            took = sends_lines(checks, device, 8)
+        if len(took) < 8:
+            return
+        fourth.append(sorted(took[1:])[3] / waits.one)  # the first line waits for the program to begin
+        if fourth[-1] < 0.5:
+            break
+    checks.expect("`run`: a line is sent sooner than half a wait of 50 ms ends", fourth[-1] < 0.5,
+                  f"{fourth} of such a wait", is_time=True)
 
 
 def a_stalled_neighbour(checks):
@@ -287,6 +444,25 @@ def closed_descriptors(checks):
     run = checks.start("ocadev", "serve", "--port", 0, "--turns", 2, close=(0, 1, 2))
     run.communicate(timeout=60)
     checks.same("`serve` without any of the three", run.returncode, 1)
+
+
+def broken_pipes(checks):
+    """A pipe that nobody reads does not end a program: an output that can't be written is a fault, and a place for
+    faults that can't be is none."""
+    reader, writer = os.pipe()
+    os.close(reader)
+    with bound() as silent:
+        to = ("--device", f"127.0.0.1:{silent.getsockname()[1]}")
+        send, serve = ("ocactl", "send", *to, *SENT, "--turns", 0), ("ocadev", "serve", "--port", 0, "--turns", 2)
+        for words in (("ocadev", "show"), serve, send):
+            run = checks.start(*words, stdout=writer)
+            said = run.communicate(timeout=60)[1].splitlines()[-1:]
+            checks.same(f"{words}: its output is a broken pipe", (said, run.returncode), (["write failed"], 1))
+        for words, begins, status in ((serve, "turns 2 ", 0), (send, "no answer\n", 3)):
+            run = checks.start(*words, stderr=writer)
+            printed = run.communicate(timeout=60)[0][:len(begins)]
+            checks.same(f"{words}: its errors are a broken pipe", (printed, run.returncode), (begins, status))
+    os.close(writer)
 
 
 def nulls_of(run):
@@ -437,13 +613,20 @@ def other_addresses(checks):
     run.kill()
 
 
+def layers(place):
+    """The layers, built in this folder, as LD_PRELOAD names them."""
+    for name in LAYERS:
+        subprocess.run(["gcc", "-O1", "-Wall", "-shared", "-fPIC", "-o", f"{place}/{name}.so", str(HERE / f"{name}.c"),
+                        "-ldl"], check=True)
+    return ":".join(f"{place}/{name}.so" for name in LAYERS)
+
+
 def main():
     with tempfile.TemporaryDirectory() as made:
-        layer = f"{made}/unreliable.so"
-        subprocess.run(["gcc", "-O1", "-Wall", "-shared", "-fPIC", "-o", layer, str(HERE / "unreliable.c"), "-ldl"], check=True)
-        checks = Checks(os.path.abspath(sys.argv[1]), layer)
+        checks = Checks(os.path.abspath(sys.argv[1]), layers(made))
         try:
-            for part in (closed_descriptors, null_at_closed, quiet_turns, signals, runs_under_signals, refused_sends,
+            for part in (closed_descriptors, broken_pipes, null_at_closed, quiet_turns, signals, runs_under_signals,
+                         refused_sends, refused_sockets, send_buffers, is_a_program_there, lines_at_once,
                          a_stalled_neighbour, asleep, a_failed_receive, reports_behind_a_sleep, kept_safely,
                          calls_in_a_row, other_addresses):
                 checks.part(part)

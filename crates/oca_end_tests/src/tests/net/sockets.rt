@@ -251,6 +251,13 @@ const WHOLE: &[Step] = &[
     Hears(Plain, First, &[3; LARGEST]),
 ];
 
+// Of an empty datagram the system takes no byte, and the end sends it all the same.
+const EMPTY: &[Step] = &[
+    Sends(First, Plain, &[], true),
+    Hears(Plain, First, &[]),
+    LastFailure(None),
+];
+
 // A send to port 0 is refused, and one to every host, and the last one's reason is given. The end goes on.
 const REFUSED: &[Step] = &[
     LastFailure(None),
@@ -272,6 +279,7 @@ const SCRIPTS: &[Script] = &[
     ("hears_1472_bytes_whole_and_1473_as_oversize", AT_THE_LIMIT),
     ("hears_empty_and_longest_datagrams", EMPTY_AND_LONGEST),
     ("sends_1472_bytes_whole", WHOLE),
+    ("sends_an_empty_datagram", EMPTY),
     ("a_send_that_the_system_refuses_is_false", REFUSED),
     ("a_send_buffer_is_asked_for", BUFFER),
 ];
