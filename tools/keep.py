@@ -5,6 +5,7 @@ random moments while commands come, with no room for the file, and over files th
 Usage: keep.py BIN     BIN is the folder with `ocadev`
 
 What is expected is built here from docs/PROTOCOL.md, and not by the programs. The last line is 'N passed, M failed'."""
+import errno
 import os
 import random
 import re
@@ -149,6 +150,31 @@ def restarts(checks, folder):
     stop(run)
 
 
+def written_once(checks, folder):
+    """Behind a command that set something the file is written once, and not again in turns in which nothing comes, nor
+    for a copy of the command."""
+    keep = f"{folder}/once"
+    run, said, peer = checks.serve(keep)
+    checks.same("a command that sets something", peer.ask(TRIM, 5, 2, struct.pack(">h", 5)), (0, b""))
+    until = time.monotonic() + 30
+    while not os.path.exists(keep) and time.monotonic() < until:
+        time.sleep(0.01)
+
+    def which():
+        """Each write makes another file, which takes the place of the one before."""
+        file = os.stat(keep)
+        return file.st_ino, file.st_mtime_ns
+
+    before = which()
+    time.sleep(0.5)
+    checks.same("the file in ten turns in which nothing comes", which(), before)
+    peer.handle -= 1
+    checks.same("a copy of the command", peer.ask(TRIM, 5, 2, struct.pack(">h", 5)), (0, b""))
+    peer.ask(TRIM, 5, 1)  # its answer comes once the file is written, where it is
+    checks.same("the file behind a copy of the command", which(), before)
+    stop(run)
+
+
 def kills(checks, folder):
     """At whatever moment it is killed, the file is one of those that were written whole, and what was answered before the last
     answer is in it."""
@@ -199,11 +225,43 @@ def full(checks, folder):
         checks.same(f"{what}: told once", (told.count("\n"), told.startswith("note: the state is not kept: ")), (1, True))
         with open(keep, "rb") as file:
             checks.same(f"{what}: the file", file.read(), old)
-    # No such folder.
-    run, said, peer = checks.serve(f"{folder}/none/state")
+    comes_back(checks, folder)
+
+
+def comes_back(checks, folder):
+    """Where its folder is not there, the file can't be written, which is told once; as soon as the folder is there, the
+    next command that sets something is kept."""
+    keep = f"{folder}/none/state"
+    run, said, peer = checks.serve(keep)
     checks.same("without a folder: a command", peer.ask(TRIM, 5, 2, struct.pack(">h", 7)), (0, b""))
     peer.ask(TRIM, 5, 1)
-    checks.same("without a folder: told", stop(run).startswith("note: the state is not kept: "), True)
+    os.mkdir(f"{folder}/none")
+    for value in (8, 9):
+        checks.same("with its folder: a command", peer.ask(TRIM, 5, 2, struct.pack(">h", value)), (0, b""))
+        peer.ask(TRIM, 5, 1)  # its answer comes once the file is written
+        trim = f"int16 -600 600 {value} ".encode()
+        checks.same(f"with its folder: {value} is kept", trim in checks.shown(keep), True)
+    told = stop(run)
+    checks.same("without a folder: told", told.startswith("note: the state is not kept: "), True)
+    checks.same("without a folder: told once", told.count("\n"), 1)
+
+
+def left_over(checks, folder):
+    """A new file that was left by a device that was killed, longer than the state, is overwritten, and nothing of it
+    stays."""
+    keep = f"{folder}/left"
+    with open(f"{keep}.new", "wb") as file:
+        file.write(b"object 4096 100 block lockable \"desk\" on \"\"\n" * 100)
+    run, said, peer = checks.serve(keep)
+    checks.same("beside a file that was left: a command", peer.ask(TRIM, 5, 2, struct.pack(">h", 5)), (0, b""))
+    peer.ask(TRIM, 5, 1)  # its answer comes once the file is written
+    checks.same("beside a file that was left: what it says", stop(run), "")
+    checks.same("a new file that was left is gone", os.path.exists(f"{keep}.new"), False)
+    with open(keep, "rb") as file:
+        checks.same("a file that was written over one that was left", file.read(), checks.shown(keep))
+    run, said, peer = checks.serve(keep)
+    checks.same("what is read of it", peer and peer.ask(TRIM, 5, 1)[1][:2], struct.pack(">h", 5))
+    stop(run)
 
 
 BROKEN = [
@@ -231,6 +289,9 @@ def broken(checks, folder):
     os.mkdir(f"{folder}/folder")
     run, said, peer = checks.serve(f"{folder}/folder")
     checks.same("a folder", (peer, run.wait(timeout=30)), (None, 1))
+    lines = [said, *run.stderr.read().decode().splitlines()]
+    got = (os.strerror(errno.EISDIR) in lines[0], lines[1:])
+    checks.same("a folder: the system's reason, and the fault", got, (True, ["read failed"]))
 
 
 def unknown(checks, folder):
@@ -243,6 +304,8 @@ def unknown(checks, folder):
     words = [*other, f"{folder}/ocadev", "serve", "--port", "0", "--turns", "1", "--keep", f"{folder}/closed/state"]
     ran = subprocess.run(words, stdin=subprocess.DEVNULL, capture_output=True, text=True, timeout=30)
     checks.same("a file of which nothing is known", (ran.returncode, ran.stdout, ran.stderr.splitlines()[-1:]), (1, "", ["read failed"]))
+    reason = os.strerror(errno.EACCES)
+    checks.same(f"a file of which nothing is known: {reason}", reason in ran.stderr.splitlines()[0], True)
     os.chmod(f"{folder}/closed", 0o700)
 
 
@@ -250,8 +313,10 @@ def main():
     checks = Checks(sys.argv[1])
     with tempfile.TemporaryDirectory() as folder:
         restarts(checks, folder)
+        written_once(checks, folder)
         kills(checks, folder)
         full(checks, folder)
+        left_over(checks, folder)
         broken(checks, folder)
         unknown(checks, folder)
     print(f"{checks.passed} passed, {checks.failed} failed")

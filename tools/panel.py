@@ -26,7 +26,7 @@ from pathlib import Path
 
 import oca_profile as oca
 from hands import SETS, Deaf, stagebox
-from own_ports import free_port
+from own_ports import by_turns, free_port
 from served import Served
 
 TOP = Path(__file__).resolve().parent.parent
@@ -63,14 +63,15 @@ class Device:
 class Panel:
     """`ocapanel` at a port that the system chose."""
 
-    def __init__(self, folder, device_port, *words, address=None, **more):
+    def __init__(self, folder, device_port, *words, address=None, ip="127.0.0.1", **more):
         device = address or f"127.0.0.1:{device_port}"
-        self.process = subprocess.Popen([f"{folder}/ocapanel", "--device", device, "--listen", "127.0.0.1:0", *words],
+        self.process = subprocess.Popen([f"{folder}/ocapanel", "--device", device, "--listen", f"{ip}:0", *words],
                                         stdout=subprocess.DEVNULL, stderr=subprocess.PIPE, text=True, env=dict(os.environ, **more))
         line = self.process.stderr.readline()
-        found = re.fullmatch(r"listening http://127\.0\.0\.1:(\d+)/\n", line)
-        self.port = int(found[1]) if found else sys.exit(f"panel: ocapanel said {line!r}")
-        self.host = f"127.0.0.1:{self.port}"
+        found = re.fullmatch(r"listening http://(127\.[\d.]+):(\d+)/\n", line)
+        self.told_ip, port = found.groups() if found else sys.exit(f"panel: ocapanel said {line!r}")
+        self.ip, self.port = ip, int(port)
+        self.host = f"{ip}:{self.port}"
         self.since, self.epoch = 0, 0
         self.shown, self.told = {}, {}
 
@@ -83,7 +84,7 @@ class Panel:
 
     def ask(self, method, path, body=None, headers=None, timeout=20):
         """The status, the headers and the body of an answer."""
-        c = http.client.HTTPConnection("127.0.0.1", self.port, timeout=timeout)
+        c = http.client.HTTPConnection(self.ip, self.port, timeout=timeout)
         try:
             sent = {"Host": self.host} if headers is None else headers
             c.request(method, path, body=body, headers=sent)
@@ -187,6 +188,8 @@ def objects(folder, device, panel):
     check(by_ono[MUTE]["class"] == "mute" and by_ono[MUTE]["in"] == 4097 and by_ono[4097]["role"] == "channel 1", "the tree")
     check(by_ono[SOURCE]["names"] == ["Mic", "Line", "Stage left", "Off"], "names of positions")
     check(panel.wait(lambda _: panel.value(TRIM) == "0") is not None and panel.shown[TRIM]["limits"] == ["-600", "600"], "limits")
+    is_still = panel.wait(lambda v: v["objects"] == []) is not None
+    check(is_still, "what did not change since the last look is not sent again")
     for ono, value in [(MUTE, "unmuted"), (POLARITY, "inverted"), (TRIM, "-60"), (SOURCE, "2"), (4096, "on"), (MUTE, "muted"), (MUTE, "unmuted")]:
         check(panel.fare("/set", ono, value) is None, f"{ono} is set to {value}")
         check(panel.value(ono) == value, f"{ono} shows {value} where its order is told: {panel.value(ono)}")
@@ -254,6 +257,7 @@ def hostile(panel):
         (post(kind="application/x-www-form-urlencoded"), 415), (post(text="{"), 400), (post(text=""), 400), (post(text="[]"), 400), (post(text='{"ono":"4098","value":"muted"}'), 400),
         (post(text='{"ono":-1,"value":"muted"}'), 400), (post(text='{"ono":4294967296,"value":"muted"}'), 400), (post(text='{"ono":4098.5,"value":"muted"}'), 400),
         (post(text=f'{{"ono":{MUTE},"value":1}}'), 400), (post(text=f'{{"ono":{MUTE}}}'), 400), (post(text=f'{{"ono":{MUTE},"value":"Muted"}}'), 422),
+        (post(text=" " * 4096), 400),
         (post(text="[" * 2000), 400), (post(text=" " * 4097), 413), (post(path="/nothing"), 404), (post(path="/values"), 405), (post(path="/tree"), 405), (post(path="/"), 405),
         (post(path="/set/"), 404), (post(path="//set"), 404), (post(path="/SET"), 404), (post(path=f"http://{own}/set"), 400), (post(path=f"http://evil.example/set"), 400),
         (post(method="PUT"), 405), (post(method="GET"), 405), (post(method="DELETE"), 405), (post(method="OPTIONS", more=("Access-Control-Request-Method: POST",)), 405),
@@ -277,8 +281,54 @@ def hostile(panel):
     check(values["walked"], "a query that is none")
 
 
+# What stands in the head of each answer of the panel.
+PROTECTION = {"cache-control": "no-store", "x-content-type-options": "nosniff", "x-frame-options": "DENY",
+              "referrer-policy": "no-referrer", "cross-origin-resource-policy": "same-origin"}
+JSON = "application/json"
+
+
+def protected(panel):
+    """Each answer, also one that refuses, asks the browser not to keep it, not to guess its type and to give it to no
+    other page; and what is JSON says so."""
+    own = {"Host": panel.host, "Origin": f"http://{panel.host}", "Content-Type": JSON}
+    order = json.dumps({"ono": MUTE, "value": "unmuted"})
+    for method, path, body, headers, status, kind in (
+            ("GET", "/tree", None, own, 200, JSON), ("GET", "/values", None, own, 200, JSON),
+            ("POST", "/set", order, own, 202, JSON), ("POST", "/set", "{", own, 400, None),
+            ("POST", "/set", order, own | {"Origin": "http://evil.example"}, 403, None),
+            ("GET", "/nothing", None, own, 404, None), ("PUT", "/", None, own, 405, None),
+            ("POST", "/set", order, own | {"Content-Type": "text/plain"}, 415, None),
+            ("GET", "/tree", None, own | {"Host": "evil.example"}, 421, None),
+            ("POST", "/set", json.dumps({"ono": MUTE, "value": "loud"}), own, 422, None)):
+        got, fields, text = panel.ask(method, path, body, headers)
+        wrong = {name: fields.get(name) for name, value in PROTECTION.items() if fields.get(name) != value}
+        said = fields.get("content-type")
+        is_so = (got, wrong) == (status, {})
+        check(is_so, f"{method} {path} is answered {got} with {wrong}, not {status} with {PROTECTION}")
+        check(said == kind and bool(text) == bool(kind), f"{method} {path}, {status}: {said}, {text[:60]}, not {kind}")
+
+
+def in_one_piece(panel):
+    """Many requests that come in one piece are answered one behind the other, while no page asks for values. A panel
+    that waited for something else behind each few of them would take some 35 seconds, and one that goes on a tenth of
+    one."""
+    asked, count, seen = f"GET / HTTP/1.1\r\nHost: {panel.host}\r\n\r\n".encode(), 2500, 0
+    with socket.create_connection((panel.ip, panel.port), timeout=20) as s:
+        with contextlib.suppress(OSError):
+            s.sendall(asked)
+            head, _, rest = s.recv(65536).partition(b"\r\n\r\n")
+            size = len(head) + 4 + int(re.search(rb"content-length: (\d+)", head)[1])
+            seen = len(head) + 4 + len(rest)
+            s.sendall(asked * (count - 1))
+            until = time.monotonic() + 20
+            while seen < size * count and time.monotonic() < until and (piece := s.recv(1 << 20)):
+                seen += len(piece)
+    check(seen == size * count, f"{seen} bytes of {count} answers of {size} bytes to requests in one piece came")
+
+
 def slow(panel):
-    """Clients that send half a request, or take no answer, delay nobody and are dropped."""
+    """Clients that send half a request, or take no answer, delay nobody and are dropped, but not at once."""
+    connected = time.monotonic()
     halves = [socket.create_connection(("127.0.0.1", panel.port), timeout=20) for _ in range(4)]
     for s in halves:
         s.sendall(f"POST /set HTTP/1.1\r\nHost: {panel.host}\r\nContent-Le".encode())
@@ -293,11 +343,15 @@ def slow(panel):
     check(panel.fare("/set", TRIM, "-100") is None, "an order beside slow clients")
     print(f"an order beside five slow clients: {(time.monotonic() - begun) * 1000:.0f} ms")
     begun, dropped = time.monotonic(), 0
+    select.select(halves, [], [], 20)
+    first_dropped = time.monotonic()
     for s in halves:
         with contextlib.suppress(OSError):
             dropped += s.recv(100) == b"" or True
     print(f"{dropped} half requests were dropped after {time.monotonic() - begun:.1f} s")
     check(dropped == 4, "half requests are dropped")
+    had = first_dropped - connected
+    check(had > 4, f"a half request has 5 seconds: one was dropped after {had:.1f} s")
     for s in [*halves, greedy]:
         s.close()
     check(panel.ask("GET", "/values?since=0")[0] == 200, "and others are served")
@@ -324,7 +378,8 @@ def nine(panel):
         s.sendall(f"TP/1.1\r\nHost: {panel.host}\r\n\r\n".encode())
         check(s.recv(20).startswith(b"HTTP/1.1 200"), "the eight are answered")
     time.sleep(3)
-    check(panel.ask("GET", "/values?since=0")[0] == 200, "a connection that rests gives way")
+    got = raw(panel, f"GET /values?since=0 HTTP/1.1\r\nHost: {panel.host}\r\n\r\n".encode())
+    check(got == 200, f"a connection that rests gives way: who comes behind it is answered {got}, not 200")
     for s in [*held, ninth]:
         s.close()
 
@@ -401,6 +456,15 @@ def gone_and_back(folder):
         check(other.wait(lambda _: other_ticket in other.told, 30) is not None, "one of the other panel is told too")
         values = panel.look()
         check(values["link"]["lost_for"] is not None and values["link"]["lost"] >= 1 and not values["walked"], f"the device is lost: {values['link']}")
+        longer = panel.wait(lambda v: (v["link"]["lost_for"] or 0) > values["link"]["lost_for"])
+        check(longer is not None, f"it is lost for longer and longer: {panel.look()['link']}, first {values['link']}")
+        times = []
+
+        def is_lost_again(found):
+            times.append(found["link"]["lost_for"] or 0)
+            return found["link"]["lost"] > values["link"]["lost"]
+        is_longer = panel.wait(is_lost_again, 60) is not None and times == sorted(times)
+        check(is_longer, f"where it is lost once more, it is lost since it was lost first: {times[-9:]} ms")
         check(panel.order("/set", MUTE, "unmuted")[0] == 404, "an object that is not found yet takes no order")
         with Device(folder, first.port, ()) as second:
             took = panel.wait(lambda v: v["walked"] and v["epoch"] > epoch, 30)
@@ -424,6 +488,9 @@ def gone_and_back(folder):
         panel.process.wait()
         notes = panel.process.stderr.read().splitlines()
         check(all(note.startswith("note: ") for note in notes) and any("lost" in note for note in notes) and any("heard again" in note for note in notes), f"--verbose: {notes}")
+        told = ["heard again" in note for note in notes]
+        by_turns = [at % 2 == 1 for at in range(len(told))]
+        check(len(told) > 1 and told == by_turns, f"--verbose: it is lost, then heard again, and so on: {notes}")
 
 
 def many_tree(file):
@@ -505,6 +572,12 @@ def classes(folder):
         told = {o["ono"]: o for o in panel.get("/tree")["objects"]}
         for o in tree:
             check(told[o.ono]["class"] == o.kind and told[o.ono]["in"] == o.container, f"{o.ono}: its class: {told[o.ono]}")
+            known = (told[o.ono]["role"], told[o.ono]["lockable"], told[o.ono]["names"])
+            is_known = known == (o.role, o.lockable, o.names or [])
+            check(is_known, f"{o.ono}: its role, whether it can be locked, and its names: {known}")
+            if o.kind == "switch":
+                limits = panel.shown[o.ono]["limits"]
+                check(limits == ["0", str(len(o.names) - 1)], f"{o.ono}: its limits: {limits}")
             if o.kind in oca.WIDTHS:
                 shown = panel.shown[o.ono]
                 check((shown["value"], shown["limits"]) == (str(o.state), [str(o.low), str(o.high)]), f"{o.ono}: its value and limits: {shown}")
@@ -519,6 +592,19 @@ def command(port, *words):
             with contextlib.suppress(TimeoutError):
                 return s.recv(2000)[18]
     return None
+
+
+def without_a_page(folder):
+    """Once no page asks for values any more, the panel asks the device for nothing more: there are two seconds in which
+    no command comes."""
+    with Served(oca.bench()) as device, Panel(folder, device.port) as panel:
+        panel.wait(lambda v: v["walked"])
+        until, commands = time.monotonic() + 30, None
+        while commands != 0 and time.monotonic() < until:
+            device.heard.clear()
+            time.sleep(2)
+            commands = sum(m[0] == "command" for data, _ in list(device.heard) for m in oca.check(data))
+        check(commands == 0, f"without a page {commands} commands came in the last two seconds")
 
 
 def seldom(folder):
@@ -542,7 +628,10 @@ def of_other_classes(folder):
             panel.wait(lambda v: v["walked"])
             first.__exit__()
             with Device(folder, first.port, ("--tree", str(other))):
-                is_new = lambda v: v["walked"] and {o["ono"]: o["class"] for o in panel.get("/tree")["objects"]}[MUTE] == "int16"
+                def is_new(values):
+                    """A walk that is over, or the next one by the time of the second question, which may list less."""
+                    listed = panel.get("/tree")["objects"] if values["walked"] else []
+                    return {o["ono"]: o["class"] for o in listed}.get(MUTE) == "int16"
                 check(panel.wait(is_new, 30) is not None, "an object of another class under the same number is found")
 
 
@@ -560,6 +649,74 @@ def visible_first(folder):
             time.sleep(0.02)
         asked = [m[2].target for data, _ in list(device.heard) for m in oca.check(data) if m[0] == "command" and m[2].level == 5]
         check(asked.count(seen) > 1.5 * asked.count(other) > 0, f"what is visible is read first: {asked.count(seen)} times, another {asked.count(other)} times")
+
+
+class Timed(Served):
+    """The second implementation's device, which notes when the value of one object was asked for, once for each
+    handle."""
+
+    def __init__(self, tree, ono):
+        super().__init__(tree)
+        self.answers, self.ono, self.handles, self.came = self.device.datagram, ono, set(), []
+        self.device.datagram = self.datagram
+
+    def datagram(self, peer, data, now):
+        for kind, _, *command in oca.check(data):
+            if kind == "command" and (command[0].target, command[0].level, command[0].index) == (self.ono, 5, 1):
+                if command[0].handle not in self.handles:
+                    self.handles.add(command[0].handle)
+                    self.came.append(now)
+        return self.answers(peer, data, now)
+
+
+def often(folder):
+    """What a page shows is read some ten times a second: once within a minute there are two seconds in which it is read
+    eight times, which a panel that reads each second never does."""
+    with Timed(oca.bench(), TRIM) as device, Panel(folder, device.port) as panel:
+        def is_often(_):
+            came = list(device.came)
+            return any(last - first <= 2000 for first, last in zip(came, came[7:]))
+        took = panel.wait(is_often, 60)
+        check(took is not None, f"what a page shows is read at {device.came[-20:]} ms")
+
+
+class Stale(Served):
+    """The second implementation's device, which holds its answer back where it is asked for the value of one object,
+    until that is set: then it comes behind the answer to that, and no other one about the value does."""
+
+    def __init__(self, tree, ono):
+        super().__init__(tree)
+        self.answers, self.ono, self.holds, self.held = self.device.datagram, ono, False, []
+        self.device.datagram = self.datagram
+
+    def datagram(self, peer, data, now):
+        said, packets = self.answers(peer, data, now)
+        commands = [command[0] for kind, _, *command in oca.check(data) if kind == "command"]
+        asked = [(command.level, command.index) for command in commands if command.target == self.ono]
+        if self.holds and (5, 1) in asked:
+            self.held = self.held or packets
+            return said, []
+        return said, packets + (self.held if self.holds and (5, 2) in asked else [])
+
+
+def newer_than_an_answer(folder):
+    """An answer that is older than an order takes nothing back of what the order did: it is tried again where the
+    machine was so busy that the link was lost meanwhile."""
+    with Stale(oca.bench(), TRIM) as device, Panel(folder, device.port) as panel:
+        for value in ("5", "6", "7"):
+            panel.wait(lambda v: v["walked"] and panel.value(TRIM) is not None)
+            device.held, device.holds = [], True
+            is_asked = panel.wait(lambda _: device.held) is not None
+            told = panel.fare("/set", TRIM, value)
+            shown = [panel.value(TRIM)]
+            for _ in range(20):
+                panel.look()
+                shown.append(panel.value(TRIM))
+            device.holds = False
+            if told is None:
+                break
+        check(is_asked and told is None, f"an order behind a question: {is_asked}, {told}")
+        check(set(shown) - {None} == {value}, f"behind an order that sets {value} an older answer comes: {shown}")
 
 
 def beside_an_order(folder):
@@ -731,46 +888,163 @@ def settles(script):
 
 
 def asked_at_once(folder, *given):
-    """How many commands are in flight at a device that answers none, by their handles."""
+    """How many commands are in flight at a device that answers none, by their handles; and how many the panel says."""
     with socket.socket(socket.AF_INET, socket.SOCK_DGRAM) as silent:
         silent.bind(("127.0.0.1", 0))
         silent.settimeout(0.2)
         handles, until = set(), time.monotonic() + 2
-        with Panel(folder, silent.getsockname()[1], *given):
+        with Panel(folder, silent.getsockname()[1], *given) as panel:
             while time.monotonic() < until:
                 with contextlib.suppress(TimeoutError):
                     datagram, at = silent.recv(2000), 10
                     while datagram[7] <= 1 and at + 8 <= len(datagram):
                         handles.add(datagram[at + 4:at + 8])
                         at += int.from_bytes(datagram[at:at + 4], "big")
-    return len(handles)
+            told = panel.look()["link"]["in_flight"]
+    return len(handles), told
 
 
 def spans(folder):
     """Half of the span is for what the panel asks by itself; of a device that says nothing it asks five things."""
     for given, most in ((["--span", "2"], 1), (["--span", "4"], 2), (["--span", "8"], 4), ([], 5)):
-        got = asked_at_once(folder, *given)
+        got, told = asked_at_once(folder, *given)
         check(got == most, f"{given}: {got} commands in flight in place of {most}")
+        check(told == most, f"{given}: the page is told of {told} commands in flight in place of {most}")
+
+
+class Slow(Served):
+    """The second implementation's device, which leaves the first copies of its first commands unanswered."""
+
+    def __init__(self, tree, count):
+        super().__init__(tree)
+        self.answers, self.left = self.device.datagram, count
+        self.device.datagram = self.datagram
+        self.handles, self.copies, self.beats = set(), 0, 0
+
+    def datagram(self, peer, data, now):
+        for kind, _, *command in oca.check(data):
+            if kind == "keep-alive":
+                self.beats += 1
+            elif kind == "command":
+                self.copies += 1
+                is_new = command[0].handle not in self.handles
+                self.handles.add(command[0].handle)
+                if is_new and self.left > 0:
+                    self.left -= 1
+                    return "", []
+        return self.answers(peer, data, now)
+
+
+def counted(folder):
+    """What the panel says of its link is what came to the device: how many commands, and how many datagrams repeated
+    one; and how long ago the device was heard is less again whenever it is."""
+    with Slow(oca.bench(), 9) as device, Panel(folder, device.port) as panel:
+        until = time.monotonic() + 60
+        while device.beats < 2 and time.monotonic() < until:  # they come while no page asks for anything
+            time.sleep(0.05)
+        is_ready = device.beats > 1 and device.left == 0
+        check(is_ready, f"{device.beats} keep-alives came, and {device.left} commands are still left unanswered")
+
+        def agrees(values):
+            link = values["link"]
+            return (link["commands"], link["again"]) == (len(device.handles), device.copies - len(device.handles))
+        is_so = panel.wait(agrees) is not None
+        check(is_so, f"{device.copies} copies of {len(device.handles)} commands: {panel.look()['link']}")
+        ago = [panel.look()["link"]["heard"]]
+        is_less = panel.wait(lambda v: ago.append(v["link"]["heard"]) or ago[-1] < ago[-2])
+        check(is_less is not None, f"the device is heard again and again: {ago[-20:]} ms ago")
+
+
+def at_its_port(folder):
+    """The socket for the device is at the port that is given; and a panel that follows another one at its port is
+    answered."""
+    port = free_port()
+    with socket.socket(socket.AF_INET, socket.SOCK_DGRAM) as silent:
+        silent.bind(("127.0.0.1", 0))
+        silent.settimeout(20)
+        with Panel(folder, silent.getsockname()[1], "--port", str(port)):
+            sender = silent.recvfrom(2000)[1]
+    check(sender == ("127.0.0.1", port), f"--port {port}: the device is asked from {sender}")
+    turn, answered = None, []
+    while turn != by_turns():  # again where the handles began again from 0 meanwhile, as they do every six hours
+        turn, answered = by_turns(), []
+        with Device(folder) as device:
+            for _ in range(2):
+                with Panel(folder, device.port, "--port", str(port)) as panel:
+                    answered.append(panel.wait(lambda v: v["walked"]) is not None)
+    check(answered[0], "a panel at a port that is given is answered")
+    check(answered[1], "a panel that follows another one at its port is answered")
+
+
+def by_its_names(folder):
+    """A panel is asked by its own address, and one at 127.0.0.1 also as localhost; a page orders under the name by
+    which it was asked, and under no other."""
+    for ip, other in (("127.0.0.1", "127.0.0.2"), ("127.0.0.2", "127.0.0.1")):
+        with Device(folder) as device, Panel(folder, device.port, ip=ip) as panel:
+            if not check(panel.told_ip == ip, f"--listen {ip}:0: it tells {panel.told_ip}"):
+                continue
+            check(panel.wait(lambda v: v["walked"]) is not None, f"a panel at {ip} finds the objects")
+            own, local = panel.host, f"localhost:{panel.port}"
+            is_local = ip == "127.0.0.1"
+            for host, status in ((own, 200), (local, 200 if is_local else 421), ("localhost", 421), (ip, 421),
+                                 (f"{other}:{panel.port}", 421)):
+                got = panel.ask("GET", "/", headers={"Host": host})[0]
+                check(got == status, f"a panel at {ip} that is asked as {host} answers {got}, not {status}")
+            for host, page, status in ((own, own, 202), (local, local, 202 if is_local else 421),
+                                       (local, own, 403 if is_local else 421), (own, local, 403)):
+                headers = {"Host": host, "Origin": f"http://{page}", "Content-Type": JSON}
+                got = panel.ask("POST", "/set", json.dumps({"ono": MUTE, "value": "muted"}), headers)[0]
+                check(got == status, f"a panel at {ip} is ordered as {host} by a page of {page}: {got}, not {status}")
+
+
+class Steady(threading.Thread):
+    """A connection with a request each half second, for longer than one on which nothing moves is kept: 30 seconds."""
+
+    def __init__(self, folder):
+        super().__init__(daemon=True)
+        self.folder, self.asked, self.answered = folder, 0, 0
+
+    def run(self):
+        with Device(self.folder) as device, Panel(self.folder, device.port) as panel:
+            with socket.create_connection((panel.ip, panel.port), timeout=20) as s, contextlib.suppress(OSError):
+                until = time.monotonic() + 33
+                while time.monotonic() < until and self.asked == self.answered:
+                    self.asked += 1
+                    s.sendall(f"GET /nothing HTTP/1.1\r\nHost: {panel.host}\r\n\r\n".encode())
+                    self.answered += s.recv(65536).startswith(b"HTTP/1.1 404")
+                    time.sleep(0.5)
+
+    def ends(self):
+        """It was answered each time."""
+        self.join()
+        check(self.asked == self.answered > 1,
+              f"a connection with a request each half second: {self.answered} of {self.asked} are answered")
 
 
 def main():
     folder = sys.argv[1]
+    steady = Steady(folder)
+    steady.start()
     words(folder)
     spans(folder)
-    for part in (bound_for, classes, seldom, of_other_classes, visible_first, beside_an_order, asleep, failing,
-                 unwatched, troubled):
+    for part in (bound_for, classes, seldom, of_other_classes, visible_first, often, newer_than_an_answer,
+                 beside_an_order, asleep, failing, unwatched, troubled, counted, without_a_page, at_its_port,
+                 by_its_names):
         part(folder)
     with Device(folder) as device, Panel(folder, device.port) as panel:
         page(panel)
         controls(panel)
+        in_one_piece(panel)
         objects(folder, device, panel)
         hostile(panel)
+        protected(panel)
         slow(panel)
         nine(panel)
     lossy(folder)
     gone_and_back(folder)
     many(folder)
     rest(folder)
+    steady.ends()
     print(f"{COUNTS[0]} passed, {COUNTS[1]} failed")
     return 1 if COUNTS[1] else 0
 

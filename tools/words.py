@@ -7,6 +7,7 @@ Usage: words.py BIN     BIN is the folder with `ocadev` and `ocactl`
 A device of this script hears what `ocactl` sends, byte for byte, and from which port; a controller of this script speaks to `ocadev
 serve` and compares the counts at the end, each of another number. The last line is 'N passed, M failed'."""
 import contextlib
+import errno
 import os
 import random
 import re
@@ -214,7 +215,7 @@ def faults(checks):
             out, said = run.communicate(timeout=30)
             lines = said.splitlines()
             checks.same(f"faults of {words}", (out, lines[-1:], len(lines), said[:6], run.returncode), ("", [fault], 2, "note: ", code))
-    for program in ("ocadev", "ocactl"):
+    for program in ("ocadev", "ocactl", "ocapanel"):
         done = subprocess.run([f"{checks.folder}/{program}".encode(), b"\xff"], capture_output=True, timeout=30)
         checks.same(f"{program}: words that are no UTF-8", (done.stdout, done.stderr, done.returncode),
                     (b"", b"note: an argument is not UTF-8\nbad words\n", 2))
@@ -324,11 +325,21 @@ def versions(checks):
             checks.same(f"{program} {word}", (done.stdout, done.stderr, done.returncode), (f"{program} {number}\nchecked with {toolchain}\n", "", 0))
 
 
+def granted():
+    """How many bytes the system grants who asks for 4,000,000 for datagrams that have not left."""
+    with bound() as asks:
+        asks.setsockopt(socket.SOL_SOCKET, socket.SO_SNDBUF, 4_000_000)
+        return asks.getsockopt(socket.SOL_SOCKET, socket.SO_SNDBUF)
+
+
 def serves(checks):
     """`serve`: where it listens, its window and its counts."""
     run = checks.start("ocadev", "serve", "--port", 0, "--turns", TURNS, "--ip", "127.0.0.2", "--window", 2)
     said = re.fullmatch(r"listening 127\.0\.0\.2:(\d+)\n", run.stderr.readline())
     checks.same("serve: where it listens", said is not None, True)
+    note = run.stderr.readline() if grants.are_few() else ""
+    few = (note[:len(grants.NOTE)], f" {granted()} bytes" in note or note)
+    checks.same("serve: how many bytes the system grants", few, (grants.NOTE, True) if grants.are_few() else ("", ""))
     device = ("127.0.0.2", int(said[1]))
     first, *others, stranger = [bound() for _ in range(17)]
 
@@ -344,7 +355,8 @@ def serves(checks):
         peer.sendto(oca.pdu(3, [oca.response_body(1, 0, 0, b"")]), device)
     for _ in range(6):
         stranger.sendto(get(1), device)
-    out = run.communicate(timeout=60)[0]
+    out, told = run.communicate(timeout=60)
+    checks.same("serve: what else it tells without --verbose", told, "")
     counts = dict(re.findall(r"([a-z-]+) (\d+)", out))
     quiet = int(counts.pop("quiet", -1))
     checks.same("serve: its counts", counts, {
@@ -489,7 +501,9 @@ def unwritten(checks):
         send = ("--target", 1, "--level", 1, "--index", 1, "--count", 0)
         for words, script in ((("ocadev", "serve", "--port", 0, "--turns", 0), ""), (("ocadev", "show"), ""), (("ocadev", "--help"), ""),
                               (("ocadev", "replay"), "0 quiet\n"), (("ocactl", "send", "--device", to, "--first-handle", 1, *send), ""),
-                              (("ocactl", "run", "--device", to, "--first-handle", 1), "1 2 3 0 -\n"), (("ocactl", "send", "--help"), "")):
+                              (("ocactl", "run", "--device", to, "--first-handle", 1), "1 2 3 0 -\n"),
+                              (("ocactl", "send", "--help"), ""), (("ocapanel", "--help"), ""),
+                              (("ocapanel", "--version"), "")):
             run = subprocess.Popen([f"{checks.folder}/{words[0]}", *map(str, words[1:])], stdin=subprocess.PIPE, stdout=full,
                                    stderr=subprocess.PIPE, text=True)
             checks.started.append(run)
@@ -501,6 +515,31 @@ def unwritten(checks):
                 device.sendto(response(1, 0, 0, b""), sender)
             said = run.communicate(timeout=30)[1]
             checks.same(f"{words}, which can't be written", (said.splitlines()[-1:], run.returncode), (["write failed"], 1))
+
+
+def without_streams(checks):
+    """Where the standard streams are closed, no socket takes the place of one of them, to which what is printed would
+    go."""
+    def close():
+        for stream in range(3):
+            os.close(stream)
+
+    with bound() as device:
+        to = ("--device", f"127.0.0.1:{device.getsockname()[1]}")
+        command = ("--target", "1", "--level", "1", "--index", "1", "--count", "0")
+        for words in (("ocadev", "serve", "--port", "0"), ("ocactl", "send", *to, *command),
+                      ("ocapanel", *to, "--listen", "127.0.0.1:0")):
+            run = subprocess.Popen([f"{checks.folder}/{words[0]}", *words[1:]], preexec_fn=close)
+            checks.started.append(run)
+            files, until = {}, time.monotonic() + 30
+            while not any("socket" in name for name in files.values()) and time.monotonic() < until:
+                with contextlib.suppress(OSError):
+                    names = Path(f"/proc/{run.pid}/fd")
+                    files = {int(number.name): os.readlink(number) for number in names.iterdir()}
+            streams = [files.get(number) for number in range(3)]
+            checks.same(f"{words[0]} without standard streams: what they are", streams, ["/dev/null"] * 3)
+            run.kill()
+            run.wait()
 
 
 def serves_until_stopped(checks):
@@ -679,15 +718,22 @@ def trees(checks):
             Path(path).write_bytes(text)
             done = subprocess.run([f"{checks.folder}/ocadev", "show", "--tree", path], capture_output=True, text=True, timeout=60)
             checks.same(f"show --tree of {len(text)} bytes", (done.stdout, done.stderr, done.returncode), ("" if fault else "100 1.1.3 0 root\n", fault, code))
-        for words, fault, code in ((["--tree", path, "--channels", "1"], "bad words", 2), (["--tree", f"{folder}/none"], "read failed", 1),
-                                   (["--tree", folder], "read failed", 1)):
+        for words, fault, code, reason in ((["--tree", path, "--channels", "1"], "bad words", 2, "--channels"),
+                                           (["--tree", f"{folder}/none"], "read failed", 1, os.strerror(errno.ENOENT)),
+                                           (["--tree", folder], "read failed", 1, os.strerror(errno.EISDIR))):
             done = subprocess.run([f"{checks.folder}/ocadev", "show", *words], capture_output=True, text=True, timeout=30)
             checks.same(f"show {words}", (done.stdout, done.stderr.splitlines()[-1:], done.stderr[:6], done.returncode), ("", [fault], "note: ", code))
+            checks.same(f"show {words}: the reason, {reason}", reason in done.stderr.splitlines()[0], True)
+            if code == 1:
+                names_it = done.stderr.startswith(f"note: {words[1]}: ")
+                checks.same(f"show {words}: {done.stderr!r} begins with the file's name", names_it, True)
 
 
 def main():
     checks = Checks(sys.argv[1])
-    for part in (sends, runs, runs_ahead, drives_while_it_waits, typed, wide_spans, spans_of_hands, holds, at_own_ports, limits, defaults, faults, bad_options, bad_values, missing_options, versions, unwritten, serves, serves_until_stopped, trees):
+    for part in (sends, runs, runs_ahead, drives_while_it_waits, typed, wide_spans, spans_of_hands, holds, at_own_ports,
+                 limits, defaults, faults, bad_options, bad_values, missing_options, versions, unwritten,
+                 without_streams, serves, serves_until_stopped, trees):
         try:
             with own_ports.alone() if part in (at_own_ports, unwritten) else contextlib.nullcontext():
                 part(checks)
