@@ -26,8 +26,11 @@ put() { # put MODE FILE FOLDER
 
 put_text() { # put_text FILE FOLDER NAME, with what stands for the folders
     install -d "$ROOT/$2"
-    awk -v prefix="$PREFIX" -v lib="$LIB" -v version="$VERSION" '{
-        gsub(/@PREFIX@/, prefix); gsub(/@LIB@/, lib); gsub(/@VERSION@/, version); print }' "$1" > "$ROOT/$2/$3"
+    PREFIX=$PREFIX LIB=$LIB VERSION=$VERSION awk '
+        function as_it_is(text) { gsub(/[\\&]/, "\\\\&", text); return text }
+        { gsub(/@PREFIX@/, as_it_is(ENVIRON["PREFIX"])); gsub(/@LIB@/, as_it_is(ENVIRON["LIB"]))
+          gsub(/@VERSION@/, as_it_is(ENVIRON["VERSION"])); print }' "$1" > "$ROOT/$2/$3"
+    chmod 644 "$ROOT/$2/$3"
 }
 
 install_programs() {

@@ -27,6 +27,8 @@ import threading
 import time
 from pathlib import Path
 
+from embedded import bound_at
+
 HERE = Path(__file__).resolve().parent
 TOP = HERE.parent
 AMPLIFIER = "1: open 0 dB/10, 2: muted 0 dB/10\n1: open -60 dB/10, 2: muted 0 dB/10\n"
@@ -171,6 +173,48 @@ def oversize(checks, made):
         run.communicate(timeout=120)
 
 
+def started(words):
+    """What a program says that is to end by itself: its output, the first word of its errors, and its status."""
+    run = subprocess.run([str(word) for word in words], capture_output=True, text=True, timeout=120)
+    return run.stdout, run.stderr.split(" ")[0], run.returncode
+
+
+def objects_of_the_device(checks, asker):
+    """Of each object of the device of the example: its role, and that it can be locked; and a gain's limits."""
+    for channel, block in enumerate((4096, 4112), 1):
+        for ono, role in ((block, f"channel {channel}"), (block + 1, "mute"), (block + 2, "gain")):
+            checks.same(f"the role of {ono}", asker.ask(ono, 1, 5), (0, struct.pack(">H", len(role)) + role.encode()))
+            checks.same(f"{ono} can be locked", asker.ask(ono, 1, 2), (0, b"\1"))
+        checks.same(f"the limits of {block + 2}", asker.ask(block + 2, 5, 1), (0, struct.pack(">hhh", 0, -600, 100)))
+
+
+def examples_alone(checks, made):
+    """The device of the example has its objects and is at this machine alone; at a taken port it says so, as the mixer
+    does. The panel says what a lock of another peer refuses, and that nobody answers."""
+    run, port = serving([made / "device-c11", 0, 600])
+    asker = Asker(port)
+    objects_of_the_device(checks, asker)
+    checks.same("where the device listens", bound_at(int(port)), ["127.0.0.1"])
+    for name, words in (("device", [made / "device-c11", port, 1]),
+                        ("mixer", [made / "mixer-plain", made / "kept of none", port, 1])):
+        checks.same(f"the {name} at a port that is taken", started(words), ("", "socket:", 1))
+    for lock, read in ((6, "gain: 0 dB/10\n"), (3, "gain: Locked\n")):
+        checks.same(f"the lock {lock}", asker.ask(4098, 1, lock), (0, b""))
+        checks.same(f"the panel at the lock {lock}", started([made / "panel-c11", port]),
+                    (f"open channel 1: status 0\ngain to -6 dB: status 3\n{read}", "", 0))
+    run.kill()
+    run.communicate()
+    checks.same("the panel without a word", started([made / "panel-c11"]), ("", "", 2))
+    with socket.socket(socket.AF_INET, socket.SOCK_DGRAM) as silent:
+        silent.bind(("127.0.0.1", 0))
+        said = started([made / "panel-c11", silent.getsockname()[1]])
+        checks.same("the panel where nobody answers", said, ("gain: lost\n", "", 1))
+    run, port = serving([made / "mixer-plain", made / "kept of none", 0, 600])
+    checks.same("where the mixer listens", bound_at(int(port)), ["127.0.0.1"])
+    run.kill()
+    run.communicate()
+
+
 LATE = """#define main panel_main
 #include "%s"
 #undef main
@@ -200,6 +244,45 @@ def late_receives(checks, made, prefix):
         checks.same("a receive until a moment that is past", subprocess.run([made / "late"], timeout=30).returncode, 0)
     except subprocess.TimeoutExpired:
         checks.same("a receive until a moment that is past", "it waits", 0)
+
+
+# What a compiler must warn of, by the name of the warning: a result that nobody looks at, and a pointer that is null.
+CARELESS = [("unused-result", it) for it in (
+    "oca_device_open(&device, 1)", "oca_device_open_with(&device, 1, &spec)",
+    "oca_device_add(&device, 100, 4096, &spec)",
+    "oca_device_add_mute(&device, 100, 4096, text, 4, true, true)", "oca_device_start(&device, 32, 16)",
+    "oca_device_start_within(&device, 32, 16, 4)", "oca_link_open(&link, 1, 2, 3, 4, 5)",
+    "oca_link_submit(&link, 1, 2, 3, 0, text, 0, 4, &number)")]
+CARELESS += [("nonnull", f"(void)!{it}") for it in (
+    "oca_device_open(NULL, 1)", "oca_device_tick(NULL, 1)", "oca_device_packets(&device, NULL)",
+    "oca_device_set(&device, 4096, NULL)",
+    "oca_link_next_due(&link, NULL)", "oca_link_due(&link, 1, NULL, 1472, &size, &number, &number)",
+    "oca_text_put(NULL, text, 4, &size)")]
+ONE_CALL = """#include <oca.h>
+static struct oca_device device = OCA_DEVICE_INIT;
+static struct oca_link link = OCA_LINK_INIT;
+static struct oca_spec spec;
+static uint8_t text[] = "text";
+static uint32_t number;
+static size_t size;
+void calls(void);
+void calls(void) {
+    (void)device, (void)link, (void)spec, (void)text, (void)number, (void)size;
+    %s;
+}
+"""
+
+
+def warnings(checks, made, prefix):
+    """The compiler warns where a result is not looked at and where a pointer is null; else of nothing."""
+    for language, compiler in LANGUAGES.items():
+        for warning, call in [("", "(void)!oca_device_tick(&device, 1)"), *CARELESS]:
+            (made / "call.c").write_text(ONE_CALL % call)
+            words = ["-O2", "-Wall", "-Wextra", f"-I{prefix}/include", "-c", "-o", os.devnull, made / "call.c"]
+            run = subprocess.run([*compiler, *words], capture_output=True, text=True)
+            told = sorted(set(re.findall(r"\[-W([\w-]+?)=?\]", run.stderr)))
+            wanted = [warning] if warning else []
+            checks.same(f"what the compiler ({language}) warns of at {call}", (run.returncode, told), (0, wanted))
 
 
 def for_every_processor(checks, archive):
@@ -429,6 +512,8 @@ INSTALLED = ["include/oca.h", "lib/cmake/oca/oca-config-version.cmake", "lib/cma
 
 
 PROGRAMS = ("ocadev", "ocactl", "ocapanel")
+# What others have installed beside, which stays there.
+OTHERS = ["opt/oca/lib/another.a", "opt/oca/lib/pkgconfig/another.pc", "opt/oca/share/man/man3/another.3"]
 
 
 def make(goal, prefix, archive, folder=TOP, **more):
@@ -442,38 +527,69 @@ def files_below(room):
     return sorted({re.sub(r"man3/oca_\w+\.3$", "man3/oca_*.3", it) for it in there})
 
 
+def installed_as_made(checks, made, archive, place):
+    """What is installed is what was made: the header, the archive without a heap, a page for each call; and what names
+    a folder names that of the prefix, without DESTDIR."""
+    words = [sys.executable, "gate/reference.py", made / "pages"]
+    subprocess.run(words, cwd=TOP, stdout=subprocess.DEVNULL, check=True)
+    pages = {it.name: it.read_text() for it in (made / "pages").iterdir()}
+    there = {it.name: it.read_text() for it in (place / "share/man/man3").glob("oca_*.3")}
+    checks.same("the manual pages", (len(pages) > 90, sorted(there)), (True, sorted(pages)))
+    checks.same("their texts", there == pages, True)
+    for name, source in (("include/oca.h", TOP / "include/oca.h"), ("lib/liboca_c.a", Path(archive))):
+        checks.same(f"{name} as it was made", (place / name).read_bytes() == source.read_bytes(), True)
+    said = (place / "lib/pkgconfig/oca.pc").read_text() + (place / "lib/cmake/oca/oca-config.cmake").read_text()
+    named = re.findall(r"^prefix=(.*)$|^set\(oca_include \"(.*)\"\)$", said, re.MULTILINE)
+    checks.same("the folders that are named", named, [("/opt/oca", ""), ("", "/opt/oca/include")])
+    checks.same("nothing is left to be put in", re.findall(r"@\w+@", said), [])
+
+
 def stays_below(checks, made, archive):
     """What `make install-library` writes lies below DESTDIR, and nothing of it beside; `make uninstall` takes it away."""
     room = made / "a room"
     make("install-library", "/opt/oca", archive, DESTDIR=room)
     checks.same("what is installed below DESTDIR", files_below(room), [f"opt/oca/{it}" for it in INSTALLED])
     checks.same("nothing beside it", Path("/opt/oca").exists(), False)
-    (room / "opt/oca/lib/another.a").touch()
+    installed_as_made(checks, made, archive, room / "opt/oca")
+    for name in OTHERS:
+        (room / name).touch()
     make("uninstall", "/opt/oca", archive, DESTDIR=room)
-    checks.same("what `make uninstall` leaves", files_below(room), ["opt/oca/lib/another.a"])
+    checks.same("what `make uninstall` leaves", files_below(room), OTHERS)
+    checks.same("a folder that was its own alone", (room / "opt/oca/lib/cmake/oca").exists(), False)
     whole = INSTALLED + [it for name in PROGRAMS for it in (f"bin/{name}", f"share/man/man1/{name}.1")]
+    before = os.umask(0o077)  # of one who keeps files from others
     make("install", "/opt/oca", archive, DESTDIR=room)
-    checks.same("what `make install` puts there", files_below(room), sorted(f"opt/oca/{it}" for it in [*whole, "lib/another.a"]))
+    os.umask(before)
+    checks.same("what `make install` puts there", files_below(room), sorted([f"opt/oca/{it}" for it in whole] + OTHERS))
     there = [room / "opt/oca/bin" / name for name in PROGRAMS]
     checks.same("the programs as they were built", [it.exists() and it.read_bytes() == (TOP / "bin" / it.name).read_bytes() for it in there], [True] * 3)
+    there = [room / f"opt/oca/share/man/man1/{name}.1" for name in PROGRAMS]
+    are_same = [it.exists() and it.read_bytes() == (TOP / "man" / it.name).read_bytes() for it in there]
+    checks.same("their pages", are_same, [True] * 3)
     runs = lambda it: it.parent.name == "bin" or ".so" in it.name
-    modes = {it.name: oct(it.stat().st_mode & 0o777) for it in room.rglob("*") if it.is_file() and it.name != "another.a"
+    modes = {it.name: oct(it.stat().st_mode & 0o777) for it in room.rglob("*") if it.is_file() and it.stem != "another"
              and it.stat().st_mode & 0o777 != (0o755 if runs(it) else 0o644)}
     checks.same("what is installed that may not be read or run as it is to be", modes, {})
     make("uninstall", "/opt/oca", archive, DESTDIR=room)
-    checks.same("what `make uninstall` leaves of it", files_below(room), ["opt/oca/lib/another.a"])
+    checks.same("what `make uninstall` leaves of it", files_below(room), OTHERS)
 
 
 def prefixes(checks, made, archive):
-    """A prefix with a space, and a relative one: the panel is compiled with what pkg-config says of each, and runs."""
+    """A prefix with a space, one with a sign that awk reads in its own way, and a relative one: the panel is compiled
+    with what pkg-config says of each, and runs."""
     relative = os.path.relpath(made / "rel", TOP)
-    for prefix, place in ((made / "with a space", made / "with a space"), (relative, made / "rel")):
+    for prefix, place in ((made / "with a space", made / "with a space"), (made / "a&b", made / "a&b"), (relative, made / "rel")):
         make("install-library", prefix, archive)
         checks.same(f"what is installed below {place.name}", files_below(place), INSTALLED)
         cflags, libs = flags(place)
         panel = made / "panel-placed"
         subprocess.run(["cc", "-std=c11", *STRICT, *cflags, "-o", panel, TOP / "examples/c/panel.c", *libs], check=True)
-        checks.same(f"the panel of {place.name}", said_by([panel], LD_LIBRARY_PATH=f"{place}/lib")[1] == 127, False)
+        checks.same(f"the panel of {place.name}", said_by([panel], LD_LIBRARY_PATH=f"{place}/lib"), ("", 2))
+    if shutil.which("pkg-config"):
+        number = int(re.search(r"#define OCA_VERSION 0x(\w+)u", (TOP / "include/oca.h").read_text())[1], 16)
+        told = said_by(["pkg-config", "--modversion", "oca"], PKG_CONFIG_PATH=f"{made}/rel/lib/pkgconfig")
+        version = f"{number >> 16}.{number >> 8 & 255}.{number & 255}"
+        checks.same("the version that pkg-config tells", told, (f"{version}\n", 0))
 
 
 PROJECT = """cmake_minimum_required(VERSION 3.13)
@@ -483,7 +599,38 @@ foreach(each oca static)
   add_executable(panel-${each} panel.c)
   target_link_libraries(panel-${each} PRIVATE oca::${each})
 endforeach()
+foreach(each oca static core)
+  get_target_property(file oca::${each} IMPORTED_LOCATION)
+  get_target_property(headers oca::${each} INTERFACE_INCLUDE_DIRECTORIES)
+  message(STATUS "oca::${each} ${file} ${headers}")
+endforeach()
 """
+
+
+def own_version():
+    """The version that is installed: its three numbers."""
+    own = re.search(r"^Version: (\d+)\.(\d+)\.(\d+)$", (TOP / "include/oca.pc.in").read_text(), re.MULTILINE)
+    return tuple(map(int, own.groups()))
+
+
+def configured(made, folder, *words):
+    """What CMake says when it configures the project in this folder."""
+    project = made / "project"
+    project.mkdir(exist_ok=True)
+    shutil.copy(TOP / "examples/c/panel.c", project)
+    (project / "CMakeLists.txt").write_text(PROJECT)
+    return subprocess.run(["cmake", "-S", project, "-B", folder, *words], cwd=made, capture_output=True, text=True)
+
+
+def targets_in(run):
+    """The file and the headers' folder of each target that CMake found."""
+    return re.findall(r"^-- (oca::.*)$", run.stdout, re.MULTILINE)
+
+
+def targets_below(prefix, lib):
+    """The same as they are to be."""
+    kinds = {"oca": "liboca.so." + ".".join(map(str, own_version())), "static": "liboca.a", "core": "liboca_c.a"}
+    return [f"oca::{kind} {prefix}/{lib}/{file} {prefix}/include" for kind, file in kinds.items()]
 
 
 def by_cmake(checks, made, prefix):
@@ -491,21 +638,20 @@ def by_cmake(checks, made, prefix):
     if not shutil.which("cmake"):
         return print("NOT TRIED: CMake is not installed")
     project, said = made / "project", dict(cwd=made, capture_output=True, text=True)
-    project.mkdir()
-    shutil.copy(TOP / "examples/c/panel.c", project)
-    (project / "CMakeLists.txt").write_text(PROJECT)
-    for words in (["-S", project, "-B", "cmade", f"-DCMAKE_PREFIX_PATH={prefix}"], ["--build", "cmade"]):
-        run = subprocess.run(["cmake", *words], **said)
-        checks.same(f"cmake {words[0]}", (run.returncode, run.stderr), (0, ""))
+    run = configured(made, "cmade", f"-DCMAKE_PREFIX_PATH={prefix}")
+    checks.same("cmake -S", (run.returncode, run.stderr), (0, ""))
+    checks.same("the files of each target", targets_in(run), targets_below(prefix, "lib"))
+    run = subprocess.run(["cmake", "--build", "cmade"], **said)
+    checks.same("cmake --build", (run.returncode, run.stderr), (0, ""))
+    major, minor, patch = own_version()
     run, port = serving([made / "device-c++17", 0, 3])
     for kind in ("oca", "static"):
         checks.same(f"the panel that CMake built with oca::{kind}", said_by([made / f"cmade/panel-{kind}", port])[1], 0)
     run.communicate(timeout=120)
-    own = re.search(r"^Version: (\d+)\.(\d+)\.(\d+)$", (TOP / "include/oca.pc.in").read_text(), re.MULTILINE)
-    major, minor, patch = map(int, own.groups())
     for version, is_kept in ((f"{major}.0", True), (f"{major}.{minor}", True), (f"{major}.{minor}.{patch}", True),
                              (f"{major}.{minor}.{patch + 1}", False), (f"{major}.{minor + 1}", False),
-                             (f"{major + 1}.0", False), (f"{major - 1}.9", False)):
+                             (f"{major + 1}.0", False), (f"{major - 1}.9", False),
+                             (f"{major}.{minor}.{patch} EXACT", True), (f"{major}.0 EXACT", False)):
         (project / "CMakeLists.txt").write_text(PROJECT.replace("oca 1.1", f"oca {version}"))
         found = subprocess.run(["cmake", "-S", project, "-B", "none", f"-DCMAKE_PREFIX_PATH={prefix}"], **said)
         is_refused = "oca-config.cmake, version:" in found.stderr
@@ -532,6 +678,14 @@ def on_arm(checks, made):
     checks.same("the panel on AArch64", said_by([*emulated, made / "panel-arm", port]), (PANEL, 0))
     checks.same("the device on AArch64", (run.communicate(timeout=120)[0], run.returncode), (AMPLIFIER, 0))
     checks.same("each call on AArch64", said_by([*emulated, made / "calls-arm"])[1], 0)
+    first = ["qemu-aarch64", "-cpu", "cortex-a53", "-L", "/usr/aarch64-linux-gnu"]
+    checks.same("each call on an AArch64 of the first kind", said_by([*first, made / "calls-arm"])[1], 0)
+    if shutil.which("cmake"):
+        run = configured(made, "for-arm", f"-Doca_DIR={prefix}/lib/aarch64-linux-gnu/cmake/oca")
+        wanted = targets_below(prefix, "lib/aarch64-linux-gnu")
+        checks.same("the files of each target for AArch64", targets_in(run), wanted)
+    make("uninstall", prefix, "none", TARGET=target)
+    checks.same("what `make uninstall` leaves for AArch64", files_below(prefix), [])
 
 
 def on_the_first_kind(checks, made):
@@ -572,6 +726,7 @@ def main():
         arenas(checks, made)
         for_every_processor(checks, archive)
         late_receives(checks, made, prefix)
+        warnings(checks, made, prefix)
         stays_below(checks, made, archive)
         prefixes(checks, made, archive)
         by_cmake(checks, made, prefix)
@@ -589,6 +744,7 @@ def main():
         full_datagram(checks, made)
         mixers(checks, made, prefix)
         oversize(checks, made)
+        examples_alone(checks, made)
         refused_memory(checks, made)
         if shutil.which("valgrind"):
             careful = ["valgrind", "-q", "--error-exitcode=99", "--leak-check=full"]

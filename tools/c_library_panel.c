@@ -39,7 +39,9 @@ struct network {
     size_t queued;
     struct datagram queue[QUEUED];
     uint8_t answer[OCA_MOST_ANSWER + 50];
-    uint32_t answer_len, answer_count, answer_status, stranger;
+    uint32_t answer_len, answer_count, answer_status, stranger, more; /* so many bytes more stand behind an answer */
+    bool cuts; /* a datagram that has no room is told with the length of the room */
+    bool hurries; /* a receive waits for a millisecond at most */
 };
 
 static bool happens(struct network *network, uint32_t of_100) {
@@ -112,7 +114,9 @@ static void send_to(void *context, const uint8_t *bytes, size_t len) {
         under_way(network, out, response(out, handle + 7, 3, 0, another, 0), DEVICE_IP, DEVICE_PORT);
         under_way(network, another, 3, DEVICE_IP, DEVICE_PORT);
     }
-    under_way(network, out, response(out, handle, status, count, params, size), DEVICE_IP, DEVICE_PORT);
+    size_t whole = response(out, handle, status, count, params, size);
+    for (uint32_t k = 0; k < network->more; k++) out[whole++] = 0x3b;
+    under_way(network, out, whole, DEVICE_IP, DEVICE_PORT);
 }
 
 static uint64_t now_of(void *context) { return ((struct network *)context)->now; }
@@ -120,6 +124,7 @@ static uint64_t now_of(void *context) { return ((struct network *)context)->now;
 static bool receive(void *context, uint64_t until, uint8_t *out, size_t out_len, size_t *len, uint32_t *ip, uint16_t *port) {
     struct network *network = (struct network *)context;
     size_t first = QUEUED;
+    if (network->hurries && until > network->now + 1) until = network->now + 1;
     for (size_t i = 0; i < network->queued; i++)
         if (network->queue[i].at <= until && (first == QUEUED || network->queue[i].at < network->queue[first].at)) first = i;
     if (first == QUEUED) {
@@ -128,7 +133,7 @@ static bool receive(void *context, uint64_t until, uint8_t *out, size_t out_len,
     }
     const struct datagram *next = &network->queue[first];
     if (next->at > network->now) network->now = next->at;
-    *len = next->len;
+    *len = network->cuts && next->len > out_len ? out_len : next->len;
     *ip = next->ip;
     *port = next->port;
     memcpy(out, next->bytes, next->len < out_len ? next->len : out_len);
@@ -343,8 +348,9 @@ static void walks_all(void) {
     oca_device_close(&device);
 }
 
-/* A panel whose calls wait for one turn alone walks all objects, over a network that loses datagrams: it waits for each answer. */
-static void walks_in_single_turns(uint32_t seed) {
+/* A panel whose calls wait for one turn alone walks all objects, over a network that loses datagrams and one on which a
+ * receive hardly waits: it waits for each answer. */
+static void walks_in_single_turns(uint32_t seed, bool hurries) {
     static struct network network;
     struct oca_device device = OCA_DEVICE_INIT;
     struct oca_panel panel = OCA_PANEL_INIT;
@@ -360,6 +366,8 @@ static void walks_in_single_turns(uint32_t seed) {
     network.random = seed;
     network.lost = 20;
     network.doubled = 20;
+    network.delayed = hurries ? 30 : 0;
+    network.hurries = hurries;
     opens(&panel, &network, 1);
     panel.turns = 1;
     seen.len = 0;
@@ -548,6 +556,154 @@ static void refuses_a_smaller_end(void) {
     free(small);
 }
 
+/* A datagram of 1,472 bytes is taken, and one of a byte more is dropped, also where the socket cuts it. */
+static void drops_what_is_too_long(bool cuts) {
+    static struct network network;
+    static struct oca_answer answer;
+    struct oca_panel panel = OCA_PANEL_INIT;
+    begins_network(&network, &panel);
+    network.cuts = cuts;
+    network.answer_count = 1;
+    network.answer_len = OCA_MOST_ANSWER;
+    memset(network.answer, 'a', OCA_MOST_ANSWER);
+    same("1,472 bytes", oca_panel_read(&panel, 4097, OCA_GET_ROLE, &answer).asked, OCA_ASKED_DONE);
+    same("all of its parameters", (uint32_t)answer.params_len, 1452);
+    same("the first and the last", answer.params[0] == 'a' && answer.params[1451] == 'a', 1);
+    network.more = 1;
+    panel.turns = 20;
+    const struct oca_outcome outcome = oca_panel_read(&panel, 4097, OCA_GET_ROLE, &answer);
+    same("a byte more is dropped", outcome.asked, OCA_ASKED_UNANSWERED);
+    network.more = 0;
+    panel.turns = 400;
+    same("and without it taken", oca_panel_finish(&panel, outcome.result, &answer).asked, OCA_ASKED_DONE);
+    oca_panel_close(&panel);
+}
+
+/* A turn at the last moments of the clock waits until the last one. */
+static void waits_until_the_last_moment(void) {
+    static struct network network;
+    struct oca_panel panel = OCA_PANEL_INIT;
+    memset(&network, 0, sizeof network);
+    network.now = UINT64_MAX - 20;
+    opens(&panel, &network, 1);
+    same("a turn at the end of time", oca_panel_turn(&panel).asked, OCA_ASKED_DONE);
+    same("at the last moment", network.now == UINT64_MAX, 1);
+    oca_panel_close(&panel);
+}
+
+/* Each question tells that no answer came, and that the link is lost, and leaves what it would have told. */
+static void asks_in_vain(void) {
+    static struct network network;
+    struct oca_panel panel = OCA_PANEL_INIT;
+    begins_network(&network, &panel);
+    network.silent = true;
+    panel.turns = 0;
+    for (int question = 0; question < QUESTIONS; question++)
+        same("no answer to a question", asked(&panel, (enum question)question), OCA_ASKED_UNANSWERED);
+    while (oca_panel_turn(&panel).asked == OCA_ASKED_DONE) {}
+    for (int question = 0; question < QUESTIONS; question++)
+        same("a question of a lost link", asked(&panel, (enum question)question), OCA_ASKED_LOST);
+    oca_panel_close(&panel);
+}
+
+/* A turn sends all that is due. */
+static void sends_all_that_is_due(void) {
+    static struct network network;
+    struct oca_panel panel = OCA_PANEL_INIT;
+    uint32_t handle = 0;
+    begins_network(&network, &panel);
+    network.silent = true;
+    for (int k = 0; k < 3; k++) same("begin", oca_panel_begin_set(&panel, 4097, oca_mute(true), &handle), OCA_DONE);
+    same("three are sent", network.sent, 3);
+    network.now += 250;
+    same("a turn", oca_panel_turn(&panel).asked, OCA_ASKED_DONE);
+    same("three again", network.sent, 6);
+    oca_panel_close(&panel);
+}
+
+/* A walk that the link takes no command of tells why, and visits nothing: where the span is full, and where the last
+ * handles are spent on the class and the role of the root. */
+static void walks_without_commands(void) {
+    static struct network network;
+    struct oca_panel panel = OCA_PANEL_INIT;
+    uint32_t handle = 0;
+    begins_network(&network, &panel);
+    network.silent = true;
+    for (int k = 0; k < 16; k++) same("begin", oca_panel_begin_set(&panel, 4097, oca_mute(true), &handle), OCA_DONE);
+    seen.len = 0;
+    seen.at_most = 4100;
+    struct oca_outcome outcome = oca_panel_walk(&panel, &walk, visits, &seen);
+    same("a walk over a full span", outcome.asked, OCA_ASKED_NOT_SENT);
+    same("says so, and visits nothing", outcome.result == OCA_SPAN_FULL && seen.len == 0, 1);
+    oca_panel_close(&panel);
+    memset(&network, 0, sizeof network);
+    network.answers = answers_without_end;
+    opens(&panel, &network, UINT32_MAX - 1);
+    outcome = oca_panel_walk(&panel, &walk, visits, &seen);
+    same("a walk without handles", outcome.asked, OCA_ASKED_NOT_SENT);
+    same("says so, and visits nothing", outcome.result == OCA_HANDLES_SPENT && seen.len == 0, 1);
+    oca_panel_close(&panel);
+}
+
+static bool keeps(void *context, const struct oca_visit *visit) {
+    *(struct oca_visit *)context = *visit;
+    return true;
+}
+
+/* Of an object whose class is refused, what became of the question for its members is the same. */
+static void walks_where_all_is_refused(void) {
+    static struct network network;
+    static struct oca_visit visit;
+    struct oca_panel panel = OCA_PANEL_INIT;
+    begins_network(&network, &panel);
+    network.answer_status = OCA_STATUS_LOCKED;
+    same("a walk of a root that is refused", oca_panel_walk(&panel, &walk, keeps, &visit).asked, OCA_ASKED_DONE);
+    same("the root", visit.ono == 100 && visit.container == 0, 1);
+    same("its class is refused", visit.described.asked, OCA_ASKED_REFUSED);
+    same("by that status", visit.described.status, OCA_STATUS_LOCKED);
+    same("and so are its members", visit.listed.asked, OCA_ASKED_REFUSED);
+    same("by that status", visit.listed.status, OCA_STATUS_LOCKED);
+    oca_panel_close(&panel);
+}
+
+/* The text of each outcome, of a status and of a result that it has, and of numbers that none has. */
+static void outcome_texts(void) {
+    const struct { struct oca_outcome outcome; const char *text; } rows[] = {
+        {{OCA_ASKED_DONE, 0, 0}, "done"}, {{OCA_ASKED_REFUSED, OCA_STATUS_BUFFER_OVERFLOW, 0}, "BufferOverflow"},
+        {{OCA_ASKED_REFUSED, 15, 0}, "a status of a later version"},
+        {{OCA_ASKED_UNREADABLE, 0, 0}, "unreadable answer"}, {{OCA_ASKED_NO_VALUE, 0, 0}, "no value"},
+        {{OCA_ASKED_NOT_SENT, 0, OCA_HANDLES_SPENT}, "no handle is left"},
+        {{OCA_ASKED_LOST, 0, 0}, "lost"}, {{OCA_ASKED_LATE, 0, 0}, "late"}, {{OCA_ASKED_UNANSWERED, 0, 1}, "no answer"},
+        {{OCA_ASKED_UNANSWERED + 1, 0, 0}, "an outcome of a later version"}};
+    for (size_t i = 0; i < sizeof rows / sizeof *rows; i++)
+        says("the text of an outcome", oca_outcome_text(rows[i].outcome), rows[i].text);
+}
+
+/* The name of a position is asked for by both of its bytes, and the answer has them as letters. */
+static uint32_t answers_position(struct network *network, uint32_t ono, uint32_t method, const uint8_t *params,
+                                 uint8_t *status, uint8_t *count, uint8_t *out) {
+    const uint8_t text[] = {0, 2, (uint8_t)('a' + params[0]), (uint8_t)('a' + params[1])};
+    (void)network, (void)ono;
+    *status = method == OCA_GET_POSITION_NAME ? 0 : 9;
+    *count = 1;
+    memcpy(out, text, sizeof text);
+    return sizeof text;
+}
+
+static void asks_for_both_bytes(void) {
+    static struct network network;
+    struct oca_panel panel = OCA_PANEL_INIT;
+    struct oca_name name = {0, {0}};
+    uint64_t heard = 0;
+    begins_network(&network, &panel);
+    network.now += 1000;
+    network.answers = answers_position;
+    same("position 258", oca_panel_position_name(&panel, 4099, 0x0102, &name).asked, OCA_ASKED_DONE);
+    same("by both of its bytes", is_name(&name, "bc"), 1);
+    same("the device is heard now", oca_link_last_heard(&panel.link, &heard) == OCA_DONE && heard == network.now, 1);
+    oca_panel_close(&panel);
+}
+
 /* No answer in time, and one that comes after all; a program that stood still; a socket of another size. */
 static void waits(void) {
     static struct network network;
@@ -668,9 +824,18 @@ int main(int count, char **words) {
     at_device(1, 0, 0, 0);
     for (uint32_t seed = 0; seed < 20; seed++) at_device(seed, 20, 20, 30);
     walks_all();
-    for (uint32_t seed = 0; seed < 5; seed++) walks_in_single_turns(seed);
+    for (uint32_t seed = 0; seed < 5; seed++) walks_in_single_turns(seed, seed > 2);
     hostile();
     classes();
+    drops_what_is_too_long(false);
+    drops_what_is_too_long(true);
+    waits_until_the_last_moment();
+    asks_for_both_bytes();
+    asks_in_vain();
+    sends_all_that_is_due();
+    walks_without_commands();
+    walks_where_all_is_refused();
+    outcome_texts();
     waits();
     printf("%d passed, %d failed\n", passed, failed);
     return failed != 0;

@@ -11,6 +11,7 @@ import re
 import socket
 import subprocess
 import sys
+import tempfile
 from pathlib import Path
 
 import oca_profile as oca
@@ -236,9 +237,37 @@ def closed(checks, folder):
                                                                     timeout=60).returncode, 0)
 
 
+def ended(folder, words, lines="", output=subprocess.PIPE):
+    """What an amplifier prints that ends by itself, with the lines of a file as its input: behind where it listens, its
+    notes, and its status."""
+    with tempfile.TemporaryFile("w+") as given:
+        given.write(lines)
+        given.seek(0)
+        done = subprocess.run([f"{folder}/amplifier", *map(str, words)], stdin=given, stdout=output,
+                              stderr=subprocess.PIPE, text=True, timeout=60)
+    return done.stdout, re.sub(r"^listening 127\.0\.0\.1:\d+\n", "", done.stderr), done.returncode
+
+
+def ends(checks, folder):
+    """One line is turned before each of the turns that the words say, 2 without words; a line that is not turned is not
+    shown. Where the amplifier can't bind its port, or can't print, it says so and ends with 1."""
+    first, second, third = (shown(levels) for levels in ((("open", 0), ("muted", 0)), (("open", 0), ("open", 0)),
+                                                         (("muted", 0), ("open", 0))))
+    lines = "open 1\nopen 2\nmute 1\nmute 2\n"
+    for words, said in (((), first + second), ((0, 0), ""), ((0, 1), first), ((0, 2), first + second),
+                        ((0, 3), first + second + third)):
+        checks.same(f"an amplifier with the words {words}", ended(folder, words, lines), (said, "", 0))
+    with socket.socket(socket.AF_INET, socket.SOCK_DGRAM) as other:
+        other.bind(("127.0.0.1", 0))
+        port = other.getsockname()[1]
+        checks.same("an amplifier at a taken port", ended(folder, (port, 2)), ("", "socket failed\n", 1))
+    with open("/dev/full", "w") as full:
+        checks.same("an amplifier that cannot print", ended(folder, (0, 9), lines, full), (None, "write failed\n", 1))
+
+
 def main():
     checks = Checks()
-    for part in (panel_sets, listing, knobs, objects, at_this_machine, closed):
+    for part in (panel_sets, listing, knobs, objects, at_this_machine, closed, ends):
         part(checks, sys.argv[1])
     print(f"embedded: the samples, each from both sides\n{checks.passed} passed, {checks.failed} failed")
     return 1 if checks.failed else 0

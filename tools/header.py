@@ -5,7 +5,8 @@ each constant and struct, by its numbers and fields; and the manual pages that a
 Usage: header.py
 
 The step is tried itself: with two parameters, constants or fields exchanged, left out or of another type, a difference
-must be found. The last line is 'N passed, M failed'."""
+must be found, and so must a page with another title, declaration, description or list. The last line is 'N passed, M
+failed'."""
 import re
 import sys
 import tempfile
@@ -251,34 +252,96 @@ WRONG = [
 ]
 
 
-def pages_wrong(header):
-    """How many manual pages there are, and which call has none that says its declaration and what the header says of it."""
-    with tempfile.TemporaryDirectory() as place:
-        made = reference.write(Path(place))
-        texts = {file.stem: file.read_text() for file in Path(place).glob("*.3")}
-    calls = prototypes(header).keys() | set(re.findall(r"^static inline [\w ]+?[ *](oca_\w+)\(", header, re.M)) - reference.HELPERS
+def comments(header):
+    """The words of the comment before each call in its paragraph, line by line."""
+    found, said, is_inside = {}, [], False
+    for line in header[header.index("#define OCA_H"):].splitlines():
+        if is_inside or line.startswith("/*"):
+            said = (said if is_inside else []) + re.findall(r"\w+", line)
+            is_inside = "*/" not in line
+        elif not line.strip():
+            said = []
+        elif re.match(r"\w[\w ]*[ *]oca_\w+\(", line):
+            found[re.search(r"(oca_\w+)\(", line)[1]] = said
+    return found
+
+
+def part(page, heading):
+    """The text of a page under a heading, none where the heading is not there."""
+    return page.split(f"\n.SH {heading}\n")[-1].split("\n.SH")[0] if f"\n.SH {heading}\n" in page else ""
+
+
+def words(text):
+    return re.findall(r"\w+", text)
+
+
+def stands(some, text):
+    """Whether the words of one text stand in another one, one after another."""
+    return f" {' '.join(words(some))} " in f" {' '.join(words(text))} "
+
+
+def page_faults(name, page, header, comment, version):
+    """What is wrong with the page of a call."""
+    declared = re.search(rf"^(?:static inline )?[\w *]+?[ *]{name}\([^)]*\)", header, re.M)[0]
+    types = set(re.findall(r"((?:struct|enum) oca_\w+)", declared)) - set(reference.NAMED_ANYWAY)
+    about = re.fullmatch(rf"{name} \\- (.+)", part(page, "NAME"))
+    about = words(about[1]) if about else []
+    results = set(re.findall(r"\bOCA_\w+", part(page, "RETURN VALUE")))
+    tried = [
+        ("is not titled by its name and the version", page.startswith(f'.TH {name} 3 "" "oca {version}" ')),
+        ("does not say in a line what the call does", about and about == comment[:len(about)]),
+        ("does not have its declaration", stands(declared, part(page, "SYNOPSIS"))),
+        ("does not say what the header says", comment and words(part(page, "DESCRIPTION"))[:len(comment)] == comment),
+        ("does not show what its declaration names", all(f"{it} {{" in part(page, "SYNOPSIS") for it in types)),
+        ("does not say what it can answer",
+         f"enum oca_result {name}(" not in declared or numbered(header, "oca_result").keys() <= results),
+        ("does not say what all calls want",
+         words(part(page, "NOTES")) == words(header[:header.index("#ifndef OCA_H")])),
+    ]
+    return [f"{name}: its page {what}" for what, is_well in tried if not is_well]
+
+
+def pages_wrong(header, texts):
+    """How much of the manual pages was looked at, and what is wrong with them."""
+    inline = set(re.findall(r"^static inline [\w ]+?[ *](oca_\w+)\(", header, re.M))
+    calls = prototypes(header).keys() | inline - reference.HELPERS
+    version = re.search(r"^Version: (.+)$", (TOP / "include/oca.pc.in").read_text(), re.M)[1]
+    said = comments(header)
     wrong = [f"{name}: a page in one of both alone" for name in sorted(calls ^ texts.keys())]
-    front = header[:header.index("#ifndef OCA_H")]
-    promised = re.sub(r"\W+", " ", front)
-    for name, said in sorted(texts.items()):
-        told = re.sub(r"\W+", " ", said.split("\n.SH NOTES\n")[-1]) if "\n.SH NOTES\n" in said else ""
-        if told.strip() != promised.strip():
-            wrong.append(f"{name}: its page does not say what all calls want")
-        if re.search(rf"^.*enum oca_result {name}\(", said, re.M):
-            answers = re.findall(r"\bOCA_\w+", said.split("\n.SH RETURN VALUE\n")[-1].split("\n.SH")[0])
-            if numbered(header, "oca_result").keys() - set(answers):
-                wrong.append(f"{name}: its page does not say what it can answer")
     for name in sorted(calls & texts.keys()):
-        said = texts[name].split(".SH DESCRIPTION\n")[1].split("\n.SH")[0]
-        if not re.search(rf"^(static inline )?[\w *]+[ *]{name}\(.*\)(?: OCA_\w+)?;$", texts[name], re.M) or not said or made[name][0] != said:
-            wrong.append(f"{name}: its page does not say what the header says")
-    return len(calls), wrong
+        wrong += page_faults(name, texts[name], header, said[name], version)
+    return 8 * len(calls), wrong
+
+
+# Pages that are wrong: the call, what stands in its page, and what stands there in its place.
+WRONG_PAGES = [
+    ("oca_device_tick", r'"oca \d', '"oca 9'), ("oca_device_tick", r"(oca_device_tick \\- ).*", r"\1 "),
+    ("oca_device_tick", "uint64_t now", "uint32_t now"), ("oca_device_tick", "sessions and locks lapse", "locks lapse"),
+    ("oca_device_datagram", r"struct oca_verdict \{", "struct oca_verdicts {"),
+    ("oca_panel_walk", r"struct oca_walk \{", "struct {"),
+    ("oca_link_due", r"OCA_SPAN_FULL = 22, ", ""),
+    ("oca_panel_get", "one call at a time for a struct", "calls for a struct"),
+]
+
+
+def is_page_found(header, texts, name, there, other):
+    """Whether a page that is wrong so is found."""
+    changed = {**texts, name: re.sub(there, other, texts.get(name, ""), count=1)}
+    return changed != texts and len(pages_wrong(header, changed)[1]) > len(pages_wrong(header, texts)[1])
+
+
+def made_pages():
+    """The manual pages, by the names of the calls."""
+    with tempfile.TemporaryDirectory() as place:
+        reference.write(Path(place))
+        return {file.stem: file.read_text() for file in Path(place).glob("*.3")}
 
 
 def main():
     header = (TOP / "include/oca.h").read_text()
     compared, wrong = differences(header)
-    pages, unsaid = pages_wrong(header)
+    texts = made_pages()
+    pages, unsaid = pages_wrong(header, texts)
     compared, wrong = compared + pages, wrong + unsaid
     for line in wrong:
         print(f"include/oca.h: {line}")
@@ -286,6 +349,10 @@ def main():
     for (there, other), is_found in zip(WRONG, found):
         if not is_found:
             print(f"not found: {other!r} in place of {there!r}")
+    for it in WRONG_PAGES:
+        found.append(is_page_found(header, texts, *it))
+        if not found[-1]:
+            print(f"not found: {it[2]!r} in place of {it[1]!r} in the page of {it[0]}")
     failed = len(wrong) + found.count(False)
     print(f"{compared - len(wrong) + sum(found)} passed, {failed} failed")
     return 1 if failed else 0
