@@ -1,8 +1,9 @@
 #!/usr/bin/env python3
 """The gate's own test: steps that try nothing, too little, fail, crash, hang, or can't be read must make the gate fail, and
 so must an `rt ci` that does, and a gate that a signal ends; a tool that no step runs must be found; what a tool compares
-by must see a difference and tell it; and a program that is not built must be no success. The last line is 'N passed, M
-failed'."""
+by must see a difference and tell it; a program that is not built must be no success; edits must be judged by what the
+prover says of them; the steps must name enough checks; and `make library` must see each source that is newer. The last
+line is 'N passed, M failed'."""
 import contextlib
 import importlib
 import inspect
@@ -182,6 +183,162 @@ def sees_what_is_not_built(folder):
     return found == [0, 1, 1, 1, 1, 1]
 
 
+class FakeCrate(SimpleNamespace):
+    """What a crate is asked for; it can stand in a set."""
+    __hash__ = object.__hash__
+
+
+def builds_as_asked():
+    """`library.py` compiles the library for the kind and the processor that are asked for, else for every one of that
+    kind, where the crates below are built; and it tells how that ended."""
+    library, place = importlib.import_module("library"), Path.cwd()
+    found = []
+
+    def compiled(words, to):
+        asked = [words[words.index(word) + 1] for word in ("--target", "--cpu")]
+        found.append((*asked, Path(to).parent.name, Path(to).name))
+        return status
+
+    with tempfile.TemporaryDirectory() as folder:
+        lower = FakeCrate(name="lower", rlib=f"{folder}/none", below=list)
+        crate = FakeCrate(name="oca_c", folder=folder, below=lambda: [lower], compile=compiled)
+        tools = SimpleNamespace(crates_below=lambda _: [crate, lower], lock=lambda _: [])
+        real = library.build.toolchain, library.build.build_libraries, sys.argv
+        try:
+            library.build.toolchain = lambda: SimpleNamespace(rtlib=tools, processors=lambda: 1)
+            for status, is_built, words in ((0, True, []), (0, True, ["aarch64-unknown-linux-gnu"]), (7, True, []),
+                                            (0, True, ["x86_64-unknown-linux-gnu", "x86-64-v3"]), (0, False, [])):
+                library.build.build_libraries = lambda *_, good=is_built: good
+                sys.argv = ["library.py", *words]
+                found.append(library.main())
+        finally:
+            library.build.toolchain, library.build.build_libraries, sys.argv = real
+            os.chdir(place)
+    kinds = "x86_64-unknown-linux-gnu", "aarch64-unknown-linux-gnu"
+    first, arm, later = (kinds[0], "x86-64"), (kinds[1], "generic"), (kinds[0], "x86-64-v3")
+    made = [(*it, it[0], "liboca_c.a") for it in (first, arm, first, later)]
+    wanted = [made[0], 0, made[1], 0, made[2], 7, made[3], 0, 1]
+    if found != wanted:
+        print(f"{found} in place of {wanted}")
+    return found == wanted
+
+
+# Lines that stand in a document, what was printed, and whether that is the same.
+SESSIONS = [
+    (["a"], ["a"], True), (["a"], ["b"], False), (["a"], ["a", "b"], False), (["a", "b"], ["a"], False),
+    (["b"], ["a", "b"], False),
+    (["a.c"], ["abc"], False), (["a ... c"], ["a b c"], True), (["a ... c"], ["a b d"], False),
+    (["..."], ["a", "b"], True),
+    (["a", "...", "b"], ["a", "b"], True), (["a", "...", "b"], ["a", "c", "d", "b"], True),
+    (["a", "...", "b"], ["a", "c"], False), (["quiet 12 ms"], ["quiet 7 ms"], True),
+    (["quiet 12 ms"], ["quiet x ms"], False), (["at 12 ms"], ["at 7 ms"], False), ([], [], True), ([], ["a"], False),
+]
+# Lines of code that stand in a document, and whether they stand so in the file with these lines.
+FILE = ["fn f() {", "    g();", "    h();", "}", "fn g() {}"]
+PIECES = [
+    (["fn f() {", "    g();"], True), (["g();", "h();"], True), (["h();", "g();"], False), (["g();", "}"], False),
+    (["g()"], False),
+    (["fn f() {", "...", "}"], True), (["fn f() {", "// ...", "fn g() {}"], True),
+    (["fn g() {}", "...", "fn f() {"], False),
+    (["g();", "...", "g();"], False), (["none"], False),
+]
+
+
+def compares_documents():
+    """`snippets.py` sees where a session prints otherwise, and where a piece of code is not in its file."""
+    snippets = importlib.import_module("snippets")
+    wrong = [it for it in SESSIONS if snippets.is_like(it[0], it[1]) != it[2]]
+    wrong += [it for it in PIECES if snippets.is_in(it[0], "\n".join(FILE)) != it[1]]
+    blocks = list(snippets.blocks("a\n\n    $ b\n    c\n\nd\n```sh x/y\ne\n```\n"))
+    wrong += [] if blocks == [(3, "", ["$ b", "c"]), (8, "sh x/y", ["e"])] else blocks
+    for it in wrong:
+        print(f"snippets.py: {it}")
+    return not wrong
+
+
+def lists_each_edit():
+    """`edits.py` leaves out no file of a folder but a text about it: what is no edit is tried, and fails."""
+    edits = importlib.import_module("edits")
+    with tempfile.TemporaryDirectory() as folder:
+        for name in ("a.edit", "b.edits", "c", "README.md"):
+            Path(folder, name).touch()
+        found = [edits.Edit(it, SimpleNamespace(folder=folder)) for it in edits.listed(Path(folder))]
+    refused = [(it.path.name, it.why == "it is no edit") for it in found]
+    return refused == [("a.edit", False), ("b.edits", True), ("c", True)]
+
+
+# What the prover says of a copy of a crate: its status, its lines, and which of three edits it refuses by that: one of
+# `m::f`, one of `m::g`, which calls it, and one of no function.
+DIFFERS, GONE = "F.antt:1:2: error: the two sides differ", "error: `x` is not in scope"
+CALLS, END = "fn a::m::g: not proved: it calls a::m::f", "logic=not-proved"
+SAID_OF_EDITS = [
+    (0, ["logic=proved"], ()),
+    (1, [f"proofs/m/f/{DIFFERS}", "fn a::m::f: not proved: its proof", CALLS, END], "f "),
+    (1, ["fn a::m::f: not proved: the search did not prove a goal", CALLS, END], "f "),
+    (1, [f"proofs/m/f/F.antt:1:2: {GONE}", "fn a::m::f: not proved: its proof", END], ()),
+    (1, [CALLS, END], ()),
+    (1, [f"proofs/m/h/{DIFFERS}", "fn a::m::h: not proved: its proof", END], " "),
+    (1, [f"src/m.rt:1:2: {GONE}", END], ()),
+    (2, [f"proofs/m/f/{DIFFERS}", "it ended"], ()),
+]
+
+
+def judges_edits():
+    """An edit is refused where a goal of its own function fails, and one of no function where any does: not where only
+    a name is gone, where a function only calls another, or where the prover was not reached; and why not is told."""
+    edits = importlib.import_module("edits")
+    functions = {"f": [edits.Function(["m"], None, "f", 0, 1)], "g": [edits.Function(["m"], None, "g", 2, 3)], " ": []}
+    tried = {name: SimpleNamespace(functions=its) for name, its in functions.items()}
+    found, told = [], []
+    for status, lines, _ in SAID_OF_EDITS:
+        answer = edits.Answer(SimpleNamespace(returncode=status, stdout="\n".join(lines) + "\n"), {})
+        found.append([name for name in tried if answer.refuses(tried[name])])
+        told += [answer.reason(tried[name]) for name in tried if name not in found[-1]]
+    return found == [list(refused) for *_, refused in SAID_OF_EDITS] and all(told)
+
+
+# The fewest checks that the steps of a tool are to name: a slip in their list does not take the rest away unseen.
+FEWEST = {
+    "gate/selftest.py": 50, "examples/run.py": 4, "tools/c_library.py": 26000, "tools/runs.py": 100,
+    "tools/ctl_runs.py": 100, "tools/unreliable.py": 3600, "tools/fuzz.py": 200, "tools/words.py": 800,
+    "tools/hands.py": 270, "tools/panel.py": 290, "tools/network.py": 290, "tools/keep.py": 90, "tools/world.py": 13,
+    "tools/embedded.py": 120, "tools/header.py": 1180, "tools/law.py": 3, "tools/manual.py": 240,
+    "tools/snippets.py": 11, "tools/edits.py": 710}
+
+
+def names_enough():
+    """The steps name as many checks of each tool as they are to."""
+    steps = [step for part in run.paragraphs(HERE / "steps") for step in part]
+    named = {tool: sum(step.least for step in steps if tool in step.command.split()) for tool in FEWEST}
+    few = [f"the steps name {named[tool]} checks of {tool}, and {least} are the fewest"
+           for tool, least in FEWEST.items() if named[tool] < least]
+    for it in few:
+        print(it)
+    return not few
+
+
+def stands_on_its_sources():
+    """`make library` makes the library anew where a source or a definition of its own crates is newer."""
+    lines = [line.split("#")[0].split(":") for line in (run.TOP / "crates.txt").read_text().splitlines()]
+    below = {line[0].split()[0]: line[1].split() for line in lines if len(line) == 2}
+    crates, left = set(), ["oca_c"]
+    while left:
+        name = left.pop()
+        left += below.get(name, []) if name not in crates else []
+        crates |= {name} & below.keys()
+    wanted = {str(file.relative_to(run.TOP)) for name in crates for end in ("src/**/*.rt", "specs/**/*.antt")
+              for file in (run.TOP / "crates" / name).glob(end)}
+    target = "x86_64-unknown-linux-gnu"
+    library = f"crates/oca_c/out/{target}/liboca_c.a"
+    words = ["make", "-pq", "library", f"TARGET={target}", f"LIBRARY={library}"]  # its rules; nothing is made
+    told = subprocess.run(words, cwd=run.TOP, capture_output=True, text=True).stdout.splitlines()
+    rule = next((line for line in told if line.startswith(f"{library}: ")), "")
+    missing = sorted(wanted - set(rule.split()))
+    if missing:
+        print(f"the library does not stand on {', '.join(missing[:3])}")
+    return len(wanted) > 100 and not missing
+
+
 # What a program prints on each example, by the text that is expected, with its status; and whether the examples pass.
 OF_EXAMPLES = [("said", 0, True), ("''", 0, False), ("said[:-1]", 0, False), ("said[:len(said) // 2]", 0, False),
                ("said + '\\n'", 0, False), ("'x' + said", 0, False), ("said", 1, False)]
@@ -276,6 +433,10 @@ def main():
         tried += [(f"a gate that signal {number} ends", ends_when_told(Path(room), number))
                   for number in (signal.SIGTERM, signal.SIGINT)]
     tried += [(f"{name}.py sees differences", sees_differences(tool)) for name, tool in tools_with_checks()]
+    tried += [("library.py builds as asked", builds_as_asked()), ("snippets.py compares", compares_documents()),
+              ("edits.py lists each edit", lists_each_edit()), ("edits.py judges edits", judges_edits()),
+              ("the steps name enough", names_enough()),
+              ("make library stands on its sources", stands_on_its_sources())]
     tried += [("all that is tried counts", counts_all()), ("edits.py counts all", counts_edits()),
               ("network.py forgives no lateness", forgives_no_lateness()),
               ("lossy.py judges runs", judges_lossy_runs()), ("tools count what differs", counts_what_differs())]
