@@ -9,7 +9,8 @@ when it ends, with its minutes: as a whole where it failed, else its last lines;
 it is over. A step has failed where one of its checks failed, it ended with another status than 0, it passed fewer
 checks than its line names, or it did not end in the minutes that its line allows. The gate has failed too where a line
 of the steps can't be read, and where a tool of the gate stands in no step. The last lines are a table of the minutes,
-and 'N passed, M failed' over all of it; the exit status is 1 where anything failed."""
+some of the lines that say what failed, and 'N passed, M failed' over all of it; the exit status is 1 where anything
+failed."""
 import os
 import re
 import resource
@@ -26,6 +27,9 @@ BESIDE = 3
 LAST_LINES = 12  # so many are shown of a step that passed
 RUNNING = []
 TABLE = []  # a line for each command that has ended
+WRONG = []  # lines that say what failed
+SAYS_WRONG = re.compile(r"FAILED|NOT (PROVED|REFUSED|TRIED|BUILT)|is not what its file")
+MOST_WRONG = 12  # so many of these lines are shown at the end
 
 
 class Step:
@@ -74,6 +78,12 @@ def counted(last, status, least):
     return passed, failed + bool(why), why
 
 
+def note_wrong(lines):
+    """Notes the lines that say what failed; of a failed command that has none, the last three."""
+    lines = [line.strip() for line in lines if line.strip()]
+    WRONG.extend([line for line in lines if SAYS_WRONG.search(line)] or lines[-3:])
+
+
 def took(command, begun, passed, failed, why=""):
     minutes = (time.monotonic() - begun) / 60
     TABLE.append(f"gate: {minutes:5.1f} minutes, {passed:5} passed, {failed} failed: {command[:60]}")
@@ -84,12 +94,15 @@ def took(command, begun, passed, failed, why=""):
 def watched(command, least):
     """Runs a command, shows what it prints as it prints it, and answers how many checks passed and failed."""
     print(f"gate: {command}", flush=True)
-    begun, last = time.monotonic(), ""
+    begun, last, said = time.monotonic(), "", []
     with started(command) as process:
         for line in process.stdout:
             print(line, end="", flush=True)
             last = line.strip() or last
+            said.append(line)
     passed, failed, why = counted(last, process.returncode, least)
+    if failed:
+        note_wrong(said)
     print(took(command, begun, passed, failed, why), flush=True)
     return passed, failed
 
@@ -105,6 +118,8 @@ def kept(step):
             end(process)
             text, status = process.communicate()[0] + "\nit took too long and was ended\n", 1
     passed, failed, why = counted(last_line(text), status, step.least)
+    if failed:
+        note_wrong(text.splitlines())
     shown = text if failed else "".join(text.splitlines(keepends=True)[-LAST_LINES:])
     return (passed, failed), f"gate: {step.command}\n{shown}{took(step.command, begun, passed, failed, why)}"
 
@@ -178,6 +193,8 @@ def main(words):
     counts += [(0, len(wrong))] + run_steps([[step for step in part if step.is_read] for part in parts])
     passed, failed = (sum(of) for of in zip(*counts))
     print("\n".join(TABLE))
+    for line in WRONG[:MOST_WRONG]:
+        print(f"gate: wrong: {line[:200]}")
     print(f"gate: {(time.monotonic() - begun) / 60:.1f} minutes, {processor_minutes():.1f} processor minutes in all")
     print(f"{passed} passed, {failed} failed", flush=True)
     return 1 if failed or not passed else 0

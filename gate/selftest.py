@@ -59,6 +59,19 @@ def is_as_wanted(folder, steps, passes, last):
     return True
 
 
+def tells_what_failed(folder):
+    """Behind the table stands what failed: the lines that say so, of a step that has none its last ones, and nothing of
+    a step that passed."""
+    file = folder / "steps"
+    file.write_text("1 1 echo 'x: FAILED: it is so'; echo y; echo '1 passed, 1 failed'\n1 1 echo z; false\n"
+                    "1 1 echo 'w: FAILED before'; echo '1 passed, 0 failed'\n")
+    ran = subprocess.run([sys.executable, str(HERE / "run.py"), "steps", str(file)], capture_output=True, text=True, timeout=120)
+    told = [line.removeprefix("gate: wrong: ") for line in ran.stdout.splitlines() if line.startswith("gate: wrong: ")]
+    if sorted(told) != ["x: FAILED: it is so", "z"]:
+        print(f"{told} is told of what failed")
+    return sorted(told) == ["x: FAILED: it is so", "z"]
+
+
 def finds_what_is_left_out(folder):
     """A program that no step runs is found; one that a step runs, a module, and what says that it is no step are not."""
     tools = folder / "tools"
@@ -299,7 +312,7 @@ def judges_edits():
 
 # The fewest checks that the steps of a tool are to name: a slip in their list does not take the rest away unseen.
 FEWEST = {
-    "gate/selftest.py": 50, "examples/run.py": 4, "tools/c_library.py": 26000, "tools/runs.py": 100,
+    "gate/selftest.py": 51, "examples/run.py": 4, "tools/c_library.py": 26000, "tools/runs.py": 100,
     "tools/ctl_runs.py": 100, "tools/unreliable.py": 3600, "tools/fuzz.py": 200, "tools/words.py": 800,
     "tools/hands.py": 270, "tools/panel.py": 290, "tools/network.py": 290, "tools/keep.py": 90, "tools/world.py": 13,
     "tools/embedded.py": 120, "tools/header.py": 1180, "tools/law.py": 3, "tools/manual.py": 240,
@@ -428,6 +441,7 @@ def main():
         tried += [(what, is_counted(*case)) for what, *case in OF_CI]
         tried += [("a tool that no step runs is found", finds_what_is_left_out(Path(room))), ("the least of rt ci", knows_the_least(Path(room))),
                   ("what hangs is ended", ends_all_that_hangs(Path(room))),
+                  ("what failed is told", tells_what_failed(Path(room))),
                   ("what is not built is seen", sees_what_is_not_built(Path(room))),
                   ("examples/run.py compares", compares_examples(Path(room)))]
         tried += [(f"a gate that signal {number} ends", ends_when_told(Path(room), number))
