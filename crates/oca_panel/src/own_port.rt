@@ -13,9 +13,9 @@ const PORTS: [u16; 2] = [65001, 65002];
 /// How many handles a turn has.
 const HANDLES: u128 = 2_147_483_648;
 
-/// A port whose turn it is, the other one, and a first handle that is safe there: a device executes no command whose
-/// handle is not above those that it has heard from the same address and port since the last pause of more than two
-/// minutes in which nothing was sent from there.
+/// A port whose turn it is, the other one, and a first handle that is safe there. A handle is safe if it is above all
+/// that were used from the same address and port since the last pause of more than two minutes in which nothing was
+/// sent from there: under another one a command may get no answer, or the answer to an earlier command.
 #[derive(Clone, Copy, Debug, PartialEq, Eq)]
 pub struct OwnPort {
     /// The port whose turn it is.

@@ -134,8 +134,8 @@ impl<E: End> Panel<E> {
         self.link.is_lost() || is_late(&self.link, self.end.now())
     }
 
-    /// The lowest handle whose answer came and was not taken yet. So a program finds the answer to a command that a call
-    /// gave up: `try_finish` takes it.
+    /// The lowest handle whose answer came and was not taken yet; `None` where there is none. So a program finds the
+    /// answer to a command that a call gave up: `try_finish` takes it.
     pub fn answered(&self) -> Option<Handle>
         ensures { option_map (λ h. h.0) result ≡ first_answered self.now.link.untaken }
     {
@@ -157,8 +157,8 @@ impl<E: End> Panel<E> {
     }
 
     /// Asks for one command, and waits for its answer. `Refused` where the link refuses it, so that it is never sent:
-    /// that changes nothing. Where no answer comes in the panel's turns, the command stays in flight, under the handle that
-    /// [`next_handle`](Panel::next_handle) told before, and takes room in the span until its answer is taken.
+    /// that changes nothing. Where no answer comes in the panel's turns, the command stays in flight, under the handle
+    /// that [`next_handle`](Panel::next_handle) told before, and takes room in the span until its answer is taken.
     pub fn ask(&mut self, request: Request<'_>) -> Outcome
         ensures { AsksIn (request_of request.entry) self.old self.new result }
     {

@@ -1,6 +1,6 @@
 //! Whether a device answers the commands of a port.
 //!
-//! A device does not answer a command whose handle is not above those that it has heard from the same port: then
+//! A device may leave a command unanswered whose handle is not above those that it has heard from the same port: then
 //! nothing but its keep-alives comes back. This is found out before a command is sent that does something, by one that
 //! reads.
 ghost use Rattle.std.specs.Prelude.{◌≡◌};
