@@ -14,9 +14,9 @@ use Rattle.oca_device.specs.Events.{Event}
 use Rattle.oca_model.specs.declared.value.Value.{Value}
 use Rattle.oca_c.specs.declared.value_words.ValueWords.{ValueWords}
 use Rattle.oca_c.specs.CValues.{AreWordsOf}
-use Rattle.oca_c.specs.FrontCalls.{Entry, HandleSetsEntry, HandleSetsFound, HandleSetsValue, HandleSetsWords, SetsEntry, SetsFound, SetsWords}
+use Rattle.oca_c.specs.FrontCalls.{FrontNumber, HandleSetsEntry, HandleSetsFound, HandleSetsValue, HandleSetsWords, SetsEntry, SetsFrontFound, SetsWords}
 use Rattle.oca_c.specs.Numbers.{answer_number}
-use Rattle.oca_c.specs.Calls.{AddedBy, Builds, HandleBuilds, HandleStarts, Runs, IsName, IsSwitch, Starts, SwitchAddedBy, name_bytes}
+use Rattle.oca_c.specs.Calls.{AddedBy, Builds, HandleBuilds, HandleStarts, RunsBehind, IsName, IsSwitch, Starts, SwitchAddedBy, name_bytes}
 
 -- an addition
 pub adds_behind : (old new : Option DeviceBehind) (u u' : DeviceBehind) (number : ℕ) (answer : Answer) (By : Answer → Store → Store → Type 0)
@@ -48,13 +48,13 @@ added_switch u answer B container ono role lockable names position kind few all 
 
 -- a change at the front
 found_behind : (w : DeviceSizes) (u' : DeviceBehind) (answer : Answer) (ono : ℕ) (T : List Object) (E : List Event) (found : Result Value SetFault)
-    → SetsFound w answer u' T E ono found → HandleSetsFound w (answer_number answer) (Some u') T E ono found
+    → SetsFrontFound w answer u' T E ono found → HandleSetsFound w (answer_number answer) (Some u') T E ono found
 found_behind w u' answer ono T E (Err fault) (is, runs) = (rw is refl, runs)
 found_behind w u' answer ono T E (Ok value) (is, runs) = (rw is refl, runs)
 
-pub entry_behind : (old new : Option DeviceBehind) (u u' : DeviceBehind) (number : ℕ) (answer : Answer) (ono : ℕ) (entry : Entry)
+pub entry_behind : (old new : Option DeviceBehind) (u u' : DeviceBehind) (number : ℕ) (answer : Answer) (ono : ℕ) (entry : FrontNumber)
     → old ≡ Some u → new ≡ Some u' → number ≡ answer_number answer
-    → ((w : DeviceSizes) (T : List Object) (E : List Event) → Runs w u T E → SetsEntry w answer u' T E ono entry)
+    → ((w : DeviceSizes) (T : List Object) (E : List Event) → RunsBehind w u T E → SetsEntry w answer u' T E ono entry)
     → HandleSetsEntry number old new ono entry
 entry_behind old new u u' number answer ono entry o n e k w T E h =
     let r = k w T E (rw o at h) in (r.0, r.1, rw (n, e) (found_behind w u' answer ono T E r.0 r.2))
@@ -62,7 +62,7 @@ entry_behind old new u u' number answer ono entry o n e k w T E h =
 -- a change at the front by words
 pub sets_behind : (old new : Option DeviceBehind) (u u' : DeviceBehind) (number : ℕ) (answer : Answer) (ono : ℕ) (words : ValueWords)
     → old ≡ Some u → new ≡ Some u' → number ≡ answer_number answer
-    → ((w : DeviceSizes) (T : List Object) (E : List Event) → Runs w u T E → (value : Option Value) × AreWordsOf words value × SetsWords w answer u' T E ono value)
+    → ((w : DeviceSizes) (T : List Object) (E : List Event) → RunsBehind w u T E → (value : Option Value) × AreWordsOf words value × SetsWords w answer u' T E ono value)
     → HandleSetsWords number old new ono words
 sets_behind old new u u' number answer ono words o n e k w T E h =
     let r = k w T E (rw o at h) in (r.0, r.1, rw (n, e) (by r.0 r.2))

@@ -27,7 +27,7 @@ use Rattle.oca_tree.specs.declared.start.Start.{Start}
 use Rattle.oca_tree.specs.declared.tree.Setting.{Setting}
 use Rattle.oca_tree.specs.declared.tree.Setting.TheVariants as settings
 use Rattle.oca_tree.specs.Building.{value_of}
-use Rattle.oca_tree.specs.Copies.{Describe, DescriptionMakesAgain, Stored, stored_in, stored_of, stored_at, flags_in, names_in, names_at, names_of_one, lockable_at}
+use Rattle.oca_tree.specs.Copies.{Describe, DescriptionMakesAgain, Stored, stored_in, stored_of, stored_at, flags_in, names_in, names_of_ono, names_of_one, lockable_at}
 use Rattle.oca_tree.specs.Kinds.{number_class, IsOfType}
 use Rattle.oca_tree.specs.Objects.{class_of, object_of}
 use Rattle.oca_tree.specs.Readers.{info_of, setting_at, value_setting}
@@ -649,11 +649,11 @@ stored_with label enabled flags = record { label = label; enabled = enabled; fla
 
 pub written_again : DescriptionMakesAgain → WrittenMakesAgain
 written_again law tree o w spec start found sound is gives starts =
-    let set : AreSettingWords (class_number (class_of o.value)) (length (names_at tree o.ono.0)) (value_setting o.value) w.reading =
-    subst (λ (x : Option Setting). AreSettingWords (class_number (class_of o.value)) (length (names_at tree o.ono.0)) x w.reading)
+    let set : AreSettingWords (class_number (class_of o.value)) (length (names_of_ono tree o.ono.0)) (value_setting o.value) w.reading =
+    subst (λ (x : Option Setting). AreSettingWords (class_number (class_of o.value)) (length (names_of_ono tree o.ono.0)) x w.reading)
     (ap (option_and_then (λ (x : Object). value_setting x.value)) found) is.reading in
     let named : texts_of w ≡ names_in o.value = is.names ∙ ap names_of_one found in
-    let k = kind_again o.value (length (names_at tree o.ono.0)) w.reading (texts_of w) spec.kind sound set named gives.kind in
+    let k = kind_again o.value (length (names_of_ono tree o.ono.0)) w.reading (texts_of w) spec.kind sound set named gives.kind in
     let lock : Some o.lockable ≡ Some (is_yes w.lockable) = sym (ap (option_map (λ (x : Object). x.lockable)) found) ∙ is.lockable in
     let lockable : o.lockable ≡ is_yes w.lockable = cc in
     let was : Some (stored_of o) ≡ Some (stored_with (name_bytes w.label) (is_yes w.enabled) is.stored.0) = sym (ap (option_map stored_of) found) ∙ is.stored.1 in

@@ -8,7 +8,7 @@ use Rattle.oca_c.specs.declared.answer_words.Members.{Members}
 use Rattle.oca_c.specs.declared.answer_words.Names.{Names}
 use Rattle.oca_c.specs.declared.name.Name.{Name}
 use Rattle.oca_c.specs.Calls.{IsName, name_bytes}
-use Rattle.oca_c.specs.Outputs.{WritesBytes, class_number}
+use Rattle.oca_c.specs.Outputs.{WritesToBuffer, class_number}
 
 -- A text is written; or that the parameters are none, and then nothing is written.
 abbrev pub WritesText : Option (List ℕ) → Name → Name → ℕ → Type 0
@@ -43,4 +43,4 @@ WritesClass (Some fields) old new number =
 abbrev pub WritesEncoding : Name → List ℕ → List ℕ → ℕ → ℕ → Type 0
 WritesEncoding name old new size number =
     ((IsName name → ⊥) × (number ≡ 24) × (new ≡ old))
-    ⊎ (IsName name × WritesBytes (text_encoding (name_bytes name)) old new size number)
+    ⊎ (IsName name × WritesToBuffer (text_encoding (name_bytes name)) old new size number)

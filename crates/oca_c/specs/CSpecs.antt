@@ -17,7 +17,7 @@ use Rattle.oca_tree.specs.Objects.{Store, object_of}
 use Rattle.oca_tree.specs.Building.{object_of_spec}
 use Rattle.oca_tree.specs.Trees.{IsSoundValue}
 use Rattle.oca_tree.specs.Starts.{AddsWith, BeginsWith, flags_of, restored}
-use Rattle.oca_tree.specs.Copies.{Stored, stored_at, names_at, lockable_at, unlocked}
+use Rattle.oca_tree.specs.Copies.{Stored, stored_at, names_of_ono, lockable_at, unlocked}
 use Rattle.oca_tree.specs.Readers.{info_of, setting_at}
 use Rattle.oca_model.specs.declared.value.Value.{Value}
 use Rattle.oca_model.specs.declared.value.Value.TheVariants as values
@@ -272,9 +272,9 @@ pub record IsSpecOf (tree : List Object) (info : ObjectInfo) (w : SpecWords) : T
   pub sized : IsSized w
   pub role : name_bytes w.role ≡ info.role
   pub lockable : lockable_at tree info.ono.0 ≡ Some (is_yes w.lockable)
-  pub reading : AreSettingWords (class_number info.class) (length (names_at tree info.ono.0))
+  pub reading : AreSettingWords (class_number info.class) (length (names_of_ono tree info.ono.0))
       (setting_at tree info.ono.0) w.reading
-  pub names : texts_of w ≡ names_at tree info.ono.0
+  pub names : texts_of w ≡ names_of_ono tree info.ono.0
   pub stored : (flags : Option (List Bool))
       × (stored_at tree info.ono.0
       ≡ Some (record { label = name_bytes w.label; enabled = is_yes w.enabled; flags = flags }))
@@ -296,9 +296,9 @@ FitsStored positions (Some s) = (length s.label ≤ 64) × IfSome s.flags (λ fl
 -- what an object with this number has, has room in the struct: so it is of every tree
 pub record FitsSpec (tree : List Object) (ono : ℕ) : Type 0 where
   pub setting : FitsSetting (setting_at tree ono)
-  pub positions : length (names_at tree ono) ≤ 16
+  pub positions : length (names_of_ono tree ono) ≤ 16
   pub lockable : IsSome (lockable_at tree ono)
-  pub stored : FitsStored (length (names_at tree ono)) (stored_at tree ono)
+  pub stored : FitsStored (length (names_of_ono tree ono)) (stored_at tree ono)
 
 -- An object is written; or that it has no room in the struct, or that there is none at this index, and then nothing is
 -- written.

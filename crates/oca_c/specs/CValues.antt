@@ -11,12 +11,12 @@ use Rattle.oca_model.specs.declared.value_request.ValueRequest.{ValueRequest}
 use Rattle.oca_model.specs.Values.{IsOfItsType, class_of_value, mute_number, polarity_number, get_method, set_method}
 use Rattle.oca_model.specs.Values.{value_encoding}
 use Rattle.oca_model.specs.Readings.{reading_in}
-use Rattle.oca_model.specs.ValueRequests.{Asks}
+use Rattle.oca_model.specs.ValueRequests.{CallsMethod}
 use Rattle.oca_c.specs.declared.value_words.ValueWords.{ValueWords}
 use Rattle.oca_c.specs.declared.value_words.ReadingWords.{ReadingWords}
 use Rattle.oca_c.specs.declared.value_words.RequestWords.{RequestWords}
 use Rattle.oca_c.specs.LinkCalls.{LiesIn}
-use Rattle.oca_c.specs.Outputs.{WritesBytes, class_number}
+use Rattle.oca_c.specs.Outputs.{WritesToBuffer, class_number}
 
 -- ---- the words of a value
 
@@ -82,7 +82,7 @@ HasClass number None = (class : Class) → class_number class ≡ number → ⊥
 -- What a set method has of the value whose words these are is written; or that there is no such value.
 abbrev pub PutsValue : Option Value → List ℕ → List ℕ → ℕ → ℕ → Type 0
 PutsValue None old new size number = (number ≡ 24) × (new ≡ old)
-PutsValue (Some value) old new size number = WritesBytes (value_encoding value) old new size number
+PutsValue (Some value) old new size number = WritesToBuffer (value_encoding value) old new size number
 
 abbrev pub PutsWords : ValueWords → List ℕ → List ℕ → ℕ → ℕ → Type 0
 PutsWords words old new size number =
@@ -106,7 +106,7 @@ ReadsAnswer of bytes words number =
 -- ---- requests
 
 -- the words of a request
-pub record IsRequest (request : ValueRequest) (words : RequestWords) : Type 0 where
+pub record HasRequestWords (request : ValueRequest) (words : RequestWords) : Type 0 where
   pub level : words.level ≡ request.method.level
   pub index : words.index ≡ request.method.index
   pub count : words.count ≡ request.count
@@ -115,7 +115,7 @@ pub record IsRequest (request : ValueRequest) (words : RequestWords) : Type 0 wh
 -- The words call this method of the class, with so many parameters in these bytes.
 abbrev pub CallsSo : Class → Method → RequestWords → ℕ → List ℕ → Type 0
 CallsSo class method words count bytes =
-    (request : ValueRequest) × Asks class method request count bytes × IsRequest request words
+    (request : ValueRequest) × CallsMethod class method request count bytes × HasRequestWords request words
 
 -- What sets an object to the value is written; or that there is no such value.
 abbrev pub WritesSet : Option Value → RequestWords → ℕ → Type 0

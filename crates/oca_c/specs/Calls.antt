@@ -35,15 +35,15 @@ abbrev pub Builds : DeviceBehind → Store → Type 0
 Builds behind built = (behind.builder ≡ Some built) × (behind.device ≡ None)
 
 -- a device runs, and it represents the tree and the events
-abbrev pub Runs : DeviceSizes → DeviceBehind → List Object → List Event → Type 0
-Runs w behind tree events = (behind.builder ≡ None) × IsSomeAnd behind.device (λ d. Represents w d tree events)
+abbrev pub RunsBehind : DeviceSizes → DeviceBehind → List Object → List Event → Type 0
+RunsBehind w behind tree events = (behind.builder ≡ None) × IsSomeAnd behind.device (λ d. Represents w d tree events)
 
 -- the same behind an open handle
 abbrev pub HandleBuilds : Option DeviceBehind → Store → Type 0
 HandleBuilds behind built = IsSomeAnd behind (λ b. Builds b built)
 
 abbrev pub HandleRuns : DeviceSizes → Option DeviceBehind → List Object → List Event → Type 0
-HandleRuns w behind tree events = IsSomeAnd behind (λ b. Runs w b tree events)
+HandleRuns w behind tree events = IsSomeAnd behind (λ b. RunsBehind w b tree events)
 
 -- behind an open handle this is kept of the packets that answer
 abbrev pub HasPackets : Option DeviceBehind → KeptPackets → Type 0
@@ -111,7 +111,7 @@ IsSpent behind = (behind.builder ≡ None) × (behind.device ≡ None)
 abbrev pub Starts : Answer → DeviceBehind → DeviceBehind → ℕ → ℕ → ℕ → List Object → Type 0
 Starts answer old new window peers packets tree =
     ((answer ≡ answers.Done) × IsSize window × IsSize peers × IsPacketRoom packets
-    × Runs (record { window = window; peers = peers }) new tree [] × (new.outbox ≡ first_packets packets []))
+    × RunsBehind (record { window = window; peers = peers }) new tree [] × (new.outbox ≡ first_packets packets []))
     ⊎ (((answer ≡ answers.NoMemory) × IsSize window × IsSize peers × IsPacketRoom packets × IsSpent new)
     ⊎ ((answer ≡ answers.BadSize) × (IsSize window → IsSize peers → IsPacketRoom packets → ⊥) × (new ≡ old)))
 

@@ -10,7 +10,7 @@ use Rattle.oca_model.specs.ValueNumbers.{integer_in, state_in, IsValueWith}
 use Rattle.oca_tree.specs.declared.object.Object.{Object}
 use Rattle.oca_tree.specs.declared.setting.SetFault.{SetFault}
 use Rattle.oca_tree.specs.declared.setting.SetFault.TheVariants as faults
-use Rattle.oca_tree.specs.Readers.{class_at}
+use Rattle.oca_tree.specs.Readers.{class_of_ono}
 use Rattle.oca_tree.specs.Settings.{set_fault}
 use Rattle.oca_device.specs.Events.{Event, Local}
 use Rattle.oca_device.specs.States.{state_after}
@@ -19,18 +19,18 @@ use Rattle.oca_c.specs.declared.answer.Answer.TheVariants as answers
 use Rattle.oca_c.specs.declared.device.DeviceBehind.{DeviceBehind}
 use Rattle.oca_c.specs.declared.value_words.ValueWords.{ValueWords}
 use Rattle.oca_c.specs.Numbers.{answer_number, set_answer}
-use Rattle.oca_c.specs.Calls.{HandleRuns, Runs, set_answers}
+use Rattle.oca_c.specs.Calls.{HandleRuns, RunsBehind, set_answers}
 use Rattle.oca_c.specs.CValues.{AreWordsOf}
 
 -- the number of a state, a position, a truth or an integer
-pub data Entry : Type 0 where
-  State : (number : ℕ) → Entry
-  Position : (position : ℕ) → Entry
-  Truth : (truth : Bool) → Entry
-  Integer : (number : ℤ) → Entry
+pub data FrontNumber : Type 0 where
+  State : (number : ℕ) → FrontNumber
+  Position : (position : ℕ) → FrontNumber
+  Truth : (truth : Bool) → FrontNumber
+  Integer : (number : ℤ) → FrontNumber
 
 -- a value without its class
-abbrev pub entry_of : Value → Entry
+abbrev pub entry_of : Value → FrontNumber
 entry_of (values.Mute state) = State (mute_number state)
 entry_of (values.Polarity state) = State (polarity_number state)
 entry_of (values.Switch position) = Position position
@@ -75,29 +75,29 @@ FindsWith part has (Some of) number (Err fault) =
 
 -- THE VALUE that an entry is at an object of the class; or why it is none. A position and a truth are values of one
 -- class alone.
-abbrev pub FindsValue : Entry → Option Class → Result Value SetFault → Type 0
-FindsValue (State number) of found = FindsWith state_in has_states of number found
-FindsValue (Position position) of found = found ≡ Ok (values.Switch position)
-FindsValue (Truth truth) of found = found ≡ Ok (values.Boolean truth)
-FindsValue (Integer number) of found = FindsWith integer_in has_integers of number found
+abbrev pub FindsFrontValue : FrontNumber → Option Class → Result Value SetFault → Type 0
+FindsFrontValue (State number) of found = FindsWith state_in has_states of number found
+FindsFrontValue (Position position) of found = found ≡ Ok (values.Switch position)
+FindsFrontValue (Truth truth) of found = found ≡ Ok (values.Boolean truth)
+FindsFrontValue (Integer number) of found = FindsWith integer_in has_integers of number found
 
 -- A device is set to the value that was found, with this answer; where none was, it is as it was.
-abbrev pub SetsFound :
+abbrev pub SetsFrontFound :
     DeviceSizes → Answer → DeviceBehind → List Object → List Event → ℕ → Result Value SetFault → Type 0
-SetsFound w answer new tree events ono (Err fault) = (answer ≡ set_answer fault) × Runs w new tree events
-SetsFound w answer new tree events ono (Ok value) =
+SetsFrontFound w answer new tree events ono (Err fault) = (answer ≡ set_answer fault) × RunsBehind w new tree events
+SetsFrontFound w answer new tree events ono (Ok value) =
     (answer ≡ set_answers (set_fault (state_after w tree events).tree ono value))
-    × Runs w new tree (Local ono value ∷ events)
+    × RunsBehind w new tree (Local ono value ∷ events)
 
 -- A DEVICE IS SET BY AN ENTRY: to the value that it is at the object.
-abbrev pub SetsEntry : DeviceSizes → Answer → DeviceBehind → List Object → List Event → ℕ → Entry → Type 0
+abbrev pub SetsEntry : DeviceSizes → Answer → DeviceBehind → List Object → List Event → ℕ → FrontNumber → Type 0
 SetsEntry w answer new tree events ono entry =
-    (found : Result Value SetFault) × FindsValue entry (class_at (state_after w tree events).tree ono) found
-    × SetsFound w answer new tree events ono found
+    (found : Result Value SetFault) × FindsFrontValue entry (class_of_ono (state_after w tree events).tree ono) found
+    × SetsFrontFound w answer new tree events ono found
 
 -- It is set by the entry that a value is; where there is none, nothing is set.
 abbrev pub SetsWords : DeviceSizes → Answer → DeviceBehind → List Object → List Event → ℕ → Option Value → Type 0
-SetsWords w answer new tree events ono None = (answer ≡ answers.NoValue) × Runs w new tree events
+SetsWords w answer new tree events ono None = (answer ≡ answers.NoValue) × RunsBehind w new tree events
 SetsWords w answer new tree events ono (Some value) = SetsEntry w answer new tree events ono (entry_of value)
 
 -- ---- the same behind an open handle
@@ -110,13 +110,13 @@ HandleSetsFound w number new tree events ono (Ok value) =
     (number ≡ answer_number (set_answers (set_fault (state_after w tree events).tree ono value)))
     × HandleRuns w new tree (Local ono value ∷ events)
 
-abbrev pub HandleIsSet : DeviceSizes → ℕ → Option DeviceBehind → List Object → List Event → ℕ → Entry → Type 0
+abbrev pub HandleIsSet : DeviceSizes → ℕ → Option DeviceBehind → List Object → List Event → ℕ → FrontNumber → Type 0
 HandleIsSet w number new tree events ono entry =
-    (found : Result Value SetFault) × FindsValue entry (class_at (state_after w tree events).tree ono) found
+    (found : Result Value SetFault) × FindsFrontValue entry (class_of_ono (state_after w tree events).tree ono) found
     × HandleSetsFound w number new tree events ono found
 
 -- A device that ran is set by an entry.
-abbrev pub HandleSetsEntry : ℕ → Option DeviceBehind → Option DeviceBehind → ℕ → Entry → Type 0
+abbrev pub HandleSetsEntry : ℕ → Option DeviceBehind → Option DeviceBehind → ℕ → FrontNumber → Type 0
 HandleSetsEntry number old new ono entry =
     (w : DeviceSizes) (tree : List Object) (events : List Event) → HandleRuns w old tree events →
     HandleIsSet w number new tree events ono entry

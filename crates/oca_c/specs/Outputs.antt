@@ -30,8 +30,8 @@ WritesWords words old new count number =
 
 -- Bytes are written: they stand at the front of the place, where it has room for them, and else it is as it was; and
 -- how many they are.
-abbrev pub WritesBytes : List ℕ → List ℕ → List ℕ → ℕ → ℕ → Type 0
-WritesBytes bytes old new size number =
+abbrev pub WritesToBuffer : List ℕ → List ℕ → List ℕ → ℕ → ℕ → Type 0
+WritesToBuffer bytes old new size number =
     (size ≡ length bytes) × (((length bytes ≤ length old) × (number ≡ 0) × (take (length bytes) new ≡ bytes))
     ⊎ ((length old < length bytes) × (number ≡ 14) × (new ≡ old)))
 

@@ -1,7 +1,7 @@
 //! What C calls to read the parameters of answers, and to encode a text. Nothing here has a handle.
 ghost use Rattle.std.specs.Prelude.{◌≡◌, ◌⊎◌};
 ghost use Rattle.oca_types.specs.Reading.{text_at};
-ghost use Rattle.oca_model.specs.Answers.{names_in};
+ghost use Rattle.oca_model.specs.Answers.{switch_names_in};
 ghost use Rattle.oca_model.specs.Members.{class_id_in, class_with, members_in};
 ghost use Rattle.oca_model.specs.Parameters.{whole};
 ghost use Rattle.oca_c.specs.AnswerCalls.{WritesClass, WritesEncoding, WritesMembers, WritesNames, WritesText};
@@ -29,7 +29,7 @@ pub extern "C" fn oca_text_read(params: &[u8], text: &mut Name) -> u32
 /// Reads the names that an answer to GetPositionNames gives.
 #[unsafe(no_mangle)]
 pub extern "C" fn oca_names_read(params: &[u8], names: &mut Names) -> u32
-    ensures { WritesNames (names_in params.now) names.old names.new result }
+    ensures { WritesNames (switch_names_in params.now) names.old names.new result }
 {
     let Some(found) = read_names(params) else {
         return Answer::NoValue.number();

@@ -15,10 +15,11 @@ ghost use Rattle.oca_device.specs.Written.{written};
 ghost use Rattle.oca_c.specs.declared.answer.Answer.TheVariants.{Done, NotStarted, Nothing, Started, TooSmall, BadSize};
 ghost use Rattle.oca_c.specs.declared.answer.Answer.TheVariants.{NoMemory};
 ghost use Rattle.oca_c.specs.Numbers.{answer_number};
-ghost use Rattle.oca_c.specs.Calls.{AddedBy, AddsSo, Builds, Runs, Starts, SwitchAddedBy, root_alone, set_answers};
+ghost use Rattle.oca_c.specs.Calls.{AddedBy, AddsSo, Builds, RunsBehind, Starts, SwitchAddedBy, root_alone};
+ghost use Rattle.oca_c.specs.Calls.{set_answers};
 ghost use Rattle.oca_model.specs.declared.value.Value.{Value as ValueItself};
 ghost use Rattle.oca_c.specs.CValues.{AreWordsOf};
-ghost use Rattle.oca_c.specs.FrontCalls.{SetsEntry, SetsFound, SetsWords, State, Integer};
+ghost use Rattle.oca_c.specs.FrontCalls.{SetsEntry, SetsFrontFound, SetsWords, State, Integer};
 ghost use Rattle.oca_c.specs.CSpecs.{SpecAddedBy, WritesSpec};
 ghost use Rattle.oca_c.specs.Outputs.{WritesLock, WritesNextLapse, WritesObject, WritesSetting, WritesWords, put_words};
 ghost use Rattle.oca_c.specs.Outputs.{verdict_words};
@@ -175,8 +176,8 @@ impl DeviceBehind {
 
     /// Takes a datagram, and tells its verdict.
     pub fn datagram(&mut self, from: Peer, bytes: &[u8], now: u64, out: &mut [u32]) -> Answer
-        ensures serves { (w : DeviceSizes) (T : List Object) (E : List Event) → Runs w self.old T E →
-            Runs w self.new T (DatagramEvent from bytes.now now ∷ E)
+        ensures serves { (w : DeviceSizes) (T : List Object) (E : List Event) → RunsBehind w self.old T E →
+            RunsBehind w self.new T (DatagramEvent from bytes.now now ∷ E)
             × (self.new.outbox ≡ first_packets self.old.outbox.room (packets w T E (DatagramEvent from bytes.now now)))
             × (length (packets w T E (DatagramEvent from bytes.now now)) ≤ 122)
             × (out.new ≡ put_words (verdict_words (verdict w T E from bytes.now now)) out.old)
@@ -194,8 +195,8 @@ impl DeviceBehind {
 
     /// Takes a clock reading.
     pub fn tick(&mut self, now: u64) -> Answer
-        ensures serves { (w : DeviceSizes) (T : List Object) (E : List Event) → Runs w self.old T E →
-            Runs w self.new T (Tick now ∷ E) × (result ≡ Done) }
+        ensures serves { (w : DeviceSizes) (T : List Object) (E : List Event) → RunsBehind w self.old T E →
+            RunsBehind w self.new T (Tick now ∷ E) × (result ≡ Done) }
         ensures packets { self.new.outbox ≡ self.old.outbox }
         ensures building { self.old.device ≡ None → (result ≡ NotStarted) × (self.new ≡ self.old) }
     {
@@ -208,7 +209,7 @@ impl DeviceBehind {
 
     /// Tells when a clock reading next changes the objects or the sessions.
     pub fn next_lapse(&self, moment: &mut u64) -> Answer
-        ensures writes { (w : DeviceSizes) (T : List Object) (E : List Event) → Runs w self.now T E →
+        ensures writes { (w : DeviceSizes) (T : List Object) (E : List Event) → RunsBehind w self.now T E →
             WritesNextLapse w (state_after w T E) moment.new (answer_number result) }
         ensures building { self.now.device ≡ None → result ≡ NotStarted }
         ensures unwritten { (result ≡ Done) ⊎ (moment.new ≡ moment.old) }
@@ -227,8 +228,8 @@ impl DeviceBehind {
 
     /// Sets an object at the local front panel.
     pub fn set(&mut self, ono: u32, value: Value) -> Answer
-        ensures sets { (w : DeviceSizes) (T : List Object) (E : List Event) → Runs w self.old T E →
-            Runs w self.new T (Local ono value ∷ E)
+        ensures sets { (w : DeviceSizes) (T : List Object) (E : List Event) → RunsBehind w self.old T E →
+            RunsBehind w self.new T (Local ono value ∷ E)
             × (result ≡ set_answers (set_fault (state_after w T E).tree ono value)) }
         ensures packets { self.new.outbox ≡ self.old.outbox }
         ensures building { self.old.device ≡ None → (result ≡ NotStarted) × (self.new ≡ self.old) }
@@ -244,7 +245,7 @@ impl DeviceBehind {
 
     /// Sets an object at the local front panel as the value with these words sets it, whatever its class.
     pub fn set_words(&mut self, ono: u32, words: ValueWords) -> Answer
-        ensures sets { (w : DeviceSizes) (T : List Object) (E : List Event) → Runs w self.old T E →
+        ensures sets { (w : DeviceSizes) (T : List Object) (E : List Event) → RunsBehind w self.old T E →
             (value : Option ValueItself) × AreWordsOf words value × SetsWords w result self.new T E ono value }
         ensures packets { self.new.outbox ≡ self.old.outbox }
         ensures building { self.old.device ≡ None → (result ≡ NotStarted) × (self.new ≡ self.old) }
@@ -261,7 +262,7 @@ impl DeviceBehind {
 
     /// Sets a mute or a polarity at the local front panel.
     pub fn set_state(&mut self, ono: u32, state: u8) -> Answer
-        ensures sets { (w : DeviceSizes) (T : List Object) (E : List Event) → Runs w self.old T E →
+        ensures sets { (w : DeviceSizes) (T : List Object) (E : List Event) → RunsBehind w self.old T E →
             SetsEntry w result self.new T E ono (State state) }
         ensures packets { self.new.outbox ≡ self.old.outbox }
         ensures building { self.old.device ≡ None → (result ≡ NotStarted) × (self.new ≡ self.old) }
@@ -275,7 +276,7 @@ impl DeviceBehind {
 
     /// Sets an actuator of integers at the local front panel.
     pub fn set_integer(&mut self, ono: u32, number: i128) -> Answer
-        ensures sets { (w : DeviceSizes) (T : List Object) (E : List Event) → Runs w self.old T E →
+        ensures sets { (w : DeviceSizes) (T : List Object) (E : List Event) → RunsBehind w self.old T E →
             SetsEntry w result self.new T E ono (Integer number) }
         ensures packets { self.new.outbox ≡ self.old.outbox }
         ensures building { self.old.device ≡ None → (result ≡ NotStarted) × (self.new ≡ self.old) }
@@ -289,8 +290,8 @@ impl DeviceBehind {
 
     /// Sets an object to the value that was found for it, where one was.
     fn set_found(&mut self, ono: u32, found: Result<Value, SetFault>) -> Answer
-        ensures sets { (w : DeviceSizes) (T : List Object) (E : List Event) → Runs w self.old T E →
-            SetsFound w result self.new T E ono found }
+        ensures sets { (w : DeviceSizes) (T : List Object) (E : List Event) → RunsBehind w self.old T E →
+            SetsFrontFound w result self.new T E ono found }
         ensures packets { self.new.outbox ≡ self.old.outbox }
     {
         match found {
@@ -355,7 +356,7 @@ impl DeviceBehind {
     /// Puts the numbers of the objects that the last datagram wrote to at the front of `out`, and tells how many there
     /// are.
     pub fn written(&self, out: &mut [u32], count: &mut usize) -> Answer
-        ensures writes { (w : DeviceSizes) (T : List Object) (E : List Event) → Runs w self.now T E →
+        ensures writes { (w : DeviceSizes) (T : List Object) (E : List Event) → RunsBehind w self.now T E →
             WritesWords (written w T E) out.old out.new count.new (answer_number result) }
         ensures building { self.now.device ≡ None → result ≡ NotStarted }
         ensures unwritten { (result ≡ Done)
@@ -376,7 +377,7 @@ impl DeviceBehind {
 
     /// Tells how many objects there are.
     pub fn objects(&self, count: &mut usize) -> Answer
-        ensures writes { (w : DeviceSizes) (T : List Object) (E : List Event) → Runs w self.now T E →
+        ensures writes { (w : DeviceSizes) (T : List Object) (E : List Event) → RunsBehind w self.now T E →
             (result ≡ Done) × (count.new ≡ length (state_after w T E).tree) }
         ensures building { self.now.device ≡ None → result ≡ NotStarted }
         ensures unwritten { (result ≡ Done) ⊎ (count.new ≡ count.old) }
@@ -390,7 +391,7 @@ impl DeviceBehind {
 
     /// Tells what the object at this index is, and its role.
     pub fn object(&self, index: usize, out: &mut [u32], role: &mut [u8]) -> Answer
-        ensures writes { (w : DeviceSizes) (T : List Object) (E : List Event) → Runs w self.now T E →
+        ensures writes { (w : DeviceSizes) (T : List Object) (E : List Event) → RunsBehind w self.now T E →
             WritesObject (info_at (state_after w T E).tree index) out.old out.new role.old role.new
             (answer_number result) }
         ensures building { self.now.device ≡ None → result ≡ NotStarted }
@@ -409,7 +410,7 @@ impl DeviceBehind {
 
     /// Tells of the object at this index all that an addition makes of it.
     pub fn spec(&self, index: usize, out: &mut SpecWords) -> Answer
-        ensures writes { (w : DeviceSizes) (T : List Object) (E : List Event) → Runs w self.now T E →
+        ensures writes { (w : DeviceSizes) (T : List Object) (E : List Event) → RunsBehind w self.now T E →
             WritesSpec (state_after w T E).tree (info_at (state_after w T E).tree index) out.old out.new
             (answer_number result) }
         ensures building { self.now.device ≡ None → (result ≡ NotStarted) × (out.new ≡ out.old) }
@@ -423,7 +424,7 @@ impl DeviceBehind {
 
     /// Tells of an object's lock what it keeps other peers from, and its holder.
     pub fn lock(&self, ono: u32, kind: &mut u32, ip: &mut u32, port: &mut u16) -> Answer
-        ensures writes { (w : DeviceSizes) (T : List Object) (E : List Event) → Runs w self.now T E →
+        ensures writes { (w : DeviceSizes) (T : List Object) (E : List Event) → RunsBehind w self.now T E →
             WritesLock (lock_at (state_after w T E).tree ono) kind.new ip.new port.new (answer_number result) }
         ensures building { self.now.device ≡ None → result ≡ NotStarted }
         ensures unwritten { (result ≡ Done) ⊎ ((kind.new ≡ kind.old) × (ip.new ≡ ip.old) × (port.new ≡ port.old)) }
@@ -442,7 +443,7 @@ impl DeviceBehind {
 
     /// Reads how an object is set.
     pub fn reading(&self, ono: u32, reading: &mut Reading) -> Answer
-        ensures writes { (w : DeviceSizes) (T : List Object) (E : List Event) → Runs w self.now T E →
+        ensures writes { (w : DeviceSizes) (T : List Object) (E : List Event) → RunsBehind w self.now T E →
             WritesSetting (setting_at (state_after w T E).tree ono) reading.new (answer_number result) }
         ensures building { self.now.device ≡ None → result ≡ NotStarted }
         ensures unwritten { (result ≡ Done) ⊎ (reading.new ≡ reading.old) }

@@ -1,7 +1,8 @@
 //! What a number without a class sets at the local front panel: the value that it is at the object.
 ghost use Rattle.std.specs.Prelude.{◌≡◌};
 ghost use Rattle.oca_model.specs.ValueNumbers.{integer_in, state_in};
-ghost use Rattle.oca_c.specs.FrontCalls.{FindsValue, FindsWith, entry_of, fault_of_class, has_integers, has_states};
+ghost use Rattle.oca_c.specs.FrontCalls.{FindsFrontValue, FindsWith, entry_of, fault_of_class, has_integers};
+ghost use Rattle.oca_c.specs.FrontCalls.{has_states};
 
 use oca_tree::{SetFault, Value};
 use oca_types::Class;
@@ -62,7 +63,7 @@ pub fn integer_at(class: Option<Class>, number: i128) -> Result<Value, SetFault>
 
 /// The value of the object's class that is this value without its own class; or why there is none.
 pub fn value_at(class: Option<Class>, value: Value) -> Result<Value, SetFault>
-    ensures { FindsValue (entry_of value) class result }
+    ensures { FindsFrontValue (entry_of value) class result }
 {
     match value {
         Value::Mute(state) => state_at(class, state as u8),

@@ -1,6 +1,6 @@
 //! A value in words of fixed size, as C has it.
 ghost use Rattle.std.specs.Prelude.{◌≡◌};
-ghost use Rattle.oca_c.specs.CValues.{AreWordsOf, HasClass, IsRequest};
+ghost use Rattle.oca_c.specs.CValues.{AreWordsOf, HasClass, HasRequestWords};
 
 use crate::words::put_front;
 use oca_model::{MuteState, PolarityState, Reading, Value, ValueRequest};
@@ -153,7 +153,7 @@ pub struct RequestWords {
 impl RequestWords {
     /// The words of a request.
     pub fn of(request: &ValueRequest) -> RequestWords
-        ensures { IsRequest request.now result }
+        ensures { HasRequestWords request.now result }
     {
         let bytes = request.params.as_slice();
         let mut params = [0; 8];

@@ -3,7 +3,8 @@ ghost use Rattle.std.specs.Prelude.{◌≡◌, ◌≤◌, ◌<◌, length};
 ghost use Rattle.oca_device.specs.Written.{numbers_of};
 ghost use Rattle.oca_c.specs.LinkCalls.{LiesIn};
 ghost use Rattle.oca_c.specs.Numbers.{answer_number};
-ghost use Rattle.oca_c.specs.Outputs.{WritesBytes, class_number, lock_number, object_words, put_words, verdict_words};
+ghost use Rattle.oca_c.specs.Outputs.{WritesToBuffer, class_number, lock_number, object_words, put_words};
+ghost use Rattle.oca_c.specs.Outputs.{verdict_words};
 
 use crate::answer::Answer;
 use oca_device::Verdict;
@@ -116,7 +117,7 @@ pub fn put_front(bytes: &[u8], place: &mut [u8]) -> usize
 
 /// Copies bytes to the front of a place, where it has room for them, and tells how many they are.
 pub fn put_bytes(bytes: &[u8], place: &mut [u8], len: &mut usize) -> Answer
-    ensures { WritesBytes bytes.now place.old place.new len.new (answer_number result) }
+    ensures { WritesToBuffer bytes.now place.old place.new len.new (answer_number result) }
 {
     *len = bytes.len();
     if place.len() < bytes.len() {

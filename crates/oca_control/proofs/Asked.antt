@@ -10,7 +10,7 @@ use Rattle.oca_types.specs.Peers.{CommandFields, RequestFields, same_peer}
 use Rattle.oca_pdu.specs.Messages.{Msg, Command, Response, KeepAlive}
 use Rattle.oca_net.specs.Deliveries.{Delivery, Datagram, Quiet, Failed}
 use Rattle.oca_control.specs.declared.fault.ControlFault.TheVariants as faults
-use Rattle.oca_control.specs.Answers.{AnswerFields, answer_in}
+use Rattle.oca_control.specs.Answers.{AnswerFields, answer_of_response}
 use Rattle.oca_control.specs.Untaken.{Untaken, is_due, is_late, first_due, given_out, waits, answered, hears_all, answer_under, without_handle}
 use Rattle.oca_control.specs.Links.{LinkState, present_moment, late_at, submission, submitted, after_submission, Decision, GivesCommand, GivesKeepAlive, GivesNothing, IsLost, decision, due_answer, due_bytes, after_due, hears_content, taken}
 use Rattle.oca_control.specs.Histories.{Call, Submits, GivesOut, Receives, TakesAnswer, IsCall, IsHistory, clock_of_calls, commands, sendings}
@@ -206,7 +206,7 @@ calm_answered t h a (u ∷ us) q = (by (waits h u) q.0, calm_answered t h a us q
 
 calm_heard : (t : ℕ) (ms : List Msg) (us : List Untaken) → AllByRecursion (λ u. is_late t u ≡ false) us → AllByRecursion (λ u. is_late t u ≡ false) (hears_all ms us)
 calm_heard t [] us q = q
-calm_heard t (Response x ∷ ms) us q = calm_heard t ms (map (answered x.handle (answer_in x)) us) (calm_answered t x.handle (answer_in x) us q)
+calm_heard t (Response x ∷ ms) us q = calm_heard t ms (map (answered x.handle (answer_of_response x)) us) (calm_answered t x.handle (answer_of_response x) us q)
 calm_heard t (KeepAlive form ∷ ms) us q = calm_heard t ms us q
 calm_heard t (Command respond c ∷ ms) us q = calm_heard t ms us q
 

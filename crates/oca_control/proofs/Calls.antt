@@ -12,7 +12,7 @@ use Rattle.oca_types.specs.Sizes.{most_command_parameter_bytes}
 use Rattle.oca_pdu.specs.Messages.{Msg, Command, Response, KeepAlive, Commands}
 use Rattle.oca_pdu.specs.Encoding.{pdu_encoding}
 use Rattle.oca_control.specs.declared.fault.ControlFault.TheVariants as faults
-use Rattle.oca_control.specs.Answers.{AnswerFields, answer_in}
+use Rattle.oca_control.specs.Answers.{AnswerFields, answer_of_response}
 use Rattle.oca_control.specs.Untaken.{Untaken, new_untaken, span_has_room, is_due, first_due, given_out, answered, hears_all, answer_under, without_handle, holds}
 use Rattle.oca_control.specs.Links.{LinkState, Request, present_moment, command_under, submission, submission_under, handle_after, GivesCommand, GivesKeepAlive, GivesNothing, IsLost, decision_among, hears_content, received}
 use Rattle.oca_control.specs.Histories.{command_accepted, Sending, answers_among, answers_of, first_of, IsCopy, AreSendingsApart}
@@ -314,7 +314,7 @@ held_answered h a P (u ∷ us) p = (p.0, held_answered h a P us p.1)
 kept_heard : (ms : List Msg) (P : CommandFields → ℕ → ℕ → Type 0) (us : List Untaken) → AllByRecursion (λ u. P u.command u.times u.last) us →
     AllByRecursion (λ u. P u.command u.times u.last) (hears_all ms us)
 kept_heard [] P us p = p
-kept_heard (Response r ∷ ms) P us p = kept_heard ms P (map (answered r.handle (answer_in r)) us) (held_answered r.handle (answer_in r) P us p)
+kept_heard (Response r ∷ ms) P us p = kept_heard ms P (map (answered r.handle (answer_of_response r)) us) (held_answered r.handle (answer_of_response r) P us p)
 kept_heard (KeepAlive form ∷ ms) P us p = kept_heard ms P us p
 kept_heard (Command respond c ∷ ms) P us p = kept_heard ms P us p
 
@@ -324,7 +324,7 @@ holds_answered h x a (u ∷ us) = ap (λ b. eqb u.command.handle x || b) (holds_
 
 holds_heard : (ms : List Msg) (x : ℕ) (us : List Untaken) → holds x (hears_all ms us) ≡ holds x us
 holds_heard [] x us = refl
-holds_heard (Response r ∷ ms) x us = holds_heard ms x (map (answered r.handle (answer_in r)) us) ∙ holds_answered r.handle x (answer_in r) us
+holds_heard (Response r ∷ ms) x us = holds_heard ms x (map (answered r.handle (answer_of_response r)) us) ∙ holds_answered r.handle x (answer_of_response r) us
 holds_heard (KeepAlive form ∷ ms) x us = holds_heard ms x us
 holds_heard (Command respond c ∷ ms) x us = holds_heard ms x us
 
@@ -346,11 +346,11 @@ answered_heard : (ms : List Msg) (came : ℕ → List AnswerFields) (us : List U
 answered_heard [] came us p = each_map (λ u q. q ∙ ap first_of (sym (append-nil (came u.command.handle)))) us p
 answered_heard (Response r ∷ ms) came us p =
     each_map (λ u q. q ∙ ap first_of (regroup (came u.command.handle) (eqb u.command.handle r.handle) (answers_among u.command.handle ms)))
-    (hears_all ms (map (answered r.handle (answer_in r)) us))
-    (answered_heard ms (came_more r.handle (answer_in r) came) (map (answered r.handle (answer_in r)) us) (answered_more r.handle (answer_in r) came us p))
+    (hears_all ms (map (answered r.handle (answer_of_response r)) us))
+    (answered_heard ms (came_more r.handle (answer_of_response r) came) (map (answered r.handle (answer_of_response r)) us) (answered_more r.handle (answer_of_response r) came us p))
   where
-    regroup : (xs : List AnswerFields) (b : Bool) (ys : List AnswerFields) → (xs ++ cond b (answer_in r ∷ []) []) ++ ys ≡ xs ++ cond b (answer_in r ∷ ys) ys
-    regroup xs true ys = append_assoc xs (answer_in r ∷ []) ys
+    regroup : (xs : List AnswerFields) (b : Bool) (ys : List AnswerFields) → (xs ++ cond b (answer_of_response r ∷ []) []) ++ ys ≡ xs ++ cond b (answer_of_response r ∷ ys) ys
+    regroup xs true ys = append_assoc xs (answer_of_response r ∷ []) ys
     regroup xs false ys = append_assoc xs [] ys
 answered_heard (KeepAlive form ∷ ms) came us p = answered_heard ms came us p
 answered_heard (Command respond c ∷ ms) came us p = answered_heard ms came us p

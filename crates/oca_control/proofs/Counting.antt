@@ -9,7 +9,7 @@ use Rattle.oca_types.specs.Peers.{same_peer}
 use Rattle.oca_pdu.specs.Messages.{Msg, Command, Response, KeepAlive}
 use Rattle.oca_control.specs.declared.reception.Reception.{Reception}
 use Rattle.oca_control.specs.declared.reception.Reception.TheVariants as receptions
-use Rattle.oca_control.specs.Answers.{AnswerFields, answer_in}
+use Rattle.oca_control.specs.Answers.{AnswerFields, answer_of_response}
 use Rattle.oca_control.specs.Untaken.{Untaken, waits, answered, answers_by_all, holds}
 use Rattle.oca_control.specs.Links.{LinkState, reception, reception_of, reception_counted}
 use Rattle.oca_control.specs.Histories.{Call, Submits, GivesOut, Receives, TakesAnswer, IsHistory, answers_among, answers_to, first_of, is_untaken}
@@ -88,10 +88,10 @@ counted (Command respond c ∷ ms) us r = from_zero (answers_by_all ms us) ∙ c
     from_zero : (n : ℕ) → 0 + n ≡ n
     from_zero n = omega arith
 counted (Response x ∷ ms) us r =
-    ap (λ n. cond (list_any (waits x.handle) us) 1 0 + n) (counted ms (map (answered x.handle (answer_in x)) us) (rises_answered x.handle (answer_in x) us r))
-    ∙ one_answered x.handle (answer_in x) ms (fresh (Response x ∷ ms)) us r
-    (λ u q. ap (λ b. is_none u.answer && is_some (first_of (cond b (answer_in x ∷ answers_among u.command.handle ms) (answers_among u.command.handle ms)))) q ∙ and_true (is_none u.answer))
-    (λ u q. ap (λ b. is_none u.answer && is_some (first_of (cond b (answer_in x ∷ answers_among u.command.handle ms) (answers_among u.command.handle ms)))) q)
+    ap (λ n. cond (list_any (waits x.handle) us) 1 0 + n) (counted ms (map (answered x.handle (answer_of_response x)) us) (rises_answered x.handle (answer_of_response x) us r))
+    ∙ one_answered x.handle (answer_of_response x) ms (fresh (Response x ∷ ms)) us r
+    (λ u q. ap (λ b. is_none u.answer && is_some (first_of (cond b (answer_of_response x ∷ answers_among u.command.handle ms) (answers_among u.command.handle ms)))) q ∙ and_true (is_none u.answer))
+    (λ u q. ap (λ b. is_none u.answer && is_some (first_of (cond b (answer_of_response x ∷ answers_among u.command.handle ms) (answers_among u.command.handle ms)))) q)
   where
     and_true : (b : Bool) → (b && true) ≡ b
     and_true true = refl

@@ -6,7 +6,7 @@ use Rattle.std.proofs.Math.Dec.{eqb}
 use Rattle.std.proofs.lemmas.Bool.Decides.{nat_tests}
 use Rattle.oca_types.specs.Peers.{CommandFields}
 use Rattle.oca_pdu.specs.Messages.{Msg, Command, Response, KeepAlive}
-use Rattle.oca_control.specs.Answers.{AnswerFields, answer_in}
+use Rattle.oca_control.specs.Answers.{AnswerFields, answer_of_response}
 use Rattle.oca_control.specs.Untaken.{Untaken, is_due, first_due, given_out, answered, hears_all, without_handle, holds}
 use Rattle.oca_control.specs.Links.{LinkState, hears_content}
 use Rattle.oca_control.specs.Histories.{Sending, first_of, may_be_sent}
@@ -45,7 +45,7 @@ rises_answered h a (u ∷ us) r = (held_answered h a (λ c times last. u.command
 
 rises_heard : (ms : List Msg) (us : List Untaken) → Rises us → Rises (hears_all ms us)
 rises_heard [] us r = r
-rises_heard (Response x ∷ ms) us r = rises_heard ms (map (answered x.handle (answer_in x)) us) (rises_answered x.handle (answer_in x) us r)
+rises_heard (Response x ∷ ms) us r = rises_heard ms (map (answered x.handle (answer_of_response x)) us) (rises_answered x.handle (answer_of_response x) us r)
 rises_heard (KeepAlive form ∷ ms) us r = rises_heard ms us r
 rises_heard (Command respond c ∷ ms) us r = rises_heard ms us r
 

@@ -6,7 +6,7 @@ use Rattle.oca_net.specs.declared.end.Heard.{Heard}
 use Rattle.oca_net.specs.declared.end.Heard.TheVariants as heard
 use Rattle.oca_net.specs.Deliveries.{Delivery, Datagram, Quiet, Failed}
 use Rattle.oca_net.specs.Ends.{is_failed, last_u64}
-use Rattle.oca_net.specs.EndStates.{EndState, Receives, SendsAllBut, Runs}
+use Rattle.oca_net.specs.EndStates.{EndState, Receives, SendsAllBut, DeliversAndTakes}
 use Rattle.oca_net.proofs.Sending.{sends_none}
 use Rattle.oca_net.proofs.Hearing.{oversize_heard}
 use Rattle.oca_net.proofs.Running.{runs_one}
@@ -15,7 +15,7 @@ use Rattle.oca_control.specs.Steps.{ReceivesDatagram}
 use Rattle.oca_control.specs.declared.report.DriveReport.{DriveReport}
 use Rattle.oca_control.specs.Links.{LinkState, Decision, IsLost, late_at}
 use Rattle.oca_control.specs.Driving.{answered_by, is_failed_delivery, drive_report_of, all_given_to, decisions_from, link_from}
-use Rattle.oca_control.specs.Turning.{GivesIf, GivesInTime, decisions_in_time, link_in_time, TurnsInTime, TurnsOnce, Turns}
+use Rattle.oca_control.specs.Turning.{GivesIf, GivesInTime, decisions_in_time, link_in_time, TurnsInTime, TurnsLinkOnce, Turns}
 use Rattle.oca_control.specs.PrivateDriving.{given_report}
 use Rattle.oca_control.proofs.Turns.{datagram_reported, silent_reported, failed_reported, heard_datagram, same_device}
 
@@ -46,14 +46,14 @@ gave {now} {old} {new} {f} {g} {given} k = let w = by (late_at now old) k in rec
 heard_one : (x : Delivery) {h : Heard} {held : List ℕ} {old new : LinkState} {e f g : EndState} {ds : List Decision} {n : ℕ} {r : DriveReport} →
     Receives h held e f → (IsTrue e.tells → f.delivered ≡ e.delivered ++ x ∷ []) → count_by is_failed_delivery (x ∷ []) ≡ cond (is_failed h) 1 0 →
     SendsAllBut r.failed_sends f g (all_given_to old.device ds) → TurnsInTime x old new ds n → r ≡ drive_report_of (x ∷ []) ds n r.failed_sends →
-    TurnsOnce old new e g r
+    TurnsLinkOnce old new e g r
 heard_one x {h} {held} {old} {new} {e} {f} {g} {ds} {n} {r} heard grew failed sent turns reported = record {
   delivery = x;
   decisions = ds;
   answered = n;
   turns = turns;
   reported = reported;
-  runs = subst (λ (k : ℕ). Runs (x ∷ []) (all_given_to old.device ds) k r.failed_sends e g) (sym (ap (λ (q : DriveReport). q.failed_receives) reported ∙ failed)) (runs_one x heard sent grew);
+  runs = subst (λ (k : ℕ). DeliversAndTakes (x ∷ []) (all_given_to old.device ds) k r.failed_sends e g) (sym (ap (λ (q : DriveReport). q.failed_receives) reported ∙ failed)) (runs_one x heard sent grew);
   receives = sent.receives ∙ heard.receives;
 }
 

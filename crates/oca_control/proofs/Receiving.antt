@@ -4,7 +4,7 @@ use Rattle.std.specs.Prelude.{nat_lt, ◌&&◌}
 use Rattle.std.proofs.lemmas.Bool.{lt-ltb, ltb-true}
 use Rattle.std.proofs.Math.Dec.{eqb}
 use Rattle.oca_pdu.specs.Messages.{Msg, Command, Response, KeepAlive}
-use Rattle.oca_control.specs.Answers.{AnswerFields, answer_in}
+use Rattle.oca_control.specs.Answers.{AnswerFields, answer_of_response}
 use Rattle.oca_control.specs.Untaken.{Untaken, span_has_room, answered, hears, hears_all, answers_by, answers_by_all, answer_under, without_handle}
 use Rattle.oca_control.specs.PrivateSlots.{AreShortResponses, IsShortResponse, TableState}
 
@@ -60,7 +60,7 @@ as_many_answered h a (u ∷ us) = ap suc (as_many_answered h a us)
 
 as_many_heard : (ms : List Msg) (us : List Untaken) → length (hears_all ms us) ≡ length us
 as_many_heard [] us = refl
-as_many_heard (Response x ∷ ms) us = as_many_heard ms (map (answered x.handle (answer_in x)) us) ∙ as_many_answered x.handle (answer_in x) us
+as_many_heard (Response x ∷ ms) us = as_many_heard ms (map (answered x.handle (answer_of_response x)) us) ∙ as_many_answered x.handle (answer_of_response x) us
 as_many_heard (KeepAlive form ∷ ms) us = as_many_heard ms us
 as_many_heard (Command respond c ∷ ms) us = as_many_heard ms us
 

@@ -13,7 +13,7 @@ use Rattle.oca_net.specs.declared.end.Heard.{Heard}
 use Rattle.oca_net.specs.declared.end.Heard.TheVariants as heard
 use Rattle.oca_net.specs.Deliveries.{Delivery, Datagram, Quiet, Failed, Sent}
 use Rattle.oca_net.specs.Ends.{is_failed}
-use Rattle.oca_net.specs.EndStates.{EndState, Receives, SendsAllBut, Runs}
+use Rattle.oca_net.specs.EndStates.{EndState, Receives, SendsAllBut, DeliversAndTakes}
 use Rattle.oca_net.proofs.Sending.{sends_none, sends_more}
 use Rattle.oca_net.proofs.Hearing.{oversize_heard}
 use Rattle.oca_net.proofs.Running.{runs_none, runs_more, runs_one, runs_closed}
@@ -222,8 +222,8 @@ turns_more {a} {b} {c} {e} {f} {g} {r} {turn} r' sum x y going same = subst (Dri
   drives = OneMore y.delivery x.drives (sym (ap (λ (q : DriveReport). q.lost) x.reported) ∙ going) y.drives;
   reported = ap (λ q. drive_report_sum q turn) x.reported ∙ ap (drive_report_sum (drive_report_of x.deliveries x.decisions x.answered r.failed_sends)) y.reported
       ∙ added_reports x.deliveries (y.delivery ∷ []) x.decisions y.decisions x.answered y.answered r.failed_sends turn.failed_sends;
-  runs = subst (λ (xs : List Sent). Runs (x.deliveries ++ y.delivery ∷ []) xs (r.failed_receives + turn.failed_receives) (r.failed_sends + turn.failed_sends) e g) (sym (flat_map-append (given_to a.device) x.decisions y.decisions))
-      (runs_more x.runs (subst (λ (p : Peer). Runs (y.delivery ∷ []) (all_given_to p y.decisions) turn.failed_receives turn.failed_sends f g) same y.runs));
+  runs = subst (λ (xs : List Sent). DeliversAndTakes (x.deliveries ++ y.delivery ∷ []) xs (r.failed_receives + turn.failed_receives) (r.failed_sends + turn.failed_sends) e g) (sym (flat_map-append (given_to a.device) x.decisions y.decisions))
+      (runs_more x.runs (subst (λ (p : Peer). DeliversAndTakes (y.delivery ∷ []) (all_given_to p y.decisions) turn.failed_receives turn.failed_sends f g) same y.runs));
 })
 
 -- At a closed end the loop did what it did before.
@@ -317,7 +317,7 @@ heard_one x {h} {held} {old} {new} {e} {f} {g} {ds} {n} {r} heard grew failed se
   answered = n;
   drives = drives;
   reported = reported;
-  runs = subst (λ (k : ℕ). Runs (x ∷ []) (all_given_to old.device ds) k r.failed_sends e g) (sym (ap (λ (q : DriveReport). q.failed_receives) reported ∙ failed)) (runs_one x heard sent grew);
+  runs = subst (λ (k : ℕ). DeliversAndTakes (x ∷ []) (all_given_to old.device ds) k r.failed_sends e g) (sym (ap (λ (q : DriveReport). q.failed_receives) reported ∙ failed)) (runs_one x heard sent grew);
   device = device;
   receives = sent.receives ∙ heard.receives;
 }

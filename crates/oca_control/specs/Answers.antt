@@ -10,8 +10,8 @@ pub record AnswerFields : Type 0 where
   pub params : List ℕ
 
 -- the answer that a response carries (AES70-3)
-abbrev pub answer_in : ResponseFields → AnswerFields
-answer_in r = record { status = r.status; count = r.count; params = r.params }
+abbrev pub answer_of_response : ResponseFields → AnswerFields
+answer_of_response r = record { status = r.status; count = r.count; params = r.params }
 
 -- an answer without where its parameters lie in memory
 abbrev pub answer_fields : Answer → AnswerFields

@@ -5,7 +5,7 @@ use Rattle.std.specs.List.{list_any, flat_map}
 use Rattle.oca_types.specs.declared.words.Peer.{Peer}
 use Rattle.oca_net.specs.Deliveries.{Delivery, Datagram, Quiet, Failed, Sent}
 use Rattle.oca_net.specs.Ends.{largest_datagram, last_u64}
-use Rattle.oca_net.specs.EndStates.{EndState, SendsAllBut, Runs}
+use Rattle.oca_net.specs.EndStates.{EndState, SendsAllBut, DeliversAndTakes}
 use Rattle.oca_control.specs.declared.reception.Reception.{Reception}
 use Rattle.oca_control.specs.declared.reception.Reception.TheVariants as receptions
 use Rattle.oca_control.specs.declared.report.DriveReport.{DriveReport}
@@ -158,7 +158,8 @@ pub record DrivesEnd (old new : LinkState) (before after : EndState) (report : D
   pub answered : ℕ
   pub drives : Drives deliveries old new decisions answered
   pub reported : report ≡ drive_report_of deliveries decisions answered report.failed_sends
-  pub runs : Runs deliveries (all_given_to old.device decisions) report.failed_receives report.failed_sends before after
+  pub runs : DeliversAndTakes deliveries (all_given_to old.device decisions) report.failed_receives report.failed_sends
+      before after
 
 -- WHAT WAS DUE at a moment, in so many calls of `due`, WAS GIVEN OUT: it was handed to the end, for the device, and the
 -- report counts it and the sends that failed. No turn was taken.

@@ -16,7 +16,7 @@ use Rattle.oca_control.specs.declared.fault.ControlFault.TheVariants as faults
 use Rattle.oca_control.specs.declared.due.Due.{Due}
 use Rattle.oca_control.specs.declared.due.Due.TheVariants as dues
 use Rattle.oca_control.specs.declared.reception.Reception.{Reception}
-use Rattle.oca_control.specs.Answers.{AnswerFields, answer_in}
+use Rattle.oca_control.specs.Answers.{AnswerFields, answer_of_response}
 use Rattle.oca_control.specs.Contents.{IsContent}
 use Rattle.oca_control.specs.Untaken.{answer_under, first_answered}
 use Rattle.oca_types.specs.Sizes.{most_command_parameter_bytes}
@@ -96,7 +96,8 @@ sendings opened h (TakesAnswer handle answer ∷ before) = sendings opened h bef
 -- what the responses among messages answer under a handle, in order
 abbrev pub answers_among : ℕ → List Msg → List AnswerFields
 answers_among h [] = []
-answers_among h (Response r ∷ more) = if h == r.handle then answer_in r ∷ answers_among h more else answers_among h more
+answers_among h (Response r ∷ more) =
+    if h == r.handle then answer_of_response r ∷ answers_among h more else answers_among h more
 answers_among h (KeepAlive form ∷ more) = answers_among h more
 answers_among h (Command respond c ∷ more) = answers_among h more
 

@@ -3,7 +3,7 @@ use Rattle.std.specs.Prelude.{◌≡◌, ℕ, ◌≤◌, Bool, List, [], ◌∷�
 use Rattle.oca_net.specs.declared.end.Heard.TheVariants as heard
 use Rattle.oca_net.specs.Deliveries.{Delivery}
 use Rattle.oca_net.specs.Ends.{one_more}
-use Rattle.oca_net.specs.EndStates.{EndState, Receives, SendsAllBut, Runs}
+use Rattle.oca_net.specs.EndStates.{EndState, Receives, SendsAllBut, DeliversAndTakes}
 use Rattle.oca_control.specs.declared.report.DriveReport.{DriveReport}
 use Rattle.oca_control.specs.Links.{LinkState, Decision, decision, gone_on}
 use Rattle.oca_control.specs.Driving.{DrivesTurn, drive_report_of, goes_on, given_to, all_given_to}
@@ -36,7 +36,7 @@ pub record DrivesOnce (old new : LinkState) (before after : EndState) (turn : Dr
   pub answered : ℕ
   pub drives : DrivesTurn delivery old new decisions answered
   pub reported : turn ≡ drive_report_of (delivery ∷ []) decisions answered turn.failed_sends
-  pub runs : Runs (delivery ∷ []) (all_given_to old.device decisions)
+  pub runs : DeliversAndTakes (delivery ∷ []) (all_given_to old.device decisions)
       turn.failed_receives turn.failed_sends before after
   pub device : new.device ≡ old.device
   pub receives : after.receives ≡ one_more before.receives

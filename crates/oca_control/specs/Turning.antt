@@ -4,7 +4,7 @@ use Rattle.std.specs.Prelude.{◌≡◌, ◌⊎◌, ℕ, ◌+◌, Bool, true, fa
 use Rattle.oca_net.specs.declared.end.Heard.TheVariants as heard
 use Rattle.oca_net.specs.Deliveries.{Delivery, Datagram, Quiet, Failed}
 use Rattle.oca_net.specs.Ends.{one_more}
-use Rattle.oca_net.specs.EndStates.{EndState, Receives, Runs}
+use Rattle.oca_net.specs.EndStates.{EndState, Receives, DeliversAndTakes}
 use Rattle.oca_control.specs.declared.report.DriveReport.{DriveReport}
 use Rattle.oca_control.specs.Links.{LinkState, Decision, IsLost, late_at}
 use Rattle.oca_control.specs.Driving.{HearsDelivery, GivesOut, decisions_from, link_from, all_given_to, drive_report_of}
@@ -44,13 +44,13 @@ pub record TurnsInTime (d : Delivery) (old new : LinkState) (decisions : List De
 
 -- A TURN OVER AN END: there is a delivery of which it is what was done and reported. Where the end tells, that is what
 -- it delivered, and it took what was given out but for the failed sends.
-pub record TurnsOnce (old new : LinkState) (before after : EndState) (report : DriveReport) : Type 0 where
+pub record TurnsLinkOnce (old new : LinkState) (before after : EndState) (report : DriveReport) : Type 0 where
   pub delivery : Delivery
   pub decisions : List Decision
   pub answered : ℕ
   pub turns : TurnsInTime delivery old new decisions answered
   pub reported : report ≡ drive_report_of (delivery ∷ []) decisions answered report.failed_sends
-  pub runs : Runs (delivery ∷ []) (all_given_to old.device decisions)
+  pub runs : DeliversAndTakes (delivery ∷ []) (all_given_to old.device decisions)
       report.failed_receives report.failed_sends before after
   pub receives : after.receives ≡ one_more before.receives
 
@@ -62,4 +62,4 @@ pub record FindsClosed (old new : LinkState) (before after : EndState) (report :
 
 -- a turn, or a closed end
 abbrev pub Turns : LinkState → LinkState → EndState → EndState → DriveReport → Type 0
-Turns old new before after report = TurnsOnce old new before after report ⊎ FindsClosed old new before after report
+Turns old new before after report = TurnsLinkOnce old new before after report ⊎ FindsClosed old new before after report

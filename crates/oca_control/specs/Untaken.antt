@@ -5,7 +5,7 @@ use Rattle.std.specs.List.{list_any, list_all}
 use Rattle.oca_types.specs.Peers.{CommandFields}
 use Rattle.oca_pdu.specs.Messages.{Msg, Command, Response, KeepAlive}
 use Rattle.oca_control.specs.Limits.{repeat_time, longest_pause}
-use Rattle.oca_control.specs.Answers.{AnswerFields, answer_in}
+use Rattle.oca_control.specs.Answers.{AnswerFields, answer_of_response}
 
 -- A command, how often and when last it was given out, and its answer where one came. Moments are in milliseconds; the
 -- last one of a command that was never given out says nothing.
@@ -57,7 +57,7 @@ answered h answer u =
 
 -- after a message: a response brings an answer; commands and keep-alives are ignored
 abbrev pub hears : Msg → List Untaken → List Untaken
-hears (Response r) us = map (answered r.handle (answer_in r)) us
+hears (Response r) us = map (answered r.handle (answer_of_response r)) us
 hears (KeepAlive form) us = us
 hears (Command respond c) us = us
 

@@ -14,7 +14,7 @@ use Rattle.oca_session.specs.Accepted.{Entry, Fresh, Duplicate, Reused, judge_un
 use Rattle.oca_device.specs.Notes.{is_noted, accepted, run}
 use Rattle.oca_device.specs.States.{State, judged_in, reply_of, after_command, after_messages, time_of}
 use Rattle.oca_device.specs.Written.{written_by_execution, written_by_command, written_by_messages}
-use Rattle.oca_device.specs.LawByEvents.{accepts_handle, accepted_of, Change, Executes, Releases, Sets, objects, Execution, executions, executions_noted, written_of}
+use Rattle.oca_device.specs.LawByEvents.{accepts_handle, accepted_of, Change, Executes, Releases, Sets, objects, ExecutionFor, executions, executions_noted, written_of}
 use Rattle.oca_device.proofs.Acceptance.{accepts_same}
 use Rattle.oca_device.proofs.Messages.{executed_of, fresh_state, fresh_known, fresh_executed, after_judged, kept_alive, alive_executed, alive_known}
 
@@ -71,7 +71,7 @@ executions_both tree [] ys = refl
 executions_both tree (Releases p ∷ xs) ys = executions_both (released tree p) xs ys
 executions_both tree (Sets ono value ∷ xs) ys = executions_both (after_set tree ono value) xs ys
 executions_both tree (Executes p c ∷ xs) ys =
-    ap (λ (x : List Execution). (record { peer = p; objects = tree; command = c; reply = reply_of tree p c }) ∷ x) (executions_both (execution tree p c).tree xs ys)
+    ap (λ (x : List ExecutionFor). (record { peer = p; objects = tree; command = c; reply = reply_of tree p c }) ∷ x) (executions_both (execution tree p c).tree xs ys)
 
 pub executions_released : (ps : List Peer) (tree : List Object) → executions tree (map Releases ps) ≡ []
 executions_released [] tree = refl
@@ -91,10 +91,10 @@ messages_noted w p (Command respond c ∷ ms) s k =
     A : List CommandFields
     A = executed_of p s.notes
 
-    before : List Execution
+    before : List ExecutionFor
     before = executions_noted s.notes
 
-    here : Execution
+    here : ExecutionFor
     here = record { peer = p; objects = s.tree; command = c; reply = reply_of s.tree p c }
 
     by : (b : Bool) →
@@ -107,5 +107,5 @@ messages_noted w p (Command respond c ∷ ms) s k =
 messages_noted w p (KeepAlive form ∷ ms) s k =
     messages_noted w p ms (kept_alive p (time_of form) s) (alive_known p (time_of form) s)
     ∙ ap (λ (B : List CommandFields). (executions_noted s.notes ++ []) ++ executions s.tree (map (Executes p) (accepted_of w B ms))) (alive_executed p (time_of form) s k)
-    ∙ ap (λ (x : List Execution). x ++ executions s.tree (map (Executes p) (accepted_of w (executed_of p s.notes) ms))) (append-nil (executions_noted s.notes))
+    ∙ ap (λ (x : List ExecutionFor). x ++ executions s.tree (map (Executes p) (accepted_of w (executed_of p s.notes) ms))) (append-nil (executions_noted s.notes))
 messages_noted w p (Response r ∷ ms) s k = messages_noted w p ms s k

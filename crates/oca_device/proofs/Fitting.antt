@@ -13,7 +13,7 @@ use Rattle.oca_pdu.specs.Messages.{Msg, Command, Response, KeepAlive}
 use Rattle.oca_tree.specs.declared.object.Object.{Object}
 use Rattle.oca_tree.specs.declared.request.Request.{Request}
 use Rattle.oca_tree.specs.Objects.{object_of}
-use Rattle.oca_tree.specs.Execution.{Execution, answer, execution, by_status, status_of, first_that_applies, kind_at, request_at, is_unknown, is_kind_left_out, is_locked, on_both}
+use Rattle.oca_tree.specs.Execution.{TreeAndReply, answer, execution, by_status, status_of, first_that_applies, kind_at, request_at, is_unknown, is_kind_left_out, is_locked, on_both}
 use Rattle.oca_tree.specs.Requests.{is_out_of_range, is_invalid}
 use Rattle.oca_tree.specs.Locks.{released}
 use Rattle.oca_tree.specs.Settings.{after_set}
@@ -80,7 +80,7 @@ execution_short tree peer c =
 abbrev AreAnswers : List Msg → Type 0
 AreAnswers ms = AllByRecursion IsAnswerMessage ms
 
-abbrev its : Execution → ℕ → Msg
+abbrev its : TreeAndReply → ℕ → Msg
 its x h = Response (record { handle = h; status = status_number x.status; count = x.count; params = x.parameters })
 
 reply_fits : (p : Peer) (h : ℕ) (r : List Msg) (tree : List Object) (C : List Change) → AreAnswers r → AreAnswers (reply p h r tree C)

@@ -5,7 +5,7 @@ use Rattle.std.specs.List.{list_any}
 use Rattle.std.proofs.lemmas.Bool.Decides.{nat_tests}
 use Rattle.oca_types.specs.declared.words.Peer.{Peer}
 use Rattle.oca_types.specs.Peers.{same_peer}
-use Rattle.oca_session.specs.Table.{Session, is_of, session_of, changed, peers_of}
+use Rattle.oca_session.specs.Table.{Session, is_of, session_of, with_changed, peers_of}
 
 equal_is : (a b : ℕ) → nat_eq a b ≡ true → a ≡ b
 equal_is a b h = grind (arith, nat_tests)
@@ -103,15 +103,15 @@ module _ (g : Peer → Session) (own : (q : Peer) → (g q).peer ≡ q) where
   -- the session of one peer is changed into what it is made of now
   pub changed_made : (k : Peer → Session) (p : Peer) (f : Session → Session) →
       ((q : Peer) → same_peer q p ≡ false → g q ≡ k q) → f (g p) ≡ k p →
-      (ps : List Peer) → changed p f (map g ps) ≡ map k ps
+      (ps : List Peer) → with_changed p f (map g ps) ≡ map k ps
   changed_made k p f h e [] = refl
   changed_made k p f h e (q ∷ ps) =
-      ap (λ b. cond b (f (g q)) (g q) ∷ changed p f (map g ps)) (is_of_made p q)
+      ap (λ b. cond b (f (g q)) (g q) ∷ with_changed p f (map g ps)) (is_of_made p q)
       ∙ by_same (same_peer q p) refl
       ∙ ap (λ ss. k q ∷ ss) (changed_made k p f h e ps)
     where
-      by_same : (b : Bool) → same_peer q p ≡ b → cond b (f (g q)) (g q) ∷ changed p f (map g ps) ≡ k q ∷ changed p f (map g ps)
+      by_same : (b : Bool) → same_peer q p ≡ b → cond b (f (g q)) (g q) ∷ with_changed p f (map g ps) ≡ k q ∷ with_changed p f (map g ps)
       by_same true s =
           let same = same_is q p s in
-          ap (λ x. f (g x) ∷ changed p f (map g ps)) same ∙ ap (λ x. x ∷ changed p f (map g ps)) e ∙ sym (ap (λ x. k x ∷ changed p f (map g ps)) same)
-      by_same false s = ap (λ x. x ∷ changed p f (map g ps)) (h q s)
+          ap (λ x. f (g x) ∷ with_changed p f (map g ps)) same ∙ ap (λ x. x ∷ with_changed p f (map g ps)) e ∙ sym (ap (λ x. k x ∷ with_changed p f (map g ps)) same)
+      by_same false s = ap (λ x. x ∷ with_changed p f (map g ps)) (h q s)

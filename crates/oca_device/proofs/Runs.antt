@@ -8,7 +8,7 @@ use Rattle.oca_types.specs.Peers.{same_peer}
 use Rattle.oca_types.specs.Sizes.{DeviceSizes}
 use Rattle.oca_pdu.specs.Messages.{Msg}
 use Rattle.oca_session.specs.Accepted.{retained_of}
-use Rattle.oca_session.specs.Table.{Session, Table, session_of, changed, lapsed, stays, is_lapsed, staying, with_moment_and_sessions}
+use Rattle.oca_session.specs.Table.{Session, Table, session_of, with_changed, lapsed, stays, is_lapsed, staying, with_moment_and_sessions}
 use Rattle.oca_session.specs.Table as table
 use Rattle.oca_device.specs.Notes.{Note, Noted, Admitted, notes_of, is_within, unbroken, run, is_noted, peers_except, noted_order, noted_peers, last_noted, heartbeat_noted, accepted}
 use Rattle.oca_device.specs.States.{State, noted, moved_to, lapsed_at}
@@ -153,7 +153,7 @@ session_known w s p =
 -- A note of a known peer changes its session alone.
 pub table_noted : (w : DeviceSizes) (s : State) (p : Peer) (what : Noted) (f : Session → Session) → is_noted s.moment s.notes p ≡ true →
     f (session_for w s.notes p) ≡ session_for w (noted p what s).notes p →
-    changed p f (table_of w s).sessions ≡ (table_of w (noted p what s)).sessions
+    with_changed p f (table_of w s).sessions ≡ (table_of w (noted p what s)).sessions
 table_noted w s p what f k e =
     let n : Note = record { peer = p; at = s.moment; what = what } in
     changed_made (session_for w s.notes) (λ _. refl) (session_for w (n ∷ s.notes)) p f (other_session w n s.notes) e (noted_peers s.moment s.notes)

@@ -23,7 +23,7 @@ use Rattle.oca_device.specs.States.{State, admits, after_messages, after_reading
 use Rattle.oca_device.specs.Answers.{answers_to_messages, answers_to_reading, answers_in, counts_of_messages, served, verdict_of_reading}
 use Rattle.oca_device.specs.Written.{written_by_messages, written_by_reading}
 use Rattle.oca_device.specs.Written as effects
-use Rattle.oca_device.specs.LawByEvents.{Execution, executions, executions_noted, written_of, Arrival, Happening, Passes, Says, Sets, Happened, nothing, tick, local, malformed, datagram, EventsAreBytes, clock, admitted, session, messages_in, lapsed_peers, has_room, accepted_of, accepted_by, Change, Executes, Releases, changes, objects, reply, replies, all_counted, IsVerdict}
+use Rattle.oca_device.specs.LawByEvents.{ExecutionFor, executions, executions_noted, written_of, Arrival, Happening, Passes, Says, Sets, Happened, nothing, tick, local, malformed, datagram, EventsAreBytes, clock, admitted, session, messages_in, lapsed_peers, has_room, accepted_of, accepted_by, Change, Executes, Releases, changes, objects, reply, replies, all_counted, IsVerdict}
 use Rattle.oca_device.specs.LawByEvents as law
 use Rattle.oca_device.proofs.Peers.{same_is}
 use Rattle.oca_device.proofs.Runs.{run_goes_on, run_begins}
@@ -97,7 +97,7 @@ passing w tree now s H h =
           ∙ h.replied q i x f;
       executions_are = h.executions_are
           ∙ sym (executions_both tree (changes w H) (map Releases ps)
-          ∙ ap (λ (x : List Execution). executions tree (changes w H) ++ x) (executions_released ps (objects tree (changes w H)))
+          ∙ ap (λ (x : List ExecutionFor). executions tree (changes w H) ++ x) (executions_released ps (objects tree (changes w H)))
           ∙ append-nil (executions tree (changes w H)));
     }
 
@@ -153,9 +153,9 @@ module _ (w : DeviceSizes) (tree : List Object) (p : Peer) (ms : List Msg) (s : 
         ∙ sym (objects_both tree C executing);
     replied = λ q. by_same q (same_peer p q) refl;
     executions_are = messages_noted w p ms (let_in p ms s) (let_in_known p ms s)
-        ∙ ap (λ (x : List Execution). x ++ executions s.tree (map (Executes p) (accepted_of w (executed_of p (let_in p ms s).notes) ms))) (append-nil (executions_noted s.notes))
+        ∙ ap (λ (x : List ExecutionFor). x ++ executions s.tree (map (Executes p) (accepted_of w (executed_of p (let_in p ms s).notes) ms))) (append-nil (executions_noted s.notes))
         ∙ ap (λ (x : List CommandFields). executions_noted s.notes ++ executions s.tree (map (Executes p) (accepted_of w x ms))) same_executed
-        ∙ ap (λ (x : List Execution). x ++ executions s.tree executing) h.executions_are
+        ∙ ap (λ (x : List ExecutionFor). x ++ executions s.tree executing) h.executions_are
         ∙ ap (λ (x : List Object). executions tree C ++ executions x executing) h.tree_is
         ∙ sym (executions_both tree C executing);
   }

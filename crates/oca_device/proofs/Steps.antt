@@ -8,7 +8,7 @@ use Rattle.oca_types.specs.Sizes.{DeviceSizes}
 use Rattle.oca_pdu.specs.Messages.{Msg, Command, Response, KeepAlive, Pdu}
 use Rattle.oca_session.specs.declared.sessions.Admission.TheVariants as heard
 use Rattle.oca_session.specs.Accepted.{Entry, retained_of, AgreesWithAccepted, Judgement, Fresh, Duplicate, Reused, Old}
-use Rattle.oca_session.specs.Table.{Session, Table, session_of, changed, opened_session, heard_at, with_heartbeat, with_accepted, with_sessions, with_moment_and_sessions, present, lapsed, staying, Hears, AgreesAt}
+use Rattle.oca_session.specs.Table.{Session, Table, session_of, with_changed, opened_session, heard_at, with_heartbeat, with_accepted, with_sessions, with_moment_and_sessions, present, lapsed, staying, Hears, AgreesAt}
 use Rattle.oca_pdu.specs.declared.fault.PduFault.{PduFault}
 use Rattle.oca_pdu.specs.Reading.{read_datagram}
 use Rattle.oca_device.specs.declared.counts.Counts.{Counts}
@@ -75,7 +75,7 @@ agrees_there w s p old was k =
 -- ---- a peer is let in
 
 admitted_known : (w : DeviceSizes) (s : State) (p : Peer) (ms : List Msg) → is_noted s.moment s.notes p ≡ true →
-    with_moment_and_sessions (table_of w s) s.moment (changed p (heard_at s.moment) (table_of w s).sessions) ≡ table_of w (noted p (Admitted ms) s)
+    with_moment_and_sessions (table_of w s) s.moment (with_changed p (heard_at s.moment) (table_of w s).sessions) ≡ table_of w (noted p (Admitted ms) s)
 admitted_known w s p ms k =
     let n : Note = record { peer = p; at = s.moment; what = Admitted ms } in
     ap (table_at w s.moment) (table_noted w s p (Admitted ms) (heard_at s.moment) k
@@ -105,8 +105,8 @@ pub hears_known : (w : DeviceSizes) (s : State) (p : Peer) (t : ℕ) (old new : 
 hears_known w s p t old new was now h =
     let k = known_there w s p old was h.0 in (
       sym (ap (λ b. b || nat_lt (length (noted_peers s.moment s.notes)) w.peers) k),
-      λ ms. h.1 ∙ ap (λ (u : ℕ). with_moment_and_sessions old u (changed p (heard_at u) old.sessions)) now
-          ∙ ap (λ (x : Table). with_moment_and_sessions x s.moment (changed p (heard_at s.moment) x.sessions)) was
+      λ ms. h.1 ∙ ap (λ (u : ℕ). with_moment_and_sessions old u (with_changed p (heard_at u) old.sessions)) now
+          ∙ ap (λ (x : Table). with_moment_and_sessions x s.moment (with_changed p (heard_at s.moment) x.sessions)) was
           ∙ admitted_known w s p ms k,
     )
 
@@ -144,11 +144,11 @@ admitted_now s p ms = by_known (is_noted s.moment s.notes p) refl
 
 -- a heartbeat was set
 pub heartbeat_there : (w : DeviceSizes) (ms : ℕ) (s : State) (p : Peer) (old new : Table) → old ≡ table_of w s → is_noted s.moment s.notes p ≡ true → last_noted (run p s.notes) ≡ s.moment →
-    new ≡ with_sessions old (changed p (with_heartbeat ms) old.sessions) → new ≡ table_of w (noted p (Heartbeat ms) s)
+    new ≡ with_sessions old (with_changed p (with_heartbeat ms) old.sessions) → new ≡ table_of w (noted p (Heartbeat ms) s)
 heartbeat_there w ms s p old new was k now is =
     let n : Note = record { peer = p; at = s.moment; what = Heartbeat ms } in
     let own = run p s.notes in
-    is ∙ ap (λ (x : Table). with_sessions x (changed p (with_heartbeat ms) x.sessions)) was
+    is ∙ ap (λ (x : Table). with_sessions x (with_changed p (with_heartbeat ms) x.sessions)) was
     ∙ ap (table_at w s.moment) (table_noted w s p (Heartbeat ms) (with_heartbeat ms) k
     (ap (λ (t : ℕ). let x : Session = record { peer = p; heard = t; heartbeat = max 250 (min ms 30000); retained = retained_of w.window (accepted own) } in x) now
     ∙ ap (λ (run_now : List Note). session_in w p (last_noted run_now) run_now) (sym (run_goes_on n s.notes k))))
@@ -156,11 +156,11 @@ heartbeat_there w ms s p old new was k now is =
 -- a command was executed, and its reply kept
 pub executed_there : (w : DeviceSizes) (s : State) (p : Peer) (what : Noted) (e : Entry) (old new : Table) → old ≡ table_of w s → is_noted s.moment s.notes p ≡ true → last_noted (run p s.notes) ≡ s.moment →
     ((own : List Note) (t : ℕ) → let n : Note = record { peer = p; at = t; what = what } in (heartbeat_noted (n ∷ own) ≡ heartbeat_noted own) × (accepted (n ∷ own) ≡ accepted own ++ e ∷ [])) →
-    new ≡ with_sessions old (changed p (with_accepted w.window (accepted (run p s.notes) ++ e ∷ [])) old.sessions) → new ≡ table_of w (noted p what s)
+    new ≡ with_sessions old (with_changed p (with_accepted w.window (accepted (run p s.notes) ++ e ∷ [])) old.sessions) → new ≡ table_of w (noted p what s)
 executed_there w s p what e old new was k now says is =
     let n : Note = record { peer = p; at = s.moment; what = what } in
     let own = run p s.notes in
-    is ∙ ap (λ (x : Table). with_sessions x (changed p (with_accepted w.window (accepted own ++ e ∷ [])) x.sessions)) was
+    is ∙ ap (λ (x : Table). with_sessions x (with_changed p (with_accepted w.window (accepted own ++ e ∷ [])) x.sessions)) was
     ∙ ap (table_at w s.moment) (table_noted w s p what (with_accepted w.window (accepted own ++ e ∷ [])) k
     (ap (λ (t : ℕ). let x : Session = record { peer = p; heard = t; heartbeat = heartbeat_noted own; retained = retained_of w.window (accepted own ++ e ∷ []) } in x) now
     ∙ ap (λ (h : ℕ). let x : Session = record { peer = p; heard = s.moment; heartbeat = h; retained = retained_of w.window (accepted own ++ e ∷ []) } in x) (sym (says own s.moment).0)

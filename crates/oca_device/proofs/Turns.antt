@@ -28,7 +28,7 @@ use Rattle.oca_device.specs.Outboxes.{bytes_of_packets}
 use Rattle.oca_device.specs.States.{state_after}
 use Rattle.oca_device.specs.Written as effects
 use Rattle.oca_device.specs.Following.{Followed, ElectronicsState, Follows, ServesEndWith, handed, handed_of}
-use Rattle.oca_device.specs.PrivateTotals.{IsWithin, ServesTurn, IsClosed}
+use Rattle.oca_device.specs.PrivateTotals.{IsAtMostEach, ServesTurn, IsClosed}
 
 -- ---- sums of reports
 
@@ -333,15 +333,15 @@ module _ {old new : DeviceState} {before mid : EndState} {idle : ElectronicsStat
 
 -- ---- numbers of reports
 
-pub none_within : (r : Report) (m : ℕ) → r ≡ no_turns → IsWithin m r
+pub none_within : (r : Report) (m : ℕ) → r ≡ no_turns → IsAtMostEach m r
 none_within r m e =
-    let here : IsWithin m no_turns = record { turns = omega arith; executed = omega arith; kept = omega arith; old = omega arith; reused = omega arith; malformed = omega arith; no_room = omega arith; oversize = omega arith; quiet = omega arith; failed_receives = omega arith; failed_sends = omega arith } in
-    subst (λ (x : Report). IsWithin m x) (sym e) here
+    let here : IsAtMostEach m no_turns = record { turns = omega arith; executed = omega arith; kept = omega arith; old = omega arith; reused = omega arith; malformed = omega arith; no_room = omega arith; oversize = omega arith; quiet = omega arith; failed_receives = omega arith; failed_sends = omega arith } in
+    subst (λ (x : Report). IsAtMostEach m x) (sym e) here
 
-pub more_within : (m k n : ℕ) (a b r : Report) → r ≡ added a b → IsWithin m a → IsWithin k b → m + k ≤ n → IsWithin n r
+pub more_within : (m k n : ℕ) (a b r : Report) → r ≡ added a b → IsAtMostEach m a → IsAtMostEach k b → m + k ≤ n → IsAtMostEach n r
 more_within m k n a b r e x y le =
-    let both : IsWithin n (added a b) = record { turns = omega (arith, x.turns, y.turns); executed = omega (arith, x.executed, y.executed); kept = omega (arith, x.kept, y.kept); old = omega (arith, x.old, y.old); reused = omega (arith, x.reused, y.reused); malformed = omega (arith, x.malformed, y.malformed); no_room = omega (arith, x.no_room, y.no_room); oversize = omega (arith, x.oversize, y.oversize); quiet = omega (arith, x.quiet, y.quiet); failed_receives = omega (arith, x.failed_receives, y.failed_receives); failed_sends = omega (arith, x.failed_sends, y.failed_sends) } in
-    subst (λ (q : Report). IsWithin n q) (sym e) both
+    let both : IsAtMostEach n (added a b) = record { turns = omega (arith, x.turns, y.turns); executed = omega (arith, x.executed, y.executed); kept = omega (arith, x.kept, y.kept); old = omega (arith, x.old, y.old); reused = omega (arith, x.reused, y.reused); malformed = omega (arith, x.malformed, y.malformed); no_room = omega (arith, x.no_room, y.no_room); oversize = omega (arith, x.oversize, y.oversize); quiet = omega (arith, x.quiet, y.quiet); failed_receives = omega (arith, x.failed_receives, y.failed_receives); failed_sends = omega (arith, x.failed_sends, y.failed_sends) } in
+    subst (λ (q : Report). IsAtMostEach n q) (sym e) both
 
 -- ---- receives, short of their last value
 

@@ -8,7 +8,7 @@ use Rattle.oca_device.specs.Devices.{DeviceState}
 use Rattle.oca_device.specs.Following.{ElectronicsState, ServesEndWith}
 
 -- no number of the report is above m
-pub record IsWithin (m : ℕ) (r : Report) : Type 0 where
+pub record IsAtMostEach (m : ℕ) (r : Report) : Type 0 where
   pub turns : r.turns ≤ m
   pub executed : r.executed ≤ m
   pub kept : r.kept ≤ m

@@ -6,7 +6,7 @@ ghost use Rattle.oca_net.specs.EndStates.{SendsAllBut};
 ghost use Rattle.oca_device.specs.Reports.{added, no_turns, one_turn, verdict_turn, receives_of};
 ghost use Rattle.oca_device.specs.Replies.{ServesEnd, sent_to};
 ghost use Rattle.oca_device.specs.Following.{ServesEndWith};
-ghost use Rattle.oca_device.specs.PrivateTotals.{IsWithin, TakesTurn};
+ghost use Rattle.oca_device.specs.PrivateTotals.{IsAtMostEach, TakesTurn};
 
 use crate::device::Device;
 use crate::electronics::{Electronics, NoElectronics};
@@ -76,7 +76,7 @@ fn take_turn<E: End, L: Electronics>(
     requires { outbox.old ≡ [] }
     ensures turn { TakesTurn device.old device.new (E.state end.old) (E.state end.new) (L.state electronics.old)
         (L.state electronics.new) result }
-    ensures fits { IfSome result (IsWithin 4294967295) }
+    ensures fits { IfSome result (IsAtMostEach 4294967295) }
     ensures outbox { outbox.new ≡ [] }
 {
     match end.receive(packet) {
@@ -128,8 +128,8 @@ fn send_all<E: End>(end: &mut E, to: Peer, outbox: &Outbox) -> u64
 
 /// What both did, where the numbers fit.
 fn sum(a: Report, b: Report) -> Report
-    requires a { IsWithin (2 ^ 64 - 2 ^ 32) a }
-    requires b { IsWithin (2 ^ 32 - 1) b }
+    requires a { IsAtMostEach (2 ^ 64 - 2 ^ 32) a }
+    requires b { IsAtMostEach (2 ^ 32 - 1) b }
     ensures { result ≡ added a b }
 {
     a + b

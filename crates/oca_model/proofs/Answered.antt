@@ -16,7 +16,7 @@ use Rattle.oca_model.specs.MemberFronts.{class_front, member_front}
 use Rattle.oca_model.specs.ListsBack.{lists_back}
 use Rattle.oca_model.specs.Readings.{reading_in, reading_encoding}
 use Rattle.oca_model.specs.Answers.{shape_of_answer, shaped_in, answer_count, answer_encoding, answer_in, IsAnswer, AnswersAreRead}
-use Rattle.oca_model.specs.Fronts.{whole_of, u32_front, text_front}
+use Rattle.oca_model.specs.Fronts.{whole_of, u32_front, front_of_text}
 use Rattle.oca_model.proofs.ReadBack.{readings_back}
 use Rattle.oca_model.proofs.Understood.{bool_whole, names_whole, flags_whole}
 
@@ -30,7 +30,7 @@ shaped : (of : Class) (a : Answer) → IsAnswer of a → shaped_in (shape_of_ans
 unfolding answer_encoding
 shaped of Done is = refl
 shaped of (Truth truth) is = ap (option_map Truth) (bool_whole truth)
-shaped of (Text text) is = ap (option_map Text) (whole_of _ text_encoding text_at text_front text is)
+shaped of (Text text) is = ap (option_map Text) (whole_of _ text_encoding text_at front_of_text text is)
 shaped of (Owner ono) is = ap (option_map (λ n. Owner (record { 0 = n }))) (whole_of _ (unsigned_encoding w32) (unsigned_at w32) u32_front ono.0 is)
 shaped of (Reading r) is = ap (option_map Reading) (ap (λ c. reading_in c (reading_encoding r)) (sym is.0) ∙ readings_back r is.1)
 shaped of (Names names) is = ap (option_map (λ xs. Names (record { items = xs }))) (names_whole names.items is.0 is.1)

@@ -17,7 +17,7 @@ use Rattle.oca_model.specs.Lists.{IsText, Each, list_encoding, list_of_most}
 use Rattle.oca_model.specs.Parameters.{whole, pair_at}
 use Rattle.oca_model.specs.Values.{class_of_value, value_in, value_encoding, set_method, get_method, IsOfItsType}
 use Rattle.oca_model.specs.Requests.{AskedBy, IsRequest, as_request, count_of, parameters_of, request_in, RequestsAreUnderstood}
-use Rattle.oca_model.specs.Fronts.{end_of, whole_of, u16_front, bool_front, text_front}
+use Rattle.oca_model.specs.Fronts.{end_of, whole_of, u16_front, bool_front, front_of_text}
 use Rattle.oca_model.specs.ListsBack.{lists_back}
 use Rattle.oca_model.proofs.ReadBack.{values_back}
 
@@ -36,7 +36,7 @@ behind read n bytes x lt e =
     rw (u16_front n bytes lt, e) refl
 
 text_end : (text : List ℕ) → IsText text → text_at (text_encoding text) ≡ Some (text, [])
-text_end text is = end_of _ text_encoding text_at text_front text is
+text_end text is = end_of _ text_encoding text_at front_of_text text is
 
 bool_end : (truth : Bool) → bool_at (bool_encoding truth) ≡ Some (truth, [])
 bool_end truth = end_of _ bool_encoding bool_at bool_front truth tt
@@ -46,7 +46,7 @@ each_bool [] = tt
 each_bool (x ∷ xs) = (tt, each_bool xs)
 
 pub names_whole : (xs : List (List ℕ)) → Each IsText xs → length xs ≤ 16 → whole (list_of_most 16 text_at (list_encoding text_encoding xs)) ≡ Some xs
-names_whole xs each few = lists_back IsText text_encoding text_at text_front 16 xs few (omega (arith, few)) each
+names_whole xs each few = lists_back IsText text_encoding text_at front_of_text 16 xs few (omega (arith, few)) each
 
 pub flags_whole : (xs : List Bool) → length xs ≤ 16 → whole (list_of_most 16 bool_at (list_encoding bool_encoding xs)) ≡ Some xs
 flags_whole xs few = lists_back (λ _. Unit {0}) bool_encoding bool_at bool_front 16 xs few (omega (arith, few)) (each_bool xs)
@@ -114,7 +114,7 @@ module _ (of : Class) (m : Method) where
   understood GetEnabled is e = rw e refl
   understood (SetEnabled truth) is e = rw (e, bool_whole truth) refl
   understood GetLabel is e = rw e refl
-  understood (SetLabel label) is e = rw (e, whole_of _ text_encoding text_at text_front label is) refl
+  understood (SetLabel label) is e = rw (e, whole_of _ text_encoding text_at front_of_text label is) refl
   understood GetOwner is e = rw e refl
   understood GetMembers is e = rw e refl
   understood GetMembersRecursive is e = rw e refl

@@ -15,7 +15,7 @@ use Rattle.oca_model.specs.declared.answer.Shape.{Shape}
 use Rattle.oca_model.specs.declared.answer.Shape.TheVariants as shape
 use Rattle.oca_model.specs.Parameters.{whole}
 use Rattle.oca_model.specs.Values.{class_of_value}
-use Rattle.oca_model.specs.Readings.{value_of, reading_count, reading_encoding, reading_in, IsReading}
+use Rattle.oca_model.specs.Readings.{value_without_limits, reading_count, reading_encoding, reading_in, IsReading}
 use Rattle.oca_types.specs.Classes.{class_identification_encoding}
 use Rattle.oca_model.specs.Members.{class_in, member_at, member_encoding, IsMember}
 use Rattle.oca_model.specs.Lists.{IsText, Each, list_encoding, list_of_most}
@@ -76,8 +76,8 @@ answer_encoding (ItsClass c) = class_identification_encoding c
 answer_encoding (Members members) = list_encoding member_encoding members.items
 
 -- the names that an answer to GetPositionNames gives, at most 16
-abbrev pub names_in : List ℕ → Option (List (List ℕ))
-names_in bytes = whole (list_of_most 16 text_at bytes)
+abbrev pub switch_names_in : List ℕ → Option (List (List ℕ))
+switch_names_in bytes = whole (list_of_most 16 text_at bytes)
 
 -- nothing, in no bytes
 abbrev pub done_in : List ℕ → Option Answer
@@ -91,7 +91,7 @@ shaped_in shape.Truth of bytes = option_map Truth (whole (bool_at bytes))
 shaped_in shape.Text of bytes = option_map Text (whole (text_at bytes))
 shaped_in shape.Owner of bytes = option_map (λ n. Owner (record { 0 = n })) (whole (unsigned_at w32 bytes))
 shaped_in shape.Reading of bytes = option_map Reading (reading_in of bytes)
-shaped_in shape.Names of bytes = option_map (λ xs. Names (record { items = xs })) (names_in bytes)
+shaped_in shape.Names of bytes = option_map (λ xs. Names (record { items = xs })) (switch_names_in bytes)
 shaped_in shape.Flags of bytes =
     option_map (λ xs. Flags (record { items = xs })) (whole (list_of_most 16 bool_at bytes))
 shaped_in shape.Class of bytes = option_map ItsClass (class_in bytes)
@@ -110,7 +110,7 @@ IsAnswer of Done = Unit {0}
 IsAnswer of (Truth _) = Unit {0}
 IsAnswer of (Text text) = IsText text
 IsAnswer of (Owner ono) = ono.0 < 2 ^ 32
-IsAnswer of (Reading r) = (class_of_value (value_of r) ≡ of) × IsReading r
+IsAnswer of (Reading r) = (class_of_value (value_without_limits r) ≡ of) × IsReading r
 IsAnswer of (Names names) = Each IsText names.items × (length names.items ≤ 16)
 IsAnswer of (Flags flags) = length flags.items ≤ 16
 IsAnswer of (ItsClass _) = Unit {0}

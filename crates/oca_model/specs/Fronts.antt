@@ -82,8 +82,8 @@ pub bool_front : (b : Bool) (rest : List ℕ) → Unit {0} → bool_at (bool_enc
 bool_front false rest is = refl
 bool_front true rest is = refl
 
-pub text_front : (text rest : List ℕ) → IsText text → text_at (text_encoding text ++ rest) ≡ Some (text, rest)
-text_front text rest is =
+pub front_of_text : (text rest : List ℕ) → IsText text → text_at (text_encoding text ++ rest) ≡ Some (text, rest)
+front_of_text text rest is =
     let n = length (chars text) in
     let bytes = text_encoding text ++ rest in
     let parts : bytes ≡ unsigned_encoding w16 n ++ (text ++ rest) = append_assoc (unsigned_encoding w16 n) text rest in

@@ -16,19 +16,19 @@ use Rattle.oca_model.specs.Parameters.{whole, pair_at}
 use Rattle.oca_model.specs.Values.{class_of_value, mute_number, polarity_number, mute_of, polarity_of}
 
 -- the value that was read, without its limits
-abbrev pub value_of : Reading → Value
-value_of (Mute state) = value.Mute state
-value_of (Polarity state) = value.Polarity state
-value_of (Switch r) = value.Switch r.setting
-value_of (Boolean truth) = value.Boolean truth
-value_of (Int8 r) = value.Int8 r.setting
-value_of (Int16 r) = value.Int16 r.setting
-value_of (Int32 r) = value.Int32 r.setting
-value_of (Int64 r) = value.Int64 r.setting
-value_of (Uint8 r) = value.Uint8 r.setting
-value_of (Uint16 r) = value.Uint16 r.setting
-value_of (Uint32 r) = value.Uint32 r.setting
-value_of (Uint64 r) = value.Uint64 r.setting
+abbrev pub value_without_limits : Reading → Value
+value_without_limits (Mute state) = value.Mute state
+value_without_limits (Polarity state) = value.Polarity state
+value_without_limits (Switch r) = value.Switch r.setting
+value_without_limits (Boolean truth) = value.Boolean truth
+value_without_limits (Int8 r) = value.Int8 r.setting
+value_without_limits (Int16 r) = value.Int16 r.setting
+value_without_limits (Int32 r) = value.Int32 r.setting
+value_without_limits (Int64 r) = value.Int64 r.setting
+value_without_limits (Uint8 r) = value.Uint8 r.setting
+value_without_limits (Uint16 r) = value.Uint16 r.setting
+value_without_limits (Uint32 r) = value.Uint32 r.setting
+value_without_limits (Uint64 r) = value.Uint64 r.setting
 
 -- the setting, the least, the greatest
 abbrev pub ranged_encoding : {X : Type 0} → (X → List ℕ) → Ranged X → List ℕ
@@ -83,7 +83,7 @@ reading_in class.Uint64 bytes = option_map Uint64 (ranged_in (unsigned_at w64) b
 
 -- the value that an answer gives, without its limits
 abbrev pub value_read : Class → List ℕ → Option Value
-value_read of bytes = option_map value_of (reading_in of bytes)
+value_read of bytes = option_map value_without_limits (reading_in of bytes)
 
 -- The numbers are of this type, which a test of numbers says.
 pub record All3 {X : Type 0} (Fits : X → Type 0) (r : Ranged X) : Type 0 where
@@ -109,4 +109,4 @@ IsReading (Uint64 r) = All3 (λ n. n < 256 ^ byte_len w64) r
 -- A reading that was encoded is read back by its value's class.
 abbrev pub ReadingsAreReadBack : Type 0
 ReadingsAreReadBack =
-    (r : Reading) → IsReading r → reading_in (class_of_value (value_of r)) (reading_encoding r) ≡ Some r
+    (r : Reading) → IsReading r → reading_in (class_of_value (value_without_limits r)) (reading_encoding r) ≡ Some r

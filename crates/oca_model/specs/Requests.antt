@@ -85,7 +85,7 @@ parameters_of (SetPositionEnableds flags) = list_encoding bool_encoding flags.it
 parameters_of _ = []
 
 -- The call asks it of an object of the class, with these parameters.
-pub record IsCall (of : Class) (request : Request) (call : Call) (bytes : List ℕ) : Type 0 where
+pub record IsCallFor (of : Class) (request : Request) (call : Call) (bytes : List ℕ) : Type 0 where
   pub of_method : (m : Method) × AskedBy of request m × (method_kind of call.method ≡ Known m (access m))
   pub count : call.count ≡ count_of request
   pub parameters : bytes ≡ parameters_of request

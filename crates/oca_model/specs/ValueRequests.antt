@@ -13,13 +13,14 @@ request_to target r =
     record { target = target; level = r.method.level; index = r.method.index; count = r.count; params = r.params.items }
 
 -- The request calls this method of the class, with so many parameters in these bytes.
-pub record Asks (of : Class) (called : Method) (request : ValueRequest) (number : ℕ) (bytes : List ℕ) : Type 0 where
+pub record CallsMethod (of : Class) (called : Method) (request : ValueRequest) (number : ℕ) (bytes : List ℕ)
+    : Type 0 where
   pub method : method_kind of request.method ≡ Known called (access called)
   pub count : request.count ≡ number
   pub params : request.params.items ≡ bytes
 
 -- There is a request without parameters exactly where there is a method, and it is for that.
-abbrev pub AsksFor : Option Method → Class → Option ValueRequest → Type 0
-AsksFor None class request = request ≡ None
-AsksFor (Some method) class None = None ≡ Some method
-AsksFor (Some method) class (Some request) = Asks class method request 0 []
+abbrev pub CallsMethodIfAny : Option Method → Class → Option ValueRequest → Type 0
+CallsMethodIfAny None class request = request ≡ None
+CallsMethodIfAny (Some method) class None = None ≡ Some method
+CallsMethodIfAny (Some method) class (Some request) = CallsMethod class method request 0 []

@@ -4,7 +4,7 @@ ghost use Rattle.std.specs.Option.{option_map};
 ghost use Rattle.oca_types.specs.Putting.{Puts};
 ghost use Rattle.oca_types.specs.Reading.{text_at};
 ghost use Rattle.oca_model.specs.Parameters.{whole};
-ghost use Rattle.oca_model.specs.Answers.{shape_of, answer_count, answer_encoding, answer_in, names_in};
+ghost use Rattle.oca_model.specs.Answers.{shape_of, answer_count, answer_encoding, answer_in, switch_names_in};
 
 use crate::item::Item;
 use crate::list::{put_list, read_list};
@@ -95,7 +95,7 @@ pub fn read_text(params: &[u8]) -> Option<Text>
 /// The names that the parameters of the answer to GetPositionNames give, in the order of the positions, at most 16.
 /// Nothing where they are not such an answer.
 pub fn read_names(params: &[u8]) -> Option<Names>
-    ensures { option_map (λ v. v.items) result ≡ names_in params.now }
+    ensures { option_map (λ v. v.items) result ≡ switch_names_in params.now }
 {
     read_list(params)
 }

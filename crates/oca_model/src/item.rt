@@ -10,7 +10,7 @@ ghost use Rattle.oca_model.specs.Lists.{IsText};
 ghost use Rattle.oca_model.specs.Members.{member_at, member_encoding, IsMember};
 ghost use Rattle.oca_model.specs.MemberFronts.{member_front};
 ghost use Rattle.oca_model.specs.Fronts.{u8_front, u16_front, u32_front, u64_front, i8_front, i16_front, i32_front};
-ghost use Rattle.oca_model.specs.Fronts.{i64_front, bool_front, text_front};
+ghost use Rattle.oca_model.specs.Fronts.{i64_front, bool_front, front_of_text};
 
 use crate::member::{Member, take_class};
 use oca_types::{
@@ -227,7 +227,7 @@ impl Item for Text {
 
     ghost read_at = { text_at };
 
-    ghost read_back = { text_front };
+    ghost read_back = { front_of_text };
 
     /// Takes a text.
     fn take_item(cursor: &mut Cursor<'_>) -> Result<Text, ReadFault> {

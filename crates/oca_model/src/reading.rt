@@ -1,7 +1,8 @@
 //! What reading an object gives: its value, with the limits of a position and of a number.
 ghost use Rattle.std.specs.Prelude.{◌≡◌};
 ghost use Rattle.oca_types.specs.Putting.{Puts};
-ghost use Rattle.oca_model.specs.Readings.{ranged_in, ranged_encoding, value_of, reading_count, reading_encoding};
+ghost use Rattle.oca_model.specs.Readings.{ranged_in, ranged_encoding, value_without_limits, reading_count};
+ghost use Rattle.oca_model.specs.Readings.{reading_encoding};
 ghost use Rattle.oca_model.specs.Readings.{reading_in, value_read};
 
 use crate::item::Item;
@@ -77,7 +78,7 @@ fn put_ranged<F: Item>(params: &mut Params, ranged: Ranged<F>) -> Result<(), Put
 impl Reading {
     /// The value, without its limits.
     pub fn value(self) -> Value
-        ensures { result ≡ value_of self }
+        ensures { result ≡ value_without_limits self }
     {
         match self {
             Reading::Mute(state) => Value::Mute(state),

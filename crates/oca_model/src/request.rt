@@ -11,7 +11,8 @@ ghost use Rattle.oca_types.specs.declared.words.MethodId.{MethodId};
 ghost use Rattle.oca_model.specs.Lists.{list_of_most};
 ghost use Rattle.oca_model.specs.Parameters.{pair_at};
 ghost use Rattle.oca_model.specs.Values.{all};
-ghost use Rattle.oca_model.specs.Requests.{AskedBy, IsCall, IsRefusedCall, count_of, parameters_of, request_in, bare};
+ghost use Rattle.oca_model.specs.Requests.{AskedBy, IsCallFor, IsRefusedCall, count_of, parameters_of, request_in};
+ghost use Rattle.oca_model.specs.Requests.{bare};
 ghost use Rattle.oca_model.specs.Requests.{set_in, counted};
 
 use crate::item::Item;
@@ -259,7 +260,7 @@ impl Request {
 
     /// How it is asked of an object of the class; `params` become its parameters.
     pub fn call(&self, class: Class, params: &mut Params) -> Result<Call, RequestFault>
-        ensures call { IfOk result (λ call. IsCall class self.now call params.new.items) }
+        ensures call { IfOk result (λ call. IsCallFor class self.now call params.new.items) }
         ensures refused { IfErr result (λ fault. IsRefusedCall class self.now fault) }
     {
         let Some(method) = self.method(class) else {

@@ -1,7 +1,7 @@
 //! The requests that set a value and that read it.
 ghost use Rattle.std.specs.Prelude.{◌≡◌, ◌≤◌, length};
 ghost use Rattle.oca_model.specs.Values.{class_of_value, set_method, get_method, value_encoding};
-ghost use Rattle.oca_model.specs.ValueRequests.{Asks, AsksFor};
+ghost use Rattle.oca_model.specs.ValueRequests.{CallsMethod, CallsMethodIfAny};
 
 use crate::value::Value;
 use arrayvec::ArrayVec;
@@ -94,7 +94,7 @@ fn encoding(value: Value) -> ArrayVec<u8, 8>
 /// What sets an object of the value's class to the value: the class's own set method with the value as its one
 /// parameter.
 pub fn set_request(value: Value) -> ValueRequest
-    ensures { Asks (class_of_value value) (set_method value) result 1 (value_encoding value) }
+    ensures { CallsMethod (class_of_value value) (set_method value) result 1 (value_encoding value) }
 {
     let Some(method) = method_id(value.class(), set_method(value)) else {
         unreachable!()
@@ -109,7 +109,7 @@ pub fn set_request(value: Value) -> ValueRequest
 /// What reads how an object of the class is set: the class's own get method, which has no parameters. Nothing for a
 /// block, which has no setting.
 pub fn get_request(class: Class) -> Option<ValueRequest>
-    ensures { AsksFor (get_method class) class result }
+    ensures { CallsMethodIfAny (get_method class) class result }
 {
     let Some(method) = method_id(class, get_method(class)?) else {
         unreachable!()

@@ -6,7 +6,7 @@ use Rattle.oca_net.specs.declared.end.Heard.{Heard}
 use Rattle.oca_net.specs.declared.end.Heard.TheVariants as heard
 use Rattle.oca_net.specs.Deliveries.{Delivery, Sent}
 use Rattle.oca_net.specs.Ends.{last_u64, is_failed, one_more, TakesAllBut}
-use Rattle.oca_net.specs.EndStates.{EndState, Receives, SendsAllBut, Runs}
+use Rattle.oca_net.specs.EndStates.{EndState, Receives, SendsAllBut, DeliversAndTakes}
 use Rattle.oca_net.proofs.Sending.{takes_none, takes_more}
 
 -- ---- what was delivered, and what failed
@@ -58,29 +58,29 @@ delivered_closed {ds} {m} {n} {bytes} {a} {b} {c} f g = record {
 
 -- ---- the same with what was taken
 
-delivered_of : {ds : List Delivery} {xs : List Sent} {m n : ℕ} {a b : EndState} → Runs ds xs m n a b → Delivered ds m n a b
+delivered_of : {ds : List Delivery} {xs : List Sent} {m n : ℕ} {a b : EndState} → DeliversAndTakes ds xs m n a b → Delivered ds m n a b
 delivered_of r = record { telling = r.telling; grew = r.delivered; failures = r.failures }
 
-runs_of : {ds : List Delivery} {xs : List Sent} {m n : ℕ} {a b : EndState} → Delivered ds m n a b → (IsTrue a.tells → TakesAllBut n a.taken b.taken xs) → Runs ds xs m n a b
+runs_of : {ds : List Delivery} {xs : List Sent} {m n : ℕ} {a b : EndState} → Delivered ds m n a b → (IsTrue a.tells → TakesAllBut n a.taken b.taken xs) → DeliversAndTakes ds xs m n a b
 runs_of d taken = record { telling = d.telling; delivered = d.grew; taken = taken; failures = d.failures }
 
 -- no turns change nothing
-pub runs_none : (e : EndState) → Runs [] [] 0 0 e e
+pub runs_none : (e : EndState) → DeliversAndTakes [] [] 0 0 e e
 runs_none e = runs_of (delivered_none e) (λ _. takes_none e.taken e.taken refl)
 
 -- turns after turns
-pub runs_more : {ds es : List Delivery} {xs ys : List Sent} {m n k j : ℕ} {a b c : EndState} → Runs ds xs m n a b → Runs es ys k j b c → Runs (ds ++ es) (xs ++ ys) (m + k) (n + j) a c
+pub runs_more : {ds es : List Delivery} {xs ys : List Sent} {m n k j : ℕ} {a b c : EndState} → DeliversAndTakes ds xs m n a b → DeliversAndTakes es ys k j b c → DeliversAndTakes (ds ++ es) (xs ++ ys) (m + k) (n + j) a c
 runs_more f g = runs_of (delivered_more (delivered_of f) (delivered_of g)) (λ told. takes_more (f.taken told) (g.taken (f.telling ∙ told)))
 
 -- one was heard, and the others were given out
 pub runs_one : (x : Delivery) {h : Heard} {bytes : List ℕ} {all : List Sent} {k : ℕ} {a b c : EndState} → Receives h bytes a b → SendsAllBut k b c all →
-    (IsTrue a.tells → b.delivered ≡ a.delivered ++ x ∷ []) → Runs (x ∷ []) all (cond (is_failed h) 1 0) k a c
+    (IsTrue a.tells → b.delivered ≡ a.delivered ++ x ∷ []) → DeliversAndTakes (x ∷ []) all (cond (is_failed h) 1 0) k a c
 runs_one x {all = all} {k = k} {c = c} received sent grew =
     runs_of (delivered_one x received sent grew refl)
     (λ told. subst (λ (t : List Sent). TakesAllBut k t c.taken all) (received.taken told) (sent.taken (received.telling ∙ told)))
 
 -- and then Closed
-pub runs_closed : {ds : List Delivery} {xs : List Sent} {m n : ℕ} {bytes : List ℕ} {a b c : EndState} → Runs ds xs m n a b → Receives heard.Closed bytes b c → Runs ds xs m n a c
+pub runs_closed : {ds : List Delivery} {xs : List Sent} {m n : ℕ} {bytes : List ℕ} {a b c : EndState} → DeliversAndTakes ds xs m n a b → Receives heard.Closed bytes b c → DeliversAndTakes ds xs m n a c
 runs_closed {xs = xs} {n = n} {a = a} f g =
     runs_of (delivered_closed (delivered_of f) g)
     (λ told. subst (λ (t : List Sent). TakesAllBut n a.taken t xs) (sym (g.taken (f.telling ∙ told))) (f.taken told))

@@ -51,8 +51,8 @@ pub record SendsAllBut (failed : ℕ) (old new : EndState) (all : List Sent) : T
 
 -- These were delivered and these given out, and so many receives and sends failed: where the end tells, it delivered
 -- the ones and took the others but for those whose send failed.
-pub record Runs (deliveries : List Delivery) (all : List Sent) (failed_receives failed_sends : ℕ) (old new : EndState)
-    : Type 0 where
+pub record DeliversAndTakes (deliveries : List Delivery) (all : List Sent) (failed_receives failed_sends : ℕ)
+    (old new : EndState) : Type 0 where
   pub telling : new.tells ≡ old.tells
   pub delivered : IsTrue old.tells → new.delivered ≡ old.delivered ++ deliveries
   pub taken : IsTrue old.tells → TakesAllBut failed_sends old.taken new.taken all

@@ -21,7 +21,7 @@ use Rattle.oca_device.specs.Events.{Event, Datagram}
 use Rattle.oca_device.specs.Notes.{Admitted, Heartbeat, Executed, Note, run, accepted}
 use Rattle.oca_device.specs.States.{State, noted, admits, judged_in, reply_of, after_command, after_message, after_reading, time_of}
 use Rattle.oca_device.specs.Answers.{response, answer_to_command, answers_to_messages, answers_to_reading, packets_of, packets}
-use Rattle.oca_control.specs.Answers.{AnswerFields, answer_in}
+use Rattle.oca_control.specs.Answers.{AnswerFields, answer_of_response}
 use Rattle.oca_control.specs.Untaken.{Untaken, new_untaken, span_has_room, is_due, first_due, given_out, answered, answer_under, without_handle}
 use Rattle.oca_control.specs.declared.fault.ControlFault.{ControlFault}
 use Rattle.oca_control.specs.declared.fault.ControlFault.TheVariants as faults
@@ -58,7 +58,7 @@ executed_now p at objects c r ns = by_same (same_peer p p) (same_self p)
     by_same false q = cc
 
 -- what is sent back for these answers
-back_of : (law : WrittenIsReadBack) (p : Peer) (g : Past) (r : ResponseFields) → ResponseFits r → length r.params ≤ 1452 → IsTrueAnswer p r.handle (answer_in r) g →
+back_of : (law : WrittenIsReadBack) (p : Peer) (g : Past) (r : ResponseFields) → ResponseFits r → length r.params ≤ 1452 → IsTrueAnswer p r.handle (answer_of_response r) g →
     AllByRecursion (λ (d : SentDatagram). d.peer ≡ p → IsBack p g d.bytes) (sendings_in p (packets_of (Response r ∷ [])))
 back_of law p g r fits short t = ((λ same. inl (r, t, read_response law r fits short)), tt)
 
@@ -449,7 +449,7 @@ fair_answered p g h a t (u ∷ us) f = ((f.0.0, by_test (nat_eq u.command.handle
     by_test false c q = f.0.1
 
 pub fair_hears : (p : Peer) (bytes : List ℕ) (g : Past) (us : List Untaken) → IsBack p g bytes → AllByRecursion (IsFair p g) us → AllByRecursion (IsFair p g) (hears_content (content_read bytes) us)
-fair_hears p bytes g us (inl (r, t, read)) f = rw read (fair_answered p g r.handle (answer_in r) t us f)
+fair_hears p bytes g us (inl (r, t, read)) f = rw read (fair_answered p g r.handle (answer_of_response r) t us f)
 fair_hears p bytes g us (inr read) f = rw read f
 
 pub fair_untaken : (p : Peer) (next : Option ℕ) (us vs : List Untaken) (g : Past) (out back : List SentDatagram) (handed more : List TakenAnswer) →

@@ -16,7 +16,7 @@ use Rattle.oca_device.specs.Events.{Event, Datagram, Tick, Local}
 use Rattle.oca_device.specs.Notes.{Noted, Admitted, Heartbeat, Executed, Note}
 use Rattle.oca_device.specs.States.{State, moved_to, after_reading}
 use Rattle.oca_device.specs.Answers.{packets}
-use Rattle.oca_control.specs.Answers.{AnswerFields, answer_in}
+use Rattle.oca_control.specs.Answers.{AnswerFields, answer_of_response}
 use Rattle.oca_control.specs.Untaken.{Untaken}
 use Rattle.oca_pair.specs.Networks.{SentDatagram, SubmittedCommand, TakenAnswer}
 use Rattle.oca_pair.specs.Steps.{sendings_in}
@@ -44,7 +44,7 @@ IsOut p submitted bytes =
 -- what the device sends to it: a true answer, or the keep-alive
 abbrev pub IsBack : Peer → Past → List ℕ → Type 0
 IsBack p g bytes =
-    ((r : ResponseFields) × IsTrueAnswer p r.handle (answer_in r) g × (read_datagram bytes ≡ Ok (Response r ∷ []))) ⊎ (read_datagram bytes ≡ Ok (KeepAlive (Seconds 5) ∷ []))
+    ((r : ResponseFields) × IsTrueAnswer p r.handle (answer_of_response r) g × (read_datagram bytes ≡ Ok (Response r ∷ []))) ⊎ (read_datagram bytes ≡ Ok (KeepAlive (Seconds 5) ∷ []))
 
 abbrev pub IsHeld : Peer → Past → ℕ → Option AnswerFields → Type 0
 IsHeld p g h None = Unit {0}
@@ -85,7 +85,7 @@ out_more p xs more bytes (inl h) = inl (h.0, in_more _ xs more h.1, h.2)
 out_more p xs more bytes (inr h) = inr h
 
 back_more : (p : Peer) (g : Past) (more : List SubmittedCommand) (bytes : List ℕ) → IsBack p g bytes → IsBack p (and_submitted more g) bytes
-back_more p g more bytes (inl h) = inl (h.0, true_submitted p h.0.handle (answer_in h.0) g more h.1, h.2)
+back_more p g more bytes (inl h) = inl (h.0, true_submitted p h.0.handle (answer_of_response h.0) g more h.1, h.2)
 back_more p g more bytes (inr h) = inr h
 
 held_more : (p : Peer) (g : Past) (more : List SubmittedCommand) (h : ℕ) (o : Option AnswerFields) → IsHeld p g h o → IsHeld p (and_submitted more g) h o
@@ -116,7 +116,7 @@ fair_more p next next' us us' g out back handed more fits sendable unique rising
 -- ---- more happens
 
 back_then : (p : Peer) (g : Past) (e : Event) (bytes : List ℕ) → IsBack p g bytes → IsBack p (and_then e g) bytes
-back_then p g e bytes (inl h) = inl (h.0, true_then p h.0.handle (answer_in h.0) g e h.1, h.2)
+back_then p g e bytes (inl h) = inl (h.0, true_then p h.0.handle (answer_of_response h.0) g e h.1, h.2)
 back_then p g e bytes (inr h) = inr h
 
 held_then : (p : Peer) (g : Past) (e : Event) (h : ℕ) (o : Option AnswerFields) → IsHeld p g h o → IsHeld p (and_then e g) h o

@@ -20,14 +20,14 @@ use Rattle.oca_tree.specs.declared.request.SwitchRequest.TheVariants as switches
 use Rattle.oca_tree.specs.declared.request.Request.{Request}
 use Rattle.oca_tree.specs.declared.request.Request.TheVariants as requests
 use Rattle.oca_tree.specs.Objects.{object_of}
-use Rattle.oca_tree.specs.Execution.{Execution, parameters, answer, setting_parameters, position_parameters, switch_parameters, first_that_applies, status_lines, status_of, kind_at, request_at, refused, by_status, execution}
+use Rattle.oca_tree.specs.Execution.{TreeAndReply, parameters, answer, setting_parameters, position_parameters, switch_parameters, first_that_applies, status_lines, status_of, kind_at, request_at, refused, by_status, execution}
 use Rattle.oca_device.specs.States.{reply_of}
 
 -- the response with a reply, under a handle
 abbrev pub response_to : ℕ → Reply → ResponseFields
 response_to h reply = record { handle = h; status = status_number reply.status; count = reply.count; params = reply.params.items }
 
-abbrev pub IsSmall : Execution → Type 0
+abbrev pub IsSmall : TreeAndReply → Type 0
 IsSmall x = (x.count < 256) × (length x.parameters ≤ 1452)
 
 refused_small : (tree : List Object) (s : Status) → IsSmall (refused tree s)

@@ -16,7 +16,7 @@ use Rattle.oca_model.specs.declared.value.Value.{Value}
 use Rattle.oca_device.specs.Events.{Datagram}
 use Rattle.oca_device.specs.Answers.{packets}
 use Rattle.oca_control.specs.declared.fault.ControlFault.{ControlFault}
-use Rattle.oca_control.specs.Answers.{AnswerFields, answer_in}
+use Rattle.oca_control.specs.Answers.{AnswerFields, answer_of_response}
 use Rattle.oca_control.specs.Untaken.{Untaken, answer_under, without_handle}
 use Rattle.oca_control.specs.Links.{Request, submission, after_submission, Decision, GivesCommand, GivesKeepAlive, GivesNothing, IsLost, decision, after_due, gone_on, hears_content, received, taken, present_moment}
 use Rattle.oca_pair.specs.declared.start.Start.{Start}
@@ -245,7 +245,7 @@ sound_reception s now n g d k e = record { apart = apart_hears d now n.links g.a
 
         good_heard : (f : ℕ) → IsBack z.peer (past n) d.bytes → Good s f z.peer z.link.next z.link.untaken n.submitted (accepted_by z.peer (past n)) →
             Good s f z.peer z.link.next (hears_content (content_read d.bytes) z.link.untaken) n.submitted (accepted_by z.peer (past n))
-        good_heard f (inl (r, t, read)) q = rw read (good_answered s f z.peer z.link.next z.link.untaken n.submitted (accepted_by z.peer (past n)) r.handle (answer_in r) q)
+        good_heard f (inl (r, t, read)) q = rw read (good_answered s f z.peer z.link.next z.link.untaken n.submitted (accepted_by z.peer (past n)) r.handle (answer_of_response r) q)
         good_heard f (inr read) q = rw read q
 
         good_received : (f : ℕ) (b : Bool) → IsBack z.peer (past n) d.bytes → Good s f z.peer z.link.next z.link.untaken n.submitted (accepted_by z.peer (past n)) →

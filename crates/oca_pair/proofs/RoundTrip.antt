@@ -19,7 +19,7 @@ use Rattle.oca_device.specs.Notes.{Noted, Admitted, Heartbeat, Executed, Note}
 use Rattle.oca_device.specs.Groups.{pdu_of}
 use Rattle.oca_device.specs.Answers.{packets, response}
 use Rattle.oca_control.specs.declared.fault.ControlFault.{ControlFault}
-use Rattle.oca_control.specs.Answers.{AnswerFields, answer_in}
+use Rattle.oca_control.specs.Answers.{AnswerFields, answer_of_response}
 use Rattle.oca_control.specs.Untaken.{Untaken, new_untaken, answered, hears_all, answer_under, without_handle, holds}
 use Rattle.oca_control.specs.Links.{LinkState, Request, command_under, submission, after_submission, Decision, GivesCommand, GivesKeepAlive, GivesNothing, IsLost, decision, after_due, gone_on, hears_content, received, taken, present_moment}
 use Rattle.oca_pair.specs.declared.start.Start.{Start}
@@ -240,7 +240,7 @@ as_before i h p links handed g = rw append-nil at g
 
 holds_heard : (ms : List Msg) (x : ℕ) (us : List Untaken) → holds x (hears_all ms us) ≡ holds x us
 holds_heard [] x us = refl
-holds_heard (Response r ∷ ms) x us = holds_heard ms x (map (answered r.handle (answer_in r)) us) ∙ holds_answered r.handle x (answer_in r) us
+holds_heard (Response r ∷ ms) x us = holds_heard ms x (map (answered r.handle (answer_of_response r)) us) ∙ holds_answered r.handle x (answer_of_response r) us
 holds_heard (KeepAlive form ∷ ms) x us = holds_heard ms x us
 holds_heard (Command respond c ∷ ms) x us = holds_heard ms x us
 
@@ -416,10 +416,10 @@ arrives s i later m x r l c sound there device peer content handle sub = record 
     of : LinkSound s m' l'
     of = each_at (LinkSound s m') m'.links i l' sound.each there'
 
-    untaken_is : l'.link.untaken ≡ map (answered c.handle (answer_in r)) l.link.untaken
+    untaken_is : l'.link.untaken ≡ map (answered c.handle (answer_of_response r)) l.link.untaken
     untaken_is =
         ap (λ b. cond b (hears_content (content_read x.bytes) l.link.untaken) l.link.untaken) (same_of device_address l.link.device (sym device))
-        ∙ ap (λ o. hears_content o l.link.untaken) content ∙ ap (λ h. map (answered h (answer_in r)) l.link.untaken) handle
+        ∙ ap (λ o. hears_content o l.link.untaken) content ∙ ap (λ h. map (answered h (answer_of_response r)) l.link.untaken) handle
 
     is_its : (a : AnswerFields) → IsTrueAnswer l.peer c.handle a (past m') → IsAnswerTo c l.peer a m'
     is_its a t =
@@ -428,7 +428,7 @@ arrives s i later m x r l c sound there device peer content handle sub = record 
 
     holding : holds c.handle l.link.untaken ≡ true → HoldsItsAnswer i c l.peer m'
     holding q =
-        let b = has_answer c.handle (answer_in r) l.link.untaken q in
+        let b = has_answer c.handle (answer_of_response r) l.link.untaken q in
         let held : answer_under c.handle l'.link.untaken ≡ Some b.0 = ap (answer_under c.handle) untaken_is ∙ b.1 in
         record { link = l'; there = there'; peer = refl; answer = b.0; held = held; is_its = is_its b.0 (rw held at (held_answer l.peer (past m') c.handle l'.link.untaken of.fair.untaken)) }
 

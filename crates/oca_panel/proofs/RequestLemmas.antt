@@ -23,8 +23,8 @@ use Rattle.oca_model.specs.declared.request.Request.TheVariants.{GetClassIdentif
 use Rattle.oca_model.specs.declared.request.RequestFault.TheVariants.{OtherClass, Full}
 use Rattle.oca_model.specs.declared.value.Value.{Value}
 use Rattle.oca_model.specs.declared.value_request.ValueRequest.{ValueRequest}
-use Rattle.oca_model.specs.Requests.{AskedBy, IsCall, parameters_of, count_of}
-use Rattle.oca_model.specs.ValueRequests.{request_to, Asks, AsksFor as AsksForValue}
+use Rattle.oca_model.specs.Requests.{AskedBy, IsCallFor, parameters_of, count_of}
+use Rattle.oca_model.specs.ValueRequests.{request_to, CallsMethod, CallsMethodIfAny as AsksForValue}
 use Rattle.oca_model.specs.Values.{class_of_value, get_method, set_method, value_encoding}
 use Rattle.oca_panel.specs.declared.trouble.Trouble.{Trouble}
 use Rattle.oca_panel.specs.Outcomes.{reading_answered}
@@ -88,7 +88,7 @@ ask_set_label label short =
 
 -- ---- requests of values
 
-is-set : (ono : ℕ) (v : Value) (r : ValueRequest) → Asks (class_of_value v) (set_method v) r 1 (value_encoding v) → IsRequestTo ono (class_of_value v) (Set v) (request_to ono r)
+is-set : (ono : ℕ) (v : Value) (r : ValueRequest) → CallsMethod (class_of_value v) (set_method v) r 1 (value_encoding v) → IsRequestTo ono (class_of_value v) (Set v) (request_to ono r)
 unfolding parameters_of
 is-set ono v r a = record {
   object = refl;
@@ -97,19 +97,19 @@ is-set ono v r a = record {
 
 -- a set command asks what its request says
 pub asks-set : (ono : ℕ) (v : Value) (r : ValueRequest) (old new : PanelState) (o : Outcome)
-    → Asks (class_of_value v) (set_method v) r 1 (value_encoding v) → AsksIn (request_to ono r) old new o → AsksFor ono (class_of_value v) (Set v) old new o
+    → CallsMethod (class_of_value v) (set_method v) r 1 (value_encoding v) → AsksIn (request_to ono r) old new o → AsksFor ono (class_of_value v) (Set v) old new o
 asks-set ono v r old new o a h = record { request = request_to ono r; calls = is-set ono v r a; asks = h }
 
 -- a set command that is begun asks what its request says
 pub begins-set : (ono : ℕ) (v : Value) (r : ValueRequest) (q : RequestFields) (returned : Result Handle ControlFault) (old new : PanelState)
-    → Asks (class_of_value v) (set_method v) r 1 (value_encoding v) → q ≡ request_to ono r → BeginsIn q returned old new → BeginsSetting ono v returned old new
+    → CallsMethod (class_of_value v) (set_method v) r 1 (value_encoding v) → q ≡ request_to ono r → BeginsIn q returned old new → BeginsSetting ono v returned old new
 begins-set ono v r q returned old new a e h = record {
   request = request_to ono r;
   calls = is-set ono v r a;
   begins = subst (λ (x : RequestFields). BeginsIn x returned old new) e h;
 }
 
-is-get : (ono : ℕ) (of : Class) (m : Method) (r : ValueRequest) → Asks of m r 0 [] → AskedBy of Get m → IsRequestTo ono of Get (request_to ono r)
+is-get : (ono : ℕ) (of : Class) (m : Method) (r : ValueRequest) → CallsMethod of m r 0 [] → AskedBy of Get m → IsRequestTo ono of Get (request_to ono r)
 unfolding parameters_of
 is-get ono of m r a by = record {
   object = refl;

@@ -11,9 +11,9 @@ use Rattle.oca_model.specs.declared.reading.Reading.{Reading}
 use Rattle.oca_model.specs.declared.request.Request.{Request}
 use Rattle.oca_model.specs.declared.request.Request.TheVariants as requests
 use Rattle.oca_model.specs.declared.value.Value.{Value}
-use Rattle.oca_model.specs.Requests.{IsCall}
+use Rattle.oca_model.specs.Requests.{IsCallFor}
 use Rattle.oca_model.specs.Values.{get_method, class_of_value}
-use Rattle.oca_model.specs.Readings.{value_of}
+use Rattle.oca_model.specs.Readings.{value_without_limits}
 use Rattle.oca_panel.specs.declared.trouble.Trouble.{Trouble}
 use Rattle.oca_panel.specs.declared.trouble.Trouble.TheVariants as trouble
 use Rattle.oca_panel.specs.Panels.{PanelState, AsksIn, BeginsIn, FinishesIn}
@@ -22,7 +22,7 @@ use Rattle.oca_panel.specs.Outcomes.{on_ok, class_answered, reading_answered, do
 -- The request asks this of the object with this number, by the method that its class has for it, with its parameters.
 pub record IsRequestTo (target : ℕ) (of : Class) (asked : Request) (request : RequestFields) : Type 0 where
   pub object : request.target ≡ target
-  pub call : IsCall of asked
+  pub call : IsCallFor of asked
       (record {
         method = record { level = request.level; index = request.index };
         count = request.count;
@@ -77,4 +77,4 @@ Finishes handle old new result = (o : Outcome) × FinishesIn handle old new o ×
 -- A VALUE of an object was asked: its reading, without the limits.
 abbrev pub GetsValue : ℕ → PanelState → PanelState → Result Value Trouble → Type 0
 GetsValue target old new result = (read : Result Reading Trouble) × ReadsObject target old new read
-    × (result ≡ on_ok value_of read)
+    × (result ≡ on_ok value_without_limits read)

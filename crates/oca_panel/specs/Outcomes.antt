@@ -13,7 +13,7 @@ use Rattle.oca_model.specs.declared.value.Value.{Value}
 use Rattle.oca_model.specs.Parameters.{whole}
 use Rattle.oca_model.specs.Readings.{reading_in, value_read}
 use Rattle.oca_model.specs.Members.{class_id_in, class_with, members_in}
-use Rattle.oca_model.specs.Answers.{answer_in, names_in}
+use Rattle.oca_model.specs.Answers.{answer_in, switch_names_in}
 use Rattle.oca_panel.specs.declared.trouble.Trouble.{Trouble}
 use Rattle.oca_panel.specs.declared.trouble.Trouble.TheVariants as trouble
 
@@ -75,7 +75,7 @@ abbrev pub members_answered : Outcome → Result (List ℕ) Trouble
 members_answered outcome = read_from members_in (parameters_answered outcome)
 
 abbrev pub names_answered : Outcome → Result (List (List ℕ)) Trouble
-names_answered outcome = read_from names_in (parameters_answered outcome)
+names_answered outcome = read_from switch_names_in (parameters_answered outcome)
 
 -- the Boolean of an answer to GetEnabled, with its one parameter
 abbrev pub truth_of : Option Answer → Result Bool Trouble

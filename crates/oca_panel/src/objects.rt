@@ -17,7 +17,7 @@ impl<E: End> Panel<E> {
     ghost use Rattle.oca_model.specs.declared.request.Request.TheVariants.{GetLabel, SetLabel, GetRole, GetEnabled};
     ghost use Rattle.oca_model.specs.declared.request.Request.TheVariants.{GetMembers, GetPositionName};
     ghost use Rattle.oca_model.specs.declared.request.Request.TheVariants.{GetPositionNames};
-    ghost use Rattle.oca_model.specs.Readings.{value_of};
+    ghost use Rattle.oca_model.specs.Readings.{value_without_limits};
     ghost use Rattle.oca_model.specs.Values.{get_method};
     ghost use Rattle.oca_panel.specs.Outcomes.{on_ok, done_answered, fields_answered, members_answered, names_answered};
     ghost use Rattle.oca_panel.specs.Outcomes.{text_answered, truth_answered};

@@ -12,6 +12,6 @@ abbrev pub kind_fault : ErrorKind → RunFault
 kind_fault kinds.OutOfMemory = NoMemory
 kind_fault kind = Socket
 
-abbrev pub refusal : BindError → RunFault
-refusal error.NoMemory = NoMemory
-refusal (error.Io reason) = kind_fault (error_kind reason)
+abbrev pub bind_refusal : BindError → RunFault
+bind_refusal error.NoMemory = NoMemory
+bind_refusal (error.Io reason) = kind_fault (error_kind reason)

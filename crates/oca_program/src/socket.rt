@@ -1,7 +1,7 @@
 //! The socket of a program, and what is printed of sends that failed.
 ghost use Rattle.std.specs.Prelude.{◌≡◌, ◌⊎◌, IfOk, IfErr};
 ghost use Rattle.oca_net.specs.Sockets.{IsBoundAt, new_socket};
-ghost use Rattle.oca_program.specs.Sockets.{refusal, kind_fault};
+ghost use Rattle.oca_program.specs.Sockets.{bind_refusal, kind_fault};
 ghost use Rattle.oca_program.specs.declared.fault.RunFault.TheVariants.{Socket, NoMemory};
 
 use super::fault::{Failure, RunFault, print_note};
@@ -32,7 +32,7 @@ pub fn bind<N: Net + Clock>(
 
 /// Why a run fails that got no socket.
 fn refused(alloc: Global, error: &BindError) -> Failure
-    ensures { result.fault ≡ refusal error.now }
+    ensures { result.fault ≡ bind_refusal error.now }
 {
     match error {
         BindError::NoMemory => Failure::from(RunFault::NoMemory),

@@ -9,7 +9,7 @@ use Rattle.oca_script.specs.declared.fault.ReplayFault.{ReplayFault}
 use Rattle.oca_script.specs.declared.fault.ReplayFault.TheVariants.{Line}
 use Rattle.oca_script.specs.PrivateScript.{script_from, onto_line}
 use Rattle.oca_script.specs.Script.{Script, line_then, parsed, asks, longest_line, is_ascii}
-use Rattle.oca_script.specs.PrivateSteps.{Step}
+use Rattle.oca_script.specs.PrivateSteps.{ReplayStep}
 use Rattle.oca_script.specs.Ends.{Output}
 use Rattle.oca_script.proofs.ScriptLemmas.{lines-some, script_from-ended, script_from-kept, script_from-long}
 use Rattle.oca_script.proofs.StepLemmas.{Step-then, Step-at, Step-as, Step-err, Step-nothing}
@@ -22,9 +22,9 @@ module _ {S R : Type 0} (serves : S → R → S → List ℕ → Type 0) (idles 
 
   pub piece-more : (a b c : S) (u v w : Output) (r : Result Unit ReplayFault) (A : ℕ × List ℕ → Script R) (k k' : ℕ) (line line' rest front after : List ℕ)
       → Some (front, after) ≡ split_at 10 rest → line' ≡ [] → k' ≡ k + 1
-      → Step serves idles a b u v (Ok tt) A (piece_then k line rest)
-      → Step {X = Script R} serves idles b c v w r (λ s. line_then k (parsed asked (line ++ front)) s) (λ s. s)
-      → Step serves idles a c u w r A (piece_then k' line' after)
+      → ReplayStep serves idles a b u v (Ok tt) A (piece_then k line rest)
+      → ReplayStep {X = Script R} serves idles b c v w r (λ s. line_then k (parsed asked (line ++ front)) s) (λ s. s)
+      → ReplayStep serves idles a c u w r A (piece_then k' line' after)
   piece-more a b c u v w r A k k' line line' rest front after cut none next h d =
       Step-then serves idles a b c u v w r A (piece_then k line rest) (piece_then k' line' after) h
       (Step-as serves idles b c v w r _ _ _ _
@@ -35,33 +35,33 @@ module _ {S R : Type 0} (serves : S → R → S → List ℕ → Type 0) (idles 
 
   pub piece-fails : (a b c : S) (u v w : Output) (r : Result Unit ReplayFault) (fault : ReplayFault) (A B : ℕ × List ℕ → Script R) (k : ℕ) (line rest front after : List ℕ)
       → Some (front, after) ≡ split_at 10 rest → r ≡ Err fault
-      → Step serves idles a b u v (Ok tt) A (piece_then k line rest)
-      → Step {X = Script R} serves idles b c v w (Err fault) (λ s. line_then k (parsed asked (line ++ front)) s) (λ s. s)
-      → Step serves idles a c u w r A B
+      → ReplayStep serves idles a b u v (Ok tt) A (piece_then k line rest)
+      → ReplayStep {X = Script R} serves idles b c v w (Err fault) (λ s. line_then k (parsed asked (line ++ front)) s) (λ s. s)
+      → ReplayStep serves idles a c u w r A B
   piece-fails a b c u v w r fault A B k line rest front after cut is h d =
-      subst (λ (z : Result Unit ReplayFault). Step serves idles a c u w z A B) (sym is)
+      subst (λ (z : Result Unit ReplayFault). ReplayStep serves idles a c u w z A B) (sym is)
       (Step-err serves idles a c u w (Err fault) fault A (piece_then (k + 1) [] after) B refl
       (piece-more a b c u v w (Err fault) A k (k + 1) line [] rest front after cut refl refl h d))
 
   kept : (a b : S) (u v : Output) (r : Result Unit ReplayFault) (A : ℕ × List ℕ → Script R) (k k' : ℕ) (line line' rest : List ℕ)
       → split_at 10 rest ≡ None → k' ≡ k → OnOk r (line' ≡ line ++ rest) → OnErr r (4096 < length (line ++ rest)) → IfErr r (λ e. e ≡ Line k TooLong)
-      → Step serves idles a b u v (Ok tt) A (piece_then k line rest)
-      → Step serves idles a b u v r A (λ m. script_from asked k' line' m.0 m.1)
+      → ReplayStep serves idles a b u v (Ok tt) A (piece_then k line rest)
+      → ReplayStep serves idles a b u v r A (λ m. script_from asked k' line' m.0 m.1)
   kept a b u v (Ok x) A k k' line line' rest cut same grown long is h =
       Step-as serves idles a b u v (Ok tt) A A _ _ (λ m. refl)
       (λ m. script_from-kept asked rest k line m.0 m.1 cut
       ∙ ap (λ (l : List ℕ). script_from asked k l m.0 m.1) (sym grown) ∙ ap (λ n. script_from asked n line' m.0 m.1) (sym same))
       h
   kept a b u v (Err fault) A k k' line line' rest cut same grown long is h =
-      subst (λ (z : ReplayFault). Step serves idles a b u v (Err z) A (λ m. script_from asked k' line' m.0 m.1)) (sym is)
+      subst (λ (z : ReplayFault). ReplayStep serves idles a b u v (Err z) A (λ m. script_from asked k' line' m.0 m.1)) (sym is)
       (Step-then serves idles a b b u v v (Err (Line k TooLong)) A (piece_then k line rest) (λ m. script_from asked k' line' m.0 m.1) h
       (Step-nothing serves idles b v (Err (Line k TooLong)) (piece_then k line rest) (λ m. script_from asked k' line' m.0 m.1) (PrintsAll-nil v)
       (λ m. script_from-kept asked rest k line m.0 m.1 cut ∙ script_from-long asked k (line ++ rest) m.0 m.1 long)))
 
   pub piece-kept : (a b : S) (u v : Output) (r : Result Unit ReplayFault) (A : ℕ × List ℕ → Script R) (k k' : ℕ) (line line' rest : List ℕ)
       → split_at 10 rest ≡ None → k' ≡ k → OnOk r (line' ≡ line ++ rest) → OnErr r (4096 < length (line ++ rest)) → IfErr r (λ e. e ≡ Line k TooLong)
-      → Step serves idles a b u v (Ok tt) A (piece_then k line rest)
-      → Step serves idles a b u v r A (λ m. script_from asked k' line' m.0 m.1)
+      → ReplayStep serves idles a b u v (Ok tt) A (piece_then k line rest)
+      → ReplayStep serves idles a b u v r A (λ m. script_from asked k' line' m.0 m.1)
   piece-kept = kept
 
 -- ---- bytes below 128

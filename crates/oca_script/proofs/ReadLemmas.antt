@@ -13,7 +13,7 @@ use Rattle.oca_script.specs.Printing.{Prints, PrintsAll, PrintsPart, WritesFront
 use Rattle.oca_script.specs.PrivateScript.{script_from}
 use Rattle.oca_script.specs.Script.{Script, script, after_requests, ends_by, line_then, parsed}
 use Rattle.oca_script.specs.Replaying.{Runs, NoneLeft, Awaited, BeginsWithRequests, Ends, known_bytes, Outcome, Replays, ReadFails, Writes}
-use Rattle.oca_script.specs.PrivateSteps.{Printed, PrintedAtEnd, AccountsFor, Step, Performs, Performance, is_end_failure}
+use Rattle.oca_script.specs.PrivateSteps.{Printed, PrintedAtEnd, AccountsFor, ReplayStep, Performs, Performance, is_end_failure}
 use Rattle.oca_script.proofs.PrintLemmas.{PrintsAll-nil, PrintsPart-then, whole, written, front}
 use Rattle.oca_script.proofs.ScriptLemmas.{script-from, script_from-end, script_from-too_much}
 use Rattle.oca_script.proofs.StepLemmas.{Runs-then, Runs-on, Printed-then, Step-then, Step-at, Step-as, Step-nothing, Step-unread, after_requests-twice}
@@ -30,7 +30,7 @@ module _ {S R : Type 0} (asked : List (List ℕ) → Result R LineFault) (serves
     pub unfailed : has.failed ≡ had.failed
     pub counted : length taken + left ≡ 16777216
     pub numbered : progress.number + left ≤ 16777217
-    pub step : Step {X = List ℕ} serves idles old new was is (Ok tt) (λ more. script asked (taken ++ more)) (λ more. script_from asked progress.number progress.line left more)
+    pub step : ReplayStep {X = List ℕ} serves idles old new was is (Ok tt) (λ more. script asked (taken ++ more)) (λ more. script_from asked progress.number progress.line left more)
 
   pub reading-start : (d : S) (w : Output) (r : Input) (p : Progress) → p.line ≡ [] → p.number ≡ 1 → Reading d d w w r r p 16777216
   reading-start d w r p e f = record {
@@ -59,7 +59,7 @@ module _ {S R : Type 0} (asked : List (List ℕ) → Result R LineFault) (serves
   -- a further piece
   pub reading-more : (a b c : S) (u v w : Output) (had has after : Input) (p q : Progress) (left rest : ℕ) (piece : List ℕ) → Reading a b u v had has p left → Consumes has.remaining after.remaining piece → after.failed ≡ has.failed
       → rest + length piece ≡ left → q.number ≤ p.number + length piece
-      → Step {X = ℕ × List ℕ} serves idles b c v w (Ok tt) (λ m. script_from asked p.number p.line (length piece + m.0) (piece ++ m.1)) (λ m. script_from asked q.number q.line m.0 m.1)
+      → ReplayStep {X = ℕ × List ℕ} serves idles b c v w (Ok tt) (λ m. script_from asked p.number p.line (length piece + m.0) (piece ++ m.1)) (λ m. script_from asked q.number q.line m.0 m.1)
       → Reading a c u w had after q rest
   reading-more a b c u v w had has after p q left rest piece h k f n few d = record {
     taken = h.taken ++ piece;
@@ -99,7 +99,7 @@ module _ {S R : Type 0} (asked : List (List ℕ) → Result R LineFault) (serves
 
   -- a fault
   performs-fault : (a b : S) (u v : Output) (fault : ReplayFault) (asks after : List ℕ → Script R) (given rest : List ℕ) → asks rest ≡ script asked given
-      → Step {X = List ℕ} serves idles a b u v (Err fault) asks after → Performs asked serves idles a b u v (Err fault) given
+      → ReplayStep {X = List ℕ} serves idles a b u v (Err fault) asks after → Performs asked serves idles a b u v (Err fault) given
   performs-fault a b u v fault asks after given rest e h = record {
     requests = h.requests;
     text = h.text;
@@ -118,7 +118,7 @@ module _ {S R : Type 0} (asked : List (List ℕ) → Result R LineFault) (serves
   -- a fault behind a piece
   fails : (a b c : S) (u v w : Output) (had has after : Input) (p : Progress) (left : ℕ) (piece : List ℕ) (fault : ReplayFault) (rest : List ℕ → Script R)
       → Reading a b u v had has p left → Consumes has.remaining after.remaining piece → after.failed ≡ has.failed → length piece ≤ left + 1
-      → Step {X = List ℕ} serves idles b c v w (Err fault) (λ more. script_from asked p.number p.line left (piece ++ more)) rest → Performance asked serves idles a c u w had after (Err fault)
+      → ReplayStep {X = List ℕ} serves idles b c v w (Err fault) (λ more. script_from asked p.number p.line left (piece ++ more)) rest → Performance asked serves idles a c u w had after (Err fault)
   fails a b c u v w had has after p left piece fault rest h k f n d = (
     h.taken ++ piece,
     record {
@@ -136,7 +136,7 @@ module _ {S R : Type 0} (asked : List (List ℕ) → Result R LineFault) (serves
   -- a fault in a piece
   pub reading-fails : (a b c : S) (u v w : Output) (had has after : Input) (p : Progress) (left : ℕ) (piece : List ℕ) (r : Result Unit ReplayFault) (fault : ReplayFault) (rest : ℕ × List ℕ → Script R)
       → r ≡ Err fault → Reading a b u v had has p left → Consumes has.remaining after.remaining piece → after.failed ≡ has.failed → length piece ≤ left
-      → Step {X = ℕ × List ℕ} serves idles b c v w (Err fault) (λ m. script_from asked p.number p.line (length piece + m.0) (piece ++ m.1)) rest → Performance asked serves idles a c u w had after r
+      → ReplayStep {X = ℕ × List ℕ} serves idles b c v w (Err fault) (λ m. script_from asked p.number p.line (length piece + m.0) (piece ++ m.1)) rest → Performance asked serves idles a c u w had after r
   reading-fails a b c u v w had has after p left piece r fault rest is h k f n d =
       subst (Performance asked serves idles a c u w had after) (sym is)
       (fails a b c u v w had has after p left piece fault (λ more. rest (at_rest more)) h k f (omega arith)
@@ -229,7 +229,7 @@ module _ {S R : Type 0} (asked : List (List ℕ) → Result R LineFault) (serves
   -- the end of the input, and the last line
   ends : (a b c : S) (u v w : Output) (had has after : Input) (p : Progress) (left : ℕ) (line : List ℕ) (r : Result Unit ReplayFault) → Reading a b u v had has p left
       → Consumes has.remaining after.remaining [] → after.failed ≡ has.failed → IsAtEnd after.remaining → line ≡ p.line
-      → Step {X = Script R} serves idles b c v w r (λ s. line_then p.number (parsed asked line) s) (λ s. s) → Performance asked serves idles a c u w had after r
+      → ReplayStep {X = Script R} serves idles b c v w r (λ s. line_then p.number (parsed asked line) s) (λ s. s) → Performance asked serves idles a c u w had after r
   ends a b c u v w had has after p left line r h k f end same d =
       let accounts : AccountsFor {X = Script R} r (λ s. line_then p.number (parsed asked p.line) s) (λ s. s) d.requests =
       subst (λ (l : List ℕ). AccountsFor {X = Script R} r (λ s. line_then p.number (parsed asked l) s) (λ s. s) d.requests) same d.accounts in (
@@ -260,7 +260,7 @@ module _ {S R : Type 0} (asked : List (List ℕ) → Result R LineFault) (serves
 
   pub reading-ends : (a b c : S) (u v w : Output) (had has after : Input) (p : Progress) (left : ℕ) (piece line : List ℕ) (r : Result Unit ReplayFault) → Reading a b u v had has p left
       → Consumes has.remaining after.remaining piece → after.failed ≡ has.failed → length piece ≡ 0 → (length piece ≡ 0 → IsAtEnd after.remaining) → line ≡ p.line
-      → Step {X = Script R} serves idles b c v w r (λ s. line_then p.number (parsed asked line) s) (λ s. s) → Performance asked serves idles a c u w had after r
+      → ReplayStep {X = Script R} serves idles b c v w r (λ s. line_then p.number (parsed asked line) s) (λ s. s) → Performance asked serves idles a c u w had after r
   reading-ends a b c u v w had has after p left [] line r h k f none end same d = ends a b c u v w had has after p left line r h k f (end refl) same d
   reading-ends a b c u v w had has after p left (x ∷ xs) line r h k f none end same d = absurd (omega arith)
 

@@ -11,7 +11,7 @@ use Rattle.oca_script.specs.Ends.{Output}
 use Rattle.oca_script.specs.Printing.{Prints, PrintsAll}
 use Rattle.oca_script.specs.Script.{Script, after_requests, ends_by, line_then, parsed, parsed_by}
 use Rattle.oca_script.specs.Replaying.{Runs, NoneLeft, OneServed, OneIdled, GoesOn, Awaited, ServesLine}
-use Rattle.oca_script.specs.PrivateSteps.{Printed, AccountsFor, Step}
+use Rattle.oca_script.specs.PrivateSteps.{Printed, AccountsFor, ReplayStep}
 use Rattle.oca_script.proofs.PrintLemmas.{PrintsAll-nil, PrintsAll-then, PrintsPart-then, prints-then, not-printed}
 use Rattle.oca_script.proofs.ScriptLemmas.{asks-long}
 
@@ -94,12 +94,12 @@ AccountsFor-err TooMuch asks rest rest' xs h = h
 module _ {S R : Type 0} (serves : S → R → S → List ℕ → Type 0) (idles : S → S → List ℕ → Type 0) where
   -- nothing was done
   pub Step-nothing : {X : Type 0} (a : S) (u : Output) (r : Result Unit ReplayFault) (asks rest : X → Script R)
-      → Printed r u u [] → AccountsFor r asks rest [] → Step serves idles a a u u r asks rest
+      → Printed r u u [] → AccountsFor r asks rest [] → ReplayStep serves idles a a u u r asks rest
   Step-nothing a u r asks rest p h = record { requests = []; text = []; runs = NoneLeft; prints = p; accounts = h }
 
   -- no step reads
   pub Step-unread : {X : Type 0} (a b : S) (u v : Output) (r : Result Unit ReplayFault) (asks rest : X → Script R)
-      → Step serves idles a b u v r asks rest → r ≡ Err Read → ⊥
+      → ReplayStep serves idles a b u v r asks rest → r ≡ Err Read → ⊥
   Step-unread a b u v (Ok x) asks rest h e = cc e
   Step-unread a b u v (Err (Line n w)) asks rest h e = cc e
   Step-unread a b u v (Err Read) asks rest h e = h.prints
@@ -108,7 +108,7 @@ module _ {S R : Type 0} (serves : S → R → S → List ℕ → Type 0) (idles 
 
   -- a step, and then another
   pub Step-then : {X : Type 0} (a b c : S) (u v w : Output) (r : Result Unit ReplayFault) (asks mid rest : X → Script R)
-      → Step serves idles a b u v (Ok tt) asks mid → Step serves idles b c v w r mid rest → Step serves idles a c u w r asks rest
+      → ReplayStep serves idles a b u v (Ok tt) asks mid → ReplayStep serves idles b c v w r mid rest → ReplayStep serves idles a c u w r asks rest
   Step-then a b c u v w r asks mid rest h k = record {
     requests = h.requests ++ k.requests;
     text = h.text ++ k.text;
@@ -119,7 +119,7 @@ module _ {S R : Type 0} (serves : S → R → S → List ℕ → Type 0) (idles 
 
   -- the same, whatever else is asked
   pub Step-at : {X Y : Type 0} (f : Y → X) (a b : S) (u v : Output) (r : Result Unit ReplayFault) (asks rest : X → Script R)
-      → Step serves idles a b u v r asks rest → Step serves idles a b u v r (λ y. asks (f y)) (λ y. rest (f y))
+      → ReplayStep serves idles a b u v r asks rest → ReplayStep serves idles a b u v r (λ y. asks (f y)) (λ y. rest (f y))
   Step-at f a b u v r asks rest h = record {
     requests = h.requests;
     text = h.text;
@@ -130,7 +130,7 @@ module _ {S R : Type 0} (serves : S → R → S → List ℕ → Type 0) (idles 
 
   -- the same, said otherwise
   pub Step-as : {X : Type 0} (a b : S) (u v : Output) (r : Result Unit ReplayFault) (asks asks' rest rest' : X → Script R)
-      → ((x : X) → asks' x ≡ asks x) → ((x : X) → rest x ≡ rest' x) → Step serves idles a b u v r asks rest → Step serves idles a b u v r asks' rest'
+      → ((x : X) → asks' x ≡ asks x) → ((x : X) → rest x ≡ rest' x) → ReplayStep serves idles a b u v r asks rest → ReplayStep serves idles a b u v r asks' rest'
   Step-as a b u v r asks asks' rest rest' e f h = record {
     requests = h.requests;
     text = h.text;
@@ -141,7 +141,7 @@ module _ {S R : Type 0} (serves : S → R → S → List ℕ → Type 0) (idles 
 
   -- at a fault it does not matter what would have been left
   pub Step-err : {X : Type 0} (a b : S) (u v : Output) (r : Result Unit ReplayFault) (fault : ReplayFault) (asks rest rest' : X → Script R)
-      → r ≡ Err fault → Step serves idles a b u v r asks rest → Step serves idles a b u v r asks rest'
+      → r ≡ Err fault → ReplayStep serves idles a b u v r asks rest → ReplayStep serves idles a b u v r asks rest'
   Step-err {X} a b u v r fault asks rest rest' e h = record {
     requests = h.requests;
     text = h.text;
@@ -154,7 +154,7 @@ module _ {S R : Type 0} (serves : S → R → S → List ℕ → Type 0) (idles 
   -- ---- a line
 
   served : (a b : S) (u v : Output) (k : ℕ) (x : Result R LineFault) → ServesLine x serves a b (Ok tt) u v
-      → Step {X = Script R} serves idles a b u v (Ok tt) (λ s. line_then k (parsed_by (Ok true) x) s) (λ s. s)
+      → ReplayStep {X = Script R} serves idles a b u v (Ok tt) (λ s. line_then k (parsed_by (Ok true) x) s) (λ s. s)
   served a b u v k (Err fault) h = cc (h.0)
   served a b u v k (Ok request) h = record {
     requests = request ∷ [];
@@ -165,7 +165,7 @@ module _ {S R : Type 0} (serves : S → R → S → List ℕ → Type 0) (idles 
   }
 
   failed : (a b : S) (u v : Output) (k : ℕ) (x : Result R LineFault) → ServesLine x serves a b (Err stop.Write) u v
-      → Step {X = Script R} serves idles a b u v (Err Write) (λ s. line_then k (parsed_by (Ok true) x) s) (λ s. s)
+      → ReplayStep {X = Script R} serves idles a b u v (Err Write) (λ s. line_then k (parsed_by (Ok true) x) s) (λ s. s)
   failed a b u v k (Err fault) h = cc (h.0)
   failed a b u v k (Ok request) h = record {
     requests = request ∷ [];
@@ -176,11 +176,11 @@ module _ {S R : Type 0} (serves : S → R → S → List ℕ → Type 0) (idles 
   }
 
   refused : (a b : S) (u v : Output) (k : ℕ) (x : Result R LineFault) (fault : LineFault) → ServesLine x serves a b (Err (stop.Line fault)) u v
-      → Step {X = Script R} serves idles a b u v (Err (Line k fault)) (λ s. line_then k (parsed_by (Ok true) x) s) (λ s. s)
+      → ReplayStep {X = Script R} serves idles a b u v (Err (Line k fault)) (λ s. line_then k (parsed_by (Ok true) x) s) (λ s. s)
   refused a b u v k (Err other) fault h =
       let same : other ≡ fault = cc (h.0) in
-      subst (λ (d : S). Step {X = Script R} serves idles a d u v (Err (Line k fault)) (λ s. line_then k (parsed_by (Ok true) (Err other)) s) (λ s. s)) (sym h.1)
-      (subst (λ (w : Output). Step {X = Script R} serves idles a a u w (Err (Line k fault)) (λ s. line_then k (parsed_by (Ok true) (Err other)) s) (λ s. s)) (sym h.2)
+      subst (λ (d : S). ReplayStep {X = Script R} serves idles a d u v (Err (Line k fault)) (λ s. line_then k (parsed_by (Ok true) (Err other)) s) (λ s. s)) (sym h.1)
+      (subst (λ (w : Output). ReplayStep {X = Script R} serves idles a a u w (Err (Line k fault)) (λ s. line_then k (parsed_by (Ok true) (Err other)) s) (λ s. s)) (sym h.2)
       (Step-nothing a u (Err (Line k fault)) _ _ (PrintsAll-nil u) (λ s. ap (λ (f : LineFault). by_fault f) same)))
     where
       by_fault : LineFault → Script R
@@ -189,35 +189,35 @@ module _ {S R : Type 0} (serves : S → R → S → List ℕ → Type 0) (idles 
 
   -- what a language's `serve_line` answered
   pub line-served : (a b : S) (u v : Output) (k : ℕ) (x : Result R LineFault) (r : Result Unit Stop) (o : Unit {0}) → r ≡ Ok o
-      → ServesLine x serves a b r u v → Step {X = Script R} serves idles a b u v (Ok tt) (λ s. line_then k (parsed_by (Ok true) x) s) (λ s. s)
+      → ServesLine x serves a b r u v → ReplayStep {X = Script R} serves idles a b u v (Ok tt) (λ s. line_then k (parsed_by (Ok true) x) s) (λ s. s)
   line-served a b u v k x r o e h = served a b u v k x (subst (λ (z : Result Unit Stop). ServesLine x serves a b z u v) e h)
 
   pub line-failed : (a b : S) (u v : Output) (k : ℕ) (x : Result R LineFault) (r : Result Unit Stop) → r ≡ Err stop.Write
-      → ServesLine x serves a b r u v → Step {X = Script R} serves idles a b u v (Err Write) (λ s. line_then k (parsed_by (Ok true) x) s) (λ s. s)
+      → ServesLine x serves a b r u v → ReplayStep {X = Script R} serves idles a b u v (Err Write) (λ s. line_then k (parsed_by (Ok true) x) s) (λ s. s)
   line-failed a b u v k x r e h = failed a b u v k x (subst (λ (z : Result Unit Stop). ServesLine x serves a b z u v) e h)
 
   pub line-refused : (a b : S) (u v : Output) (k : ℕ) (x : Result R LineFault) (r : Result Unit Stop) (fault : LineFault) → r ≡ Err (stop.Line fault)
-      → ServesLine x serves a b r u v → Step {X = Script R} serves idles a b u v (Err (Line k fault)) (λ s. line_then k (parsed_by (Ok true) x) s) (λ s. s)
+      → ServesLine x serves a b r u v → ReplayStep {X = Script R} serves idles a b u v (Err (Line k fault)) (λ s. line_then k (parsed_by (Ok true) x) s) (λ s. s)
   line-refused a b u v k x r fault e h = refused a b u v k x fault (subst (λ (z : Result Unit Stop). ServesLine x serves a b z u v) e h)
 
   -- a line with that fault whatever its fields are
   pub line-bad : (a : S) (u : Output) (k : ℕ) (fault : LineFault) (p : Result Bool LineFault) (x : Result R LineFault) → p ≡ Err fault
-      → Step {X = Script R} serves idles a a u u (Err (Line k fault)) (λ s. line_then k (parsed_by p x) s) (λ s. s)
+      → ReplayStep {X = Script R} serves idles a a u u (Err (Line k fault)) (λ s. line_then k (parsed_by p x) s) (λ s. s)
   line-bad a u k fault p x e = Step-nothing a u (Err (Line k fault)) _ _ (PrintsAll-nil u) (λ s. ap (λ q. line_then k (parsed_by q x) s) e)
 
   -- a line that is skipped
   pub line-skipped : (a : S) (u : Output) (k : ℕ) (p : Result Bool LineFault) (x : Result R LineFault) → p ≡ Ok false
-      → Step {X = Script R} serves idles a a u u (Ok tt) (λ s. line_then k (parsed_by p x) s) (λ s. s)
+      → ReplayStep {X = Script R} serves idles a a u u (Ok tt) (λ s. line_then k (parsed_by p x) s) (λ s. s)
   line-skipped a u k p x e = Step-nothing a u (Ok tt) _ _ (PrintsAll-nil u) (λ s. ap (λ q. line_then k (parsed_by q x) s) e)
 
   -- a line that asks for something
   pub line-asks : (a b : S) (u v : Output) (k : ℕ) (r : Result Unit ReplayFault) (p : Result Bool LineFault) (x : Result R LineFault) → p ≡ Ok true
-      → Step {X = Script R} serves idles a b u v r (λ s. line_then k (parsed_by (Ok true) x) s) (λ s. s) → Step {X = Script R} serves idles a b u v r (λ s. line_then k (parsed_by p x) s) (λ s. s)
+      → ReplayStep {X = Script R} serves idles a b u v r (λ s. line_then k (parsed_by (Ok true) x) s) (λ s. s) → ReplayStep {X = Script R} serves idles a b u v r (λ s. line_then k (parsed_by p x) s) (λ s. s)
   line-asks a b u v k r p x e h = Step-as a b u v r _ _ _ _ (λ s. ap (λ q. line_then k (parsed_by q x) s) e) (λ s. refl) h
 
   -- a line that is too long already
   pub line-too_long : (a : S) (u : Output) (k : ℕ) (line : List ℕ) (asked : List (List ℕ) → Result R LineFault) (r : Result Unit ReplayFault) → 4096 < length line
-      → r ≡ Err (Line k TooLong) → Step {X = Script R} serves idles a a u u r (λ s. line_then k (parsed asked line) s) (λ s. s)
+      → r ≡ Err (Line k TooLong) → ReplayStep {X = Script R} serves idles a a u u r (λ s. line_then k (parsed asked line) s) (λ s. s)
   line-too_long a u k line asked r long e =
-      subst (λ (q : Result Unit ReplayFault). Step {X = Script R} serves idles a a u u q (λ s. line_then k (parsed asked line) s) (λ s. s)) (sym e)
+      subst (λ (q : Result Unit ReplayFault). ReplayStep {X = Script R} serves idles a a u u q (λ s. line_then k (parsed asked line) s) (λ s. s)) (sym e)
       (line-bad a u k TooLong _ _ (asks-long line long))

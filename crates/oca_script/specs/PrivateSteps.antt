@@ -6,7 +6,7 @@ use Rattle.oca_script.specs.declared.fault.ReplayFault.TheVariants.{Line, Read, 
 use Rattle.oca_script.specs.Ends.{Input, Output}
 use Rattle.oca_script.specs.Printing.{PrintsAll, PrintsPart}
 use Rattle.oca_script.specs.Script.{Script, after_requests, script}
-use Rattle.oca_script.specs.Replaying.{Runs, BeginsWithRequests, Reads, Ends, known_bytes}
+use Rattle.oca_script.specs.Replaying.{Runs, BeginsWithRequests, ReadsInput, Ends, known_bytes}
 
 -- the text was printed, or a write failed; no read is done
 abbrev pub Printed : Result Unit ReplayFault → Output → Output → List ℕ → Type 0
@@ -27,8 +27,8 @@ AccountsFor {R} {X} (Err TooMuch) asks rest requests =
     (x : X) → asks x ≡ record { requests = requests; ending = Err TooMuch }
 
 -- some requests were served and their text printed, and they account for what was asked
-pub record Step {S R X : Type 0} (serves : S → R → S → List ℕ → Type 0) (idles : S → S → List ℕ → Type 0) (old new : S)
-    (was is : Output) (result : Result Unit ReplayFault) (asks rest : X → Script R) : Type 0 where
+pub record ReplayStep {S R X : Type 0} (serves : S → R → S → List ℕ → Type 0) (idles : S → S → List ℕ → Type 0)
+    (old new : S) (was is : Output) (result : Result Unit ReplayFault) (asks rest : X → Script R) : Type 0 where
   pub requests : List R
   pub text : List ℕ
   pub runs : Runs serves idles old requests new text
@@ -57,7 +57,7 @@ pub record Performs {S R : Type 0} (asked : List (List ℕ) → Result R LineFau
 -- performed
 abbrev pub Performance : {S R : Type 0} → (List (List ℕ) → Result R LineFault) → (S → R → S → List ℕ → Type 0) →
     (S → S → List ℕ → Type 0) → S → S → Output → Output → Input → Input → Result Unit ReplayFault → Type 0
-Performance asked serves idles old new was is had has result = (taken : List ℕ) × Reads had has result taken
+Performance asked serves idles old new was is had has result = (taken : List ℕ) × ReadsInput had has result taken
     × Performs asked serves idles old new was is result (taken ++ known_bytes has.remaining)
 
 -- a read or a write failed

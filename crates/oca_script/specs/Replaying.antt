@@ -104,7 +104,7 @@ ReadFails (Err Write) before after = after ≡ before
 ReadFails (Err TooMuch) before after = after ≡ before
 
 -- a source gave `taken` of what it had; at Ok it had no more
-pub record Reads (had has : Input) (result : Result Unit ReplayFault) (taken : List ℕ) : Type 0 where
+pub record ReadsInput (had has : Input) (result : Result Unit ReplayFault) (taken : List ℕ) : Type 0 where
   pub consumes : Consumes had.remaining has.remaining taken
   pub bounded : length taken ≤ 16777217
   pub ended : OnOk result (IsAtEnd has.remaining)
@@ -114,5 +114,5 @@ pub record Reads (had has : Input) (result : Result Unit ReplayFault) (taken : L
 -- replayed.
 abbrev pub Outcome : {S R : Type 0} → (List (List ℕ) → Result R LineFault) → (S → R → S → List ℕ → Type 0) →
     (S → S → List ℕ → Type 0) → S → S → Output → Output → Input → Input → Result Unit ReplayFault → Type 0
-Outcome asked serves idles old new was is had has result = (taken : List ℕ) × Reads had has result taken
+Outcome asked serves idles old new was is had has result = (taken : List ℕ) × ReadsInput had has result taken
     × Replays asked serves idles old new was is result (taken ++ known_bytes has.remaining)

@@ -10,7 +10,7 @@ ghost use Rattle.oca_script.specs.Script.{longest_line, Script, is_skipped as sk
 ghost use Rattle.oca_script.specs.Script.{asks, parsed, parsed_by, line_then};
 ghost use Rattle.oca_script.specs.PrivateScript.{script_from};
 ghost use Rattle.oca_script.specs.Replaying.{Awaited, Outcome, Replays};
-ghost use Rattle.oca_script.specs.PrivateSteps.{Step, Performance, is_end_failure};
+ghost use Rattle.oca_script.specs.PrivateSteps.{ReplayStep, Performance, is_end_failure};
 
 use super::ends::{Sink, Source};
 use super::fault::{LineFault, ReplayFault, Stop, WriteFailed};
@@ -72,7 +72,7 @@ fn serve_asking<L: Language, W: Sink>(
     printer: &mut Printer<W>,
 ) -> Result<(), ReplayFault>
     requires { length line.now ≤ longest_line }
-    ensures { Step L.serves L.idles state.old state.new printer.old printer.new result
+    ensures { ReplayStep L.serves L.idles state.old state.new printer.old printer.new result
         (λ (s : Script L.Request). line_then number (parsed_by (ok true) (L.asked (fields line.now))) s) (λ s. s) }
 {
     match L::serve_line(state, room, line, printer) {
@@ -92,7 +92,7 @@ fn serve_line<L: Language, W: Sink>(
     printer: &mut Printer<W>,
 ) -> Result<(), ReplayFault>
     requires { IsTrue ascii → ascii_line line.now ≡ true }
-    ensures { Step L.serves L.idles state.old state.new printer.old printer.new result
+    ensures { ReplayStep L.serves L.idles state.old state.new printer.old printer.new result
         (λ (s : Script L.Request). line_then number (parsed L.asked line.now) s) (λ s. s) }
 {
     match line_asks(line, ascii) {
@@ -127,7 +127,7 @@ fn serve_ended<L: Language, W: Sink>(
     printer: &mut Printer<W>,
 ) -> Result<(), ReplayFault>
     requires { IsTrue ascii → ascii_line end.now ≡ true }
-    ensures step { Step L.serves L.idles state.old state.new printer.old printer.new result
+    ensures step { ReplayStep L.serves L.idles state.old state.new printer.old printer.new result
         (λ (s : Script L.Request). line_then progress.old.number (parsed L.asked (progress.old.line ++ end.now)) s)
         (λ s. s) }
     ensures number { progress.new.number ≡ progress.old.number }
@@ -149,7 +149,7 @@ fn serve_piece<L: Language, W: Sink>(
     printer: &mut Printer<W>,
 ) -> Result<(), ReplayFault>
     requires number { progress.old.number + length piece.now ≤ 16777217 }
-    ensures step { Step L.serves L.idles state.old state.new printer.old printer.new result
+    ensures step { ReplayStep L.serves L.idles state.old state.new printer.old printer.new result
         (λ (m : ℕ × List ℕ). script_from L.asked progress.old.number progress.old.line (length piece.now + m.0)
         (piece.now ++ m.1))
         (λ m. script_from L.asked progress.new.number progress.new.line m.0 m.1) }

@@ -12,7 +12,7 @@ use Rattle.std.proofs.lemmas.Bool.Decides.{nat_tests}
 use Rattle.oca_types.specs.declared.words.Peer.{Peer}
 use Rattle.oca_types.specs.Peers.{same_peer}
 use Rattle.oca_session.specs.Accepted.{Entry, AgreesWithAccepted}
-use Rattle.oca_session.specs.Table.{Session, is_of, session_of, peers_of, changed, opened_session, heard_at, with_heartbeat, with_entry, with_accepted, is_lapsed, lapsed, stays, staying, forgotten, AgreesAt}
+use Rattle.oca_session.specs.Table.{Session, is_of, session_of, peers_of, with_changed, opened_session, heard_at, with_heartbeat, with_entry, with_accepted, is_lapsed, lapsed, stays, staying, forgotten, AgreesAt}
 use Rattle.oca_session.specs.Sound.{IsSession, IsOnePerPeer}
 use Rattle.oca_session.specs.PrivateQuiet.{IsQuietUntil}
 use Rattle.oca_session.proofs.Windows.{retained_after_agreed}
@@ -97,32 +97,32 @@ IsOnePerPeer-cons s ss others one (suc i) zero d before within = absurd (omega a
 IsOnePerPeer-cons s ss others one (suc i) (suc j) d before within = one i j d (omega arith) (omega arith)
 
 -- where no session is of the peer, none changes
-changed_none : (p : Peer) (f : Session → Session) (ss : List Session) → All (λ s. is_of p s ≡ false) ss → changed p f ss ≡ ss
+changed_none : (p : Peer) (f : Session → Session) (ss : List Session) → All (λ s. is_of p s ≡ false) ss → with_changed p f ss ≡ ss
 changed_none p f [] none = refl
 changed_none p f (s ∷ ss) none =
     let here : is_of p s ≡ false = none 0 s (omega arith) in
     let rest = changed_none p f ss (λ k d within. none (suc k) d (omega arith)) in
-    ap (λ b. cond b (f s) s ∷ changed p f ss) here ∙ ap (λ xs. s ∷ xs) rest
+    ap (λ b. cond b (f s) s ∷ with_changed p f ss) here ∙ ap (λ xs. s ∷ xs) rest
 
 -- a write at the place of the peer's session changes that session alone
 changed_at : (p : Peer) (f : Session → Session) (ss : List Session) (i : ℕ) (d : Session) → IsOnePerPeer ss →
-    i < length ss → is_of p (get_or ss i d) ≡ true → set ss i (f (get_or ss i d)) ≡ changed p f ss
+    i < length ss → is_of p (get_or ss i d) ≡ true → set ss i (f (get_or ss i d)) ≡ with_changed p f ss
 changed_at p f [] i d one within here = absurd (omega arith)
 changed_at p f (s ∷ ss) zero d one within here =
     let others = IsOnePerPeer-head s ss one in
     let none : All (λ t. is_of p t ≡ false) ss = λ k e w. other_peer s.peer (get_or ss k e).peer p here (others k e w) in
-    sym (ap (λ b. cond b (f s) s ∷ changed p f ss) here ∙ ap (λ xs. f s ∷ xs) (changed_none p f ss none))
+    sym (ap (λ b. cond b (f s) s ∷ with_changed p f ss) here ∙ ap (λ xs. f s ∷ xs) (changed_none p f ss none))
 changed_at p f (s ∷ ss) (suc i) d one within here =
     let others = IsOnePerPeer-head s ss one in
     let below : i < length ss = omega arith in
     let no : is_of p s ≡ false = other_peer' s.peer (get_or ss i d).peer p here (others i d below) in
     let rest = changed_at p f ss i d (IsOnePerPeer-tail s ss one) below here in
-    ap (λ xs. s ∷ xs) rest ∙ sym (ap (λ b. cond b (f s) s ∷ changed p f ss) no)
+    ap (λ xs. s ∷ xs) rest ∙ sym (ap (λ b. cond b (f s) s ∷ with_changed p f ss) no)
 
 -- where the code writes f of the peer's session at its place, that session is changed
 pub changed_in : (p : Peer) (f : Session → Session) (items seen : List Session) (count at : ℕ) (old new : Session) →
     IsOnePerPeer (take count items) → seen ≡ items → position (is_of p) (take count seen) ≡ Some at →
-    old ≡ get_or items at old → new ≡ f old → take count (set items at new) ≡ changed p f (take count items)
+    old ≡ get_or items at old → new ≡ f old → take count (set items at new) ≡ with_changed p f (take count items)
 changed_in p f items seen count at old new one same placed was is =
     let ss = take count items in
     let placed' : position (is_of p) ss ≡ Some at = rw (← same) placed in
@@ -148,10 +148,10 @@ session_in p items seen count at old same placed was =
 
 -- a change that keeps the peer keeps the peers
 pub peers_of-changed : (p : Peer) (f : Session → Session) → ((s : Session) → (f s).peer ≡ s.peer) → (ss : List Session) →
-    peers_of (changed p f ss) ≡ peers_of ss
+    peers_of (with_changed p f ss) ≡ peers_of ss
 peers_of-changed p f same [] = refl
 peers_of-changed p f same (s ∷ ss) =
-    ap (λ q. q ∷ peers_of (changed p f ss)) (by_test (is_of p s)) ∙ ap (λ qs. s.peer ∷ qs) (peers_of-changed p f same ss)
+    ap (λ q. q ∷ peers_of (with_changed p f ss)) (by_test (is_of p s)) ∙ ap (λ qs. s.peer ∷ qs) (peers_of-changed p f same ss)
   where
     by_test : (b : Bool) → (cond b (f s) s).peer ≡ s.peer
     by_test true = same s
@@ -173,10 +173,10 @@ All-push P (x ∷ xs) y all last =
 
 -- no session of these is of the peer a
 others-changed : (a p : Peer) (f : Session → Session) → ((s : Session) → (f s).peer ≡ s.peer) → (ss : List Session) →
-    All (λ t. same_peer a t.peer ≡ false) ss → All (λ t. same_peer a t.peer ≡ false) (changed p f ss)
+    All (λ t. same_peer a t.peer ≡ false) ss → All (λ t. same_peer a t.peer ≡ false) (with_changed p f ss)
 others-changed a p f same [] all = all
 others-changed a p f same (s ∷ ss) all =
-    All-cons (λ t. same_peer a t.peer ≡ false) (cond (is_of p s) (f s) s) (changed p f ss)
+    All-cons (λ t. same_peer a t.peer ≡ false) (cond (is_of p s) (f s) s) (with_changed p f ss)
     (by_test (is_of p s) (all 0 s (omega arith)))
     (others-changed a p f same ss (All-tail (λ t. same_peer a t.peer ≡ false) s ss all))
   where
@@ -185,16 +185,16 @@ others-changed a p f same (s ∷ ss) all =
     by_test false h = h
 
 pub IsOnePerPeer-changed : (p : Peer) (f : Session → Session) → ((s : Session) → (f s).peer ≡ s.peer) → (ss : List Session) →
-    IsOnePerPeer ss → IsOnePerPeer (changed p f ss)
+    IsOnePerPeer ss → IsOnePerPeer (with_changed p f ss)
 IsOnePerPeer-changed p f same [] one = one
 IsOnePerPeer-changed p f same (s ∷ ss) one =
-    IsOnePerPeer-cons (cond (is_of p s) (f s) s) (changed p f ss)
+    IsOnePerPeer-cons (cond (is_of p s) (f s) s) (with_changed p f ss)
     (by_test (is_of p s) (others-changed s.peer p f same ss (IsOnePerPeer-head s ss one)))
     (IsOnePerPeer-changed p f same ss (IsOnePerPeer-tail s ss one))
   where
-    by_test : (b : Bool) → All (λ t. same_peer s.peer t.peer ≡ false) (changed p f ss) →
-        All (λ t. same_peer (cond b (f s) s).peer t.peer ≡ false) (changed p f ss)
-    by_test true h = λ k d within. ap (λ q. same_peer q (get_or (changed p f ss) k d).peer) (same s) ∙ h k d within
+    by_test : (b : Bool) → All (λ t. same_peer s.peer t.peer ≡ false) (with_changed p f ss) →
+        All (λ t. same_peer (cond b (f s) s).peer t.peer ≡ false) (with_changed p f ss)
+    by_test true h = λ k d within. ap (λ q. same_peer q (get_or (with_changed p f ss) k d).peer) (same s) ∙ h k d within
     by_test false h = h
 
 -- where the peer has no session, none is of the peer
@@ -251,19 +251,19 @@ known-push p (t ∷ ts) s here = by_test (is_of p t) (known-push p ts s here)
 
 -- where the session agrees with A, one more command makes it agree with A and that command
 pub changed_agreed : (p : Peer) (w : ℕ) (A : List Entry) (e : Entry) (ss : List Session) → IsOnePerPeer ss → AgreesAt p w A ss →
-    changed p (with_entry e) ss ≡ changed p (with_accepted w (A ++ e ∷ [])) ss
+    with_changed p (with_entry e) ss ≡ with_changed p (with_accepted w (A ++ e ∷ [])) ss
 changed_agreed p w A e [] one h = refl
 changed_agreed p w A e (s ∷ ss) one h =
     by_test (is_of p s) refl h (changed_agreed p w A e ss (IsOnePerPeer-tail s ss one))
   where
     by_test : (b : Bool) → is_of p s ≡ b → IfSome (cond b (Some s) (session_of p ss)) (λ x. AgreesWithAccepted w A x.retained) →
-        (AgreesAt p w A ss → changed p (with_entry e) ss ≡ changed p (with_accepted w (A ++ e ∷ [])) ss) →
-        (cond b (with_entry e s) s ∷ changed p (with_entry e) ss)
-        ≡ (cond b (with_accepted w (A ++ e ∷ []) s) s ∷ changed p (with_accepted w (A ++ e ∷ [])) ss)
+        (AgreesAt p w A ss → with_changed p (with_entry e) ss ≡ with_changed p (with_accepted w (A ++ e ∷ [])) ss) →
+        (cond b (with_entry e s) s ∷ with_changed p (with_entry e) ss)
+        ≡ (cond b (with_accepted w (A ++ e ∷ []) s) s ∷ with_changed p (with_accepted w (A ++ e ∷ [])) ss)
     by_test true here a rest =
         let others = IsOnePerPeer-head s ss one in
         let none : All (λ t. is_of p t ≡ false) ss = λ k d within. other_peer s.peer (get_or ss k d).peer p here (others k d within) in
-        ap (λ r. record s { retained = r } ∷ changed p (with_entry e) ss) (retained_after_agreed w A s.retained e a)
+        ap (λ r. record s { retained = r } ∷ with_changed p (with_entry e) ss) (retained_after_agreed w A s.retained e a)
         ∙ ap (λ xs. with_accepted w (A ++ e ∷ []) s ∷ xs)
         (changed_none p (with_entry e) ss none ∙ sym (changed_none p (with_accepted w (A ++ e ∷ [])) ss none))
     by_test false here a rest = ap (λ xs. s ∷ xs) (rest a)

@@ -50,8 +50,8 @@ abbrev pub peers_of : List Session → List Peer
 peers_of ss = map (λ s. s.peer) ss
 
 -- the sessions where that of the peer is changed by f, and all others are as before (profile)
-abbrev pub changed : Peer → (Session → Session) → List Session → List Session
-changed p f ss = map (λ s. if is_of p s then f s else s) ss
+abbrev pub with_changed : Peer → (Session → Session) → List Session → List Session
+with_changed p f ss = map (λ s. if is_of p s then f s else s) ss
 
 -- an opened session: the heartbeat 5,000, an empty window and no floor (profile)
 abbrev pub opened_session : ℕ → Peer → ℕ → Session
@@ -106,7 +106,7 @@ forgotten moment ss = filter (λ s. not (stays moment s)) ss
 abbrev pub Hears : Peer → ℕ → Table → Admission → Table → Type 0
 Hears p moment old admissions.Known new =
     IsSome (session_of p old.sessions)
-    × (new ≡ with_moment_and_sessions old moment (changed p (heard_at moment) old.sessions))
+    × (new ≡ with_moment_and_sessions old moment (with_changed p (heard_at moment) old.sessions))
 Hears p moment old admissions.Opened new =
     (session_of p old.sessions ≡ None) × (length old.sessions < old.sizes.peers)
     × (new ≡ with_moment_and_sessions old moment (old.sessions ++ opened_session old.sizes.window p moment ∷ []))

@@ -66,7 +66,7 @@ impl Model for Sessions {
 }
 
 impl Sessions {
-    ghost use Rattle.oca_session.specs.Table.{with_moment_and_sessions, with_sessions, present, changed};
+    ghost use Rattle.oca_session.specs.Table.{with_moment_and_sessions, with_sessions, present, with_changed};
     ghost use Rattle.oca_session.specs.Table.{with_heartbeat, with_entry, with_accepted, Hears, IsKnownAfter, AgreesAt};
     ghost use Rattle.oca_session.specs.Sound.{IsTable};
 
@@ -219,7 +219,8 @@ impl Sessions {
     /// Sets the heartbeat of a known peer, in milliseconds: to 250 or 30,000 where it is below or above these.
     pub fn beat(&mut self, peer: Peer, ms: u64)
         requires { IsSome (session_of peer self.old.sessions) }
-        ensures heartbeat { self.new ≡ with_sessions self.old (changed peer (with_heartbeat ms) self.old.sessions) }
+        ensures heartbeat { self.new ≡ with_sessions self.old
+            (with_changed peer (with_heartbeat ms) self.old.sessions) }
         ensures peers { peers_of self.new.sessions ≡ peers_of self.old.sessions }
         ensures known { (p : Peer) →
             is_some (session_of p self.new.sessions) ≡ is_some (session_of p self.old.sessions) }
@@ -278,11 +279,12 @@ impl Sessions {
             (λ s. judgement_by_window s.retained (fields_of command.now) ≡ Fresh) }
         requires room { length command.now.params.now ≤ most_command_parameter_bytes }
         ensures retained { self.new ≡ with_sessions self.old
-            (changed peer
+            (with_changed peer
             (with_entry (record { command = fields_of command.now; reply = reply.now })) self.old.sessions) }
         ensures accepted { (w : ℕ) (A : List Entry) → AgreesAt peer w A self.old.sessions →
             self.new ≡ with_sessions self.old
-            (changed peer (with_accepted w (A ++ record { command = fields_of command.now; reply = reply.now } ∷ []))
+            (with_changed peer
+            (with_accepted w (A ++ record { command = fields_of command.now; reply = reply.now } ∷ []))
             self.old.sessions) }
         ensures peers { peers_of self.new.sessions ≡ peers_of self.old.sessions }
         ensures known { (p : Peer) →
@@ -325,7 +327,7 @@ impl Sessions {
             (λ s. judgement_by_window s.retained (fields_of command.now) ≡ Fresh) }
         requires room { length command.now.params.now ≤ most_command_parameter_bytes }
         ensures retained { self.new ≡ with_sessions self.old
-            (changed peer
+            (with_changed peer
             (with_entry (record { command = fields_of command.now; reply = reply.now })) self.old.sessions) }
         ensures one { IsTable self.old }
     {

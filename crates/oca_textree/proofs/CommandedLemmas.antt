@@ -27,8 +27,8 @@ use Rattle.oca_tree.specs.declared.request.Request.TheVariants as requests
 use Rattle.oca_tree.specs.declared.request.SwitchRequest.{SwitchRequest}
 use Rattle.oca_tree.specs.declared.request.SwitchRequest.TheVariants as switches
 use Rattle.oca_model.specs.Parameters.{whole, pair_at, items_at, list_at}
-use Rattle.oca_tree.specs.Requests.{positions, with_parameters, without_parameters, setting_request, request_of}
-use Rattle.oca_tree.specs.Execution.{changed, changed_value, changed_switch, changed_positions, Execution, execution, request_at, kind_at, status_of, by_status}
+use Rattle.oca_tree.specs.Requests.{positions, with_parameters, without_parameters, setting_request, request_carried}
+use Rattle.oca_tree.specs.Execution.{changed, changed_value, changed_switch, changed_positions, TreeAndReply, execution, request_at, kind_at, status_of, by_status}
 use Rattle.oca_tree.specs.declared.setting.SetFault.{SetFault}
 use Rattle.oca_tree.specs.Settings.{request_for, front, set_fault, set_where, after_set}
 use Rattle.oca_tree.specs.Objects.{has_number, object_of, with_object}
@@ -159,8 +159,8 @@ asked-setting (values.Switch switch) count params r e = absurd (cc)
 asked-setting (values.Boolean truth) count params r e = asked requests.SetBoolean _ r (λ x q. tt) e
 asked-setting (values.Number range) count params r e = asked requests.SetNumber _ r (λ x q. tt) e
 
-asked-short : (value : Value) (method : Method) (count : ℕ) (params : List ℕ) (r : Request) → request_of value method count params ≡ Some r → SetsShort r
-unfolding request_of SetsShort
+asked-short : (value : Value) (method : Method) (count : ℕ) (params : List ℕ) (r : Request) → request_carried value method count params ≡ Some r → SetsShort r
+unfolding request_carried SetsShort
 asked-short value methods.GetClassIdentification count params r e = plainly requests.GetClassIdentification r count params tt e
 asked-short value methods.GetLockable count params r e = plainly requests.GetLockable r count params tt e
 asked-short value methods.LockTotal count params r e = plainly requests.LockTotal r count params tt e
@@ -290,7 +290,7 @@ root-placed (x ∷ xs) n o new e same h = by (x.ono.0 == n) refl e (x.ono.0 == n
         let number : x.ono.0 ≡ n = eqb-true x.ono.0 new.ono.0 u ∙ same.number ∙ number-of xs n o q in
         absurd (both_ways (x.ono.0 == n) t (eq-eqb x.ono.0 n number))
 
-abbrev KeptBy : List Object → Execution → Type 0
+abbrev KeptBy : List Object → TreeAndReply → Type 0
 KeptBy tree x = Rooted tree → All IsNamed tree → Rooted x.tree × All IsNamed x.tree
 
 carried : (tree : List Object) (peer : Peer) (n : ℕ) (o : Object) (r : Request) → object_of tree n ≡ Some o → SetsShort r → Rooted tree → All IsNamed tree

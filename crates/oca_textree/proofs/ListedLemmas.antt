@@ -32,7 +32,7 @@ use Rattle.oca_textree.specs.declared.fault.TreeFault.{TreeFault}
 use Rattle.oca_textree.specs.Faults.{object_fault_of}
 use Rattle.oca_textree.specs.Texts.{after_lines, go_on, line_before, lines_behind, rooted_by, from_root, objects_of_text}
 use Rattle.oca_textree.specs.Lines.{then_by, some_or_fault, field_at, ono_of, class_of_word, one_of, Valued, valued, by_word, limits_of, by_limits, names_after, position_named, positions_of, by_positions, value_at, is_text, refusal, added_unless, ended, checked, last_of, added_with, added_by, is_skipped_line, has_control}
-use Rattle.oca_textree.specs.Stored.{after_line, after_word, by_kind, short, short_utf8, field_text, is_quoted, text_at, flags_after, named_after, names_at, Positions, switch_at, Flagged, switch_flagged, flagged_at, start_at, Ending, ending_at, stored_object, start_refusal, kept_unless, stored_with, stored_by, rooted}
+use Rattle.oca_textree.specs.Stored.{after_line, after_word, by_kind, short, short_utf8, field_text, is_quoted, text_in_field, flags_after, named_after, names_in_field, Positions, switch_at, Flagged, switch_flagged, flagged_at, start_at, Ending, ending_at, stored_object, start_refusal, kept_unless, stored_with, stored_by, rooted}
 use Rattle.oca_textree.specs.Written.{IsShortText, IsNamed, IsRoot}
 use lib.Utf8.{scalar, scalars, encode, encodes, scalar_cases}
 
@@ -174,8 +174,8 @@ as_ok x = Ok x
 ok-same : {A : Type 0} (x y : A) → as_ok x ≡ as_ok y → x ≡ y
 ok-same x y e = ap (value_or x) e
 
-pub text-at-short : (rest : Option (List ℕ)) (p : List ℕ × Option (List ℕ)) → text_at rest ≡ Ok p → IsShortText p.0
-unfolding text_at
+pub text-at-short : (rest : Option (List ℕ)) (p : List ℕ × Option (List ℕ)) → text_in_field rest ≡ Ok p → IsShortText p.0
+unfolding text_in_field
 text-at-short rest p e =
     let f = then-ok (field_at rest) _ p e in
     let t = or-ok fault.Text (field_text (is_quoted rest) f.0.0) _ p f.2 in
@@ -208,8 +208,8 @@ named-short quoted before (n ∷ more) all h e =
     by t true next k = absurd (cc)
     by t false next k = next k
 
-names-at-short : (rest : Option (List ℕ)) (p : List (List ℕ) × Option (List ℕ)) → names_at rest ≡ Ok p → All IsShortText p.0
-unfolding names_at
+names-at-short : (rest : Option (List ℕ)) (p : List (List ℕ) × Option (List ℕ)) → names_in_field rest ≡ Ok p → All IsShortText p.0
+unfolding names_in_field
 names-at-short rest p e =
     let f = then-ok (field_at rest) _ p e in
     let t = then-ok (named_after (is_quoted rest) [] (split_on 44 f.0.0)) _ p f.2 in
@@ -415,7 +415,7 @@ unfolding switch_at
 positions-short rest p e =
     let a = then-ok (field_at rest) _ p e in
     let flags = or-ok fault.Value (flags_after [] a.0.0) _ p a.2 in
-    let b = then-ok (names_at a.0.1) _ p flags.2 in
+    let b = then-ok (names_in_field a.0.1) _ p flags.2 in
     let c = then-ok (field_at b.0.1) _ p b.2 in
     let at = or-ok fault.Number (number_of 5 65535 c.0.0) _ p c.2 in
     let same : b.0.0 ≡ p.names = ap (λ (x : Positions). x.names) (ok-same _ _ at.2) in
@@ -456,7 +456,7 @@ unfolding start_at
 label-short rest p e =
     let word = then-ok (field_at rest) _ p e in
     let enabled = or-ok fault.Value (one_of (codes "on") true (codes "off") false word.0.0) _ p word.2 in
-    let label = then-ok (text_at word.0.1) _ p enabled.2 in
+    let label = then-ok (text_in_field word.0.1) _ p enabled.2 in
     subst IsShortText (ends label.0.1 (enabled.0, label.0.0) p label.2) (text-at-short word.0.1 label.0 label.1)
   where
     ends : (rest : Option (List ℕ)) (x y : Bool × List ℕ) → ended rest x ≡ Ok y → x.1 ≡ y.1
@@ -473,7 +473,7 @@ unfolding ending_at
 ending-short rest ending e =
     let word = then-ok (field_at rest) _ ending e in
     let lockable = or-ok fault.Lockable (one_of (codes "lockable") true (codes "no-lock") false word.0.0) _ ending word.2 in
-    let role = then-ok (text_at word.0.1) _ ending lockable.2 in
+    let role = then-ok (text_in_field word.0.1) _ ending lockable.2 in
     let start = then-ok (start_at role.0.1) _ ending role.2 in
     subst EndTexts (ok-same _ _ start.2) (record { role = text-at-short word.0.1 role.0 role.1; label = label-short role.0.1 start.0 start.1 })
 

@@ -18,7 +18,7 @@ use Rattle.oca_textree.specs.declared.fault.TreeFault.TheVariants.{Line, NoMemor
 use Rattle.oca_textree.specs.Lines.{names_after, is_text, position_named}
 use Rattle.oca_textree.specs.Stored.{after_line}
 use Rattle.oca_textree.specs.Texts.{after_lines, go_on}
-use Rattle.oca_textree.specs.PrivateLines.{IsRead, IsReadSoFar, names_view}
+use Rattle.oca_textree.specs.PrivateLines.{IsReadAs, IsReadSoFar, names_view}
 
 abbrev pub cut : ℕ → List ℕ → Option (List ℕ × List ℕ) → List (List ℕ)
 cut sep s None = s ∷ []
@@ -136,7 +136,7 @@ lines-on reading rest front after tree next n so found e =
 -- the last line gives a tree, or its fault
 pub last-read : (reading : Flagged) (rest : List ℕ) (old new : Store) (n : ℕ) (r : Result Unit TreeFault)
     → reading ≡ after_lines n old.list (split_on 10 rest) → split_at 10 rest ≡ None
-    → IsReadSoFar r old new n (after_line old.list rest) → IsRead r new.list reading
+    → IsReadSoFar r old new n (after_line old.list rest) → IsReadAs r new.list reading
 last-read reading rest old new n (Ok u) so none h =
     so ∙ ap (after_lines n old.list) (split-one 10 rest none)
     ∙ ap (λ (r : Result (List Object) ObjectFault). go_on r n (λ t. after_lines (n + 1) t [])) h.0
@@ -149,9 +149,9 @@ last-read reading rest old new n (Err NoMemory) so none h = absurd h
 -- an earlier line has a fault
 pub first-fault : (reading : Flagged) (rest front after : List ℕ) (old new : Store) (n : ℕ) (r : Result Unit TreeFault) (e : TreeFault)
     → r ≡ Err e → reading ≡ after_lines n old.list (split_on 10 rest) → Some (front, after) ≡ split_at 10 rest
-    → IsReadSoFar (Err e) old new n (after_line old.list front) → IsRead r new.list reading
+    → IsReadSoFar (Err e) old new n (after_line old.list front) → IsReadAs r new.list reading
 first-fault reading rest front after old new n r (Line m f) is so found h =
-    subst (λ (x : Result Unit TreeFault). IsRead x new.list reading) (sym is)
+    subst (λ (x : Result Unit TreeFault). IsReadAs x new.list reading) (sym is)
     (lines-failed reading rest front after old.list n f so found h.0 ∙ ap (λ (k : ℕ). Err (Line k f)) (sym h.1))
 first-fault reading rest front after old new n r NoMemory is so found h = absurd h
 

@@ -14,7 +14,7 @@ use Rattle.oca_script.proofs.PartLemmas.{Free, free-append, free-after, free-now
 use Rattle.oca_textree.specs.declared.fault.ObjectFault.{ObjectFault}
 use Rattle.oca_textree.specs.declared.fault.ObjectFault.TheVariants as fault
 use Rattle.oca_textree.specs.Lines.{field_at, then_by, some_or_fault, has_control}
-use Rattle.oca_textree.specs.Stored.{short, field_text, is_quoted, text_at, flags_after, named_after, names_at}
+use Rattle.oca_textree.specs.Stored.{short, field_text, is_quoted, text_in_field, flags_after, named_after, names_in_field}
 use Rattle.oca_textree.specs.Written.{holds_mark, holds_comma, is_plain, is_plain_name, in_quotes, text_field, joined_names, name_part, names_field, flag_digit, IsShortText}
 use Rattle.oca_textree.proofs.SplitLemmas.{split-one, split-more}
 use Rattle.oca_textree.proofs.FieldsBack.{digits-free, digits-hex_text, Word, word-append, field-word, field-last, field-quoted, field-quoted-last, word-hex_text, hex-back, length-hex}
@@ -116,35 +116,35 @@ abbrev at : Bool → Result (List ℕ × Option (List ℕ)) ObjectFault → Resu
 at quoted f = then_by f (λ f. then_by (some_or_fault fault.Text (field_text quoted f.0)) (λ text. Ok (text, f.1)))
 
 at-back : (field : Option (List ℕ)) (quoted : Bool) (w t : List ℕ) (rest : Option (List ℕ)) → is_quoted field ≡ quoted → field_at field ≡ Ok (w, rest)
-    → field_text quoted w ≡ Some t → text_at field ≡ Ok (t, rest)
-unfolding text_at
+    → field_text quoted w ≡ Some t → text_in_field field ≡ Ok (t, rest)
+unfolding text_in_field
 at-back field quoted w t rest q f s =
     ap (λ (b : Bool). at b (field_at field)) q ∙ ap (at quoted) f ∙ ap (λ (o : Option (List ℕ)). then_by (some_or_fault fault.Text o) (λ text. Ok (text, rest))) s
 
 -- a text is read back, with a field behind it
-pub text-back : (t rest : List ℕ) → IsShortText t → text_at (Some (text_field t ++ 32 ∷ rest)) ≡ Ok (t, Some rest)
+pub text-back : (t rest : List ℕ) → IsShortText t → text_in_field (Some (text_field t ++ 32 ∷ rest)) ≡ Ok (t, Some rest)
 text-back t rest h = by (written-by t (is_plain t) refl)
   where
-    by : Written t → text_at (Some (text_field t ++ 32 ∷ rest)) ≡ Ok (t, Some rest)
+    by : Written t → text_in_field (Some (text_field t ++ 32 ∷ rest)) ≡ Ok (t, Some rest)
     by (inl w) =
-        ap (λ (l : List ℕ). text_at (Some (l ++ 32 ∷ rest))) w.0
+        ap (λ (l : List ℕ). text_in_field (Some (l ++ 32 ∷ rest))) w.0
         ∙ at-back (Some (in_quotes t ++ 32 ∷ rest)) true t t (Some rest) refl (field-quoted t rest (mark-free t w.1.unmarked)) (reading-plain t h w.1)
     by (inr w) =
         let digits = word-hex_text t h.bytes in
-        ap (λ (l : List ℕ). text_at (Some (l ++ 32 ∷ rest))) w
+        ap (λ (l : List ℕ). text_in_field (Some (l ++ 32 ∷ rest))) w
         ∙ at-back (Some (hex_text t ++ 32 ∷ rest)) false (hex_text t) t (Some rest) (word-unquoted (hex_text t) rest digits) (field-word (hex_text t) rest digits) (reading-hex t h)
 
 -- a text is read back at the end of a line
-pub text-last : (t : List ℕ) → IsShortText t → text_at (Some (text_field t)) ≡ Ok (t, None)
+pub text-last : (t : List ℕ) → IsShortText t → text_in_field (Some (text_field t)) ≡ Ok (t, None)
 text-last t h = by (written-by t (is_plain t) refl)
   where
-    by : Written t → text_at (Some (text_field t)) ≡ Ok (t, None)
+    by : Written t → text_in_field (Some (text_field t)) ≡ Ok (t, None)
     by (inl w) =
-        ap (λ (l : List ℕ). text_at (Some l)) w.0
+        ap (λ (l : List ℕ). text_in_field (Some l)) w.0
         ∙ at-back (Some (in_quotes t)) true t t None refl (field-quoted-last t (mark-free t w.1.unmarked)) (reading-plain t h w.1)
     by (inr w) =
         let digits = word-hex_text t h.bytes in
-        ap (λ (l : List ℕ). text_at (Some l)) w
+        ap (λ (l : List ℕ). text_in_field (Some l)) w
         ∙ at-back (Some (hex_text t)) false (hex_text t) t None (word-unquoted-last (hex_text t) digits) (field-last (hex_text t) digits) (reading-hex t h)
 
 quotes-shown : (t : List ℕ) → has_control t ≡ false → has_control (in_quotes t) ≡ false
@@ -257,8 +257,8 @@ hex-names (n ∷ names) h =
     }
 
 names-at : (field : Option (List ℕ)) (quoted : Bool) (w : List ℕ) (names : List (List ℕ)) (rest : Option (List ℕ)) → is_quoted field ≡ quoted
-    → field_at field ≡ Ok (w, rest) → named_after quoted [] (split_on 44 w) ≡ Ok names → names_at field ≡ Ok (names, rest)
-unfolding names_at
+    → field_at field ≡ Ok (w, rest) → named_after quoted [] (split_on 44 w) ≡ Ok names → names_in_field field ≡ Ok (names, rest)
+unfolding names_in_field
 names-at field quoted w names rest q f s =
     ap (λ (b : Bool). then_by (field_at field) (λ f. then_by (named_after b [] (split_on 44 f.0)) (λ names. Ok (names, f.1)))) q
     ∙ ap (λ (r : Result (List ℕ × Option (List ℕ)) ObjectFault). then_by r (λ f. then_by (named_after quoted [] (split_on 44 f.0)) (λ names. Ok (names, f.1)))) f
@@ -290,20 +290,20 @@ names-by names h false e = inl (ap (λ (x : Bool). cond x (joined_names (name_pa
 
 -- names are read back
 pub names-back : (names : List (List ℕ)) (rest : List ℕ) → All IsShortText names → 0 < length names → length names ≤ 16
-    → names_at (Some (names_field names ++ 32 ∷ rest)) ≡ Ok (names, Some rest)
+    → names_in_field (Some (names_field names ++ 32 ∷ rest)) ≡ Ok (names, Some rest)
 names-back names rest h some few = by (names-by names h (list_any (λ n. not (is_plain_name n)) names) refl)
   where
-    by : WrittenNames names → names_at (Some (names_field names ++ 32 ∷ rest)) ≡ Ok (names, Some rest)
+    by : WrittenNames names → names_in_field (Some (names_field names ++ 32 ∷ rest)) ≡ Ok (names, Some rest)
     by (inl w) =
         let inside = joined_names (name_part true) names in
-        ap (λ (l : List ℕ). names_at (Some (l ++ 32 ∷ rest))) w.0
+        ap (λ (l : List ℕ). names_in_field (Some (l ++ 32 ∷ rest))) w.0
         ∙ names-at (Some (in_quotes inside ++ 32 ∷ rest)) true inside names (Some rest) refl (field-quoted inside rest (joined-free 34 (name_part true) names refl w.1.quotes))
         (names-parts true (name_part true) names some few w.1.reading w.1.commas)
     by (inr w) =
         let inside = joined_names (name_part false) names in
         let hex = hex-names names h in
         let word = joined-word names h in
-        ap (λ (l : List ℕ). names_at (Some (l ++ 32 ∷ rest))) w
+        ap (λ (l : List ℕ). names_in_field (Some (l ++ 32 ∷ rest))) w
         ∙ names-at (Some (inside ++ 32 ∷ rest)) false inside names (Some rest) (word-unquoted inside rest word) (field-word inside rest word)
         (names-parts false (name_part false) names some few hex.reading hex.commas)
 

@@ -16,7 +16,7 @@ use Rattle.oca_script.specs.Ends.{Output, output}
 use Rattle.oca_script.specs.Printing.{Prints, PrintsAll, PrintsPart}
 use Rattle.oca_script.proofs.PrintLemmas.{PrintsAll-then, PrintsPart-then, prints-less}
 use Rattle.oca_textree.specs.Written.{line_of}
-use Rattle.oca_textree.specs.PrivateWritten.{line_text}
+use Rattle.oca_textree.specs.PrivateWritten.{tree_line_text}
 use Rattle.oca_textree.proofs.Standing.{itself-in}
 
 lines-more : (f : Object → List ℕ) (xs : List Object) (i : ℕ) (x : Object) → slice_get xs i ≡ Some x
@@ -38,7 +38,7 @@ found xs h i x e =
     let p = parted xs i x e in
     ap (λ (l : List Object). object_of l x.ono.0) p ∙ itself-in (take i xs) (drop (i + 1) xs) x (subst IsTree p h)
 
-line-written : (xs : List Object) → IsTree xs → (i : ℕ) (x : Object) → slice_get xs i ≡ Some x → line_text xs (info_of x) ≡ line_of x
+line-written : (xs : List Object) → IsTree xs → (i : ℕ) (x : Object) → slice_get xs i ≡ Some x → tree_line_text xs (info_of x) ≡ line_of x
 line-written xs h i x e = let f = found xs h i x e in rw f refl
 
 -- ---- in the loop
@@ -49,20 +49,20 @@ some-object (Some x) info e = (x, refl, cc)
 
 -- with the line of the next object, so many more lines are printed
 pub line-more : (xs : List Object) → IsTree xs → (i : ℕ) (info : ObjectInfo) → Some info ≡ option_map info_of (slice_get xs i) → (a b c : Output)
-    → PrintsAll a b (flat_map line_of (take i xs)) → PrintsAll b c (line_text xs info) → PrintsAll a c (flat_map line_of (take (i + 1) xs))
+    → PrintsAll a b (flat_map line_of (take i xs)) → PrintsAll b c (tree_line_text xs info) → PrintsAll a c (flat_map line_of (take (i + 1) xs))
 line-more xs h i info e a b c done one =
     let x = some-object (slice_get xs i) info (sym e) in
-    let same : line_text xs info ≡ line_of x.0 = ap (line_text xs) x.2 ∙ line-written xs h i x.0 x.1 in
+    let same : tree_line_text xs info ≡ line_of x.0 = ap (tree_line_text xs) x.2 ∙ line-written xs h i x.0 x.1 in
     let one' : PrintsAll b c (line_of x.0) = subst (PrintsAll b c) same one in
     rw (lines-more line_of xs i x.0 x.1) (PrintsAll-then a b c (flat_map line_of (take i xs)) (line_of x.0) done one')
 
 -- where the line of an object is not printed whole, nor is the tree
 pub line-less : (xs : List Object) → IsTree xs → (i : ℕ) (info : ObjectInfo) → Some info ≡ option_map info_of (slice_get xs i) → (a b c : Output)
     → (r : Result Unit WriteFailed) (f : WriteFailed) → r ≡ Err f
-    → PrintsAll a b (flat_map line_of (take i xs)) → PrintsPart b c (line_text xs info) → Prints r a c (flat_map line_of xs)
+    → PrintsAll a b (flat_map line_of (take i xs)) → PrintsPart b c (tree_line_text xs info) → Prints r a c (flat_map line_of xs)
 line-less xs h i info e a b c r f is done one =
     let x = some-object (slice_get xs i) info (sym e) in
-    let same : line_text xs info ≡ line_of x.0 = ap (line_text xs) x.2 ∙ line-written xs h i x.0 x.1 in
+    let same : tree_line_text xs info ≡ line_of x.0 = ap (tree_line_text xs) x.2 ∙ line-written xs h i x.0 x.1 in
     let one' : PrintsPart b c (line_of x.0) = subst (PrintsPart b c) same one in
     let all : flat_map line_of xs ≡ (flat_map line_of (take i xs) ++ line_of x.0) ++ flat_map line_of (drop (i + 1) xs) =
     ap (flat_map line_of) (sym (take-append-drop (i + 1) xs)) ∙ flat_map-append line_of (take (i + 1) xs) (drop (i + 1) xs)

@@ -63,6 +63,6 @@ IsReadSoFar (Ok u) old new number reading = (reading ≡ Ok new.list) × (new.ro
 IsReadSoFar (Err (Line n f)) old new number reading = (reading ≡ Err f) × (n ≡ number)
 IsReadSoFar (Err _) old new number reading = ⊥
 
-abbrev pub IsRead : Result Unit TreeFault → List Object → Result (List Object) TreeFault → Type 0
-IsRead (Ok u) tree reading = reading ≡ Ok tree
-IsRead (Err f) tree reading = reading ≡ Err f
+abbrev pub IsReadAs : Result Unit TreeFault → List Object → Result (List Object) TreeFault → Type 0
+IsReadAs (Ok u) tree reading = reading ≡ Ok tree
+IsReadAs (Err f) tree reading = reading ≡ Err f

@@ -6,7 +6,7 @@ use Rattle.oca_tree.specs.declared.tree.ObjectInfo.{ObjectInfo}
 use Rattle.oca_tree.specs.declared.tree.Setting.{Setting}
 use Rattle.oca_tree.specs.declared.tree.Setting.TheVariants.{Number}
 use Rattle.oca_tree.specs.Readers.{setting_at}
-use Rattle.oca_tree.specs.Copies.{Stored, stored_at, names_at, lockable_at}
+use Rattle.oca_tree.specs.Copies.{Stored, stored_at, names_of_ono, lockable_at}
 use Rattle.oca_textree.specs.Written.{place_fields, value_fields, end_fields, start_fields}
 
 abbrev pub stored_flags : Option Stored → Option (List Bool)
@@ -24,12 +24,13 @@ root_text (Some stored) = codes "root " ++ start_fields stored.enabled stored.la
 abbrev pub object_text : List Object → ObjectInfo → List ℕ
 object_text tree info =
     place_fields info.ono.0 info.container.0
-    ++ value_fields info.class (setting_at tree info.ono.0) (names_at tree info.ono.0)
+    ++ value_fields info.class (setting_at tree info.ono.0) (names_of_ono tree info.ono.0)
     (stored_flags (stored_at tree info.ono.0))
     ++ end_text (lockable_at tree info.ono.0) info.role (stored_at tree info.ono.0)
 
-abbrev pub line_text : List Object → ObjectInfo → List ℕ
-line_text tree info = (if info.container.0 == 0 then root_text (stored_at tree info.ono.0) else object_text tree info)
+abbrev pub tree_line_text : List Object → ObjectInfo → List ℕ
+tree_line_text tree info =
+    (if info.container.0 == 0 then root_text (stored_at tree info.ono.0) else object_text tree info)
     ++ 10 ∷ []
 
 -- ---- what fits a line
@@ -50,5 +51,5 @@ few_flags (Some flags) = length flags
 -- what a tree answers of the object with this number fits a line
 pub record Fits (tree : List Object) (number : ℕ) : Type 0 where
   pub setting : IsWritten (setting_at tree number)
-  pub names : length (names_at tree number) ≤ 16
+  pub names : length (names_of_ono tree number) ≤ 16
   pub flags : few_flags (stored_flags (stored_at tree number)) ≤ 16

@@ -43,8 +43,8 @@ is_quoted (Some []) = false
 is_quoted (Some (b ∷ bs)) = b == 34
 
 -- the next field as a text, and what is left
-unfoldable pub text_at : Option (List ℕ) → Result (List ℕ × Option (List ℕ)) ObjectFault
-text_at rest =
+unfoldable pub text_in_field : Option (List ℕ) → Result (List ℕ × Option (List ℕ)) ObjectFault
+text_in_field rest =
     then_by (field_at rest)
     (λ f. then_by (some_or_fault fault.Text (field_text (is_quoted rest) f.0)) (λ text. Ok (text, f.1)))
 
@@ -67,8 +67,8 @@ named_after quoted names (n ∷ more) =
     if nat_le 16 (length names) then Err fault.Range else named_after quoted (names ++ text ∷ []) more)
 
 -- the next field as names between commas, and what is left
-unfoldable pub names_at : Option (List ℕ) → Result (List (List ℕ) × Option (List ℕ)) ObjectFault
-names_at rest =
+unfoldable pub names_in_field : Option (List ℕ) → Result (List (List ℕ) × Option (List ℕ)) ObjectFault
+names_in_field rest =
     then_by (field_at rest)
     (λ f. then_by (named_after (is_quoted rest) [] (split_on 44 f.0)) (λ names. Ok (names, f.1)))
 
@@ -82,7 +82,7 @@ pub record Positions : Type 0 where
 unfoldable pub switch_at : Option (List ℕ) → Result Positions ObjectFault
 switch_at rest =
     then_by (field_at rest) (λ a. then_by (some_or_fault fault.Value (flags_after [] a.0)) (λ flags.
-    then_by (names_at a.1) (λ b.
+    then_by (names_in_field a.1) (λ b.
     then_by (field_at b.1) (λ c. then_by (some_or_fault fault.Number (number_of 5 65535 c.0)) (λ position.
     Ok (record { flags = flags; names = b.0; position = position; rest = c.1 }))))))
 
@@ -111,7 +111,7 @@ unfoldable pub start_at : Option (List ℕ) → Result (Bool × List ℕ) Object
 start_at rest =
     then_by (field_at rest)
     (λ word. then_by (some_or_fault fault.Value (one_of (codes "on") true (codes "off") false word.0)) (λ enabled.
-    then_by (text_at word.1) (λ label. ended label.1 (enabled, label.0))))
+    then_by (text_in_field word.1) (λ label. ended label.1 (enabled, label.0))))
 
 pub record Ending : Type 0 where
   pub lockable : Bool
@@ -125,7 +125,7 @@ ending_at rest =
     then_by (field_at rest)
     (λ word. then_by (some_or_fault fault.Lockable (one_of (codes "lockable") true (codes "no-lock") false word.0))
     (λ lockable.
-    then_by (text_at word.1) (λ role.
+    then_by (text_in_field word.1) (λ role.
     then_by (start_at role.1) (λ start.
     Ok (record { lockable = lockable; role = role.0; enabled = start.0; label = start.1 })))))
 

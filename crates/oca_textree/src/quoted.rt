@@ -2,7 +2,7 @@
 ghost use Rattle.std.specs.Prelude.{◌≡◌};
 ghost use Rattle.std.specs.Option.{option_copied};
 ghost use Rattle.oca_textree.specs.Stored.{short, short_utf8, digits_text, field_text as field_text_of};
-ghost use Rattle.oca_textree.specs.Stored.{is_quoted as stands_quoted, text_at as next_text};
+ghost use Rattle.oca_textree.specs.Stored.{is_quoted as stands_quoted, text_in_field as next_text};
 ghost use Rattle.oca_textree.specs.PrivateStored.{text_view};
 
 use super::fault::ObjectFault;
@@ -73,7 +73,7 @@ pub fn field_text(quoted: bool, bytes: &[u8]) -> Option<Text>
 }
 
 /// The text that the next field says, and what is left.
-#[tactic(auto, unfolding(crate::specs::Stored::text_at))]
+#[tactic(auto, unfolding(crate::specs::Stored::text_in_field))]
 pub fn text_at(rest: Option<&[u8]>) -> Result<(Text, Option<&[u8]>), ObjectFault>
     ensures { text_view result ≡ next_text (option_copied rest.entry) }
 {

@@ -3,7 +3,8 @@ ghost use Rattle.std.specs.Prelude.{◌≡◌, ◌≤◌, [], ◌∷◌, length,
 ghost use Rattle.std.specs.Option.{option_copied};
 ghost use Rattle.oca_script.specs.Fields.{split_on};
 ghost use Rattle.oca_types.specs.declared.class.Class.TheVariants.{Switch};
-ghost use Rattle.oca_textree.specs.Stored.{flags_after, named_after, names_at, switch_at, start_at, ending_at, kept_by};
+ghost use Rattle.oca_textree.specs.Stored.{flags_after, named_after, names_in_field, switch_at, start_at, ending_at};
+ghost use Rattle.oca_textree.specs.Stored.{kept_by};
 ghost use Rattle.oca_textree.specs.Stored.{switch_flagged, stored_with, stored_as, stored_by};
 ghost use Rattle.oca_textree.specs.PrivateLines.{Became};
 ghost use Rattle.oca_textree.specs.PrivateStored.{flags_view, named_view, names_rest_view, switch_view, ending_in};
@@ -87,13 +88,13 @@ fn add_names(text: &[u8], quoted: bool, names: &mut Names) -> Result<(), ObjectF
 }
 
 /// Adds the names of positions of the next field. Returns what is left.
-#[tactic(auto, unfolding(crate::specs::Stored::names_at))]
+#[tactic(auto, unfolding(crate::specs::Stored::names_in_field))]
 fn names_field<'a>(
     rest: Option<&'a [u8]>,
     names: &mut Names,
 ) -> Result<Option<&'a [u8]>, ObjectFault>
     requires { names.old.items ≡ [] }
-    ensures { names_rest_view result names.new.items ≡ names_at (option_copied rest.entry) }
+    ensures { names_rest_view result names.new.items ≡ names_in_field (option_copied rest.entry) }
 {
     let quoted = is_quoted(rest);
     let (text, rest) = field(rest)?;

@@ -5,7 +5,7 @@ ghost use Rattle.oca_tree.specs.Building.{root};
 ghost use Rattle.oca_textree.specs.PrivateStored.{root_view};
 ghost use Rattle.oca_script.specs.Fields.{split_at, split_on};
 ghost use Rattle.oca_textree.specs.Stored.{after_line};
-ghost use Rattle.oca_textree.specs.PrivateLines.{IsRead, IsReadSoFar};
+ghost use Rattle.oca_textree.specs.PrivateLines.{IsReadAs, IsReadSoFar};
 ghost use Rattle.oca_textree.specs.Texts.{objects_of_text, line_before, from_root, rooted_by, after_lines};
 ghost use Rattle.oca_textree.specs.declared.fault.TreeFault.TheVariants.{NoMemory, Line};
 ghost use Rattle.oca_textree.specs.declared.fault.ObjectFault.{ObjectFault as Fault};
@@ -117,7 +117,7 @@ fn most_room() -> Room
 fn add_lines(builder: &mut TreeBuilder, first: u64, text: &[u8]) -> Result<(), TreeFault>
     requires room { builder.old.room ≡ 4096 }
     requires first { first ≤ 2 }
-    ensures { IsRead result builder.new.list (after_lines first builder.old.list (split_on 10 text.now)) }
+    ensures { IsReadAs result builder.new.list (after_lines first builder.old.list (split_on 10 text.now)) }
 {
     let mut rest = text;
     let mut number = first;

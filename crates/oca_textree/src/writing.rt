@@ -13,7 +13,7 @@ ghost use Rattle.oca_textree.specs.Written.{holds_mark, holds_comma, position_fi
 ghost use Rattle.oca_textree.specs.Written.{class_before, value_fields, start_fields, place_fields};
 ghost use Rattle.oca_textree.specs.Written.{text_of};
 ghost use Rattle.oca_textree.specs.PrivateWritten.{IsInteger, IsWritten, few_flags, Fits, stored_flags, end_text};
-ghost use Rattle.oca_textree.specs.PrivateWritten.{root_text, object_text, line_text};
+ghost use Rattle.oca_textree.specs.PrivateWritten.{root_text, object_text, tree_line_text};
 
 use oca_script::escape::has_hidden;
 use oca_script::{Printer, Sink, WriteFailed};
@@ -490,7 +490,7 @@ fn put_line<W: Sink>(tree: &Tree, info: &ObjectInfo, printer: &mut Printer<W>)
     requires fits { Fits tree.now info.now.ono.0 }
     requires room { length printer.old.held + 4000 ≤ 8192 }
     ensures { printer.new
-        ≡ output printer.old.contents (printer.old.held ++ line_text tree.now info.now) printer.old.failed }
+        ≡ output printer.old.contents (printer.old.held ++ tree_line_text tree.now info.now) printer.old.failed }
 {
     if info.container.0 == 0 {
         put_root(tree.start_of(info.ono), printer);
@@ -507,7 +507,7 @@ fn print_line<W: Sink>(
     printer: &mut Printer<W>,
 ) -> Result<(), WriteFailed>
     requires { Fits tree.now info.now.ono.0 }
-    ensures { Prints result printer.old printer.new (line_text tree.now info.now) }
+    ensures { Prints result printer.old printer.new (tree_line_text tree.now info.now) }
 {
     printer.make_room(LINE_ROOM)?;
     put_line(tree, info, printer);

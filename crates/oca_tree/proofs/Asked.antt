@@ -15,9 +15,9 @@ use Rattle.oca_tree.specs.declared.object.Value.TheVariants as values
 use Rattle.oca_tree.specs.declared.request.Request.{Request}
 use Rattle.oca_tree.specs.declared.request.Request.TheVariants as requests
 use Rattle.oca_tree.specs.declared.request.SwitchRequest.TheVariants as switches
-use Rattle.oca_tree.specs.Kinds.{number_at}
+use Rattle.oca_tree.specs.Kinds.{number_of_kind_at}
 use Rattle.oca_model.specs.Parameters.{whole, pair_at, items_at, list_at}
-use Rattle.oca_tree.specs.Requests.{positions, with_parameters, without_parameters, setting_request, request_of}
+use Rattle.oca_tree.specs.Requests.{positions, with_parameters, without_parameters, setting_request, request_carried}
 use Rattle.oca_tree.specs.Execution.{request_at}
 use Rattle.oca_model.proofs.Steps.{with_first}
 
@@ -94,10 +94,10 @@ asked_setting (values.Mute state) count params r e = cc
 asked_setting (values.Polarity state) count params r e = cc
 asked_setting (values.Switch switch) count params r e = cc
 asked_setting (values.Boolean truth) count params r e = asked_one (values.Boolean truth) requests.SetBoolean (λ x. tt) (with_parameters 1 bool_at count params) r e
-asked_setting (values.Number range) count params r e = asked_one (values.Number range) requests.SetNumber (λ x. tt) (with_parameters 1 (number_at range.kind) count params) r e
+asked_setting (values.Number range) count params r e = asked_one (values.Number range) requests.SetNumber (λ x. tt) (with_parameters 1 (number_of_kind_at range.kind) count params) r e
 
-asked_fits : (value : Value) (method : Method) (count : ℕ) (params : List ℕ) (r : Request) → request_of value method count params ≡ Some r → FitsPositions value r
-unfolding request_of FitsPositions
+asked_fits : (value : Value) (method : Method) (count : ℕ) (params : List ℕ) (r : Request) → request_carried value method count params ≡ Some r → FitsPositions value r
+unfolding request_carried FitsPositions
 asked_fits value methods.GetClassIdentification count params r e = asked_without_parameters value requests.GetClassIdentification tt count params r e
 asked_fits value methods.GetLockable count params r e = asked_without_parameters value requests.GetLockable tt count params r e
 asked_fits value methods.LockTotal count params r e = asked_without_parameters value requests.LockTotal tt count params r e

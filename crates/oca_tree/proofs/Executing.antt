@@ -16,7 +16,7 @@ use Rattle.oca_types.specs.Peers.{CommandFields}
 use Rattle.oca_tree.specs.declared.object.Object.{Object}
 use Rattle.oca_tree.specs.declared.request.Request.{Request}
 use Rattle.oca_tree.specs.Objects.{object_of, has_number, with_object}
-use Rattle.oca_tree.specs.Requests.{request_of, is_out_of_range, is_invalid}
+use Rattle.oca_tree.specs.Requests.{request_carried, is_out_of_range, is_invalid}
 use Rattle.oca_tree.specs.Execution.{execution, refused, carried_out, parameters, answer, parameter_count, changed, status_of, by_status, request_at, kind_at}
 use Rattle.oca_tree.specs.Trees.{IsTree, IsSound}
 use Rattle.oca_tree.specs.Written.{is_ok}
@@ -37,7 +37,7 @@ known_access class id method reached e = by (row_at (own_methods class id.level)
     by (Some m) left h = cc
 
 pub request_ok : (o : Object) (peer : Peer) (c : CommandFields) (method : Method) (r : Request) → MayCall method o peer c
-    → request_of o.value method c.count c.params ≡ Some r → is_out_of_range o.value r ≡ false → is_invalid o.lockable o.lock r ≡ false
+    → request_carried o.value method c.count c.params ≡ Some r → is_out_of_range o.value r ≡ false → is_invalid o.lockable o.lock r ≡ false
     → IsRequestFor (Ok r) o peer c
 request_ok o peer c method r (kind, free) asked within valid =
     (rw kind asked, within, valid, λ tree. rw (kind, free, asked, within, valid) refl)
@@ -46,7 +46,7 @@ request_ok o peer c method r (kind, free) asked within valid =
 pub plain_ok : (o : Object) (peer : Peer) (c : CommandFields) (method : Method) (r : Request) → MayCall method o peer c → plain_request method ≡ Some r
     → c.count ≡ 0 → length c.params ≡ 0 → IsRequestFor (Ok r) o peer c
 plain_ok o peer c method r may plain none empty =
-    let asked : request_of o.value method c.count c.params ≡ Some r = plain_asks method r plain o.value c.count c.params ∙ rw (none, empty) refl in
+    let asked : request_carried o.value method c.count c.params ≡ Some r = plain_asks method r plain o.value c.count c.params ∙ rw (none, empty) refl in
     request_ok o peer c method r may asked (plain_in_range method r plain o.value) (plain_valid method r plain o.lockable o.lock)
 
 module _ (tree : List Object) (peer : Peer) (c : CommandFields) where

@@ -22,9 +22,9 @@ use Rattle.oca_tree.specs.declared.setting.SetFault.TheVariants as faults
 use Rattle.oca_tree.specs.Objects.{class_of, object_of, has_number, with_object}
 use Rattle.oca_tree.specs.Locks.{lock_refuses}
 use Rattle.oca_tree.specs.Places.{is_block_value}
-use Rattle.oca_tree.specs.Requests.{request_of, is_out_of_range, is_invalid}
-use Rattle.oca_tree.specs.Execution.{Execution, changed, execution, answer, joined, parameters, switch_parameters, kind_at, request_at, is_locked}
-use Rattle.oca_tree.specs.Settings.{request_for, is_of_its_class, fault_at, fault_in, set_fault, front, set_where, after_set, AnyPeerSetsTheSame, status_for, SetsTheSame, FrontSetsAsPeersDo}
+use Rattle.oca_tree.specs.Requests.{request_carried, is_out_of_range, is_invalid}
+use Rattle.oca_tree.specs.Execution.{TreeAndReply, changed, execution, answer, joined, parameters, switch_parameters, kind_at, request_at, is_locked}
+use Rattle.oca_tree.specs.Settings.{request_for, is_of_its_class, fault_at, set_fault_in, set_fault, front, set_where, after_set, AnyPeerSetsTheSame, status_for, SetsTheSame, FrontSetsAsPeersDo}
 use Rattle.oca_tree.specs.Trees.{IsTree}
 use Rattle.oca_tree.proofs.Asked.{FitsPositions}
 use Rattle.oca_tree.proofs.Executing.{found_at, within_at, sound_at, placed, known_access, request_ok, exec_refused, exec_ok}
@@ -90,7 +90,7 @@ to number = record { handle = 0; target = number; level = 0; index = 0; count = 
 
 pub fault_none : (tree : List Object) (number : ℕ) (value : Value) → object_of tree number ≡ None → set_fault tree number value ≡ Some faults.NoObject
 unfolding set_fault
-fault_none tree number value e = ap (λ x. fault_in x value) e
+fault_none tree number value e = ap (λ x. set_fault_in x value) e
 
 pub unset : (tree : List Object) (number : ℕ) (value : Value) (f : SetFault) → set_fault tree number value ≡ Some f → after_set tree number value ≡ tree
 unfolding after_set
@@ -102,7 +102,7 @@ module _ (tree : List Object) (number i : ℕ) (o : Object) (place : Some i ≡ 
 
   pub fault_there : set_fault tree number value ≡ fault_at o.value value
   unfolding set_fault
-  fault_there = ap (λ x. fault_in x value) found
+  fault_there = ap (λ x. set_fault_in x value) found
 
   module _ (fine : fault_at o.value value ≡ None) where
     pub set_there : after_set tree number value ≡ set tree i (changed o front (request_for value))
@@ -194,19 +194,19 @@ unfolding set_fault after_set
 as_peers tree peer c o value found same free asked = by_kind (kind_at (Some o) c) refl free asked
   where
     fault_is : (out : Bool) → is_out_of_range o.value (request_for value) ≡ out → set_fault tree c.target value ≡ cond out (Some faults.OutOfRange) None
-    fault_is out e = ap (λ x. fault_in x value) found ∙ fault_taken o.value value out same e
+    fault_is out e = ap (λ x. set_fault_in x value) found ∙ fault_taken o.value value out same e
 
     set_here : is_out_of_range o.value (request_for value) ≡ false → after_set tree c.target value ≡ set_where None tree (Some o) value
     set_here e = ap (λ f. set_where f tree (object_of tree c.target) value) (fault_is false e) ∙ ap (λ x. set_where None tree x value) found
 
     by_range : (method : Method) → kind_at (Some o) c ≡ Known method (access method) → lock_refuses o.lock peer (access method) ≡ false →
-        request_of o.value method c.count c.params ≡ Some (request_for value) → (out : Bool) → is_out_of_range o.value (request_for value) ≡ out →
+        request_carried o.value method c.count c.params ≡ Some (request_for value) → (out : Bool) → is_out_of_range o.value (request_for value) ≡ out →
         SetsTheSame tree c.target value (execution tree peer c)
     by_range method kind free asked true e =
         let refused = exec_refused tree peer c o found statuses.ParameterOutOfRange (λ t. rw (kind, free, asked, e) refl) in
         record {
-          tree_is = ap (λ (x : Execution). x.tree) refused ∙ sym (unset tree c.target value faults.OutOfRange (fault_is true e));
-          status_is = ap (λ (x : Execution). x.status) refused ∙ sym (ap status_for (fault_is true e));
+          tree_is = ap (λ (x : TreeAndReply). x.tree) refused ∙ sym (unset tree c.target value faults.OutOfRange (fault_is true e));
+          status_is = ap (λ (x : TreeAndReply). x.status) refused ∙ sym (ap status_for (fault_is true e));
         }
     by_range method kind free asked false e =
         let r = request_for value in
@@ -215,8 +215,8 @@ as_peers tree peer c o value found same free asked = by_kind (kind_at (Some o) c
         let short : length (answer tree o r) ≤ 1452 = rw none (omega arith) in
         let carried = exec_ok tree peer c o found r ok short in
         record {
-          tree_is = ap (λ (x : Execution). x.tree) carried ∙ ap (with_object tree) (any_peer o peer value) ∙ sym (set_here e);
-          status_is = ap (λ (x : Execution). x.status) carried ∙ sym (ap status_for (fault_is false e));
+          tree_is = ap (λ (x : TreeAndReply). x.tree) carried ∙ ap (with_object tree) (any_peer o peer value) ∙ sym (set_here e);
+          status_is = ap (λ (x : TreeAndReply). x.status) carried ∙ sym (ap status_for (fault_is false e));
         }
 
     by_kind : (k : MethodKind) → kind_at (Some o) c ≡ k → is_locked (Some o) k peer ≡ false → request_at (Some o) k c ≡ Some (request_for value) →

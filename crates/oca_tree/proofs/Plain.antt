@@ -15,7 +15,7 @@ use Rattle.oca_tree.specs.declared.object.Value.TheVariants as values
 use Rattle.oca_tree.specs.declared.request.Request.{Request}
 use Rattle.oca_tree.specs.declared.request.Request.TheVariants as requests
 use Rattle.oca_tree.specs.declared.request.SwitchRequest.TheVariants as switches
-use Rattle.oca_tree.specs.Requests.{request_of, without_parameters, is_unlisted, is_bad_switch_request, is_outside, is_out_of_range, is_invalid}
+use Rattle.oca_tree.specs.Requests.{request_carried, without_parameters, is_unlisted, is_bad_switch_request, is_outside, is_out_of_range, is_invalid}
 use Rattle.oca_tree.specs.Execution.{changed, changed_value, changed_mute, changed_polarity, changed_positions, changed_truth, changed_range}
 use Rattle.oca_tree.specs.PrivateSteps.{plain_request}
 
@@ -55,13 +55,13 @@ module _ (r : Request) (h : IsHarmless r) where
   unchanged o peer = h.value o peer ∙ ap (λ v. record o { value = v }) (same_value o.value)
 
 abbrev IsPlain : Method → Request → Type 0
-IsPlain method r = ((v : Value) (count : ℕ) (params : List ℕ) → request_of v method count params ≡ without_parameters r count params) × IsHarmless r
+IsPlain method r = ((v : Value) (count : ℕ) (params : List ℕ) → request_carried v method count params ≡ without_parameters r count params) × IsHarmless r
 
 asks_this : (method : Method) (q r : Request) → Some q ≡ Some r → IsPlain method q → IsPlain method r
 asks_this method q r e plain = let same : q ≡ r = cc in subst (IsPlain method) same plain
 
 plain : (method : Method) (r : Request) → plain_request method ≡ Some r → IsPlain method r
-unfolding request_of is_invalid changed
+unfolding request_carried is_invalid changed
 plain methods.GetClassIdentification r e = asks_this methods.GetClassIdentification requests.GetClassIdentification r e (λ v count params. refl, record { listed = refl; there = λ s. refl; inside = λ s. refl; valid = λ s t. refl; value = λ s t. refl; mute = λ s. refl; polarity = λ s. refl; switch = λ s. refl; truth = λ s. refl; range = λ s. refl })
 plain methods.GetLockable r e = asks_this methods.GetLockable requests.GetLockable r e (λ v count params. refl, record { listed = refl; there = λ s. refl; inside = λ s. refl; valid = λ s t. refl; value = λ s t. refl; mute = λ s. refl; polarity = λ s. refl; switch = λ s. refl; truth = λ s. refl; range = λ s. refl })
 plain methods.LockTotal r e = cc
@@ -91,7 +91,7 @@ plain methods.GetSetting r e = asks_this methods.GetSetting requests.GetSetting 
 plain methods.SetSetting r e = cc
 
 module _ (method : Method) (r : Request) (e : plain_request method ≡ Some r) where
-  pub plain_asks : (v : Value) (count : ℕ) (params : List ℕ) → request_of v method count params ≡ without_parameters r count params
+  pub plain_asks : (v : Value) (count : ℕ) (params : List ℕ) → request_carried v method count params ≡ without_parameters r count params
   plain_asks = (plain method r e).0
 
   pub plain_in_range : (v : Value) → is_out_of_range v r ≡ false

@@ -20,15 +20,15 @@ use Rattle.oca_model.specs.declared.value.PolarityState.{PolarityState}
 use Rattle.oca_model.specs.declared.value.MuteState.TheVariants.{Muted, Unmuted}
 use Rattle.oca_model.specs.declared.value.PolarityState.TheVariants.{NonInverted, Inverted}
 use Rattle.oca_tree.specs.declared.request.Request.TheVariants as requests
-use Rattle.oca_tree.specs.Kinds.{number_class, number_at}
+use Rattle.oca_tree.specs.Kinds.{number_class, number_of_kind_at}
 use Rattle.oca_tree.specs.Objects.{class_of}
-use Rattle.oca_tree.specs.Requests.{request_of, setting_request}
+use Rattle.oca_tree.specs.Requests.{request_carried, setting_request}
 use Rattle.oca_tree.specs.Execution.{kind_at}
 use Rattle.oca_tree.specs.Settings.{request_for}
 use Rattle.oca_model.specs.declared.value.Value.{Value}
 use Rattle.oca_model.specs.declared.value.Value.TheVariants.{Mute, Polarity, Switch, Boolean, Int8, Int16, Int32, Int64, Uint8, Uint16, Uint32, Uint64}
 use Rattle.oca_model.specs.Values.{mute_number, polarity_number, class_of_value, value_encoding, set_method, IsOfItsType}
-use Rattle.oca_tree.specs.SetRequests.{command_of, IsUnderstood}
+use Rattle.oca_tree.specs.SetRequests.{command_for, IsUnderstood}
 
 -- ---- integer actuators
 
@@ -59,7 +59,7 @@ same_kind j k e = let f : Some j ≡ Some k = sym (kind_back j) ∙ ap kind_of e
 no_kind : (c : Class) (k : NumberKind) → kind_of c ≡ None → c ≡ number_class k → ⊥
 no_kind c k n e = let f : None ≡ Some k = sym n ∙ ap kind_of e ∙ kind_back k in cc
 
-module _ (k : NumberKind) (z : ℤ) (bytes : List ℕ) (reads : number_at k bytes ≡ Some (z, [])) where
+module _ (k : NumberKind) (z : ℤ) (bytes : List ℕ) (reads : number_of_kind_at k bytes ≡ Some (z, [])) where
   number_set : (o : Held) → class_of o ≡ number_class k → setting_request o 1 bytes ≡ Some (requests.SetNumber z)
   unfolding class_of
   number_set held.Block e = absurd (no_kind class.Block k refl e)
@@ -90,18 +90,18 @@ truth_set (held.Boolean x) true e = refl
 truth_set (held.Boolean x) false e = refl
 truth_set (held.Number range) b e = absurd (no_kind class.Boolean range.kind refl (sym e))
 
-mute_set : (o : Held) (s : MuteState) → request_of o SetState 1 (unsigned_encoding w8 (mute_number s)) ≡ Some (requests.SetState (mute_number s))
-unfolding request_of unsigned_at
+mute_set : (o : Held) (s : MuteState) → request_carried o SetState 1 (unsigned_encoding w8 (mute_number s)) ≡ Some (requests.SetState (mute_number s))
+unfolding request_carried unsigned_at
 mute_set o Muted = refl
 mute_set o Unmuted = refl
 
-polarity_set : (o : Held) (s : PolarityState) → request_of o SetState 1 (unsigned_encoding w8 (polarity_number s)) ≡ Some (requests.SetState (polarity_number s))
-unfolding request_of unsigned_at
+polarity_set : (o : Held) (s : PolarityState) → request_carried o SetState 1 (unsigned_encoding w8 (polarity_number s)) ≡ Some (requests.SetState (polarity_number s))
+unfolding request_carried unsigned_at
 polarity_set o NonInverted = refl
 polarity_set o Inverted = refl
 
-understood : (o : Held) (v : Value) → IsOfItsType v → class_of o ≡ class_of_value v → request_of o (set_method v) 1 (value_encoding v) ≡ Some (request_for v)
-unfolding request_of value_encoding number_at
+understood : (o : Held) (v : Value) → IsOfItsType v → class_of o ≡ class_of_value v → request_carried o (set_method v) 1 (value_encoding v) ≡ Some (request_for v)
+unfolding request_carried value_encoding number_of_kind_at
 understood o (Mute s) fits e = mute_set o s
 understood o (Polarity s) fits e = polarity_set o s
 understood o (Switch x) fits e = rw (unsigned_whole w16 (unsigned_encoding w16 x) x refl (fixed_u16.one x (unsigned_encoding w16 x) (fits, refl))) refl
@@ -119,6 +119,6 @@ understood o (Uint64 x) fits e = number_set kinds.Uint64 (pos x) (unsigned_encod
 
 pub is_understood : IsUnderstood
 is_understood v request handle target o fits sets e =
-    let c = command_of handle target request in
+    let c = command_for handle target request in
     let known : kind_at (Some o) c ≡ Known (set_method v) (access (set_method v)) = ap (λ k. method_kind k request.method) e ∙ sets.method in
     rw (known, sets.count, sets.params) (understood o.value v fits e)

@@ -14,7 +14,7 @@ use Rattle.oca_types.specs.declared.class.MethodKind.{MethodKind}
 use Rattle.oca_types.specs.declared.class.MethodKind.TheVariants.{Known, LeftOut, Unknown}
 use Rattle.oca_types.specs.Methods.{method_kind, access}
 use Rattle.oca_types.specs.Reading.{unsigned_at, bool_at, text_at}
-use Rattle.oca_types.specs.PrivateMethods.{at, place_of}
+use Rattle.oca_types.specs.PrivateMethods.{at, method_place}
 use Rattle.oca_types.proofs.MethodIds.{known_place, known_access}
 use Rattle.oca_tree.specs.declared.object.NumberKind.{NumberKind}
 use Rattle.oca_tree.specs.declared.object.NumberKind.TheVariants as kinds
@@ -28,10 +28,10 @@ use Rattle.oca_model.specs.declared.value.PolarityState.TheVariants.{NonInverted
 use Rattle.oca_model.specs.declared.value.Value.{Value}
 use Rattle.oca_model.specs.declared.value.Value.TheVariants as to_set
 use Rattle.oca_model.specs.Values.{class_of_value}
-use Rattle.oca_tree.specs.Kinds.{number_class, number_at, natural_at}
+use Rattle.oca_tree.specs.Kinds.{number_class, number_of_kind_at, natural_at}
 use Rattle.oca_tree.specs.Objects.{class_of}
 use Rattle.oca_model.specs.Parameters.{whole, pair_at, list_at}
-use Rattle.oca_tree.specs.Requests.{positions as count_of, with_parameters, without_parameters, request_of, is_out_of_range}
+use Rattle.oca_tree.specs.Requests.{positions as count_of, with_parameters, without_parameters, request_carried, is_out_of_range}
 use Rattle.oca_tree.specs.Execution.{kind_at, request_at}
 use Rattle.oca_tree.specs.Settings.{request_for, sets_a_value, EachSettingIsAValue}
 
@@ -90,8 +90,8 @@ asked_one f k all None r e = cc
 asked_one f k all (Some x) r e = let same : f x ≡ r = cc in ap setter_of (sym same) ∙ all x
 
 -- a request is asked by the method that sets so
-asked_by : (held : Held) (m : Method) (count : ℕ) (params : List ℕ) (r : Request) → request_of held m count params ≡ Some r → setter_of r ≡ setter m
-unfolding request_of
+asked_by : (held : Held) (m : Method) (count : ℕ) (params : List ℕ) (r : Request) → request_carried held m count params ≡ Some r → setter_of r ≡ setter m
+unfolding request_carried
 asked_by held methods.GetClassIdentification count params r e = sym (ap setter_of (asked_none (requests.GetClassIdentification) count params r e))
 asked_by held methods.GetLockable count params r e = sym (ap setter_of (asked_none (requests.GetLockable) count params r e))
 asked_by held methods.LockTotal count params r e = sym (ap setter_of (asked_none (requests.LockTotal) count params r e))
@@ -123,7 +123,7 @@ asked_by (values.Mute state) methods.SetSetting count params r e = cc
 asked_by (values.Polarity state) methods.SetSetting count params r e = cc
 asked_by (values.Switch switch) methods.SetSetting count params r e = cc
 asked_by (values.Boolean truth) methods.SetSetting count params r e = asked_one requests.SetBoolean (Some methods.SetSetting) (λ x. refl) (with_parameters 1 bool_at count params) r e
-asked_by (values.Number range) methods.SetSetting count params r e = asked_one requests.SetNumber (Some methods.SetSetting) (λ x. refl) (with_parameters 1 (number_at range.kind) count params) r e
+asked_by (values.Number range) methods.SetSetting count params r e = asked_one requests.SetNumber (Some methods.SetSetting) (λ x. refl) (with_parameters 1 (number_of_kind_at range.kind) count params) r e
 
 -- SetState stands in the table of mutes and polarities alone, and SetPosition in that of switches
 no_number_state : (kind : NumberKind) (m : Method) → method_kind (number_class kind) (at 4 2) ≡ Known m Write → ⊥
@@ -179,15 +179,15 @@ positions (values.Number range) n e = absurd (no_number_state range.kind methods
 
 -- what SetSetting asks is a truth of a Boolean, and a number of a number
 truths : (held : Held) (truth : Bool) (count : ℕ) (params : List ℕ) →
-    request_of held methods.SetSetting count params ≡ Some (requests.SetBoolean truth) →
+    request_carried held methods.SetSetting count params ≡ Some (requests.SetBoolean truth) →
     IsSetting (class_of held) (requests.SetBoolean truth)
-unfolding request_of class_of
+unfolding request_carried class_of
 truths values.Block truth count params e = cc
 truths (values.Mute state) truth count params e = cc
 truths (values.Polarity state) truth count params e = cc
 truths (values.Switch switch) truth count params e = cc
 truths (values.Boolean held) truth count params e = (to_set.Boolean truth, refl, refl)
-truths (values.Number range) truth count params e = absurd (by (with_parameters 1 (number_at range.kind) count params) e)
+truths (values.Number range) truth count params e = absurd (by (with_parameters 1 (number_of_kind_at range.kind) count params) e)
   where
     by : (o : Option ℤ) → option_map requests.SetNumber o ≡ Some (requests.SetBoolean truth) → ⊥
     by None h = cc
@@ -204,8 +204,8 @@ natural w count params z e = by (count == 1) (unsigned_at w params) e
     by true (Some (n, b ∷ bs)) h = cc
 
 -- a number of the type that was read
-of_kind : (k : NumberKind) (count : ℕ) (params : List ℕ) (z : ℤ) → with_parameters 1 (number_at k) count params ≡ Some z → IsSetting (number_class k) (requests.SetNumber z)
-unfolding number_at
+of_kind : (k : NumberKind) (count : ℕ) (params : List ℕ) (z : ℤ) → with_parameters 1 (number_of_kind_at k) count params ≡ Some z → IsSetting (number_class k) (requests.SetNumber z)
+unfolding number_of_kind_at
 of_kind kinds.Int8 count params z e = (to_set.Int8 z, refl, refl)
 of_kind kinds.Int16 count params z e = (to_set.Int16 z, refl, refl)
 of_kind kinds.Int32 count params z e = (to_set.Int32 z, refl, refl)
@@ -216,9 +216,9 @@ of_kind kinds.Uint32 count params z e = let n = natural w32 count params z e in 
 of_kind kinds.Uint64 count params z e = let n = natural w64 count params z e in (to_set.Uint64 n.0, refl, ap requests.SetNumber n.1)
 
 numbers : (held : Held) (n : ℤ) (count : ℕ) (params : List ℕ) →
-    request_of held methods.SetSetting count params ≡ Some (requests.SetNumber n) →
+    request_carried held methods.SetSetting count params ≡ Some (requests.SetNumber n) →
     IsSetting (class_of held) (requests.SetNumber n)
-unfolding request_of class_of
+unfolding request_carried class_of
 numbers values.Block n count params e = cc
 numbers (values.Mute state) n count params e = cc
 numbers (values.Polarity state) n count params e = cc
@@ -228,21 +228,21 @@ numbers (values.Boolean held) n count params e = absurd (by (with_parameters 1 b
     by : (o : Option Bool) → option_map requests.SetBoolean o ≡ Some (requests.SetNumber n) → ⊥
     by None h = cc
     by (Some truth) h = cc
-numbers (values.Number range) n count params e = of_kind range.kind count params n (by (with_parameters 1 (number_at range.kind) count params) e)
+numbers (values.Number range) n count params e = of_kind range.kind count params n (by (with_parameters 1 (number_of_kind_at range.kind) count params) e)
   where
     by : (o : Option ℤ) → option_map requests.SetNumber o ≡ Some (requests.SetNumber n) → o ≡ Some n
     by None h = cc
     by (Some m) h = cc
 
 -- the method's own place
-placed_at : (held : Held) (id : MethodId) (m k : Method) (a : Access) → method_kind (class_of held) id ≡ Known m a → m ≡ k → method_kind (class_of held) (place_of k) ≡ Known k (access k)
+placed_at : (held : Held) (id : MethodId) (m k : Method) (a : Access) → method_kind (class_of held) id ≡ Known m a → m ≡ k → method_kind (class_of held) (method_place k) ≡ Known k (access k)
 placed_at held id m k a kind same =
     let here : method_kind (class_of held) id ≡ Known k (access k) =
     kind ∙ ap (Known m) (known_access (class_of held) id m a kind) ∙ ap (λ x. Known x (access x)) same in
     ap (method_kind (class_of held)) (sym (known_place (class_of held) id k here)) ∙ here
 
 value_of_request : (held : Held) (id : MethodId) (m : Method) (a : Access) (count : ℕ) (params : List ℕ) (r : Request) →
-    method_kind (class_of held) id ≡ Known m a → request_of held m count params ≡ Some r → sets_a_value r ≡ true →
+    method_kind (class_of held) id ≡ Known m a → request_carried held m count params ≡ Some r → sets_a_value r ≡ true →
     is_out_of_range held r ≡ false → IsSetting (class_of held) r
 value_of_request held id m a count params (requests.SetState n) kind asked sets out =
     let is = itself m methods.SetState (asked_by held m count params (requests.SetState n) asked) in
@@ -252,10 +252,10 @@ value_of_request held id m a count params (requests.Switch (switches.SetPosition
     positions held n (placed_at held id m methods.SetPosition a kind is)
 value_of_request held id m a count params (requests.SetBoolean truth) kind asked sets out =
     let is = itself m methods.SetSetting (asked_by held m count params (requests.SetBoolean truth) asked) in
-    truths held truth count params (ap (λ x. request_of held x count params) (sym is) ∙ asked)
+    truths held truth count params (ap (λ x. request_carried held x count params) (sym is) ∙ asked)
 value_of_request held id m a count params (requests.SetNumber n) kind asked sets out =
     let is = itself m methods.SetSetting (asked_by held m count params (requests.SetNumber n) asked) in
-    numbers held n count params (ap (λ x. request_of held x count params) (sym is) ∙ asked)
+    numbers held n count params (ap (λ x. request_carried held x count params) (sym is) ∙ asked)
 value_of_request held id m a count params requests.GetClassIdentification kind asked sets out = cc
 value_of_request held id m a count params requests.GetLockable kind asked sets out = cc
 value_of_request held id m a count params requests.LockTotal kind asked sets out = cc

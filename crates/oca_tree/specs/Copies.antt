@@ -42,8 +42,8 @@ abbrev pub names_of_one : Option Object → List (List ℕ)
 names_of_one None = []
 names_of_one (Some o) = names_in o.value
 
-abbrev pub names_at : List Object → ℕ → List (List ℕ)
-names_at tree number = names_of_one (object_of tree number)
+abbrev pub names_of_ono : List Object → ℕ → List (List ℕ)
+names_of_ono tree number = names_of_one (object_of tree number)
 
 abbrev pub lockable_at : List Object → ℕ → Option Bool
 lockable_at tree number = option_map (λ o. o.lockable) (object_of tree number)

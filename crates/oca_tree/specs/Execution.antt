@@ -32,7 +32,7 @@ use Rattle.oca_tree.specs.declared.request.SwitchRequest.TheVariants as switches
 use Rattle.oca_tree.specs.Kinds.{number_encoding}
 use Rattle.oca_tree.specs.Objects.{class_of, object_of, with_object, members, descendants}
 use Rattle.oca_tree.specs.Locks.{lock_refuses}
-use Rattle.oca_tree.specs.Requests.{request_of, is_out_of_range, is_invalid}
+use Rattle.oca_tree.specs.Requests.{request_carried, is_out_of_range, is_invalid}
 
 -- ---- encodings
 
@@ -169,7 +169,7 @@ kind_at None c = Unknown
 kind_at (Some o) c = method_kind (class_of o.value) (record { level = c.level; index = c.index })
 
 abbrev pub request_at : Option Object → MethodKind → CommandFields → Option Request
-request_at (Some o) (Known method access) c = request_of o.value method c.count c.params
+request_at (Some o) (Known method access) c = request_carried o.value method c.count c.params
 request_at _ _ c = None
 
 abbrev pub is_unknown : MethodKind → Bool
@@ -216,17 +216,17 @@ status_of tree peer o c = first_that_applies (status_lines tree peer o (kind_at 
 -- ---- the whole
 
 -- the tree after a command, and the status, the ParamCount and the parameters of the answer
-pub record Execution : Type 0 where
+pub record TreeAndReply : Type 0 where
   pub tree : List Object
   pub status : Status
   pub count : ℕ
   pub parameters : List ℕ
 
 -- a refusal changes nothing and has no parameters
-abbrev pub refused : List Object → Status → Execution
+abbrev pub refused : List Object → Status → TreeAndReply
 refused tree status = record { tree = tree; status = status; count = 0; parameters = [] }
 
-abbrev pub carried_out : List Object → Peer → Object → Request → Execution
+abbrev pub carried_out : List Object → Peer → Object → Request → TreeAndReply
 carried_out tree peer o r =
     record {
       tree = with_object tree (changed o peer r);
@@ -236,11 +236,11 @@ carried_out tree peer o r =
     }
 
 -- a command is carried out where its status is OK, and else refused
-abbrev pub by_status : List Object → Peer → Option Object → Option Request → Status → Execution
+abbrev pub by_status : List Object → Peer → Option Object → Option Request → Status → TreeAndReply
 by_status tree peer (Some o) (Some r) status.Ok = carried_out tree peer o r
 by_status tree peer _ _ status = refused tree status
 
-unfoldable pub execution : List Object → Peer → CommandFields → Execution
+unfoldable pub execution : List Object → Peer → CommandFields → TreeAndReply
 execution tree peer c =
     let o = object_of tree c.target in
     by_status tree peer o (request_at o (kind_at o c) c) (status_of tree peer o c)

@@ -47,12 +47,12 @@ abbrev pub natural_at : Width → List ℕ → Option (ℤ × List ℕ)
 natural_at w bytes = option_map (λ x. (pos x.0, x.1)) (unsigned_at w bytes)
 
 -- a number of the type at the front, and what stands behind it
-unfoldable pub number_at : NumberKind → List ℕ → Option (ℤ × List ℕ)
-number_at Int8 bytes = signed_at w8 bytes
-number_at Int16 bytes = signed_at w16 bytes
-number_at Int32 bytes = signed_at w32 bytes
-number_at Int64 bytes = signed_at w64 bytes
-number_at Uint8 bytes = natural_at w8 bytes
-number_at Uint16 bytes = natural_at w16 bytes
-number_at Uint32 bytes = natural_at w32 bytes
-number_at Uint64 bytes = natural_at w64 bytes
+unfoldable pub number_of_kind_at : NumberKind → List ℕ → Option (ℤ × List ℕ)
+number_of_kind_at Int8 bytes = signed_at w8 bytes
+number_of_kind_at Int16 bytes = signed_at w16 bytes
+number_of_kind_at Int32 bytes = signed_at w32 bytes
+number_of_kind_at Int64 bytes = signed_at w64 bytes
+number_of_kind_at Uint8 bytes = natural_at w8 bytes
+number_of_kind_at Uint16 bytes = natural_at w16 bytes
+number_of_kind_at Uint32 bytes = natural_at w32 bytes
+number_of_kind_at Uint64 bytes = natural_at w64 bytes

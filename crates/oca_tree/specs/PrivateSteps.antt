@@ -28,7 +28,7 @@ use Rattle.oca_tree.specs.declared.setting.SetFault.{SetFault}
 use Rattle.oca_tree.specs.Places.{places, reaches}
 use Rattle.oca_tree.specs.Objects.{Store}
 use Rattle.oca_tree.specs.Locks.{lock_refuses}
-use Rattle.oca_tree.specs.Requests.{request_of, is_out_of_range, is_invalid}
+use Rattle.oca_tree.specs.Requests.{request_carried, is_out_of_range, is_invalid}
 use Rattle.oca_tree.specs.Execution.{identification_encoding, block_member_encoding, joined, answer, kind_at}
 use Rattle.oca_tree.specs.Execution.{request_at, status_of, by_status, refused, execution}
 use Rattle.oca_tree.specs.Written.{is_ok}
@@ -89,7 +89,7 @@ only_reads _ = false
 
 -- what a method asks that only reads and has no parameters, the same of every object, or nothing
 abbrev pub plain_request : Method → Option Request
-plain_request method = if only_reads (access method) then request_of values.Block method 0 [] else None
+plain_request method = if only_reads (access method) then request_carried values.Block method 0 [] else None
 
 -- The object has the method, and no lock keeps the peer from it.
 abbrev pub MayCall : Method → Object → Peer → CommandFields → Type 0

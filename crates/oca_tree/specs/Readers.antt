@@ -25,8 +25,8 @@ abbrev pub infos_left : ObjectInfos → List ObjectInfo
 infos_left infos = map info_of infos.rest.now
 
 -- the class of the object with this number
-abbrev pub class_at : List Object → ℕ → Option Class
-class_at tree number = option_map (λ o. class_of o.value) (object_of tree number)
+abbrev pub class_of_ono : List Object → ℕ → Option Class
+class_of_ono tree number = option_map (λ o. class_of o.value) (object_of tree number)
 
 abbrev pub lock_at : List Object → ℕ → Option Lock
 lock_at tree number = option_and_then (λ o. o.lock) (object_of tree number)

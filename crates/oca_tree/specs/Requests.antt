@@ -16,7 +16,7 @@ use Rattle.oca_tree.specs.declared.request.Request.TheVariants as requests
 use Rattle.oca_tree.specs.declared.request.SwitchRequest.{SwitchRequest}
 use Rattle.oca_tree.specs.declared.request.SwitchRequest.TheVariants as switches
 use Rattle.oca_model.specs.Parameters.{whole, pair_at, list_at}
-use Rattle.oca_tree.specs.Kinds.{number_at}
+use Rattle.oca_tree.specs.Kinds.{number_of_kind_at}
 
 -- ---- how parameters are given
 
@@ -39,7 +39,7 @@ abbrev pub setting_request : Value → ℕ → List ℕ → Option Request
 setting_request (values.Boolean _) count params =
     option_map requests.SetBoolean (with_parameters 1 bool_at count params)
 setting_request (values.Number range) count params =
-    option_map requests.SetNumber (with_parameters 1 (number_at range.kind) count params)
+    option_map requests.SetNumber (with_parameters 1 (number_of_kind_at range.kind) count params)
 setting_request _ count params = None
 
 abbrev pub position_name_request : ℕ → List ℕ → Option Request
@@ -63,43 +63,45 @@ position_enableds_request value count params =
     option_map (λ x. requests.Switch (switches.SetPositionEnableds (record { items = x })))
     (with_parameters 1 (list_at bool_at (positions value)) count params)
 
-unfoldable pub request_of : Value → Method → ℕ → List ℕ → Option Request
-request_of value methods.GetClassIdentification count params =
+unfoldable pub request_carried : Value → Method → ℕ → List ℕ → Option Request
+request_carried value methods.GetClassIdentification count params =
     without_parameters requests.GetClassIdentification count params
-request_of value methods.GetLockable count params = without_parameters requests.GetLockable count params
-request_of value methods.LockTotal count params = without_parameters requests.LockTotal count params
-request_of value methods.Unlock count params = without_parameters requests.Unlock count params
-request_of value methods.GetRole count params = without_parameters requests.GetRole count params
-request_of value methods.LockReadonly count params = without_parameters requests.LockReadonly count params
-request_of value methods.GetEnabled count params = without_parameters requests.GetEnabled count params
-request_of value methods.SetEnabled count params =
+request_carried value methods.GetLockable count params = without_parameters requests.GetLockable count params
+request_carried value methods.LockTotal count params = without_parameters requests.LockTotal count params
+request_carried value methods.Unlock count params = without_parameters requests.Unlock count params
+request_carried value methods.GetRole count params = without_parameters requests.GetRole count params
+request_carried value methods.LockReadonly count params = without_parameters requests.LockReadonly count params
+request_carried value methods.GetEnabled count params = without_parameters requests.GetEnabled count params
+request_carried value methods.SetEnabled count params =
     option_map requests.SetEnabled (with_parameters 1 bool_at count params)
-request_of value methods.GetLabel count params = without_parameters requests.GetLabel count params
-request_of value methods.SetLabel count params = option_map requests.SetLabel (with_parameters 1 text_at count params)
-request_of value methods.GetOwner count params = without_parameters requests.GetOwner count params
-request_of value methods.GetMembers count params = without_parameters requests.GetMembers count params
-request_of value methods.GetMembersRecursive count params = without_parameters requests.GetMembersRecursive count params
-request_of value methods.GetState count params = without_parameters requests.GetState count params
-request_of value methods.SetState count params =
+request_carried value methods.GetLabel count params = without_parameters requests.GetLabel count params
+request_carried value methods.SetLabel count params =
+    option_map requests.SetLabel (with_parameters 1 text_at count params)
+request_carried value methods.GetOwner count params = without_parameters requests.GetOwner count params
+request_carried value methods.GetMembers count params = without_parameters requests.GetMembers count params
+request_carried value methods.GetMembersRecursive count params =
+    without_parameters requests.GetMembersRecursive count params
+request_carried value methods.GetState count params = without_parameters requests.GetState count params
+request_carried value methods.SetState count params =
     option_map requests.SetState (with_parameters 1 (unsigned_at w8) count params)
-request_of value methods.GetPosition count params =
+request_carried value methods.GetPosition count params =
     without_parameters (requests.Switch switches.GetPosition) count params
-request_of value methods.SetPosition count params =
+request_carried value methods.SetPosition count params =
     option_map (λ n. requests.Switch (switches.SetPosition n)) (with_parameters 1 (unsigned_at w16) count params)
-request_of value methods.GetPositionName count params =
+request_carried value methods.GetPositionName count params =
     option_map (λ n. requests.Switch (switches.GetPositionName n)) (with_parameters 1 (unsigned_at w16) count params)
-request_of value methods.SetPositionName count params = position_name_request count params
-request_of value methods.GetPositionNames count params =
+request_carried value methods.SetPositionName count params = position_name_request count params
+request_carried value methods.GetPositionNames count params =
     without_parameters (requests.Switch switches.GetPositionNames) count params
-request_of value methods.SetPositionNames count params = position_names_request value count params
-request_of value methods.GetPositionEnabled count params =
+request_carried value methods.SetPositionNames count params = position_names_request value count params
+request_carried value methods.GetPositionEnabled count params =
     option_map (λ n. requests.Switch (switches.GetPositionEnabled n)) (with_parameters 1 (unsigned_at w16) count params)
-request_of value methods.SetPositionEnabled count params = position_enabled_request count params
-request_of value methods.GetPositionEnableds count params =
+request_carried value methods.SetPositionEnabled count params = position_enabled_request count params
+request_carried value methods.GetPositionEnableds count params =
     without_parameters (requests.Switch switches.GetPositionEnableds) count params
-request_of value methods.SetPositionEnableds count params = position_enableds_request value count params
-request_of value methods.GetSetting count params = without_parameters requests.GetSetting count params
-request_of value methods.SetSetting count params = setting_request value count params
+request_carried value methods.SetPositionEnableds count params = position_enableds_request value count params
+request_carried value methods.GetSetting count params = without_parameters requests.GetSetting count params
+request_carried value methods.SetSetting count params = setting_request value count params
 
 -- ---- what an object cannot be asked
 

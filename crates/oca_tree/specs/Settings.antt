@@ -21,7 +21,7 @@ use Rattle.oca_tree.specs.declared.setting.SetFault.TheVariants as faults
 use Rattle.oca_tree.specs.Places.{is_block_value}
 use Rattle.oca_tree.specs.Objects.{class_of, object_of, with_object}
 use Rattle.oca_tree.specs.Requests.{is_out_of_range}
-use Rattle.oca_tree.specs.Execution.{Execution, changed, execution, kind_at, request_at, is_locked}
+use Rattle.oca_tree.specs.Execution.{TreeAndReply, changed, execution, kind_at, request_at, is_locked}
 
 -- the request of the set method of the value's class: SetState, SetPosition or SetSetting
 abbrev pub request_for : Value → Request
@@ -63,13 +63,13 @@ fault_at held value =
     else (if is_out_of_range held (request_for value) then Some faults.OutOfRange else None))
 
 -- before all these: there is no object
-abbrev pub fault_in : Option Object → Value → Option SetFault
-fault_in None value = Some faults.NoObject
-fault_in (Some o) value = fault_at o.value value
+abbrev pub set_fault_in : Option Object → Value → Option SetFault
+set_fault_in None value = Some faults.NoObject
+set_fault_in (Some o) value = fault_at o.value value
 
 -- THE FAULT of setting the object with this number.
 unfoldable pub set_fault : List Object → ℕ → Value → Option SetFault
-set_fault tree number value = fault_in (object_of tree number) value
+set_fault tree number value = set_fault_in (object_of tree number) value
 
 -- The peer in whose name the front asks. What a value's request changes is the same for each peer (AnyPeerSetsTheSame).
 abbrev pub front : Peer
@@ -96,7 +96,7 @@ status_for (Some fault) = statuses.ParameterOutOfRange
 
 -- The command made of the tree what setting the object with this number makes of it, and its status is that of the
 -- front's fault.
-pub record SetsTheSame (tree : List Object) (number : ℕ) (value : Value) (x : Execution) : Type 0 where
+pub record SetsTheSame (tree : List Object) (number : ℕ) (value : Value) (x : TreeAndReply) : Type 0 where
   pub tree_is : x.tree ≡ after_set tree number value
   pub status_is : x.status ≡ status_for (set_fault tree number value)
 

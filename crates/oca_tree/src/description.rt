@@ -1,8 +1,8 @@
 //! What is read of an object so that the same object can be added again.
 ghost use Rattle.std.specs.Prelude.{◌≡◌};
 ghost use Rattle.std.specs.Option.{option_copied, option_map};
-ghost use Rattle.oca_tree.specs.Copies.{stored_in, stored_of, stored_at, flags_in, names_in, names_at, lockable_at};
-ghost use Rattle.oca_tree.specs.Readers.{class_at};
+ghost use Rattle.oca_tree.specs.Copies.{stored_in, stored_of, stored_at, flags_in, names_in, names_of_ono, lockable_at};
+ghost use Rattle.oca_tree.specs.Readers.{class_of_ono};
 
 use crate::object::{Object, Value};
 use crate::objects::Objects;
@@ -54,7 +54,7 @@ pub(crate) fn start_in(objects: &Objects, ono: Ono) -> Option<Start<'_>>
 
 /// The names of the positions of the object with this number.
 pub(crate) fn position_names_in(objects: &Objects, ono: Ono) -> &[Text]
-    ensures { result.now ≡ names_at objects.now.list ono.0 }
+    ensures { result.now ≡ names_of_ono objects.now.list ono.0 }
 {
     match objects.find(ono) {
         Some(object) => names_in(&object.value),
@@ -64,7 +64,7 @@ pub(crate) fn position_names_in(objects: &Objects, ono: Ono) -> &[Text]
 
 /// The class of the object with this number.
 pub(crate) fn class_in(objects: &Objects, ono: Ono) -> Option<Class>
-    ensures { result ≡ class_at objects.now.list ono.0 }
+    ensures { result ≡ class_of_ono objects.now.list ono.0 }
 {
     match objects.find(ono) {
         Some(object) => Some(object.class()),

@@ -1,6 +1,6 @@
 //! What a command asks of an object, with its parameters read.
 ghost use Rattle.std.specs.Prelude.{◌≡◌, ◌==◌, ◌≤◌, length};
-ghost use Rattle.oca_tree.specs.Requests.{request_of, positions, is_out_of_range, is_invalid};
+ghost use Rattle.oca_tree.specs.Requests.{request_carried, positions, is_out_of_range, is_invalid};
 ghost use Rattle.oca_tree.specs.Trees.{IsSoundValue};
 ghost use Rattle.oca_tree.specs.PrivateSteps.{plain_request};
 
@@ -175,7 +175,7 @@ fn is_outside(range: &Range, request: &Request<'_>) -> bool
 
 impl<'a> Request<'a> {
     /// What a method asks that only reads and has no parameters; nothing for any other.
-    #[tactic(auto, unfolding(crate::specs::Requests::request_of))]
+    #[tactic(auto, unfolding(crate::specs::Requests::request_carried))]
     pub(crate) fn plain(method: Method) -> Option<Request<'a>>
         ensures { result ≡ plain_request method }
     {
@@ -201,14 +201,14 @@ impl<'a> Request<'a> {
 
     /// Reads what a method with these parameters asks of an object with this value; nothing where
     /// they are not the method's.
-    #[tactic(auto, unfolding(crate::specs::Requests::request_of))]
+    #[tactic(auto, unfolding(crate::specs::Requests::request_carried))]
     pub(crate) fn read(
         value: &Value,
         method: Method,
         count: u8,
         params: &'a [u8],
     ) -> Option<Request<'a>>
-        ensures { result ≡ request_of value.now method count params.now }
+        ensures { result ≡ request_carried value.now method count params.now }
     {
         match method {
             Method::LockTotal => without_parameters(Request::LockTotal, count, params),

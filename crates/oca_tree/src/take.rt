@@ -4,7 +4,7 @@ ghost use Rattle.std.specs.Int.{w8, w16};
 ghost use Rattle.std.specs.Option.{option_map};
 ghost use Rattle.oca_types.specs.Reading.{unsigned_at, bool_at, text_at};
 ghost use Rattle.oca_types.specs.Taking.{bytes_left, ReadsAs};
-ghost use Rattle.oca_tree.specs.Kinds.{number_at};
+ghost use Rattle.oca_tree.specs.Kinds.{number_of_kind_at};
 ghost use Rattle.oca_model.specs.Parameters.{whole, pair_at, items_at, list_at};
 ghost use Rattle.oca_tree.specs.Requests.{with_parameters};
 
@@ -14,9 +14,9 @@ use arrayvec::ArrayVec;
 use oca_types::{Cursor, ReadFault, Text};
 
 /// A number of this type.
-#[tactic(auto, unfolding(crate::specs::Kinds::number_at))]
+#[tactic(auto, unfolding(crate::specs::Kinds::number_of_kind_at))]
 fn take_number(cursor: &mut Cursor<'_>, kind: NumberKind) -> Result<i128, ReadFault>
-    ensures { ReadsAs result (bytes_left cursor.new) (number_at kind (bytes_left cursor.old)) }
+    ensures { ReadsAs result (bytes_left cursor.new) (number_of_kind_at kind (bytes_left cursor.old)) }
 {
     Ok(match kind {
         NumberKind::Int8 => i128::from(cursor.take_i8()?),
@@ -82,7 +82,7 @@ pub(crate) fn one_text(count: u8, params: &[u8]) -> Option<HeldText<'_>>
 
 /// A number of this type.
 pub(crate) fn one_number(kind: NumberKind, count: u8, params: &[u8]) -> Option<i128>
-    ensures { result ≡ with_parameters 1 (number_at kind) count params.now }
+    ensures { result ≡ with_parameters 1 (number_of_kind_at kind) count params.now }
 {
     if count != 1 {
         return None;

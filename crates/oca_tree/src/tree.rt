@@ -8,8 +8,9 @@ ghost use Rattle.oca_tree.specs.Trees.{IsTree};
 ghost use Rattle.oca_tree.specs.Execution.{execution};
 ghost use Rattle.oca_tree.specs.Written.{wrote};
 ghost use Rattle.oca_tree.specs.Settings.{after_set, set_fault};
-ghost use Rattle.oca_tree.specs.Readers.{info_of, info_at, infos_left, class_at, lock_at, value_setting, setting_at};
-ghost use Rattle.oca_tree.specs.Copies.{stored_in, stored_at, names_at, lockable_at, all_unlocked};
+ghost use Rattle.oca_tree.specs.Readers.{info_of, info_at, infos_left, class_of_ono, lock_at, value_setting};
+ghost use Rattle.oca_tree.specs.Readers.{setting_at};
+ghost use Rattle.oca_tree.specs.Copies.{stored_in, stored_at, names_of_ono, lockable_at, all_unlocked};
 
 use crate::answer::{mute_number, polarity_number};
 use crate::description::{class_in, lockable_in, position_names_in, start_in};
@@ -215,7 +216,7 @@ impl Tree {
     /// The class of the object with this number, which is that of the values that [`set`](Tree::set) sets it to;
     /// nothing where it is not there.
     pub fn class_of(&self, ono: Ono) -> Option<Class>
-        ensures { result ≡ class_at self.now ono.0 }
+        ensures { result ≡ class_of_ono self.now ono.0 }
     {
         class_in(&self.objects, ono)
     }
@@ -239,7 +240,7 @@ impl Tree {
     /// The names of the positions of the switch with this number, in order: 1 to 16, each of at most 64 bytes; none
     /// where it is not there or is no switch.
     pub fn position_names_of(&self, ono: Ono) -> &[Text]
-        ensures { result.now ≡ names_at self.now ono.0 }
+        ensures { result.now ≡ names_of_ono self.now ono.0 }
     {
         position_names_in(&self.objects, ono)
     }

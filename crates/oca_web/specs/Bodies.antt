@@ -19,12 +19,12 @@ abbrev pub word_for_value : Data → Option (List ℕ)
 word_for_value d = option_and_then as_str (get (codes "value") d)
 
 -- a value that the word is for, in an object of some class
-abbrev pub IsNamed : List ℕ → Value → Type 0
-IsNamed word value = (class : Class) × IsRead class word (Some value)
+abbrev pub IsForWord : List ℕ → Value → Type 0
+IsForWord word value = (class : Class) × IsRead class word (Some value)
 
 -- what is set is what the word is for
 abbrev pub IsValueIn : Option (List ℕ) → Action → Type 0
-IsValueIn word (actions.Set value) = (text : List ℕ) × (word ≡ Some text) × IsNamed text value
+IsValueIn word (actions.Set value) = (text : List ℕ) × (word ≡ Some text) × IsForWord text value
 IsValueIn word actions.Lock = Unit {0}
 IsValueIn word actions.Unlock = Unit {0}
 

@@ -35,11 +35,11 @@ abbrev pub no_orders : OrdersState
 no_orders = record { waiting = []; in_flight = []; results = []; tickets = 0 }
 
 -- whether an order waits, and whether one waits or is in flight
-abbrev pub waits : OrdersState → Bool
-waits s = nat_lt 0 (length s.waiting)
+abbrev pub has_waiting : OrdersState → Bool
+has_waiting s = nat_lt 0 (length s.waiting)
 
 abbrev pub has_orders : OrdersState → Bool
-has_orders s = waits s || nat_lt 0 (length s.in_flight)
+has_orders s = has_waiting s || nat_lt 0 (length s.in_flight)
 
 -- what is asked for an order, and of which class
 abbrev pub class_asked : Action → Class

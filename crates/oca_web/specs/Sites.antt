@@ -84,6 +84,6 @@ pub record Fails (old : Site) (request : Request (List ℕ)) (new : Site) : Type
   pub keeps : KeepsAll old new
   pub refused : (lets_request_in old.names.items request ≡ true) ⊎ (new.view ≡ old.view)
 
-abbrev pub IsAnswered : Result Unit AllocError → Site → Request (List ℕ) → Response → Site → Type 0
-IsAnswered (Ok u) old request response new = Answers old request response new
-IsAnswered (Err e) old request response new = Fails old request new
+abbrev pub AnswersOrFails : Result Unit AllocError → Site → Request (List ℕ) → Response → Site → Type 0
+AnswersOrFails (Ok u) old request response new = Answers old request response new
+AnswersOrFails (Err e) old request response new = Fails old request new

@@ -8,7 +8,8 @@ use Rattle.oca_web.specs.Orders.{OrdersState, LosesOrders, SettlesOrders, Submit
 
 -- A TURN WAS TAKEN, and then the results of the orders that were answered were noted; what followed of it only took
 -- answers to questions.
-pub record TakesTurn (old : OrdersState) (before : PanelState) (new : OrdersState) (after : PanelState) : Type 0 where
+pub record TurnsAndSettles (old : OrdersState) (before : PanelState) (new : OrdersState) (after : PanelState)
+    : Type 0 where
   pub report : DriveReport
   pub turned : PanelState
   pub settled : PanelState

@@ -1,6 +1,6 @@
 //! What is known of an object.
 ghost use Rattle.std.specs.Prelude.{◌≡◌, ◌⊎◌};
-ghost use Rattle.oca_model.specs.Readings.{value_of};
+ghost use Rattle.oca_model.specs.Readings.{value_without_limits};
 
 use oca_model::{Flags, Names, Ranged, Reading, Value, word_of};
 use oca_panel::Trouble;
@@ -115,7 +115,7 @@ pub fn limits_of(reading: Reading) -> Option<(Value, Value)> {
 /// What a reading says once the object is set to this value: the value, with the same limits. A value of another class
 /// changes nothing.
 pub fn reading_with(reading: Reading, value: Value) -> Reading
-    ensures { (value_of result ≡ value) ⊎ (result ≡ reading) }
+    ensures { (value_without_limits result ≡ value) ⊎ (result ≡ reading) }
 {
     match (reading, value) {
         (Reading::Mute(_), Value::Mute(state)) => Reading::Mute(state),

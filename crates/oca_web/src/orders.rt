@@ -32,7 +32,7 @@ impl Orders {
     ghost use Rattle.std.specs.Prelude.{◌≡◌, ◌∷◌, ◌++◌, remove, slice_get, length, [], Some};
     ghost use Rattle.oca_net.specs.Ends.{one_more};
     ghost use Rattle.oca_web.specs.Orders.{AddsTicket, is_in_flight, lost_orders, no_orders, ready_of};
-    ghost use Rattle.oca_web.specs.Orders.{result_of, waits, with_lost, with_result};
+    ghost use Rattle.oca_web.specs.Orders.{result_of, has_waiting, with_lost, with_result};
     ghost use Rattle.oca_web.specs.Orders.{with_unsent};
 
     /// No orders.
@@ -124,7 +124,7 @@ impl Orders {
 
     /// Whether an order waits.
     pub fn waits(&self) -> bool
-        ensures { result ≡ waits self.now }
+        ensures { result ≡ has_waiting self.now }
     {
         !self.waiting.is_empty()
     }

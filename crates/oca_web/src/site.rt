@@ -31,7 +31,7 @@ impl Site {
     ghost use Rattle.oca_web.specs.Bodies.{IsOrderIn, IsOrderOf, IsValueIn, ono_in};
     ghost use Rattle.http_server.specs.Response.{IsBlank};
     ghost use Rattle.oca_web.specs.Admission.{lets_request_in};
-    ghost use Rattle.oca_web.specs.Sites.{IsAnswered, IsActionFor, IsSetting, KeepsOrders, PostsOrder, TakesOrder};
+    ghost use Rattle.oca_web.specs.Sites.{AnswersOrFails, IsActionFor, IsSetting, KeepsOrders, PostsOrder, TakesOrder};
 
     /// The service that answers to these names.
     pub fn new(alloc: Global, view: View, names: Vec<Name>) -> Site {
@@ -89,7 +89,7 @@ impl Site {
         response: &mut Response,
     ) -> Result<(), AllocError>
         requires { IsBlank response.old }
-        ensures { IsAnswered result self.old request.now response.new self.new }
+        ensures { AnswersOrFails result self.old request.now response.new self.new }
     {
         put_protection(response)?;
         if request.uri().host().is_some() {

@@ -1,6 +1,6 @@
 //! A view of a device: what is known of it, the orders of the pages, and how its link is.
 ghost use Rattle.std.specs.Prelude.{◌≡◌, IfOk};
-ghost use Rattle.oca_web.specs.Bodies.{IsNamed};
+ghost use Rattle.oca_web.specs.Bodies.{IsForWord};
 
 use crate::ask::Question;
 use crate::asking::{ask_one, leaves_half};
@@ -66,8 +66,8 @@ impl View {
     ghost use Rattle.std.specs.Prelude.{◌≡◌, IfOk};
     ghost use Rattle.oca_net.specs.Ends.{one_more};
     ghost use Rattle.oca_web.specs.Orders.{AddsTicket, SettlesOrders, has_orders};
-    ghost use Rattle.oca_web.specs.Bodies.{IsNamed};
-    ghost use Rattle.oca_web.specs.Views.{Continues, RenewsLost, TakesTurn};
+    ghost use Rattle.oca_web.specs.Bodies.{IsForWord};
+    ghost use Rattle.oca_web.specs.Views.{Continues, RenewsLost, TurnsAndSettles};
     ghost use Rattle.oca_web.specs.Walking.{BeginsAnew, KeepsWalk, StaysOver};
 
     /// A view of a device of which nothing is known, over a panel whose first handle this is.
@@ -160,7 +160,7 @@ impl View {
 
     /// The value of an object that a word names.
     pub fn value_named(&self, ono: Ono, word: &str) -> Result<Value, NoOrder>
-        ensures { IfOk result (IsNamed word.now) }
+        ensures { IfOk result (IsForWord word.now) }
     {
         match self.inventory.class_of(ono) {
             Some(Some(class)) => value_in(class, word),
@@ -187,7 +187,7 @@ impl View {
     /// Takes one turn of the panel, which receives once and sends what is due, and takes the answers that came.
     #[tactic(auto, using(crate::proofs::WalkLemmas::keeps_stays, crate::proofs::WalkLemmas::stays_on))]
     pub fn take_turn<E: End>(&mut self, panel: &mut Panel<E>) -> Result<(), NoMemory>
-        ensures orders { TakesTurn self.old.orders panel.old self.new.orders panel.new }
+        ensures orders { TurnsAndSettles self.old.orders panel.old self.new.orders panel.new }
         ensures walk { StaysOver self.old.inventory self.new.inventory }
     {
         let report = panel.turn_with_report();
@@ -339,7 +339,7 @@ impl View {
 
 /// The value of an object of this class that a word names.
 fn value_in(class: Class, word: &str) -> Result<Value, NoOrder>
-    ensures { IfOk result (IsNamed word.now) }
+    ensures { IfOk result (IsForWord word.now) }
 {
     match value_from_word(class, word) {
         Some(value) => Ok(value),

@@ -17,7 +17,7 @@ use Rattle.oca_program.specs.declared.fault.Failure.{Failure}
 use Rattle.oca_program.specs.declared.fault.RunFault.{RunFault}
 use Rattle.oca_program.specs.declared.fault.RunFault.TheVariants.{Write}
 use Rattle.ocactl_replay.specs.Requests.{asked_call}
-use Rattle.ocactl_replay.specs.Replaying.{Serves as CallsLink}
+use Rattle.ocactl_replay.specs.Replaying.{ServesCall as CallsLink}
 use Rattle.ocactl_cli.specs.Exchanges.{SendsLines, SessionState}
 use Rattle.oca_panel.specs.Panels.{PanelState}
 use Rattle.ocactl_cli.specs.Objects.{GivesUp, HoldsAll, StopsHolding}

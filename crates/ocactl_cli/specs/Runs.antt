@@ -20,7 +20,7 @@ use Rattle.oca_program.specs.declared.fault.RunFault.{RunFault}
 use Rattle.oca_program.specs.declared.fault.RunFault.TheVariants as fault
 use Rattle.oca_panel.specs.Panels.{PanelState}
 use Rattle.ocactl_replay.specs.Requests.{asked_call}
-use Rattle.ocactl_replay.specs.Replaying.{Serves as CallsLink}
+use Rattle.ocactl_replay.specs.Replaying.{ServesCall as CallsLink}
 use Rattle.ocactl_cli.specs.Asked.{OptionsAsk, IsRefusal}
 use Rattle.ocactl_cli.specs.Exchanges.{AsksOnce, SendsLines, SessionState}
 use Rattle.ocactl_cli.specs.Objects.{AsksAll, AsksPart, HoldsAll, StopsHolding, Gets, Locks, SetsAll, SetsNoneUnfound}

@@ -59,8 +59,8 @@ host_in words = read_as host_of (given words (codes "device"))
 abbrev pub port_in : ArgMatches → Option (Option ℕ)
 port_in words = read_if (number_of 5 65535) (given words (codes "port"))
 
-abbrev pub handle_in : ArgMatches → Option (Option ℕ)
-handle_in words = read_if (number_of 10 4294967295) (given words (codes "first-handle"))
+abbrev pub given_handle_in : ArgMatches → Option (Option ℕ)
+given_handle_in words = read_if (number_of 10 4294967295) (given words (codes "first-handle"))
 
 pub record ReachFields : Type 0 where
   pub device : Peer
@@ -78,7 +78,7 @@ reach_in words =
     then_in (host_in words) (λ device.
     then_in (read_or (own_address device) own_of (given words (codes "ip"))) (λ ip.
     then_in (port_in words) (λ port.
-    then_in (handle_in words) (λ first_handle.
+    then_in (given_handle_in words) (λ first_handle.
     then_in (span_in words) (λ span.
     Some (record { device = device; ip = ip; port = port; first_handle = first_handle; span = span }))))))
 

@@ -8,7 +8,7 @@ ghost use Rattle.oca_program.specs.declared.fault.RunFault.TheVariants.{BadWords
 ghost use Rattle.ocactl_cli.specs.Reasons.{first_handle_for};
 ghost use Rattle.ocactl_cli.specs.Asked.{OptionsAsk, AsksSend, AsksRun, IsRefusal};
 ghost use Rattle.ocactl_cli.specs.Words.{array_items, span_of as parsed_span, span_in as span_given, linking_fields};
-ghost use Rattle.ocactl_cli.specs.Words.{first_handle_in, linking_in, host_in, own_address, port_in, handle_in};
+ghost use Rattle.ocactl_cli.specs.Words.{first_handle_in, linking_in, host_in, own_address, port_in, given_handle_in};
 ghost use Rattle.ocactl_cli.specs.Words.{reach_fields, reach_in, ahead_in, handling_fields, handling_in};
 ghost use Rattle.ocactl_cli.specs.Words.{sending_fields, sending_in, params_of as parsed_params};
 ghost use Rattle.ocactl_cli.specs.Words.{params_in as params_given};
@@ -421,7 +421,7 @@ fn port_of(words: &ArgMatches<'_>) -> Option<Option<u16>>
 
 /// The first handle, where it is given.
 fn handle_of(words: &ArgMatches<'_>) -> Option<Option<u32>>
-    ensures { result ≡ handle_in words.now }
+    ensures { result ≡ given_handle_in words.now }
 {
     match number_if(words, "first-handle", 10, 4294967295) {
         Some(Some(handle)) => Some(Some(handle as u32)),

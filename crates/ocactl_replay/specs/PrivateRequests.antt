@@ -29,16 +29,16 @@ texts_in t =
 abbrev pub texts_given : Option Texts → Option CommandTexts
 texts_given r = option_map texts_in r
 
-abbrev pub request_asked : Result Request LineFault → Result RequestFields LineFault
-request_asked (Ok s) = Ok (request_of s)
-request_asked (Err f) = Err f
+abbrev pub request_read : Result Request LineFault → Result RequestFields LineFault
+request_read (Ok s) = Ok (request_of s)
+request_read (Err f) = Err f
 
-abbrev pub call_in : Call → LinkCall
-call_in (calls.Submit now s) = Submit now (request_of s)
-call_in (calls.Due now) = Due now
-call_in (calls.Datagram now from bytes) = Datagram now from bytes.now
-call_in (calls.Take handle) = Take handle.0
+abbrev pub link_call_in : Call → LinkCall
+link_call_in (calls.Submit now s) = Submit now (request_of s)
+link_call_in (calls.Due now) = Due now
+link_call_in (calls.Datagram now from bytes) = Datagram now from bytes.now
+link_call_in (calls.Take handle) = Take handle.0
 
 abbrev pub call_asked : Result Call LineFault → Result LinkCall LineFault
-call_asked (Ok c) = Ok (call_in c)
+call_asked (Ok c) = Ok (link_call_in c)
 call_asked (Err f) = Err f

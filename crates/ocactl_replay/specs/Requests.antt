@@ -73,14 +73,14 @@ due_of moment [] = needs fault.Moment (moment_of moment) (λ now. Ok (Due now))
 due_of moment (a ∷ more) = Err fault.Form
 
 -- a datagram: its moment, its sender and its bytes
-unfoldable pub datagram_of : List ℕ → List ℕ × List ℕ → Result LinkCall LineFault
-datagram_of moment texts =
+unfoldable pub datagram_call_of : List ℕ → List ℕ × List ℕ → Result LinkCall LineFault
+datagram_call_of moment texts =
     needs fault.Moment (moment_of moment) (λ now.
     needs fault.Peer (peer_of texts.0) (λ from.
     needs fault.Hex (hex_of texts.1) (λ bytes. Ok (Datagram now from bytes))))
 
 abbrev pub from_of : List ℕ → List (List ℕ) → Result LinkCall LineFault
-from_of moment rest = needs fault.Form (two_texts rest) (datagram_of moment)
+from_of moment rest = needs fault.Form (two_texts rest) (datagram_call_of moment)
 
 abbrev pub take_of : List (List ℕ) → Result LinkCall LineFault
 take_of rest = needs fault.Form (one_text rest) (λ text. needs fault.Number (u32_of text) (λ handle. Ok (Take handle)))

@@ -5,7 +5,7 @@ ghost use Rattle.oca_control.specs.Answers.{answer_fields};
 ghost use Rattle.oca_script.specs.Ends.{output};
 ghost use Rattle.oca_script.specs.Printing.{Prints};
 ghost use Rattle.ocactl_replay.specs.Printing.{refusal_text, submission_text, due_text, reception_text, answer_text};
-ghost use Rattle.ocactl_replay.specs.PrivateLines.{line_text, LineWithin};
+ghost use Rattle.ocactl_replay.specs.PrivateLines.{reply_line_text, LineWithin};
 
 use oca_control::{Answer, ControlFault, Due, Reception};
 use oca_script::{Printer, Sink, WriteFailed};
@@ -32,7 +32,7 @@ pub enum Line<'a> {
 /// Prints a line.
 pub fn print_line<W: Sink>(printer: &mut Printer<W>, line: Line<'_>) -> Result<(), WriteFailed>
     requires { LineWithin line }
-    ensures { Prints result printer.old printer.new (line_text line.entry) }
+    ensures { Prints result printer.old printer.new (reply_line_text line.entry) }
 {
     printer.make_room(LINE_ROOM)?;
     put_line(printer, line);
@@ -43,7 +43,8 @@ pub fn print_line<W: Sink>(printer: &mut Printer<W>, line: Line<'_>) -> Result<(
 fn put_line<W: Sink>(printer: &mut Printer<W>, line: Line<'_>)
     requires bytes { LineWithin line }
     requires room { length printer.old.held + 3000 ≤ 8192 }
-    ensures { printer.new ≡ output printer.old.contents (printer.old.held ++ line_text line.entry) printer.old.failed }
+    ensures { printer.new ≡ output printer.old.contents (printer.old.held ++ reply_line_text line.entry)
+        printer.old.failed }
 {
     match line {
         Line::Submission(answer) => put_submission(printer, answer),

@@ -5,8 +5,8 @@ ghost use Rattle.oca_script.specs.Ends.{input};
 ghost use Rattle.oca_script.specs.Replaying.{NeverIdles, Outcome, Replays};
 ghost use Rattle.ocactl_replay.specs.Requests.{LinkCall, Submit as SubmitCall, Due as DueCall};
 ghost use Rattle.ocactl_replay.specs.Requests.{Datagram as DatagramCall, Take as TakeCall, asked_call};
-ghost use Rattle.ocactl_replay.specs.Replaying.{Serves, ServesAndPrints};
-ghost use Rattle.ocactl_replay.specs.PrivateRequests.{call_in};
+ghost use Rattle.ocactl_replay.specs.Replaying.{ServesCall, ServesCallAndPrints};
+ghost use Rattle.ocactl_replay.specs.PrivateRequests.{link_call_in};
 
 use super::line::{Line, print_line};
 use super::request::{Call, PARAMS_ROOM, call_by};
@@ -44,7 +44,7 @@ impl Language for LinkScript {
 
     ghost asked = { asked_call };
 
-    ghost serves = { Serves };
+    ghost serves = { ServesCall };
 
     /// Reads the call of the line, makes it, and prints what it returns.
     fn serve_line<W: Sink>(
@@ -79,7 +79,7 @@ fn serve<W: Sink>(
     call: Call<'_>,
     printer: &mut Printer<W>,
 ) -> Result<(), WriteFailed>
-    ensures { ServesAndPrints link.old (call_in call.entry) link.new result printer.old printer.new }
+    ensures { ServesCallAndPrints link.old (link_call_in call.entry) link.new result printer.old printer.new }
 {
     match call {
         Call::Submit { now, command } => submit(link, now, command, printer),
@@ -96,7 +96,7 @@ fn submit<W: Sink>(
     command: Request<'_>,
     printer: &mut Printer<W>,
 ) -> Result<(), WriteFailed>
-    ensures { ServesAndPrints link.old (SubmitCall now (request_of command.entry)) link.new result printer.old
+    ensures { ServesCallAndPrints link.old (SubmitCall now (request_of command.entry)) link.new result printer.old
         printer.new }
 {
     let answer = link.submit(
@@ -116,7 +116,7 @@ fn due<W: Sink>(
     now: u64,
     printer: &mut Printer<W>,
 ) -> Result<(), WriteFailed>
-    ensures { ServesAndPrints link.old (DueCall now) link.new result printer.old printer.new }
+    ensures { ServesCallAndPrints link.old (DueCall now) link.new result printer.old printer.new }
 {
     let due = link.due(now, packet);
     print_line(printer, Line::Due(due, packet.as_slice()))
@@ -130,7 +130,7 @@ fn datagram<W: Sink>(
     bytes: &[u8],
     printer: &mut Printer<W>,
 ) -> Result<(), WriteFailed>
-    ensures { ServesAndPrints link.old (DatagramCall now from bytes.now) link.new result printer.old printer.new }
+    ensures { ServesCallAndPrints link.old (DatagramCall now from bytes.now) link.new result printer.old printer.new }
 {
     let reception = link.datagram(from, bytes, now);
     print_line(printer, Line::Reception(reception))
@@ -142,7 +142,7 @@ fn take<W: Sink>(
     handle: Handle,
     printer: &mut Printer<W>,
 ) -> Result<(), WriteFailed>
-    ensures { ServesAndPrints link.old (TakeCall handle.0) link.new result printer.old printer.new }
+    ensures { ServesCallAndPrints link.old (TakeCall handle.0) link.new result printer.old printer.new }
 {
     match link.take(handle) {
         Some(answer) => print_line(printer, Line::Answer(&answer)),
@@ -166,10 +166,10 @@ pub fn replay<R: Source, W: Sink>(
     // Where the bytes that the source had are known, their script was replayed: each line is a call of the link, and
     // its answer was printed.
     ensures known { IfSome (R.remaining reader.old) (λ given.
-        Replays asked_call Serves NeverIdles link.old link.new printer.old printer.new result given) }
+        Replays asked_call ServesCall NeverIdles link.old link.new printer.old printer.new result given) }
     // Whatever source: there are bytes, those that it gave where it is known which, and the rest of what it had, and
     // their script was replayed.
-    ensures reads { Outcome asked_call Serves NeverIdles link.old link.new printer.old printer.new
+    ensures reads { Outcome asked_call ServesCall NeverIdles link.old link.new printer.old printer.new
         (input (R.remaining reader.old) (R.failed reader.old))
         (input (R.remaining reader.new) (R.failed reader.new)) result }
 {

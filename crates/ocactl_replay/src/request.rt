@@ -3,8 +3,8 @@ ghost use Rattle.std.specs.Prelude.{◌≡◌, ◌≤◌, ◌*◌, IfSome, lengt
 ghost use Rattle.std.specs.Option.{option_copied};
 ghost use Rattle.oca_script.specs.Fields.{fields, fields_after};
 ghost use Rattle.ocactl_replay.specs.Requests.{one_text, two_texts, command_texts, command_of, submit_of, due_of};
-ghost use Rattle.ocactl_replay.specs.Requests.{datagram_of, from_of, take_of, timed_of, asked_call, asked_command};
-ghost use Rattle.ocactl_replay.specs.PrivateRequests.{text_given, pair_given, texts_in, texts_given, request_asked};
+ghost use Rattle.ocactl_replay.specs.Requests.{datagram_call_of, from_of, take_of, timed_of, asked_call, asked_command};
+ghost use Rattle.ocactl_replay.specs.PrivateRequests.{text_given, pair_given, texts_in, texts_given, request_read};
 ghost use Rattle.ocactl_replay.specs.PrivateRequests.{call_asked};
 
 use oca_program::field::{moment, u8_in, u16_in, u32_in};
@@ -95,7 +95,7 @@ fn command_fields(rest: Option<&[u8]>) -> Option<Texts<'_>>
 #[tactic(auto, unfolding(crate::specs::Requests::command_of))]
 fn command_in<'a>(texts: Texts<'_>, room: &'a mut [u8]) -> Result<Request<'a>, LineFault>
     requires { length texts.params.now ≤ 2 * length room.old }
-    ensures { request_asked result ≡ command_of (texts_in texts.entry) }
+    ensures { request_read result ≡ command_of (texts_in texts.entry) }
 {
     let target = u32_in(texts.target)?;
     let level = u16_in(texts.level)?;
@@ -142,7 +142,7 @@ fn due<'a>(now: &[u8], rest: Option<&[u8]>) -> Result<Call<'a>, LineFault>
 }
 
 /// A datagram: its moment, its sender and its bytes.
-#[tactic(auto, unfolding(crate::specs::Requests::datagram_of))]
+#[tactic(auto, unfolding(crate::specs::Requests::datagram_call_of))]
 fn datagram<'a>(
     now: &[u8],
     sender: &[u8],
@@ -150,7 +150,7 @@ fn datagram<'a>(
     room: &'a mut [u8],
 ) -> Result<Call<'a>, LineFault>
     requires { length text.now ≤ 2 * length room.old }
-    ensures { call_asked result ≡ datagram_of now.now (sender.now, text.now) }
+    ensures { call_asked result ≡ datagram_call_of now.now (sender.now, text.now) }
 {
     let now = moment(now)?;
     let from = peer(sender).ok_or(LineFault::Peer)?;
@@ -231,7 +231,7 @@ pub fn command_by<'a>(
     room: &'a mut [u8; PARAMS_ROOM],
 ) -> Result<Request<'a>, LineFault>
     requires { length line.now ≤ 4096 }
-    ensures { request_asked result ≡ asked_command (fields line.now) }
+    ensures { request_read result ≡ asked_command (fields line.now) }
 {
     let Some(texts) = command_fields(Some(line)) else {
         return Err(LineFault::Form);

@@ -1,14 +1,17 @@
 -- Reports of rounds, one after another.
-use Rattle.std.proofs.Common.{◌≡◌, ℕ, ◌+◌, ◌≤◌, false, true, [], refl, ap, ◌∙◌, arith}
+use Rattle.std.proofs.Common.{◌≡◌, ℕ, ◌+◌, ◌≤◌, min, false, true, [], refl, ap, ◌∙◌, arith}
 use Rattle.oca_net.specs.Ends.{last_u64}
 use Rattle.oca_net.specs.EndStates.{EndState}
 use Rattle.oca_device.specs.declared.report.Report.{Report}
 use Rattle.oca_device.specs.Devices.{DeviceState}
-use Rattle.oca_device.specs.Reports.{added, no_turns}
+use Rattle.oca_device.specs.Reports.{added, capped, no_turns}
 use Rattle.oca_device.specs.Replies.{ServesEnd}
 use Rattle.oca_device.specs.Following.{ElectronicsState, ServesEndWith}
 use Rattle.oca_device.proofs.Turns.{with_none, with_more}
-use Rattle.ocadev_cli.specs.Totals.{cap, capped, ServesOn}
+use Rattle.ocadev_cli.specs.Totals.{ServesOn}
+
+abbrev cap : ℕ → ℕ
+cap n = min n last_u64
 
 cap-more : (t b : ℕ) → cap (cap t + b) ≡ cap (t + b)
 cap-more t b = omega arith

@@ -97,9 +97,9 @@ pub record ServesAt (serving : ServingFields) (tree : List Object) (printed : Re
   pub turns : printed.turns ≡ turns_until serving.turns
 
 -- it was served, or there was no socket, or no memory
-abbrev pub Served : ServingFields → List Object → Result Report RunFault → Type 0
-Served serving tree (Ok report) = ServesAt serving tree report
-Served serving tree (Err why) = (why ≡ fault.Socket) ⊎ (why ≡ fault.NoMemory)
+abbrev pub ServesOrFails : ServingFields → List Object → Result Report RunFault → Type 0
+ServesOrFails serving tree (Ok report) = ServesAt serving tree report
+ServesOrFails serving tree (Err why) = (why ≡ fault.Socket) ⊎ (why ≡ fault.NoMemory)
 
 abbrev pub ReportsOf : Result Report RunFault → Result Unit RunFault → Output → Output → Type 0
 ReportsOf (Ok report) ended was is = PrintsText (report_text report) ended was is
@@ -107,7 +107,7 @@ ReportsOf (Err why) ended was is = FailsWith why ended was is
 
 abbrev pub ServesMade : ServingFields → Result (List Object) RunFault → Result Unit RunFault → Output → Output → Type 0
 ServesMade serving (Err why) ended was is = FailsWith why ended was is
-ServesMade serving (Ok tree) ended was is = (served : Result Report RunFault) × Served serving tree served
+ServesMade serving (Ok tree) ended was is = (served : Result Report RunFault) × ServesOrFails serving tree served
     × ReportsOf served ended was is
 
 -- THE OBJECTS are printed, in these words.

@@ -1,29 +1,10 @@
 -- What is printed of a report, whatever its numbers are (*profile*).
-use Rattle.std.specs.Prelude.{◌≡◌, ℕ, ◌-◌, ◌*◌, ◌^◌, min, Option, None, Some}
+use Rattle.std.specs.Prelude.{◌≡◌, ℕ, ◌-◌, ◌*◌, ◌^◌, Option, None, Some}
 use Rattle.oca_net.specs.EndStates.{EndState}
 use Rattle.oca_device.specs.declared.report.Report.{Report}
 use Rattle.oca_device.specs.Devices.{DeviceState}
 use Rattle.oca_device.specs.Replies.{ServesEnd}
-
--- a number that would pass 64 bits stays at its last value
-abbrev pub cap : ℕ → ℕ
-cap n = min n (2 ^ 64 - 1)
-
-abbrev pub capped : Report → Report
-capped r =
-    record {
-      turns = cap r.turns;
-      executed = cap r.executed;
-      kept = cap r.kept;
-      old = cap r.old;
-      reused = cap r.reused;
-      malformed = cap r.malformed;
-      no_room = cap r.no_room;
-      oversize = cap r.oversize;
-      quiet = cap r.quiet;
-      failed_receives = cap r.failed_receives;
-      failed_sends = cap r.failed_sends;
-    }
+use Rattle.oca_device.specs.Reports.{capped}
 
 -- A device served an end, and what is printed is the report of that, as far as 64 bits go.
 pub record ServesOn (old new : DeviceState) (before after : EndState) (printed : Report) : Type 0 where

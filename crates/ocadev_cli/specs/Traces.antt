@@ -1,9 +1,10 @@
 -- The line that is printed of a datagram (*profile*).
-use Rattle.std.specs.Prelude.{◌≡◌, ℕ, ◌==◌, ◌/◌, ◌%◌, if◌then◌else◌, List, [], ◌∷◌, ◌++◌, codes, decimal, Result}
+use Rattle.std.specs.Prelude.{◌≡◌, ℕ, ◌==◌, if◌then◌else◌, List, [], ◌∷◌, ◌++◌, codes, decimal, Result}
 use Rattle.std.specs.Prelude.{Ok, Err}
 use Rattle.std.specs.List.{flat_map}
 use Rattle.oca_types.specs.declared.words.Ono.{Ono}
 use Rattle.oca_types.specs.declared.words.Peer.{Peer}
+use Rattle.oca_types.specs.Addresses.{peer_text}
 use Rattle.oca_net.specs.declared.end.Heard.{Heard}
 use Rattle.oca_net.specs.declared.end.Heard.TheVariants as heard
 use Rattle.oca_pdu.specs.Faults.{fault_number}
@@ -15,12 +16,6 @@ use Rattle.oca_script.specs.Ends.{Output}
 use Rattle.oca_script.specs.Printing.{WritesOut}
 use Rattle.oca_device.specs.declared.report.Report.{Report}
 use Rattle.ocadev_cli.specs.Effects.{commands_effects}
-
--- a peer, a.b.c.d:port
-abbrev pub peer_text : Peer → List ℕ
-peer_text p =
-    decimal (p.ip / 16777216) ++ codes "." ++ decimal (p.ip / 65536 % 256) ++ codes "." ++ decimal (p.ip / 256 % 256)
-    ++ codes "." ++ decimal (p.ip % 256) ++ codes ":" ++ decimal p.port
 
 -- where a device listens
 abbrev pub listening_text : Peer → List ℕ

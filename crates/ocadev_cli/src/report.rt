@@ -1,8 +1,9 @@
 //! What is printed of a run of `serve`.
 ghost use Rattle.std.specs.Prelude.{◌≡◌, ◌+◌, ◌++◌, ◌≤◌, decimal, length};
+ghost use Rattle.oca_types.specs.Addresses.{peer_text};
 ghost use Rattle.oca_script.specs.Ends.{output};
 ghost use Rattle.oca_script.specs.Printing.{Prints, WritesOut};
-ghost use Rattle.ocadev_cli.specs.Traces.{listening_text, peer_text};
+ghost use Rattle.ocadev_cli.specs.Traces.{listening_text};
 ghost use Rattle.ocadev_cli.specs.Printing.{commands_text, datagrams_text, calls_text, counts_text, report_text};
 ghost use Rattle.ocadev_cli.specs.Printing.{stats_text, held_text};
 
@@ -163,10 +164,11 @@ pub fn put_peer<W: Sink>(peer: Peer, printer: &mut Printer<W>)
     ensures value { printer.new ≡ output printer.old.contents (printer.old.held ++ peer_text peer) printer.old.failed }
     ensures len { length printer.new.held ≤ length printer.old.held + 110 }
 {
-    put_count(b"", u64::from(peer.ip / 16_777_216), printer);
-    put_count(b".", u64::from(peer.ip / 65_536 % 256), printer);
-    put_count(b".", u64::from(peer.ip / 256 % 256), printer);
-    put_count(b".", u64::from(peer.ip % 256), printer);
+    let [a, b, c, d] = peer.ip.to_be_bytes();
+    put_count(b"", u64::from(a), printer);
+    put_count(b".", u64::from(b), printer);
+    put_count(b".", u64::from(c), printer);
+    put_count(b".", u64::from(d), printer);
     put_count(b":", u64::from(peer.port), printer);
 }
 

@@ -14,7 +14,7 @@ ghost use Rattle.oca_program.specs.Faults.{PrintsFault, fault_in};
 ghost use Rattle.ocadev_cli.specs.Printing.{report_text, tree_text};
 ghost use Rattle.ocadev_cli.specs.Runs.{exit_status, RunsOn, Obeys, DoesAsked, Does, DoesMatched, DoesReplay};
 ghost use Rattle.ocadev_cli.specs.Runs.{DoesServe, DoesShow, Helps, PrintsText, ReplaysMade, ReplaysOn, ServesFrom};
-ghost use Rattle.ocadev_cli.specs.Runs.{ServesMade, Served, turns_until};
+ghost use Rattle.ocadev_cli.specs.Runs.{ServesMade, ServesOrFails, turns_until};
 ghost use Rattle.ocadev_cli.specs.Totals.{ServesOn};
 
 use super::keep::{Keeping, is_there, starting};
@@ -352,7 +352,7 @@ fn served_tree<N: Net + Clock + Files, F: Sink>(
     tree: Tree,
     faults: &mut Printer<F>,
 ) -> Result<Report, Failure>
-    ensures { Served (serving_fields serving.entry) tree (fault_in result) }
+    ensures { ServesOrFails (serving_fields serving.entry) tree (fault_in result) }
 {
     match made(alloc, tree, serving.making.sizes) {
         Ok((mut device, mut outbox)) => {
@@ -372,7 +372,7 @@ fn served_at<N: Net + Clock + Files, F: Sink>(
     faults: &mut Printer<F>,
 ) -> Result<Report, Failure>
     ensures { (tree : List Object) → Represents (sizes_of serving.entry.making.sizes) device.old tree []
-        → Served (serving_fields serving.entry) tree (fault_in result) }
+        → ServesOrFails (serving_fields serving.entry) tree (fault_in result) }
 {
     match Keeping::new(alloc, system, serving.keep) {
         Ok(mut keeping) => {
@@ -401,7 +401,7 @@ fn served_keeping<N: Net + Clock, L: Files, F: Sink>(
     faults: &mut Printer<F>,
 ) -> Result<Report, Failure>
     ensures { (tree : List Object) → Represents (sizes_of serving.entry.making.sizes) device.old tree []
-        → Served (serving_fields serving.entry) tree (fault_in result) }
+        → ServesOrFails (serving_fields serving.entry) tree (fault_in result) }
 {
     match bind(alloc, system, serving.ip, serving.port) {
         Ok(end) => Ok(served_over(alloc, end, serving, device, outbox, keeping, faults)),

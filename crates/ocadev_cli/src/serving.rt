@@ -1,8 +1,8 @@
 //! Serving an end until it is stopped, and turn by turn with a line for each datagram and the state kept.
 ghost use Rattle.std.specs.Prelude.{◌≡◌, ◌≤◌, ◌<◌, ◌==◌, ◌||◌, not, IsTrue};
 ghost use Rattle.oca_net.specs.Ends.{last_u64};
-ghost use Rattle.oca_device.specs.Reports.{added, no_turns};
-ghost use Rattle.ocadev_cli.specs.Totals.{ServesOn, capped, stats_interval, first_stats};
+ghost use Rattle.oca_device.specs.Reports.{added, capped, no_turns};
+ghost use Rattle.ocadev_cli.specs.Totals.{ServesOn, stats_interval, first_stats};
 
 use super::keep::Keeping;
 use super::report::print_stats;

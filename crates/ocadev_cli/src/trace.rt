@@ -1,11 +1,12 @@
 //! What is printed of each datagram.
 ghost use Rattle.std.specs.Prelude.{◌≡◌, ◌+◌, ◌++◌, ◌≤◌, codes, decimal, length, Err};
 ghost use Rattle.std.specs.List.{flat_map};
+ghost use Rattle.oca_types.specs.Addresses.{peer_text};
 ghost use Rattle.oca_script.specs.Ends.{output};
 ghost use Rattle.oca_script.specs.Printing.{Prints, WritesOut};
 ghost use Rattle.ocadev_cli.specs.Effects.{commands_effects};
 ghost use Rattle.ocadev_cli.specs.Traces.{PrintsTurn, datagram_line, failed_sends_text, malformed_text, outcome_text};
-ghost use Rattle.ocadev_cli.specs.Traces.{peer_text, reused_count_text, served_text, written_text};
+ghost use Rattle.ocadev_cli.specs.Traces.{reused_count_text, served_text, written_text};
 ghost use Rattle.oca_pdu.specs.Reading.{read_datagram};
 
 use super::effects::{keep_statuses, print_effects};

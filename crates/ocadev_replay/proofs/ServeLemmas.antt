@@ -24,16 +24,16 @@ use Rattle.oca_script.proofs.PrintLemmas.{prints-then, prints-less}
 use Rattle.ocadev_replay.specs.Requests.{asked_event}
 use Rattle.ocadev_replay.specs.PrivateRequests.{event_of}
 use Rattle.ocadev_replay.specs.Printing.{verdict_text, packet_text, event_text, events_text, events_then}
-use Rattle.ocadev_replay.specs.Replaying.{Serves, ServesAndPrints, Whole, Part, Replays, ReplayOutcome, device_script}
+use Rattle.ocadev_replay.specs.Replaying.{ServesEvent, ServesEventAndPrints, Whole, Part, ReplaysEvents, ReplayOutcome, device_script}
 
 -- ---- an event
 
 pub tick-served : (a b : DeviceState) (now : ℕ) (request : ScriptEvent) (r : Result Unit WriteFailed) (u v : Output) → request ≡ asks.Tick now
     → ((w : DeviceSizes) (tree : List Object) (events : List Event) → Represents w a tree events → Represents w b tree (Tick now ∷ events))
-    → Prints r u v (codes "quiet\n") → ServesAndPrints a (event_of request) b r u v
+    → Prints r u v (codes "quiet\n") → ServesEventAndPrints a (event_of request) b r u v
 unfolding event_text
 tick-served a b now request r u v e h prints =
-    subst (λ (x : ScriptEvent). ServesAndPrints a (event_of x) b r u v) (sym e)
+    subst (λ (x : ScriptEvent). ServesEventAndPrints a (event_of x) b r u v) (sym e)
     (record {
       text = codes "quiet\n";
       serves = record { represents = h; prints = λ w tree events at_a. refl };
@@ -44,7 +44,7 @@ datagram-serves : (a b : DeviceState) (from : Peer) (bytes : List ℕ) (now : �
     → ((w : DeviceSizes) (tree : List Object) (events : List Event) → Represents w a tree events → Represents w b tree (Datagram from bytes now ∷ events))
     → ((w : DeviceSizes) (tree : List Object) (events : List Event) → Represents w a tree events → ps ≡ packets w tree events (Datagram from bytes now))
     → ((w : DeviceSizes) (tree : List Object) (events : List Event) → Represents w a tree events → v ≡ verdict w tree events from bytes now)
-    → Serves a (Datagram from bytes now) b (verdict_text v ++ flat_map packet_text ps)
+    → ServesEvent a (Datagram from bytes now) b (verdict_text v ++ flat_map packet_text ps)
 unfolding event_text
 datagram-serves a b from bytes now v ps h sent said = record {
   represents = h;
@@ -58,7 +58,7 @@ pub datagram-served : (a b : DeviceState) (from : Peer) (bytes : List ℕ) (now 
     → ((w : DeviceSizes) (tree : List Object) (events : List Event) → Represents w a tree events → Represents w b tree (Datagram from bytes now ∷ events))
     → ((w : DeviceSizes) (tree : List Object) (events : List Event) → Represents w a tree events → ps ≡ packets w tree events (Datagram from bytes now))
     → ((w : DeviceSizes) (tree : List Object) (events : List Event) → Represents w a tree events → v ≡ verdict w tree events from bytes now)
-    → PrintsAll k l (verdict_text v) → Prints r l m (flat_map packet_text ps) → ServesAndPrints a (Datagram from bytes now) b r k m
+    → PrintsAll k l (verdict_text v) → Prints r l m (flat_map packet_text ps) → ServesEventAndPrints a (Datagram from bytes now) b r k m
 datagram-served a b from bytes now v ps r k l m h sent said first more = record {
   text = verdict_text v ++ flat_map packet_text ps;
   serves = datagram-serves a b from bytes now v ps h sent said;
@@ -70,7 +70,7 @@ pub datagram-cut : (a b : DeviceState) (from : Peer) (bytes : List ℕ) (now : �
     → ((w : DeviceSizes) (tree : List Object) (events : List Event) → Represents w a tree events → Represents w b tree (Datagram from bytes now ∷ events))
     → ((w : DeviceSizes) (tree : List Object) (events : List Event) → Represents w a tree events → ps ≡ packets w tree events (Datagram from bytes now))
     → ((w : DeviceSizes) (tree : List Object) (events : List Event) → Represents w a tree events → v ≡ verdict w tree events from bytes now)
-    → r ≡ Err x → PrintsPart k l (verdict_text v) → ServesAndPrints a (Datagram from bytes now) b r k l
+    → r ≡ Err x → PrintsPart k l (verdict_text v) → ServesEventAndPrints a (Datagram from bytes now) b r k l
 datagram-cut a b from bytes now v ps r x k l h sent said is first = record {
   text = verdict_text v ++ flat_map packet_text ps;
   serves = datagram-serves a b from bytes now v ps h sent said;
@@ -80,32 +80,32 @@ datagram-cut a b from bytes now v ps r x k l h sent said is first = record {
 -- ---- a line
 
 pub line-served : (a b : DeviceState) (r : Result Unit WriteFailed) (u : Unit {0}) (was is : Output) (x : Result Event LineFault) (request : ScriptEvent)
-    → r ≡ Ok u → Ok (event_of request) ≡ x → ServesAndPrints a (event_of request) b r was is → ServesLine x Serves a b (Ok tt) was is
+    → r ≡ Ok u → Ok (event_of request) ≡ x → ServesEventAndPrints a (event_of request) b r was is → ServesLine x ServesEvent a b (Ok tt) was is
 line-served a b r u was is x request e asked h =
-    subst (λ (z : Result Event LineFault). ServesLine z Serves a b (Ok tt) was is) asked
+    subst (λ (z : Result Event LineFault). ServesLine z ServesEvent a b (Ok tt) was is) asked
     (record { text = h.text; serves_it = h.serves; prints = subst (λ (z : Result Unit WriteFailed). Prints z was is h.text) e h.prints })
 
 pub line-failed : (a b : DeviceState) (r : Result Unit WriteFailed) (f : WriteFailed) (was is : Output) (x : Result Event LineFault) (request : ScriptEvent)
-    → r ≡ Err f → Ok (event_of request) ≡ x → ServesAndPrints a (event_of request) b r was is → ServesLine x Serves a b (Err stop.Write) was is
+    → r ≡ Err f → Ok (event_of request) ≡ x → ServesEventAndPrints a (event_of request) b r was is → ServesLine x ServesEvent a b (Err stop.Write) was is
 line-failed a b r f was is x request e asked h =
-    subst (λ (z : Result Event LineFault). ServesLine z Serves a b (Err stop.Write) was is) asked
+    subst (λ (z : Result Event LineFault). ServesLine z ServesEvent a b (Err stop.Write) was is) asked
     (record { text = h.text; serves_it = h.serves; prints = subst (λ (z : Result Unit WriteFailed). Prints z was is h.text) e h.prints })
 
 pub line-refused : (a : DeviceState) (was : Output) (x : Result Event LineFault) (fault : LineFault)
-    → Err fault ≡ x → ServesLine x Serves a a (Err (stop.Line fault)) was was
+    → Err fault ≡ x → ServesLine x ServesEvent a a (Err (stop.Line fault)) was was
 line-refused a was x fault e =
-    subst (λ (z : Result Event LineFault). ServesLine z Serves a a (Err (stop.Line fault)) was was) e (refl, refl, refl)
+    subst (λ (z : Result Event LineFault). ServesLine z ServesEvent a a (Err (stop.Line fault)) was was) e (refl, refl, refl)
 
 -- ---- a run of events
 
-runs-represent : (w : DeviceSizes) (tree : List Object) (events : List Event) (a c : DeviceState) (more : List Event) (text : List ℕ) → Runs Serves NeverIdles a more c text
+runs-represent : (w : DeviceSizes) (tree : List Object) (events : List Event) (a c : DeviceState) (more : List Event) (text : List ℕ) → Runs ServesEvent NeverIdles a more c text
     → Represents w a tree events → Represents w c tree (events_then events more)
 runs-represent w tree events a c more text NoneLeft at_a = at_a
 runs-represent w tree events a c more text (OneServed {b = b} {requests = requests} {u = u} e h runs) at_a =
     runs-represent w tree (e ∷ events) b c requests u runs (h.represents w tree events at_a)
 runs-represent w tree events a c more text (OneIdled h runs) at_a = absurd h
 
-runs-print : (w : DeviceSizes) (tree : List Object) (events : List Event) (a c : DeviceState) (more : List Event) (text : List ℕ) → Runs Serves NeverIdles a more c text
+runs-print : (w : DeviceSizes) (tree : List Object) (events : List Event) (a c : DeviceState) (more : List Event) (text : List ℕ) → Runs ServesEvent NeverIdles a more c text
     → Represents w a tree events → text ≡ events_text w tree events more
 runs-print w tree events a c more text NoneLeft at_a = refl
 runs-print w tree events a c more text (OneServed {b = b} {requests = requests} {u = u} e h runs) at_a =
@@ -116,7 +116,7 @@ runs-print w tree events a c more text (OneIdled h runs) at_a = absurd h
 -- ---- the whole
 
 whole : (w : DeviceSizes) (tree : List Object) (events : List Event) (a b : DeviceState) (u v : Output) (r : Result Unit ReplayFault) (given : List ℕ) (requests : List Event) (text : List ℕ)
-    → Represents w a tree events → Runs Serves NeverIdles a requests b text → WritesWhole u v text → device_script given ≡ record { requests = requests; ending = r } → Whole w tree events b u v r given
+    → Represents w a tree events → Runs ServesEvent NeverIdles a requests b text → WritesWhole u v text → device_script given ≡ record { requests = requests; ending = r } → Whole w tree events b u v r given
 whole w tree events a b u v r given requests text at_a runs appends e =
     let same : (device_script given).requests ≡ requests = ap (λ (s : Script Event). s.requests) e in
     record {
@@ -126,7 +126,7 @@ whole w tree events a b u v r given requests text at_a runs appends e =
     }
 
 part : (w : DeviceSizes) (tree : List Object) (events : List Event) (a b : DeviceState) (u v : Output) (r : Result Unit ReplayFault) (given : List ℕ) (requests : List Event) (text : List ℕ)
-    → Represents w a tree events → Runs Serves NeverIdles a requests b text → Writes r u v text → BeginsWithRequests requests (device_script given) → Part w tree events b u v r given
+    → Represents w a tree events → Runs ServesEvent NeverIdles a requests b text → Writes r u v text → BeginsWithRequests requests (device_script given) → Part w tree events b u v r given
 part w tree events a b u v r given requests text at_a runs writes begins = record {
   first = requests;
   begins = begins;
@@ -135,7 +135,7 @@ part w tree events a b u v r given requests text at_a runs writes begins = recor
 }
 
 replays : (w : DeviceSizes) (tree : List Object) (events : List Event) (a b : DeviceState) (u v : Output) (r : Result Unit ReplayFault) (given : List ℕ) → Represents w a tree events
-    → ReplaysScript asked_event Serves NeverIdles a b u v r given → Replays w tree events b u v r given
+    → ReplaysScript asked_event ServesEvent NeverIdles a b u v r given → ReplaysEvents w tree events b u v r given
 replays w tree events a b u v (Ok x) given at_a h = whole w tree events a b u v (Ok x) given h.requests h.text at_a h.runs h.writes h.ends
 replays w tree events a b u v (Err (Line n f)) given at_a h = whole w tree events a b u v (Err (Line n f)) given h.requests h.text at_a h.runs h.writes h.ends
 replays w tree events a b u v (Err TooMuch) given at_a h = whole w tree events a b u v (Err TooMuch) given h.requests h.text at_a h.runs h.writes h.ends
@@ -143,10 +143,10 @@ replays w tree events a b u v (Err Read) given at_a h = part w tree events a b u
 replays w tree events a b u v (Err Write) given at_a h = part w tree events a b u v (Err Write) given h.requests h.text at_a h.runs h.writes h.ends
 
 pub outcome-of : (w : DeviceSizes) (tree : List Object) (events : List Event) (a b : DeviceState) (u v : Output) (had has : Input) (r : Result Unit ReplayFault) → Represents w a tree events
-    → ScriptOutcome asked_event Serves NeverIdles a b u v had has r → ReplayOutcome w tree events b u v had has r
+    → ScriptOutcome asked_event ServesEvent NeverIdles a b u v had has r → ReplayOutcome w tree events b u v had has r
 outcome-of w tree events a b u v had has r at_a h = (h.0, h.1, replays w tree events a b u v r (h.0 ++ known_bytes has.remaining) at_a h.2)
 
 pub known-of : (w : DeviceSizes) (tree : List Object) (events : List Event) (a b : DeviceState) (u v : Output) (had : Option (List ℕ)) (r : Result Unit ReplayFault) → Represents w a tree events
-    → IfSome had (λ given. ReplaysScript asked_event Serves NeverIdles a b u v r given) → IfSome had (λ given. Replays w tree events b u v r given)
+    → IfSome had (λ given. ReplaysScript asked_event ServesEvent NeverIdles a b u v r given) → IfSome had (λ given. ReplaysEvents w tree events b u v r given)
 known-of w tree events a b u v None r at_a h = tt
 known-of w tree events a b u v (Some given) r at_a h = replays w tree events a b u v r given at_a h

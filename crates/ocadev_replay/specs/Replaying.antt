@@ -10,22 +10,22 @@ use Rattle.oca_script.specs.declared.fault.WriteFailed.{WriteFailed}
 use Rattle.oca_script.specs.Ends.{Input, Output}
 use Rattle.oca_script.specs.Printing.{Prints, WritesWhole}
 use Rattle.oca_script.specs.Script.{Script, script}
-use Rattle.oca_script.specs.Replaying.{BeginsWithRequests, Reads, Writes, known_bytes}
+use Rattle.oca_script.specs.Replaying.{BeginsWithRequests, ReadsInput, Writes, known_bytes}
 use Rattle.ocadev_replay.specs.Requests.{asked_event}
 use Rattle.ocadev_replay.specs.Printing.{event_text, events_text, events_then}
 
 -- From old, whatever it represents, the event leads to new, and prints the text.
-pub record Serves (old : DeviceState) (e : Event) (new : DeviceState) (text : List ℕ) : Type 0 where
+pub record ServesEvent (old : DeviceState) (e : Event) (new : DeviceState) (text : List ℕ) : Type 0 where
   pub represents : (w : DeviceSizes) (tree : List Object) (events : List Event) → Represents w old tree events
       → Represents w new tree (e ∷ events)
   pub prints : (w : DeviceSizes) (tree : List Object) (events : List Event) → Represents w old tree events → text
       ≡ event_text w tree events e
 
 -- the event was served, and its text printed, as far as the writes went
-pub record ServesAndPrints (old : DeviceState) (e : Event) (new : DeviceState) (result : Result Unit WriteFailed)
+pub record ServesEventAndPrints (old : DeviceState) (e : Event) (new : DeviceState) (result : Result Unit WriteFailed)
     (was is : Output) : Type 0 where
   pub text : List ℕ
-  pub serves : Serves old e new text
+  pub serves : ServesEvent old e new text
   pub prints : Prints result was is text
 
 -- ---- the whole replay
@@ -54,18 +54,18 @@ pub record Part (w : DeviceSizes) (tree : List Object) (events : List Event) (ne
   pub represents : Represents w new tree (events_then events first)
 
 -- what a replay of `given` did, by its result
-abbrev pub Replays : DeviceSizes → List Object → List Event → DeviceState → Output → Output → Result Unit ReplayFault
-    → List ℕ → Type 0
-Replays w tree events new was is (Ok u) given = Whole w tree events new was is (Ok u) given
-Replays w tree events new was is (Err (Line number fault)) given = Whole w tree events new was is
+abbrev pub ReplaysEvents : DeviceSizes → List Object → List Event → DeviceState → Output → Output
+    → Result Unit ReplayFault → List ℕ → Type 0
+ReplaysEvents w tree events new was is (Ok u) given = Whole w tree events new was is (Ok u) given
+ReplaysEvents w tree events new was is (Err (Line number fault)) given = Whole w tree events new was is
     (Err (Line number fault)) given
-Replays w tree events new was is (Err Read) given = Part w tree events new was is (Err Read) given
-Replays w tree events new was is (Err Write) given = Part w tree events new was is (Err Write) given
-Replays w tree events new was is (Err TooMuch) given = Whole w tree events new was is (Err TooMuch) given
+ReplaysEvents w tree events new was is (Err Read) given = Part w tree events new was is (Err Read) given
+ReplaysEvents w tree events new was is (Err Write) given = Part w tree events new was is (Err Write) given
+ReplaysEvents w tree events new was is (Err TooMuch) given = Whole w tree events new was is (Err TooMuch) given
 
 -- There are bytes, those that the source gave where they are known, and the script of these and of what it has left was
 -- replayed.
 abbrev pub ReplayOutcome : DeviceSizes → List Object → List Event → DeviceState → Output → Output → Input → Input
     → Result Unit ReplayFault → Type 0
-ReplayOutcome w tree events new was is had has result = (taken : List ℕ) × Reads had has result taken
-    × Replays w tree events new was is result (taken ++ known_bytes has.remaining)
+ReplayOutcome w tree events new was is had has result = (taken : List ℕ) × ReadsInput had has result taken
+    × ReplaysEvents w tree events new was is result (taken ++ known_bytes has.remaining)

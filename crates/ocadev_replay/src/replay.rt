@@ -7,7 +7,7 @@ ghost use Rattle.oca_device.specs.Events.{Event, Datagram as DatagramEvent};
 ghost use Rattle.oca_script.specs.Ends.{input};
 ghost use Rattle.oca_script.specs.Replaying.{Awaited, NeverIdles};
 ghost use Rattle.ocadev_replay.specs.Requests.{asked_event};
-ghost use Rattle.ocadev_replay.specs.Replaying.{Serves, ServesAndPrints, ReplayOutcome, Replays};
+ghost use Rattle.ocadev_replay.specs.Replaying.{ServesEvent, ServesEventAndPrints, ReplayOutcome, ReplaysEvents};
 ghost use Rattle.ocadev_replay.specs.PrivateRequests.{event_of};
 
 use super::answer::{print_packets, print_verdict};
@@ -43,7 +43,7 @@ impl<'a> Language for DeviceScript<'a> {
 
     ghost asked = { asked_event };
 
-    ghost serves = { Serves };
+    ghost serves = { ServesEvent };
 
     /// Reads what the line asks for, serves it, and prints what that gives.
     fn serve_line<W: Sink>(
@@ -85,7 +85,7 @@ fn serve<W: Sink>(
     request: ScriptEvent<'_>,
     printer: &mut Printer<W>,
 ) -> Result<(), WriteFailed>
-    ensures { ServesAndPrints device.old (event_of request.entry) device.new result printer.old printer.new }
+    ensures { ServesEventAndPrints device.old (event_of request.entry) device.new result printer.old printer.new }
 {
     match request {
         ScriptEvent::Tick { now } => {
@@ -107,7 +107,8 @@ fn datagram<W: Sink>(
     now: u64,
     printer: &mut Printer<W>,
 ) -> Result<(), WriteFailed>
-    ensures { ServesAndPrints device.old (DatagramEvent from bytes.now now) device.new result printer.old printer.new }
+    ensures { ServesEventAndPrints device.old (DatagramEvent from bytes.now now) device.new result printer.old
+        printer.new }
 {
     outbox.clear();
     let verdict = device.datagram(from, bytes, now, outbox);
@@ -132,7 +133,7 @@ pub fn replay<R: Source, W: Sink>(
     // Where the bytes that the source had are known, their script was replayed, from whatever the device represented.
     ensures known { (w : DeviceSizes) (tree : List Object) (events : List Event) → Represents w device.old tree events →
         IfSome (R.remaining reader.old) (λ given.
-        Replays w tree events device.new printer.old printer.new result given) }
+        ReplaysEvents w tree events device.new printer.old printer.new result given) }
     // Whatever source: there are bytes, those that it gave where they are known, and the rest of what it had, and their
     // script was replayed.
     ensures reads { (w : DeviceSizes) (tree : List Object) (events : List Event) → Represents w device.old tree events →

@@ -1,6 +1,6 @@
 use Rattle.std.proofs.Common.{ℕ, length, arith, ap, ◌∙◌, sym, subst}
 use Rattle.std.specs.Prelude.{IsSome}
-use Rattle.oca_session.specs.Table.{session_of, with_sessions, changed, with_heartbeat}
+use Rattle.oca_session.specs.Table.{session_of, with_sessions, with_changed, with_heartbeat}
 use Rattle.oca_device.specs.Devices.{DeviceState}
 use Rattle.oca_device.specs.States.{time_of}
 use Rattle.std.proofs.lemmas.List.{append-nil}
@@ -20,7 +20,7 @@ returns-in-KeepAlive-clause-serves c = λ w s h now.
       device = record {
         tree = was.tree;
         sessions = heartbeat_there w (time_of form) s p old c.beat.new.self was.sessions (known_there w s p old was.sessions has) now
-            (c.beat.ensures.heartbeat ∙ ap (λ (m : ℕ). with_sessions old (changed p (with_heartbeat m) old.sessions)) c.time_of.ensures);
+            (c.beat.ensures.heartbeat ∙ ap (λ (m : ℕ). with_sessions old (with_changed p (with_heartbeat m) old.sessions)) c.time_of.ensures);
       };
       packets = c.return_keepalive.ensures.groups;
       counts = none_more c.args.counts.now;

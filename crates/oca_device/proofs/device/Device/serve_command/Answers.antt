@@ -12,7 +12,7 @@ use Rattle.oca_device.specs.Groups.{with_answer, with_answers, encodings}
 use Rattle.oca_tree.specs.declared.object.Object.{Object}
 use Rattle.oca_tree.specs.Execution.{execution}
 use Rattle.oca_session.specs.Accepted.{Entry, Judgement, Fresh, Duplicate, Reused, Old}
-use Rattle.oca_session.specs.Table.{session_of, with_sessions, changed, with_accepted, AgreesAt, Table}
+use Rattle.oca_session.specs.Table.{session_of, with_sessions, with_changed, with_accepted, AgreesAt, Table}
 use Rattle.oca_device.specs.Notes.{Executed, accepted, run, is_noted, last_noted}
 use Rattle.oca_device.specs.States.{State, judged_in, after_command, reply_of}
 use Rattle.oca_device.specs.Answers.{response, answer_to_command, plus, count_of_command}
@@ -58,7 +58,7 @@ agreed_in w s p tree old self e h known =
 fresh_served : {written now_written : List ℕ} (w : DeviceSizes) (s : State) (p : Peer) (command : CommandFields) (tree : List Object) (old : Table) (new_tree : List Object) (new : Table) (reply : Reply) →
     IsIn w (device_with tree old written) s → is_noted s.moment s.notes p ≡ true → last_noted (run p s.notes) ≡ s.moment →
     new_tree ≡ (execution tree p command).tree → reply ≡ reply_of s.tree p command →
-    new ≡ with_sessions old (changed p (with_accepted w.window (accepted (run p s.notes) ++ (record { command = command; reply = reply }) ∷ [])) old.sessions) →
+    new ≡ with_sessions old (with_changed p (with_accepted w.window (accepted (run p s.notes) ++ (record { command = command; reply = reply }) ∷ [])) old.sessions) →
     IsIn w (device_with new_tree new now_written) (after_command Fresh p command s)
 fresh_served w s p command tree old new_tree new reply was known now executed replied kept =
     let made : Entry = record { command = command; reply = reply_of s.tree p command } in
@@ -66,7 +66,7 @@ fresh_served w s p command tree old new_tree new reply was known now executed re
     record {
       tree = executed ∙ ap (λ t. (execution t p command).tree) was.tree;
       sessions = executed_there w s p (Executed s.tree command (reply_of s.tree p command)) made old new was.sessions known now (λ own t. (refl, refl))
-          (kept ∙ ap (λ (r : Reply). with_sessions old (changed p (with_accepted w.window (A ++ (record { command = command; reply = r }) ∷ [])) old.sessions)) replied);
+          (kept ∙ ap (λ (r : Reply). with_sessions old (with_changed p (with_accepted w.window (A ++ (record { command = command; reply = r }) ∷ [])) old.sessions)) replied);
     }
 
 -- what was written, and then what an execution wrote

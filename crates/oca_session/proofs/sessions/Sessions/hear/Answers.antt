@@ -3,7 +3,7 @@ use Rattle.std.specs.Prelude.{is_some, position}
 use Rattle.std.proofs.Math.ListN.{length-set}
 use Rattle.std.proofs.lemmas.List.Elements.{All-set}
 use Rattle.oca_types.specs.Sizes.{sizes_of}
-use Rattle.oca_session.specs.Table.{Session, Table, is_of, session_of, heard_at, changed, opened_session}
+use Rattle.oca_session.specs.Table.{Session, Table, is_of, session_of, heard_at, with_changed, opened_session}
 use Rattle.oca_session.specs.Sound.{IsSession, IsOnePerPeer}
 use Rattle.oca_session.proofs.Tables.{changed_in, one_in, sound_in, heard_sound, known_by_place, known_same, peers_of-changed, none_known, opened_in, opened_sound, known-push, same_peer-self, IsOnePerPeer-push, quiet_in, quiet_push, placed_within}
 use Rattle.oca_session.proofs.sessions.Sessions.hear.Goals as goal
@@ -37,7 +37,7 @@ returns-in-Some-clause-hears c =
       sym (known_by_place c.args.peer (take a.count a.slots.items)) ∙ ap is_some there,
       ap (table m.result) (changed_in c.args.peer (heard_at m.result) a.slots.items c.deref.result.now a.count at _ _
           c.self.invariant.3 c.deref.ensures.value placed c.index_mut-slot.ensures.value c.note.ensures)
-          ∙ ap (λ (t : ℕ). table t (changed c.args.peer (heard_at t) (take a.count a.slots.items))) m.ensures,
+          ∙ ap (λ (t : ℕ). table t (with_changed c.args.peer (heard_at t) (take a.count a.slots.items))) m.ensures,
     )
 
 pub returns-in-Some-clause-known : goal.returns-in-Some-clause-known
