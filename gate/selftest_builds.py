@@ -114,15 +114,19 @@ def builds_what_is_named(folder):
                      (1, ["locks xyz", "xyz"]), (1, []), (1, [])]
 
 
-# What `make` runs by Python for each goal, in a folder without programs.
+# What `make` runs by Python or `sh` for each goal, in a folder without programs.
 BUILD = ["gate/build.py bin ocadev ocactl ocapanel", "examples/run.py bin/ocadev"]
 TRIALS = "gate/build.py bin trials"
+KIND = "x86_64-unknown-linux-gnu"
+LIBRARY, INSTALL = f"gate/library.py {KIND}", "gate/install.sh install"
 GOALS = {
     "test": ["gate/run.py"], "demo": ["examples/run.py"], "build": BUILD,
     "lossy": [*BUILD, "tools/lossy.py bin 200 1", "tools/lossy.py bin directed"],
     "fuzz": [*BUILD, "tools/fuzz.py bin 60 1"], "world": [TRIALS, "tools/world.py bin 8000 1"],
     "law": [TRIALS, "tools/law.py bin 2000 1"], "panel-trial": [*BUILD, "tools/panel_trial.py bin"],
-    "library": ["gate/library.py x86_64-unknown-linux-gnu"],
+    "library": [LIBRARY], "install-library": [LIBRARY, f"{INSTALL} library {KIND}"],
+    "install": [LIBRARY, f"{INSTALL} library {KIND}", *BUILD, f"{INSTALL} programs"],
+    "uninstall": [f"gate/install.sh uninstall {it}" for it in ("programs", f"library {KIND}")],
     "bench": [*BUILD, TRIALS, "bench/run.py bin", "bench/core.py bin", "bench/memory.py bin", "bench/sockets.py bin"]}
 
 
@@ -142,7 +146,8 @@ def make_fails_with(goal, folder):
     """Whether `make` runs for this goal what it is to, in that order, shows what it prints, and fails where one of it
     does."""
     top, log = folder / f"make-{goal}", folder / f"make-{goal}.log"
-    stand_in(top / "path/python3", f'echo "$*" >> {log}\necho "said by $*"\n[ "$*" != "$FAILS" ]')
+    for name in ("python3", "sh"):
+        stand_in(top / f"path/{name}", f'echo "$*" >> {log}\necho "said by $*"\n[ "$*" != "$FAILS" ]')
     (top / "Makefile").write_text((run.TOP / "Makefile").read_text())
     for fails in ("", *GOALS[goal]):
         log.write_text("")

@@ -397,7 +397,7 @@ def calls_all_that_it_has(folder):
     place.mkdir()
     for name, text in MODULES.items():
         (place / name).write_text(text)
-    left = uncalled([run.TOP / it for it in ("tools", "gate", "bench")])
+    left = uncalled([run.TOP / it for it in ("tools", "gate", "bench", "examples")])
     for it in left:
         print(f"nothing calls {it}")
     return sorted(uncalled([place])) == UNCALLED and not left
