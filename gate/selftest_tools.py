@@ -31,12 +31,12 @@ TRIED = {
 GOOD_ONES = ("a_f", "b_f_again", "c_g", "g_i", "h_h", "i_number")
 
 
-def crate_of_edits(folder, name, edits):
+def crate_of_edits(folder, name, edits, bodies=BODIES):
     """A crate with these functions and edits, whose libraries are built."""
     crate = folder / "crates" / name
     for part in ("src", "wrong"):
         (crate / part).mkdir(parents=True)
-    functions = "".join(f"fn {it}() {{\n    {body}\n}}\n" for it, body in BODIES.items())
+    functions = "".join(f"fn {it}() {{\n    {body}\n}}\n" for it, body in bodies.items())
     (crate / "src/lib.rt").write_text(f"const N = 1;\n{functions}")
     for edit in edits:
         old, new, _ = TRIED[edit]
@@ -95,6 +95,14 @@ def tries_edits_in_groups(folder):
     return right
 
 
+def sees_what_is_not_proved(folder):
+    """`edits.py` counts no edit of a crate as refused where a function fails that none touches."""
+    crate = crate_of_edits(folder, "a", ["a_f", "c_g", "h_h"], dict(BODIES, i="wrong as it is"))
+    status, told, last = told_by_edits(folder, [crate], [])
+    are_so = [it.startswith("FAILED: i is not proved") for it in told.values()]
+    return (status, last, are_so) == (1, "0 passed, 3 failed", [True] * 3)
+
+
 # How the programs print on each script, by what the reference says of it, and whether there is no difference.
 OF_SCRIPTS = [("cat out; cat err >&2; exit 2", True), ("cat out; cat err >&2", False), ("cat err >&2; exit 2", False),
               ("cat out; exit 2", False), ("cat out out; cat err >&2; exit 2", False), ("cat out err; cat err >&2; exit 2", False),
@@ -102,8 +110,8 @@ OF_SCRIPTS = [("cat out; cat err >&2; exit 2", True), ("cat out; cat err >&2", F
 
 
 def compares_scripts(folder):
-    """`fuzz.py` passes where each of both programs, on each script, with its words, prints just what the reference
-    does, with its faults and its status; any difference of one of them is told, and has failed."""
+    """`fuzz.py` passes where each of both programs, on each script, with its words, prints just what the reference does,
+    with its faults and its status; any difference of one of them is told, and has failed. Each script is drawn anew."""
     fuzz = importlib.import_module("fuzz")
     place, real = folder / "fuzzed", (fuzz.device_script, fuzz.link_script, [*fuzz.ROOMS], [*fuzz.CHANNELS], sys.argv)
     place.mkdir()
@@ -112,8 +120,8 @@ def compares_scripts(folder):
     right = True
     try:
         expected = lambda script: (b"answer\n", "fault", 2)
-        fuzz.device_script = lambda _: (["words", "d"], b"a line\nand more\n", expected)
-        fuzz.link_script = lambda _: (["words", "l"], b"a line\nand more\n", expected)
+        fuzz.device_script = lambda r: drawn.append(r.random()) or (["words", "d"], b"a line\nand more\n", expected)
+        fuzz.link_script = lambda r: drawn.append(r.random()) or (["words", "l"], b"a line\nand more\n", expected)
         sys.argv = ["fuzz.py", str(place), "0.02"]
         right_one = OF_SCRIPTS[0][0]
         cases = [(said, right_one, good) for said, good in OF_SCRIPTS]
@@ -121,13 +129,13 @@ def compares_scripts(folder):
             for name, said, letter in (("ocadev", device, "d"), ("ocactl", link, "l")):
                 heard = f'[ "$*" = "words {letter}" ] && grep -q line || exit 9'
                 stand_in(place / name, f"{heard}\ncd {place}\n{said}")
-            told = io.StringIO()
+            told, drawn = io.StringIO(), []
             with contextlib.redirect_stdout(told):
                 status = fuzz.main()
             counts = re.fullmatch(r"(\d+) passed, (\d+) failed", run.last_line(told.getvalue()))
             passed, failed = map(int, counts.groups())
-            seen = (status, failed, "DIFFERENCE" in told.getvalue(), passed > 1 or not good)
-            if seen != ((0, 0, False, True) if good else (1, 1, True, True)):
+            seen = (status, failed, "DIFFERENCE" in told.getvalue(), passed > 1 or not good, len({*drawn}) == len(drawn))
+            if seen != ((0, 0, False, True, True) if good else (1, 1, True, True, True)):
                 print(f"fuzz.py: {seen} where ocadev does '{device}' and ocactl '{link}'")
                 right = False
     finally:
@@ -209,12 +217,14 @@ def finds_what_documents_say(_):
     return len(wanted) > 15 and not missing
 
 
-# What a peer says of its questions beside silent hosts, and alone: asked, answered, the slowest in ms; and how many
-# checks of these two pass and fail (alone, all being well is no check of its own).
+# What a peer says of its questions beside silent hosts, and alone: asked, answered, the slowest in ms, how many
+# datagrams came; and how many checks of these two pass and fail (alone, all being well is no check of its own).
 OF_NEIGHBOURS = [
-    ((20, 20, 5), (20, 20, 3), 1, 0), ((20, 20, 103), (20, 20, 3), 1, 0), ((20, 20, 104), (20, 20, 3), 0, 1),
-    ((20, 19, 5), (20, 20, 3), 0, 1), ((20, 0, 5), (20, 20, 3), 0, 1), ((0, 0, 0), (20, 20, 3), 0, 1),
-    ((19, 20, 5), (20, 20, 3), 0, 1), ((20, 20, 5000), (20, 20, 3), 0, 1), ((20, 20, 5), (20, 19, 3), 1, 1)]
+    ((20, 20, 5, 4000), (20, 20, 3, 0), 1, 0), ((20, 20, 103, 2000), (20, 20, 3, 0), 1, 0),
+    ((20, 20, 104, 4000), (20, 20, 3, 0), 0, 1), ((20, 19, 5, 4000), (20, 20, 3, 0), 0, 1),
+    ((20, 0, 5, 4000), (20, 20, 3, 0), 0, 1), ((0, 0, 0, 4000), (20, 20, 3, 0), 0, 1),
+    ((19, 20, 5, 4000), (20, 20, 3, 0), 0, 1), ((20, 20, 5000, 4000), (20, 20, 3, 0), 0, 1),
+    ((20, 20, 5, 1999), (20, 20, 3, 0), 0, 1), ((20, 20, 5, 4000), (20, 19, 3, 0), 1, 1)]
 
 
 def judged_neighbours(neighbours, said, alone):
@@ -225,11 +235,11 @@ def judged_neighbours(neighbours, said, alone):
 
     def ran(room, folder, silent, seconds):
         beside.add(silent)
-        return alone if silent is None else said if silent == neighbours.RUNS[-1] else (20, 20, alone[2])
+        return alone if silent is None else said if silent == neighbours.RUNS[-1] else (20, 20, alone[2], 4000)
 
     neighbours.Namespaces, neighbours.run = contextlib.nullcontext, ran
     neighbours.os = SimpleNamespace(geteuid=lambda: 0, path=os.path)
-    neighbours.shutil, sys.argv = SimpleNamespace(which=lambda _: "ip"), ["neighbours.py", "bin", "1"]
+    neighbours.shutil, sys.argv = SimpleNamespace(which=lambda _: "ip"), ["neighbours.py", "bin", "4"]
     told = io.StringIO()
     try:
         with contextlib.redirect_stdout(told):
@@ -245,7 +255,12 @@ def judges_neighbours(_):
     and tries each of its runs, and one where no host is silent."""
     neighbours = importlib.import_module("neighbours")
     count = len(neighbours.RUNS)
-    wrong = []
+    sent = neighbours.forged("10.91.0.100", 9000, b"abc")
+    head, udp = sent[:20], sent[20:]
+    total = sum(int.from_bytes(head[at:at + 2], "big") for at in range(0, 20, 2))
+    wrong = [] if (total & 0xffff) + (total >> 16) == 0xffff and len(sent) == 31 else ["what it forges"]
+    wrong += [] if (head[:4], head[8:10]) == (b"\x45\0\0\x1f", b"\x40\x11") else [head]
+    wrong += [] if (head[12:], udp) == (b"\x0a\x5b\0\x64\x0a\x5b\0\1", b"\x23\x28\xfd\xe8\0\x0b\0\0abc") else [udp]
     for said, alone, passed, failed in OF_NEIGHBOURS:
         ends = (int(failed > 0), f"{count - 1 + passed} passed, {failed} failed", True)
         wrong += [(said, alone)] if judged_neighbours(neighbours, said, alone) != ends else []
@@ -404,7 +419,8 @@ def calls_all_that_it_has(folder):
 
 
 # What is tried, each in a folder of its own.
-ROWS = [("edits.py tries edits in groups", tries_edits_in_groups), ("fuzz.py compares scripts", compares_scripts),
+ROWS = [("edits.py tries edits in groups", tries_edits_in_groups),
+        ("edits.py sees what is not proved", sees_what_is_not_proved), ("fuzz.py compares scripts", compares_scripts),
         ("snippets.py runs what documents say", runs_what_documents_say),
         ("snippets.py comes to what documents say", finds_what_documents_say),
         ("neighbours.py judges runs", judges_neighbours), ("all that the tools have is called", calls_all_that_it_has)]
