@@ -105,8 +105,9 @@ def sees_what_is_not_proved(folder):
 
 # How the programs print on each script, by what the reference says of it, and whether there is no difference.
 OF_SCRIPTS = [("cat out; cat err >&2; exit 2", True), ("cat out; cat err >&2", False), ("cat err >&2; exit 2", False),
-              ("cat out; exit 2", False), ("cat out out; cat err >&2; exit 2", False), ("cat out err; cat err >&2; exit 2", False),
-              ("head -c 6 out; cat err >&2; exit 2", False), ("cat err >&2; cat err >&2; cat out; exit 2", False)]
+              ("cat out; exit 2", False), ("cat out out; cat err >&2; exit 2", False),
+              ("cat out err; cat err >&2; exit 2", False), ("head -c 6 out; cat err >&2; exit 2", False),
+              ("cat err >&2; cat err >&2; cat out; exit 2", False)]
 
 
 def compares_scripts(folder):
@@ -122,7 +123,7 @@ def compares_scripts(folder):
         expected = lambda script: (b"answer\n", "fault", 2)
         fuzz.device_script = lambda r: drawn.append(r.random()) or (["words", "d"], b"a line\nand more\n", expected)
         fuzz.link_script = lambda r: drawn.append(r.random()) or (["words", "l"], b"a line\nand more\n", expected)
-        sys.argv = ["fuzz.py", str(place), "0.02"]
+        sys.argv = ["fuzz.py", str(place), "0.5"]
         right_one = OF_SCRIPTS[0][0]
         cases = [(said, right_one, good) for said, good in OF_SCRIPTS]
         for device, link, good in cases + [(link, device, good) for device, link, good in cases]:
@@ -134,8 +135,9 @@ def compares_scripts(folder):
                 status = fuzz.main()
             counts = re.fullmatch(r"(\d+) passed, (\d+) failed", run.last_line(told.getvalue()))
             passed, failed = map(int, counts.groups())
-            seen = (status, failed, "DIFFERENCE" in told.getvalue(), passed > 1 or not good, len({*drawn}) == len(drawn))
-            if seen != ((0, 0, False, True, True) if good else (1, 1, True, True, True)):
+            is_tried = (passed > 1 or not good) and len({*drawn}) == len(drawn) > 0
+            seen = (status, failed, "DIFFERENCE" in told.getvalue(), is_tried)
+            if seen != ((0, 0, False, True) if good else (1, 1, True, True)):
                 print(f"fuzz.py: {seen} where ocadev does '{device}' and ocactl '{link}'")
                 right = False
     finally:

@@ -6,8 +6,8 @@ Usage: neighbours.py BIN [SECONDS]     BIN is the folder with `ocadev`; each run
 
 Datagrams in the name of silent hosts come at several rates, of 122 keep-alives each, which the device returns one by one,
 or of one. Meanwhile a peer asks for a state twenty times a second. Each of its commands must be answered, the slowest
-within 100 ms longer than where no host is silent. It needs root and `ip` (iproute2); without them it says so, and tries
-nothing. The last line is 'N passed, M failed'."""
+within 100 ms longer than where no host is silent; and at least half of the datagrams must have been sent. It needs root
+and `ip` (iproute2); without them it says so, and tries nothing. The last line is 'N passed, M failed'."""
 import os
 import re
 import shutil
