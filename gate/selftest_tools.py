@@ -219,6 +219,31 @@ def finds_what_documents_say(_):
     return len(wanted) > 15 and not missing
 
 
+# A doc comment with an example, a test with it, and what of them is changed so that it stands in no test.
+DOCUMENTED = "    /// A call.\n    ///\n    /// ```\n    /// let a = of(1)?;\n    /// if a { b() }\n    /// ```\n    fn of() {}\n"
+WITH_IT = "#[test]\nfn it() {\n    let a = of(1)?;\n    if a { b() }\n}\n"
+
+
+def finds_examples(folder):
+    """`snippets.py` finds each example of a doc comment, and fails where no test has it as it stands."""
+    snippets = importlib.import_module("snippets")
+    top, real, found = folder / "documented", (snippets.TOP, snippets.DOCUMENTS, sys.argv), []
+    for name in ("a", "a_tests"):
+        (top / f"crates/{name}/src/in").mkdir(parents=True)
+    try:
+        snippets.TOP, snippets.DOCUMENTS, sys.argv = top, [], ["snippets.py", "none"]
+        for old, new in (("", ""), ("of(1)?", "of(2)?"), ("    if a { b() }\n", ""), ("let a", "let b"), (WITH_IT, "")):
+            (top / "crates/a/src/in/lib.rt").write_text(DOCUMENTED)
+            (top / "crates/a_tests/src/in/tests.rt").write_text(WITH_IT.replace(old, new, 1))
+            told = io.StringIO()
+            with contextlib.redirect_stdout(told):
+                status = snippets.main()
+            found.append((status, run.last_line(told.getvalue())))
+    finally:
+        snippets.TOP, snippets.DOCUMENTS, sys.argv = real
+    return found == [(0, "1 passed, 0 failed")] + [(1, "0 passed, 1 failed")] * 4
+
+
 # What a peer says of its questions beside silent hosts, and alone: asked, answered, the slowest in ms, how many
 # datagrams came; and how many checks of these two pass and fail (alone, all being well is no check of its own).
 OF_NEIGHBOURS = [
@@ -420,9 +445,35 @@ def calls_all_that_it_has(folder):
     return sorted(uncalled([place])) == UNCALLED and not left
 
 
+# a definition of a spec: its line begins with its name, or with what it is and its name
+DEFINED = re.compile(r"(?m)^(?:abbrev |unfoldable )?(?:pub )?(?:record |data )?(?!use\b|mod\b|record\b|data\b|abbrev\b|unfoldable\b|pub\b)(\w+)\s*[:({]")
+
+
+def defined_twice(top):
+    """The names that the specs of two modules define, each with these modules."""
+    places = {}
+    for file in sorted(top.glob("crates/*/specs/**/*.antt")):
+        for name in set(DEFINED.findall(file.read_text())):
+            places.setdefault(name, []).append(str(file.relative_to(top)))
+    return {name: files for name, files in places.items() if len(files) > 1}
+
+
+def finds_names_defined_twice(folder):
+    """A name has one definition in all specs; where it has two, the name is found."""
+    for name, text in (("one", "abbrev pub same : A\n"), ("two", "pub record same (n : A) : Type 0 where\n  pub other : A\n"), ("three", "pub other : A\nother = a\n")):
+        (folder / "crates" / name / "specs").mkdir(parents=True)
+        (folder / "crates" / name / "specs" / "Names.antt").write_text(text)
+    found = defined_twice(run.TOP)
+    for name, files in found.items():
+        print(f"{name} is defined in {', '.join(files)}")
+    return [*defined_twice(folder)] == ["same"] and not found
+
+
 # What is tried, each in a folder of its own.
 ROWS = [("edits.py tries edits in groups", tries_edits_in_groups),
         ("edits.py sees what is not proved", sees_what_is_not_proved), ("fuzz.py compares scripts", compares_scripts),
         ("snippets.py runs what documents say", runs_what_documents_say),
         ("snippets.py comes to what documents say", finds_what_documents_say),
-        ("neighbours.py judges runs", judges_neighbours), ("all that the tools have is called", calls_all_that_it_has)]
+        ("neighbours.py judges runs", judges_neighbours), ("all that the tools have is called", calls_all_that_it_has),
+        ("snippets.py finds examples of doc comments", finds_examples),
+        ("a definition's name stands in one spec", finds_names_defined_twice)]

@@ -1,6 +1,7 @@
 //! What no clause says: encodings and answers from outside, and each call once.
 mod bytes;
 mod classes;
+mod documented;
 mod faults;
 mod methods;
 mod peers;
@@ -55,4 +56,10 @@ fn others(alloc: Global) -> [bool; 6] {
 #[test]
 fn what_is_no_row(rt: HostRuntime) {
     assert_eq!(rt; others(rt.alloc()), [true; 6]);
+}
+
+#[test]
+fn what_is_documented(rt: HostRuntime) {
+    assert!(rt; documented::take(&rt).is_ok());
+    documented::name_a_status(&rt);
 }
