@@ -14,6 +14,7 @@
 
 mod asked;
 mod beginning;
+mod in_flight;
 mod objects;
 mod outcomes;
 mod own_port;
@@ -22,6 +23,7 @@ mod trouble;
 mod walk;
 
 pub use beginning::answer_of;
+pub use in_flight::InFlight;
 pub use outcomes::done_in;
 pub use own_port::{OwnPort, law_of_turns};
 pub use panel::Panel;
