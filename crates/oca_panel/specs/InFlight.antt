@@ -1,7 +1,7 @@
--- Commands in flight on a panel, in the order in which they were begun (*profile*). Of each there is its handle, and what
--- its caller says of it.
-use Rattle.std.specs.Prelude.{◌≡◌, ℕ, Bool, true, false, List, [], ◌∷◌, ◌++◌, length, Option, Some, None, Result, Ok, Err}
-use Rattle.std.specs.Prelude.{◌==◌}
+-- Commands in flight on a panel, in the order in which they were begun (*profile*). Of each there is its handle, and
+-- what its caller says of it.
+use Rattle.std.specs.Prelude.{◌≡◌, ℕ, ◌==◌, Bool, true, false, List, [], ◌∷◌, ◌++◌, length, Option, Some, None}
+use Rattle.std.specs.Prelude.{Result, Ok, Err}
 use Rattle.oca_types.specs.declared.words.Handle.{Handle}
 use Rattle.oca_types.specs.Peers.{RequestFields}
 use Rattle.oca_control.specs.declared.fault.ControlFault.{ControlFault}
@@ -43,7 +43,8 @@ abbrev pub FirstIsUnknown : {T : Type 0} → List (ℕ × T) → LinkState → T
 FirstIsUnknown [] link = Unit {0}
 FirstIsUnknown (first ∷ rest) link = (answer_under first.0 link.untaken ≡ None) × (link.lost ≡ false)
 
--- HOW THE FIRST CAME OUT was looked up without a turn. Where it is known it is in flight no longer, else nothing changed.
+-- HOW THE FIRST CAME OUT was looked up without a turn. Where it is known it is in flight no longer, else nothing
+-- changed.
 abbrev pub SettlesFirst : {T : Type 0} → Option (T × Outcome) → (queue rest : List (ℕ × T)) → PanelState → PanelState
     → Type 0
 SettlesFirst (Some came) queue rest old new =

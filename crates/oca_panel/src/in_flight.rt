@@ -33,22 +33,21 @@ impl<T: Copy + Default> Default for Begun<T> {
 }
 
 /// The commands in flight on a panel, at most 32, in the order in which they were begun, each with what its caller says
-/// of it: so many can be in flight at once as the panel's span has handles, and each is waited for in its turn.
+/// of it. As many can be in flight at once as the panel's span has handles; they are waited for in this order.
 ///
-/// ```text
+/// ```
 /// let mut in_flight = InFlight::new();
-/// for ono in [Ono(4097), Ono(4098)] {
-///     if let Ok(handle) = panel.begin_set(ono, muted) {
-///         in_flight.push(handle, ono);
-///     }
+/// let mute = set_request(Value::Mute(MuteState::Muted));
+/// for channel in [4097, 4098] {
+///     in_flight.begin_behind(&mut panel, mute.of(Ono(channel)), channel)?;
 /// }
-/// while let Some((ono, outcome)) = in_flight.finish_first(&mut panel) {
-///     println!(rt; "{}: {outcome}", ono.0)?;
+/// while let Some((channel, outcome)) = in_flight.finish_first(&mut panel) {
+///     println!(rt; "{channel}: {outcome}")?;
 /// }
 /// ```
 ///
-/// All calls are to be given one panel, the one that the commands were begun on. Where its link is lost each command that
-/// is waited for comes out `Lost`, unless its answer is there; after [`Panel::renew`] begin with a new queue.
+/// Give all calls the panel that the commands were begun on. Where its link is lost, each command that is waited for
+/// comes out `Lost`, unless its answer is there; after [`Panel::renew`] begin with a new queue.
 pub struct InFlight<T: Copy + Default> {
     commands: ArrayVec<Begun<T>, MOST_IN_FLIGHT>,
 }
@@ -72,7 +71,7 @@ impl<T: Copy + Default> InFlight<T> {
     ghost use Rattle.std.specs.Prelude.{◌≡◌, ◌<◌, ◌≤◌, ◌==◌, [], ◌∷◌, ◌++◌, length, false};
     ghost use Rattle.oca_types.specs.Peers.{request_of};
     ghost use Rattle.oca_panel.specs.InFlight.{BeginsBehind, FinishesFirst, SettlesFirst, is_full};
-    ghost use Rattle.oca_panel.specs.PrivateInFlight.{IsFirst, TakesFirst};
+    ghost use Rattle.oca_panel.specs.PrivateInFlight.{IsFirst, TakesOff};
 
     /// No command is in flight.
     pub fn new() -> InFlight<T>
@@ -115,8 +114,9 @@ impl<T: Copy + Default> InFlight<T> {
         self.commands.push(Begun { handle, item });
     }
 
-    /// Begins a command as [`Panel::begin`] does, and puts it behind the others, with what is to be said of it. Refusals,
-    /// which change neither the queue nor the panel: `SpanFull` where 32 are in flight, and those of [`Panel::begin`].
+    /// Begins a command as [`Panel::begin`] does, and puts it behind the others, with what is to be said of it. Returns
+    /// its handle. Refusals, which change neither the queue nor the panel: `SpanFull` where 32 are in flight, and those
+    /// of [`Panel::begin`].
     pub fn begin_behind<E: End>(
         &mut self,
         panel: &mut Panel<E>,
@@ -137,8 +137,8 @@ impl<T: Copy + Default> InFlight<T> {
         }
     }
 
-    /// Waits for the first command in flight as [`Panel::finish`] does; it is in flight no longer. Returns what was said
-    /// of it, and how it came out. `None` where none is in flight, which changes nothing.
+    /// Waits for the first command in flight, in the panel's turns as [`Panel::finish`] does; it is in flight no longer.
+    /// Returns what was said of it, and how it came out. `None` where none is in flight, which changes nothing.
     ///
     /// A command that comes out `Unanswered` is still one of the panel's: [`Panel::answered`] tells when its answer has
     /// come.
@@ -180,7 +180,7 @@ impl<T: Copy + Default> InFlight<T> {
 
     /// Takes the first command in flight off the queue.
     fn take_first(&mut self) -> Option<(Handle, T)>
-        ensures { TakesFirst result self.old self.new }
+        ensures { TakesOff result self.old self.new }
     {
         if self.commands.is_empty() {
             return None;

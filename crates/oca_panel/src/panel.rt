@@ -175,8 +175,9 @@ impl<E: End> Panel<E> {
         }
     }
 
-    /// Submits a command and sends it at once, unless the link is found lost at that, and returns its handle. Refusals,
-    /// which change nothing: those of `begin` of `oca_control`.
+    /// Submits a command and sends it at once, unless the link is found lost at that, and returns its handle, for
+    /// [`finish`](Panel::finish) or [`InFlight::push`](crate::InFlight::push). Refusals, which change nothing: those of
+    /// `begin` of `oca_control`.
     pub fn begin(&mut self, request: Request<'_>) -> Result<Handle, ControlFault>
         ensures { BeginsIn (request_of request.entry) result self.old self.new }
     {
