@@ -1,3 +1,4 @@
+mod FlightLemmas
 mod OwnLemmas
 pub mod RequestLemmas
 mod WalkLemmas

@@ -1,9 +1,11 @@
 pub mod Panels
+pub mod InFlight
 pub mod Outcomes
 pub mod Objects
 pub mod Walks
 pub mod OwnPorts
 pub mod PrivateObjects
+pub mod PrivateInFlight
 pub mod Beginnings
 pub mod Renewals
 pub mod WalksApart

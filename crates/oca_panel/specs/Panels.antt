@@ -52,9 +52,17 @@ pub record FinishesIn (handle : ℕ) (old new : PanelState) (outcome : Outcome) 
   pub turns : new.turns ≡ old.turns
   pub unanswered : new.unanswered ≡ (old.unanswered || is_lost_or_unanswered outcome)
 
+-- it is known how a command came out
+abbrev pub IsKnown : Outcome → Type 0
+IsKnown (outcomes.Answered a) = Unit {0}
+IsKnown (outcomes.Refused fault) = Unit {0}
+IsKnown outcomes.Lost = Unit {0}
+IsKnown outcomes.Unanswered = ⊥
+
 -- How the command under this handle came out was looked up, without a turn: the answer is taken where it is there, else
 -- the link is lost.
 pub record SettlesIn (handle : ℕ) (old new : PanelState) (outcome : Outcome) : Type 0 where
+  pub known : IsKnown outcome
   pub waits : Waits handle 0 old.link outcome new.link old.end_state new.end_state
   pub turns : new.turns ≡ old.turns
   pub unanswered : new.unanswered ≡ (old.unanswered || is_lost_or_unanswered outcome)

@@ -4,7 +4,7 @@
 //! Begin with [`Panel::open`] over a [`UdpEnd`](oca_net::UdpEnd): then `panel.set(Ono(4097),
 //! Value::Mute(MuteState::Muted))` sends the command, repeats it until its answer comes, and returns whether it was
 //! carried out. [`Panel::get`] and [`Panel::reading`] read a value, the second with its limits; [`Walk`] lists the
-//! objects of a device; with [`Panel::begin_set`] and [`Panel::finish_set`] several commands are in flight at once.
+//! objects of a device; with [`InFlight`] several commands are in flight at once, and are waited for in their order.
 //! [`OwnPort`] gives a first handle that is safe. [`Trouble`] is the one error: as a text it has the name of the
 //! status.
 //!
@@ -14,6 +14,7 @@
 
 mod asked;
 mod beginning;
+mod in_flight;
 mod objects;
 mod outcomes;
 mod own_port;
@@ -22,6 +23,7 @@ mod trouble;
 mod walk;
 
 pub use beginning::answer_of;
+pub use in_flight::InFlight;
 pub use outcomes::done_in;
 pub use own_port::{OwnPort, law_of_turns};
 pub use panel::Panel;

@@ -88,6 +88,13 @@ impl<E: End> Panel<E> {
         &self.end
     }
 
+    /// The link, to look at.
+    pub fn link(&self) -> &Link
+        ensures { result.now ≡ self.now.link }
+    {
+        &self.link
+    }
+
     /// The end, where nothing more is to be asked.
     pub fn into_end(self) -> E
         ensures { E.state result ≡ self.end_state }
@@ -168,8 +175,9 @@ impl<E: End> Panel<E> {
         }
     }
 
-    /// Submits a command and sends it at once, unless the link is found lost at that, and returns its handle. Refusals,
-    /// which change nothing: those of `begin` of `oca_control`.
+    /// Submits a command and sends it at once, unless the link is found lost at that, and returns its handle, for
+    /// [`finish`](Panel::finish) or [`InFlight::push`](crate::InFlight::push). Refusals, which change nothing: those of
+    /// `begin` of `oca_control`.
     pub fn begin(&mut self, request: Request<'_>) -> Result<Handle, ControlFault>
         ensures { BeginsIn (request_of request.entry) result self.old self.new }
     {
@@ -186,8 +194,8 @@ impl<E: End> Panel<E> {
         outcome
     }
 
-    /// How the command under this handle fared, where that is known without a turn; its answer is taken then. `None`
-    /// changes nothing.
+    /// How the command under this handle fared, where that is known without a turn: its answer, which is taken then, or
+    /// that the link is lost. `None` changes nothing.
     pub fn try_finish(&mut self, handle: Handle) -> Option<Outcome>
         ensures { MaySettle result handle.0 self.old self.new }
     {

@@ -1,7 +1,8 @@
 -- The outcomes of commands, and their text.
 use Rattle.std.proofs.Common.{◌≡◌, Bool, ℕ, ◌+◌, ◌-◌, ◌<◌, ◌≤◌, true, false, List, [], ◌∷◌, ◌++◌, length, Result, Ok, Err, refl, sym, ap, ◌∙◌, subst, arith, append-nil, append_assoc}
-use Rattle.std.specs.Prelude.{OnOk, slice_index_or, ◌==◌, ◌||◌, if◌then◌else◌}
-use Rattle.std.specs.List.{remove}
+use Rattle.std.specs.Prelude.{OnOk, ℤ, Option, Some, None, map, ◌==◌, ◌||◌, if◌then◌else◌}
+use Rattle.std.proofs.lemmas.Bool.{ne_eqb}
+use Rattle.std.proofs.lemmas.List.{map-append, length-map}
 use Rattle.oca_types.specs.declared.words.Handle.{Handle}
 use Rattle.oca_types.specs.Peers.{RequestFields}
 use Rattle.oca_net.specs.EndStates.{EndState}
@@ -17,6 +18,9 @@ use Rattle.oca_control.specs.declared.outcome.Outcome.TheVariants as outcomes
 use Rattle.oca_panel.specs.declared.trouble.Trouble.{Trouble}
 use Rattle.oca_panel.specs.declared.trouble.Trouble.TheVariants as trouble
 use Rattle.oca_panel.specs.Outcomes.{done_or_trouble, done_answered}
+use Rattle.oca_panel.specs.Panels.{PanelState, BeginsIn, IsKnown, is_lost_or_unanswered}
+use Rattle.oca_panel.specs.InFlight.{BeginsBehind, BeginsUnless, FinishesFirst, FirstIsUnknown, SettlesFirst, put_behind}
+use Rattle.oca_control.proofs.Asks.{waits_asked}
 use Rattle.ocactl_cli.specs.Objects.{trouble_status}
 use Rattle.ocactl_cli.specs.Trees.{listed_status}
 use Rattle.oca_control.specs.Links.{LinkState}
@@ -24,7 +28,7 @@ use Rattle.oca_net.specs.Ends.{last_u64}
 use Rattle.oca_control.specs.Asking.{refused_by, Begins, Waits, ReceivesSoOften}
 use Rattle.ocactl_cli.specs.Requests.{LineAsked, Send}
 use Rattle.ocactl_cli.specs.Exchanges.{SessionState, FirstIsOpen, TakesOne, Idles, IdledNot, OneTurned, OnePrinted, AwaitsFirst, Awaits, NoneAwaited, OneAwaited, AwaitsUntil, SubmitsCommand, Refuses, Concludes, FinishesLines, ended_by, most_turns, outcome_line, outcome_status, WritesOutcome}
-use Rattle.ocactl_cli.specs.PrivateExchanges.{PrintsUnlessFailed, AwaitsAndPrints, IdlesAndPrints, SendsAndPrints, DoesLineAndPrints, Submitted, is_write_failure}
+use Rattle.ocactl_cli.specs.PrivateExchanges.{PrintsUnlessFailed, AwaitsAndPrints, IdlesAndPrints, SendsAndPrints, DoesLineAndPrints, Submitted, TakesFirst, is_write_failure}
 
 -- ---- printing, unless a write has failed
 
@@ -55,34 +59,138 @@ wrote-part o r e a b is h = subst (λ (z : Result ℕ WriteFailed). WritesOutcom
 pub part-flushed : (a b c : Output) (text : List ℕ) → PrintsAll a b text → PrintsPart b c [] → PrintsPart a c text
 part-flushed a b c text h k = subst (PrintsPart a c) (append-nil text) (PrintsPart-then a b c text [] h k)
 
--- ---- handles in flight
+-- ---- commands in flight on a panel
 
-pub first-removed : (xs ys : List ℕ) (h : ℕ) → 0 < length xs → h ≡ slice_index_or xs 0 h → ys ≡ remove xs 0 → xs ≡ h ∷ ys
-first-removed [] ys h some first rest = absurd (omega arith)
-first-removed (x ∷ xs) ys h some first rest = ap (λ (z : ℕ). z ∷ xs) (sym first) ∙ ap (λ (zs : List ℕ). h ∷ zs) (sym rest)
-
-pub submits : (request : RequestFields) (answer : Result Handle ControlFault) (h : Handle) (s old new : SessionState) → s ≡ old → answer ≡ Ok h
-    → Begins request answer s.link new.link s.end_state new.end_state
-    → new.in_flight ≡ s.in_flight ++ h.0 ∷ [] → new.ahead ≡ s.ahead → new.unanswered ≡ s.unanswered → new.socket ≡ s.socket → new.is_open ≡ true
-    → Submitted request (Ok h) old new
-submits request answer h s old new e is begins in_flight ahead unanswered socket is_open = subst (λ (x : SessionState). SubmitsCommand request h x new) e (record {
-  begins = subst (λ (z : Result Handle ControlFault). Begins request z s.link new.link s.end_state new.end_state) is begins;
-  in_flight = in_flight;
+-- the session that a panel and the commands in flight on it are
+abbrev pub session_of : PanelState → List (ℕ × Unit {0}) → ℕ → Bool → Option ℤ → Bool → SessionState
+session_of p queue ahead refused socket is_open = record {
+  link = p.link;
+  end_state = p.end_state;
+  in_flight = map (λ c. c.0) queue;
   ahead = ahead;
-  unanswered = unanswered;
+  unanswered = refused || p.unanswered;
   socket = socket;
   is_open = is_open;
-})
+}
+
+-- where there is room the link decides
+begun-behind : (request : RequestFields) (returned : Result Handle ControlFault) (queue more : List (ℕ × Unit {0})) (old new : PanelState) → length queue < 32
+    → BeginsBehind request tt returned queue more old new → BeginsIn request returned old new
+begun-behind request returned queue more old new few h =
+    subst (λ (full : Bool). BeginsUnless full request returned old new) (not-full (length queue) few) h.begins
+  where
+    not-full : (n : ℕ) → n < 32 → (n == 32) ≡ false
+    not-full n few = ne_eqb n 32 (λ (e : n ≡ 32). omega (arith, few, e))
+
+few-of : (queue : List (ℕ × Unit {0})) (handles : List ℕ) → map (λ c. c.0) queue ≡ handles → length handles < 32 → length queue < 32
+few-of queue handles e few = let same : length handles ≡ length queue = ap length (sym e) ∙ length-map queue (λ c. c.0) in omega (arith, same, few)
+
+same-panel : (old new : PanelState) → new.link ≡ old.link → new.end_state ≡ old.end_state → new.turns ≡ old.turns → new.unanswered ≡ old.unanswered → new ≡ old
+same-panel old new l e t u =
+    ap (λ (x : LinkState). record new { link = x }) l ∙ ap (λ (x : EndState). record new { link = old.link; end_state = x }) e
+    ∙ ap (λ (x : ℕ). record new { link = old.link; end_state = old.end_state; turns = x }) t
+    ∙ ap (λ (x : Bool). record old { unanswered = x }) u
+
+pub submits : (request : RequestFields) (returned : Result Handle ControlFault) (h : Handle) (queue more : List (ℕ × Unit {0})) (old new : PanelState) (ahead : ℕ) (refused : Bool) (socket : Option ℤ) (is_open : Bool) (before : SessionState)
+    → session_of old queue ahead refused socket is_open ≡ before → returned ≡ Ok h → length before.in_flight < 32 → BeginsBehind request tt returned queue more old new
+    → Submitted request (Ok h) before (session_of new more ahead refused socket true)
+submits request returned h queue more old new ahead refused socket is_open before e is few begun =
+    let b : BeginsIn request returned old new = begun-behind request returned queue more old new (few-of queue before.in_flight (ap (λ (x : SessionState). x.in_flight) e) few) begun in
+    let behind : more ≡ put_behind queue tt (Ok h) = begun.behind ∙ ap (put_behind queue tt) is in
+    subst (λ (x : SessionState). SubmitsCommand request h x (session_of new more ahead refused socket true)) e
+    (record {
+      begins = subst (λ (z : Result Handle ControlFault). Begins request z old.link new.link old.end_state new.end_state) is b.begins;
+      in_flight = ap (map (λ (c : ℕ × Unit {0}). c.0)) behind ∙ map-append (λ (c : ℕ × Unit {0}). c.0) queue ((h.0, tt) ∷ []);
+      ahead = refl;
+      unanswered = ap (λ (x : Bool). refused || x) b.unanswered;
+      socket = refl;
+      is_open = refl;
+    })
 
 -- what is refused changes nothing
-pub refuses : (request : RequestFields) (answer : Result Handle ControlFault) (f : ControlFault) (s old new : SessionState) → s ≡ old → answer ≡ Err f
-    → Begins request answer s.link new.link s.end_state new.end_state
-    → new ≡ record s { link = new.link; end_state = new.end_state } → Submitted request (Err f) old new
-refuses request answer f s old new e is begins kept =
-    let b : Begins request (Err f) s.link new.link s.end_state new.end_state = subst (λ (z : Result Handle ControlFault). Begins request z s.link new.link s.end_state new.end_state) is begins in
-    let same : new ≡ s = kept ∙ ap (λ (l : LinkState). record s { link = l; end_state = new.end_state }) b.gives.0 ∙ ap (λ (d : EndState). record s { end_state = d }) b.gives.1 in
-    let there : Refuses request f s = subst (λ (x : SessionState). Begins request (Err f) s.link x.link s.end_state x.end_state) same b in
-    subst (λ (x : SessionState). (new ≡ x) × Refuses request f x) e (same, there)
+pub refuses : (request : RequestFields) (returned : Result Handle ControlFault) (f : ControlFault) (queue more : List (ℕ × Unit {0})) (old new : PanelState) (ahead : ℕ) (refused : Bool) (socket : Option ℤ) (is_open : Bool) (before : SessionState)
+    → session_of old queue ahead refused socket is_open ≡ before → returned ≡ Err f → length before.in_flight < 32 → BeginsBehind request tt returned queue more old new
+    → Submitted request (Err f) before (session_of new more ahead refused socket is_open)
+refuses request returned f queue more old new ahead refused socket is_open before e is few begun =
+    let b : BeginsIn request returned old new = begun-behind request returned queue more old new (few-of queue before.in_flight (ap (λ (x : SessionState). x.in_flight) e) few) begun in
+    let kept : more ≡ queue = begun.behind ∙ ap (put_behind queue tt) is in
+    let begins : Begins request (Err f) old.link new.link old.end_state new.end_state =
+    subst (λ (z : Result Handle ControlFault). Begins request z old.link new.link old.end_state new.end_state) is b.begins in
+    let same : new ≡ old = same-panel old new begins.gives.0 begins.gives.1 b.turns b.unanswered in
+    let there : Refuses request f (session_of old queue ahead refused socket is_open) = subst (λ (p : PanelState). Begins request (Err f) old.link p.link old.end_state p.end_state) same begins in
+    let all : session_of new more ahead refused socket is_open ≡ session_of old queue ahead refused socket is_open =
+    ap (λ (p : PanelState). session_of p more ahead refused socket is_open) same ∙ ap (λ (q : List (ℕ × Unit {0})). session_of old q ahead refused socket is_open) kept in
+    subst (λ (x : SessionState). (session_of new more ahead refused socket is_open ≡ x) × Refuses request f x) e (all, there)
+
+-- no answer came, where one was waited for
+none-came : (h n : ℕ) (l k : LinkState) (o : Outcome) (d e : EndState) → Waits h n l o k d e → is_lost_or_unanswered o ≡ (outcome_status o == 3)
+none-came h n l k (outcomes.Answered a) d e w = by (a.status == 0)
+  where
+    by : (b : Bool) → false ≡ ((if b then 0 else 4) == 3)
+    by true = refl
+    by false = refl
+none-came h n l k (outcomes.Refused fault) d e w = absurd w
+none-came h n l k outcomes.Lost d e w = refl
+none-came h n l k outcomes.Unanswered d e w = refl
+
+none-so-far : (refused was now lost three : Bool) → now ≡ (was || lost) → lost ≡ three → (refused || now) ≡ ((refused || was) || three)
+none-so-far true was now lost three e f = refl
+none-so-far false was now lost three e f = e ∙ ap (λ (x : Bool). was || x) f
+
+awaited-one : (h : ℕ) (o : Outcome) (queue rest : List (ℕ × Unit {0})) (old new : PanelState) (ahead : ℕ) (refused : Bool) (socket : Option ℤ) (is_open : Bool)
+    → queue ≡ (h, tt) ∷ rest → Waits h most_turns old.link o new.link old.end_state new.end_state → new.unanswered ≡ (old.unanswered || is_lost_or_unanswered o)
+    → AwaitsFirst (session_of old queue ahead refused socket is_open) (session_of new rest ahead refused socket is_open) o
+awaited-one h o queue rest old new ahead refused socket is_open first waits unanswered = record {
+  handle = h;
+  first = ap (map (λ (c : ℕ × Unit {0}). c.0)) first;
+  waits = waits;
+  asks = waits_asked h most_turns old.link new.link old.end_state new.end_state o waits;
+  ahead = refl;
+  unanswered = none-so-far refused old.unanswered new.unanswered (is_lost_or_unanswered o) (outcome_status o == 3) unanswered (none-came h most_turns old.link new.link o old.end_state new.end_state waits);
+  socket = refl;
+  is_open = refl;
+}
+
+pub first-awaited : (came : Unit {0} × Outcome) (queue rest : List (ℕ × Unit {0})) (old new : PanelState) (ahead : ℕ) (refused : Bool) (socket : Option ℤ) (is_open : Bool) (before : SessionState)
+    → session_of old queue ahead refused socket is_open ≡ before → old.turns ≡ most_turns → FinishesFirst (Some came) queue rest old new
+    → AwaitsFirst before (session_of new rest ahead refused socket is_open) came.1
+first-awaited came queue rest old new ahead refused socket is_open before e turns h =
+    let waits : Waits h.0 most_turns old.link came.1 new.link old.end_state new.end_state = subst (λ (n : ℕ). Waits h.0 n old.link came.1 new.link old.end_state new.end_state) turns h.2.waits in
+    subst (λ (x : SessionState). AwaitsFirst x (session_of new rest ahead refused socket is_open) came.1) e
+    (awaited-one h.0 came.1 queue rest old new ahead refused socket is_open h.1 waits h.2.unanswered)
+
+-- what is known without a turn is known in any number of turns
+longer : (h n : ℕ) (l k : LinkState) (o : Outcome) (d e : EndState) → IsKnown o → Waits h 0 l o k d e → Waits h n l o k d e
+longer h n l k (outcomes.Answered a) d e known w = (w.0, w.1, w.2, none-more w.1 w.3, w.4, w.5, w.6)
+  where
+    none-more : (m : ℕ) → m ≤ 0 → m ≤ n
+    none-more m few = omega arith
+longer h n l k (outcomes.Refused fault) d e known w = absurd w
+longer h n l k outcomes.Lost d e known w = (w.0, w.1, none-more w.0 w.2, w.3, w.4, w.5)
+  where
+    none-more : (m : ℕ) → m ≤ 0 → m ≤ n
+    none-more m few = omega arith
+longer h n l k outcomes.Unanswered d e known w = absurd known
+
+pub first-settled : (came : Unit {0} × Outcome) (queue rest : List (ℕ × Unit {0})) (old new : PanelState) (ahead : ℕ) (refused : Bool) (socket : Option ℤ) (is_open : Bool) (before : SessionState)
+    → session_of old queue ahead refused socket is_open ≡ before → SettlesFirst (Some came) queue rest old new
+    → AwaitsFirst before (session_of new rest ahead refused socket is_open) came.1
+first-settled came queue rest old new ahead refused socket is_open before e h =
+    subst (λ (x : SessionState). AwaitsFirst x (session_of new rest ahead refused socket is_open) came.1) e
+    (awaited-one h.0 came.1 queue rest old new ahead refused socket is_open h.1 (longer h.0 most_turns old.link new.link came.1 old.end_state new.end_state h.2.known h.2.waits) h.2.unanswered)
+
+-- it is not known how the first came out
+pub first-unknown : (queue rest : List (ℕ × Unit {0})) (old new : PanelState) (ahead : ℕ) (refused : Bool) (socket : Option ℤ) (is_open : Bool) (before : SessionState)
+    → session_of old queue ahead refused socket is_open ≡ before → SettlesFirst None queue rest old new
+    → TakesFirst None before (session_of new rest ahead refused socket is_open)
+first-unknown queue rest old new ahead refused socket is_open before e h =
+    let all : session_of new rest ahead refused socket is_open ≡ session_of old queue ahead refused socket is_open =
+    ap (λ (p : PanelState). session_of p rest ahead refused socket is_open) h.1 ∙ ap (λ (q : List (ℕ × Unit {0})). session_of old q ahead refused socket is_open) h.0 in
+    subst (λ (x : SessionState). (session_of new rest ahead refused socket is_open ≡ x) × FirstIsOpen x.link x.in_flight) e (all, open-as queue old.link h.2)
+  where
+    open-as : (q : List (ℕ × Unit {0})) (l : LinkState) → FirstIsUnknown q l → FirstIsOpen l (map (λ c. c.0) q)
+    open-as [] l u = tt
+    open-as (c ∷ q) l u = u
 
 -- ---- waiting
 
@@ -98,18 +206,6 @@ fewer s t o h = ap length h.first ∙ omega arith
 pub awaited : (left : ℕ) (r s : SessionState) (w v : Result Unit WriteFailed) (a b : Output)
     → ((text : List ℕ) × Awaits left r s text × PrintsUnlessFailed w v a b text) → length s.in_flight ≤ left → AwaitsAndPrints left w r s v a b
 awaited left r s w v a b h few = record { text = h.0; awaits = (h.1, few); prints = h.2 }
-
-pub first-awaited : (old new : SessionState) (h : ℕ) (o : Outcome) → old.in_flight ≡ h ∷ new.in_flight → Waits h most_turns old.link o new.link old.end_state new.end_state
-    → (new.end_state.receives < last_u64 → ReceivesSoOften most_turns o old.end_state.receives new.end_state.receives) → new.ahead ≡ old.ahead
-    → new.unanswered ≡ (old.unanswered || outcome_status o == 3) → new.socket ≡ old.socket → new.is_open ≡ old.is_open → AwaitsFirst old new o
-first-awaited old new h o first waits asks ahead unanswered socket is_open =
-    record { handle = h; first = first; waits = waits; asks = asks; ahead = ahead; unanswered = unanswered; socket = socket; is_open = is_open }
-
-pub awaited-from : (s old new : SessionState) (o : Outcome) → s ≡ old → AwaitsFirst s new o → AwaitsFirst old new o
-awaited-from s old new o e h = subst (λ (x : SessionState). AwaitsFirst x new o) e h
-
-pub some-in-flight : (s old : SessionState) → s ≡ old → 0 < length old.in_flight → 0 < length s.in_flight
-some-in-flight s old e h = subst (λ (x : SessionState). 0 < length x.in_flight) (sym e) h
 
 -- ---- idling
 

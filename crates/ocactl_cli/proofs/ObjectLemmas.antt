@@ -1,6 +1,6 @@
 -- Several objects.
 use Rattle.std.proofs.Common.{◌≡◌, inl, inr, ℕ, zero, suc, ◌+◌, ◌<◌, ◌≤◌, Bool, true, false, List, [], ◌∷◌, ◌++◌, length, take, drop, get_or, Result, Ok, Err, refl, sym, ap, ◌∙◌, subst, arith, append-nil}
-use Rattle.std.specs.Prelude.{map, IfOk, IfErr, OnOk, OnErr, ◌==◌}
+use Rattle.std.specs.Prelude.{map, fold, IfOk, IfErr, OnOk, OnErr, ◌==◌}
 use Rattle.std.proofs.lemmas.List.{append_assoc, length-append, map-append, length-map, flat_map_more, take_all, take-append-drop}
 use Rattle.std.proofs.lemmas.List.Sums.{fold-append}
 use Rattle.std.specs.Io.KnownBytes.{Appends}
@@ -17,14 +17,14 @@ use Rattle.oca_control.specs.declared.outcome.Outcome.{Outcome}
 use Rattle.oca_model.specs.declared.value.Value.{Value}
 use Rattle.oca_panel.specs.declared.trouble.Trouble.{Trouble}
 use Rattle.oca_panel.specs.Panels.{PanelState, EndsIn}
+use Rattle.oca_control.specs.declared.outcome.Outcome.TheVariants.{Refused}
 use Rattle.ocactl_cli.specs.declared.objects.Pair.{Pair}
 use Rattle.ocactl_cli.specs.declared.objects.Search.{Search}
 use Rattle.ocactl_cli.specs.declared.setting.Assignment.{Assignment}
-use Rattle.ocactl_cli.specs.declared.setting.Submitted.{Submitted}
 use Rattle.ocactl_cli.specs.declared.object_line.ObjectLine.{ObjectLine}
 use Rattle.ocactl_cli.specs.declared.object_line.ObjectLine.TheVariants as shown
 use Rattle.ocactl_cli.specs.Objects.{FindsValue, FindsAll, NoneSought, OneFound, OneMissed, OnlyFinds, GivesUp, SetsNoneUnfound, SetCommand, BeginsSet, IsAwaited, NoneBegun, OneBegun, OneEnded, SetsAll, OneAsked, NoneAsked, AsksAll, AsksPart, assignment_in, reported_by, reported_line, reported_lines, max_severity, is_refused, last_refused, line_of_object, object_status}
-use Rattle.ocactl_cli.specs.PrivateObjects.{ono_number, pair_of, assignment_of, set_command_of, is_none, AddsFound, AllAwaited, FindsAllTo, FindsOneTo, GivesUpFinding, MakesPlace, SetsEachTo, SetsFound, SetsOn, SetsOnlyIf, SoFar, ReportsAll, ReportsNext, ReportsOne, WaitsForFirst, WaitsOn, WritesLine}
+use Rattle.ocactl_cli.specs.PrivateObjects.{ono_number, pair_of, assignment_of, reported_set, set_command, set_in_flight, is_none, AddsFound, AllAwaited, EndsRefused, FindsAllTo, FindsOneTo, GivesUpFinding, MakesPlace, SetsEachTo, SetsFound, SetsOn, SetsOnlyIf, SoFar, ReportsAll, ReportsNext, ReportsOne, WaitsForFirst, WaitsOn, WritesLine}
 use Rattle.ocactl_cli.proofs.TurnLemmas.{in-turn}
 
 module _ {A B : Type 0} (f : A → B) where
@@ -164,21 +164,28 @@ gives-up-at ps i item assignments more search failure r s t a b c h is x y =
 
 -- ---- set commands
 
--- the last command of several
-pub last-is : (waiting : List SetCommand) (c : SetCommand) → last_refused (waiting ++ c ∷ []) ≡ is_refused c.returned
-last-is waiting c = fold-append (λ (before : Bool) (command : SetCommand). is_refused command.returned) false waiting (c ∷ [])
+abbrev last-by : Bool → List SetCommand → Bool
+last-by before commands = fold (λ (b : Bool) (command : SetCommand). is_refused command.returned) before commands
 
-pub rest-accepted : (c : SetCommand) (more : List SetCommand) → last_refused (c ∷ more) ≡ false → last_refused more ≡ false
-rest-accepted c [] h = refl
-rest-accepted c (d ∷ more) h = h
+-- the link refused none that is in flight
+accepted-from : (before : Bool) (waiting : List (ℕ × Assignment)) → before ≡ false → last-by before (map set_in_flight waiting) ≡ false
+accepted-from before [] h = h
+accepted-from before (c ∷ waiting) h = accepted-from false waiting refl
 
-rest-last : (c : SetCommand) (more : List SetCommand) → 0 < length more → last_refused more ≡ last_refused (c ∷ more)
-rest-last c [] h = absurd (omega (arith, h))
-rest-last c (d ∷ more) h = refl
+pub all-accepted : (waiting : List (ℕ × Assignment)) → last_refused (map set_in_flight waiting) ≡ false
+all-accepted waiting = accepted-from false waiting refl
 
-pub set-none : (ahead : ℕ) (assignments : List (ℕ × Value)) (s : PanelState) (a : Output) (left : List Submitted) → a.held ≡ [] → left ≡ []
-    → SoFar ahead assignments s a [] s (map set_command_of left) 0 a
-set-none ahead assignments s a left empty e = subst (λ (cs : List Submitted). SoFar ahead assignments s a [] s (map set_command_of cs) 0 a) (sym e)
+-- the last one that stands behind some was refused
+refused-behind : (waiting behind : List SetCommand) → last_refused behind ≡ true → last_refused (waiting ++ behind) ≡ true
+refused-behind waiting [] h = absurd (not-true h)
+  where
+    not-true : false ≡ true → ⊥
+    not-true x = cc x
+refused-behind waiting (c ∷ behind) h = fold-append (λ (before : Bool) (command : SetCommand). is_refused command.returned) false waiting (c ∷ behind) ∙ h
+
+pub set-none : (ahead : ℕ) (assignments : List (ℕ × Value)) (s : PanelState) (a : Output) (left : List (ℕ × Assignment)) → a.held ≡ [] → left ≡ []
+    → SoFar ahead assignments s a [] s (map set_in_flight left) 0 a
+set-none ahead assignments s a left empty e = subst (λ (cs : List (ℕ × Assignment)). SoFar ahead assignments s a [] s (map set_in_flight cs) 0 a) (sym e)
     (record { lines = []; sets = NoneBegun; reports = reports-none a a (writes-nothing a empty) })
 
 first-ended : (ahead : ℕ) (assignments : List (ℕ × Value)) (start : PanelState) (before : Output) (begun : List (ℕ × Value)) (c : SetCommand) (more : List SetCommand) (old new : PanelState) (o : Outcome) (status now : ℕ) (a b : Output)
@@ -190,75 +197,72 @@ first-ended ahead assignments start before begun c more old new o status now a b
   reports = reports-next h.lines (reported_by c o) status now before a b h.reports line;
 }
 
-pub waits-first : (old new : PanelState) (waiting more : List Submitted) (status now : ℕ) (a b : Output)
-    → WaitsForFirst old new waiting more status now a b → WaitsOn old new (map set_command_of waiting) (map set_command_of more) status now a b
+-- the first of several is awaited where all are
+awaited-all : (ahead : ℕ) (assignments begun : List (ℕ × Value)) (waiting behind : List SetCommand) → AllAwaited assignments begun behind → IsAwaited ahead assignments begun (waiting ++ behind)
+awaited-all ahead assignments begun waiting behind (inl all) = inr (inl all)
+awaited-all ahead assignments begun waiting behind (inr refused) = inr (inr (refused-behind waiting behind refused))
+
+pub waits-first : (old new : PanelState) (waiting more : List (ℕ × Assignment)) (status now : ℕ) (a b : Output)
+    → WaitsForFirst old new waiting more status now a b → WaitsOn old new (map set_in_flight waiting) (map set_in_flight more) status now a b
 waits-first old new waiting more status now a b w =
-    let all : map set_command_of waiting ≡ set_command_of w.command ∷ map set_command_of more = ap (map set_command_of) w.first in
-    subst (λ (cs : List SetCommand). WaitsOn old new cs (map set_command_of more) status now a b) (sym all)
+    let c : SetCommand = set_in_flight w.command in
+    let rest : List SetCommand = map set_in_flight more in
+    let all : map set_in_flight waiting ≡ c ∷ rest = ap (map set_in_flight) w.first in
+    subst (λ (cs : List SetCommand). WaitsOn old new cs rest status now a b) (sym all)
     (record {
-      on = λ (ahead : ℕ) (assignments : List (ℕ × Value)) (start : PanelState) (before : Output) (begun : List (ℕ × Value)) (due : AllAwaited assignments begun (set_command_of w.command ∷ map set_command_of more)) (h : SoFar ahead assignments start before begun old (set_command_of w.command ∷ map set_command_of more) status a).
-          first-ended ahead assignments start before begun (set_command_of w.command) (map set_command_of more) old new w.outcome status now a b (inr due) w.ends w.reports h;
-      last = rest-last (set_command_of w.command) (map set_command_of more);
+      on = λ (ahead : ℕ) (assignments : List (ℕ × Value)) (start : PanelState) (before : Output) (begun : List (ℕ × Value)) (behind : List SetCommand) (due : AllAwaited assignments begun behind) (h : SoFar ahead assignments start before begun old (c ∷ rest ++ behind) status a).
+          first-ended ahead assignments start before begun c (rest ++ behind) old new w.outcome status now a b (awaited-all ahead assignments begun (c ∷ rest) behind due) w.ends w.reports h;
     })
 
 pub waits-none : (s : PanelState) (waiting : List SetCommand) (status : ℕ) (a : Output) → WaitsOn s s waiting waiting status status a a
 waits-none s waiting status a = record {
-  on = λ (ahead : ℕ) (assignments : List (ℕ × Value)) (start : PanelState) (before : Output) (begun : List (ℕ × Value)) (due : AllAwaited assignments begun waiting) (h : SoFar ahead assignments start before begun s waiting status a). h;
-  last = λ (some : 0 < length waiting). refl;
+  on = λ (ahead : ℕ) (assignments : List (ℕ × Value)) (start : PanelState) (before : Output) (begun : List (ℕ × Value)) (behind : List SetCommand) (due : AllAwaited assignments begun behind) (h : SoFar ahead assignments start before begun s (waiting ++ behind) status a). h;
 }
 
--- all are still to be waited for
-still : (assignments begun : List (ℕ × Value)) (x y : List SetCommand) → last_refused y ≡ last_refused x → AllAwaited assignments begun x → AllAwaited assignments begun y
-still assignments begun x y same (inl all) = inl all
-still assignments begun x y same (inr refused) = inr (same ∙ refused)
-
-pub waits-more : (r s t : PanelState) (x y z : List SetCommand) (l m n : ℕ) (a b c : Output) → 0 < length y → WaitsOn r s x y l m a b → WaitsOn s t y z m n b c → WaitsOn r t x z l n a c
-waits-more r s t x y z l m n a b c some h k = record {
-  on = λ (ahead : ℕ) (assignments : List (ℕ × Value)) (start : PanelState) (before : Output) (begun : List (ℕ × Value)) (due : AllAwaited assignments begun x) (so : SoFar ahead assignments start before begun r x l a).
-      k.on ahead assignments start before begun (still assignments begun x y (h.last some) due) (h.on ahead assignments start before begun due so);
-  last = λ (more : 0 < length z). k.last more ∙ h.last some;
+pub waits-next : (r s t : PanelState) (x : List SetCommand) (y z : List (ℕ × Assignment)) (l m n : ℕ) (a b c : Output)
+    → WaitsOn r s x (map set_in_flight y) l m a b → WaitsForFirst s t y z m n b c → WaitsOn r t x (map set_in_flight z) l n a c
+waits-next r s t x y z l m n a b c h w = record {
+  on = λ (ahead : ℕ) (assignments : List (ℕ × Value)) (start : PanelState) (before : Output) (begun : List (ℕ × Value)) (behind : List SetCommand) (due : AllAwaited assignments begun behind) (so : SoFar ahead assignments start before begun r (x ++ behind) l a).
+      (waits-first s t y z m n b c w).on ahead assignments start before begun behind due (h.on ahead assignments start before begun behind due so);
 }
-
-not-true : false ≡ true → ⊥
-not-true x = cc x
-
-pub waits-next : (r s t : PanelState) (x : List SetCommand) (y z : List Submitted) (l m n : ℕ) (a b c : Output) → false ≡ (length y == 0)
-    → WaitsOn r s x (map set_command_of y) l m a b → WaitsForFirst s t y z m n b c → WaitsOn r t x (map set_command_of z) l n a c
-waits-next r s t x [] z l m n a b c some h w = absurd (not-true some)
-waits-next r s t x (one ∷ y) z l m n a b c some h w =
-    waits-more r s t x (map set_command_of (one ∷ y)) (map set_command_of z) l m n a b c (omega arith) h (waits-first s t (one ∷ y) z m n b c w)
 
 -- room is there, or was made
-pub place-left : (ahead : ℕ) (s : PanelState) (waiting : List Submitted) (status : ℕ) (a : Output) → length waiting < ahead → last_refused (map set_command_of waiting) ≡ false
-    → MakesPlace ahead s s (map set_command_of waiting) (map set_command_of waiting) status status a a
-place-left ahead s waiting status a few accepted =
-    let size : length (map set_command_of waiting) ≡ length waiting = length-map waiting set_command_of in
+pub place-left : (ahead : ℕ) (s : PanelState) (waiting : List (ℕ × Assignment)) (status : ℕ) (a : Output) → length waiting < ahead
+    → MakesPlace ahead s s (map set_in_flight waiting) (map set_in_flight waiting) status status a a
+place-left ahead s waiting status a few =
+    let size : length (map set_in_flight waiting) ≡ length waiting = length-map waiting set_in_flight in
     record {
-      on = λ (assignments : List (ℕ × Value)) (start : PanelState) (before : Output) (begun : List (ℕ × Value)) (h : SoFar ahead assignments start before begun s (map set_command_of waiting) status a). h;
+      on = λ (assignments : List (ℕ × Value)) (start : PanelState) (before : Output) (begun : List (ℕ × Value)) (h : SoFar ahead assignments start before begun s (map set_in_flight waiting) status a). h;
       few = omega (arith, size, few);
-      accepted = accepted;
     }
 
-pub place-made : (ahead : ℕ) (old new : PanelState) (waiting more : List Submitted) (status now : ℕ) (a b : Output) → length waiting ≤ ahead → ahead ≤ length waiting
-    → last_refused (map set_command_of waiting) ≡ false → WaitsForFirst old new waiting more status now a b → MakesPlace ahead old new (map set_command_of waiting) (map set_command_of more) status now a b
-place-made ahead old new waiting more status now a b most full accepted w =
-    let all : map set_command_of waiting ≡ set_command_of w.command ∷ map set_command_of more = ap (map set_command_of) w.first in
-    let size : length (map set_command_of waiting) ≡ length waiting = length-map waiting set_command_of in
-    let rest : length (map set_command_of waiting) ≡ length (map set_command_of more) + 1 = ap length all ∙ omega arith in
-    let due : length (set_command_of w.command ∷ map set_command_of more) ≡ ahead = omega (arith, size, rest, most, full) in
-    subst (λ (cs : List SetCommand). MakesPlace ahead old new cs (map set_command_of more) status now a b) (sym all)
+pub place-made : (ahead : ℕ) (old new : PanelState) (waiting more : List (ℕ × Assignment)) (status now : ℕ) (a b : Output) → length waiting ≤ ahead → ahead ≤ length waiting
+    → WaitsForFirst old new waiting more status now a b → MakesPlace ahead old new (map set_in_flight waiting) (map set_in_flight more) status now a b
+place-made ahead old new waiting more status now a b most full w =
+    let c : SetCommand = set_in_flight w.command in
+    let rest : List SetCommand = map set_in_flight more in
+    let all : map set_in_flight waiting ≡ c ∷ rest = ap (map set_in_flight) w.first in
+    let size : length (map set_in_flight waiting) ≡ length waiting = length-map waiting set_in_flight in
+    let less : length (map set_in_flight waiting) ≡ length rest + 1 = ap length all ∙ omega arith in
+    let due : length (c ∷ rest) ≡ ahead = omega (arith, size, less, most, full) in
+    subst (λ (cs : List SetCommand). MakesPlace ahead old new cs rest status now a b) (sym all)
     (record {
-      on = λ (assignments : List (ℕ × Value)) (start : PanelState) (before : Output) (begun : List (ℕ × Value)) (h : SoFar ahead assignments start before begun old (set_command_of w.command ∷ map set_command_of more) status a).
-          first-ended ahead assignments start before begun (set_command_of w.command) (map set_command_of more) old new w.outcome status now a b (inl due) w.ends w.reports h;
-      few = omega (arith, size, rest, most, full);
-      accepted = rest-accepted (set_command_of w.command) (map set_command_of more) (subst (λ (cs : List SetCommand). last_refused cs ≡ false) all accepted);
+      on = λ (assignments : List (ℕ × Value)) (start : PanelState) (before : Output) (begun : List (ℕ × Value)) (h : SoFar ahead assignments start before begun old (c ∷ rest) status a).
+          first-ended ahead assignments start before begun c rest old new w.outcome status now a b (inl due) w.ends w.reports h;
+      few = omega (arith, size, less, most, full);
     })
 
-pub place-made-if : (ahead : ℕ) (old new : PanelState) (waiting more : List Submitted) (status : ℕ) (q : Result ℕ WriteFailed) (a b : Output) → length waiting ≤ ahead → ahead ≤ length waiting
-    → last_refused (map set_command_of waiting) ≡ false → IfOk q (λ now. WaitsForFirst old new waiting more status now a b)
-    → IfOk q (λ now. MakesPlace ahead old new (map set_command_of waiting) (map set_command_of more) status now a b)
-place-made-if ahead old new waiting more status (Ok now) a b most full accepted w = place-made ahead old new waiting more status now a b most full accepted w
-place-made-if ahead old new waiting more status (Err e) a b most full accepted w = tt
+pub place-made-if : (ahead : ℕ) (old new : PanelState) (waiting more : List (ℕ × Assignment)) (status : ℕ) (q : Result ℕ WriteFailed) (a b : Output) → length waiting ≤ ahead → ahead ≤ length waiting
+    → IfOk q (λ now. WaitsForFirst old new waiting more status now a b)
+    → IfOk q (λ now. MakesPlace ahead old new (map set_in_flight waiting) (map set_in_flight more) status now a b)
+place-made-if ahead old new waiting more status (Ok now) a b most full w = place-made ahead old new waiting more status now a b most full w
+place-made-if ahead old new waiting more status (Err e) a b most full w = tt
+
+-- the first is in flight no longer
+pub fewer-wait : (ahead : ℕ) (old new : PanelState) (waiting more : List (ℕ × Assignment)) (status : ℕ) (q : Result ℕ WriteFailed) (a b : Output) → length waiting ≤ ahead → ahead ≤ 32
+    → IfOk q (λ now. WaitsForFirst old new waiting more status now a b) → OnOk q (length more < 32)
+fewer-wait ahead old new waiting more status (Ok now) a b most few w = let less : length waiting ≡ length more + 1 = ap length w.first ∙ omega arith in omega (arith, less, most, few)
+fewer-wait ahead old new waiting more status (Err e) a b most few w = tt
 
 begun-one : (ahead : ℕ) (assignments : List (ℕ × Value)) (start : PanelState) (before : Output) (begun : List (ℕ × Value)) (c : SetCommand) (waiting : List SetCommand) (old new : PanelState) (status : ℕ) (a : Output)
     → length waiting < ahead → last_refused waiting ≡ false → BeginsSet c old new → SoFar ahead assignments start before begun old waiting status a
@@ -269,57 +273,53 @@ begun-one ahead assignments start before begun c waiting old new status a few ac
   reports = h.reports;
 }
 
--- whatever was submitted so far, one more was, and is in flight
-record BeginsOn (ahead : ℕ) (assignment : ℕ × Value) (old new : PanelState) (waiting more : List SetCommand) (status now : ℕ) (was is : Output) : Type 0 where
-  pub on : (assignments : List (ℕ × Value)) (start : PanelState) (before : Output) (begun : List (ℕ × Value))
-      → SoFar ahead assignments start before begun old waiting status was → SoFar ahead assignments start before (begun ++ assignment ∷ []) new more now is
-
-begins-next : (ahead : ℕ) (assignment : Assignment) (one : Submitted) (r s t : PanelState) (waiting mid more : List Submitted) (status now : ℕ) (a b : Output)
-    → MakesPlace ahead r s (map set_command_of waiting) (map set_command_of mid) status now a b → one.assignment ≡ assignment → BeginsSet (set_command_of one) s t → more ≡ mid ++ one ∷ []
-    → BeginsOn ahead (assignment_of assignment) r t (map set_command_of waiting) (map set_command_of more) status now a b
-begins-next ahead assignment one r s t waiting mid more status now a b p of begins are = record {
-  on = λ (assignments : List (ℕ × Value)) (start : PanelState) (before : Output) (begun : List (ℕ × Value)) (h : SoFar ahead assignments start before begun r (map set_command_of waiting) status a).
-      let both : map set_command_of more ≡ map set_command_of mid ++ set_command_of one ∷ [] = ap (map set_command_of) are ∙ map-append set_command_of mid (one ∷ []) in
-      subst (λ (cs : List SetCommand). SoFar ahead assignments start before (begun ++ assignment_of assignment ∷ []) t cs now b) (sym both)
-      (subst (λ (x : Assignment). SoFar ahead assignments start before (begun ++ assignment_of x ∷ []) t (map set_command_of mid ++ set_command_of one ∷ []) now b) of
-      (begun-one ahead assignments start before begun (set_command_of one) (map set_command_of mid) s t now b p.few p.accepted begins (p.on assignments start before begun h)));
-}
-
-last-of : (mid more : List Submitted) (one : Submitted) → more ≡ mid ++ one ∷ [] → last_refused (map set_command_of more) ≡ is_refused one.returned
-last-of mid more one are =
-    ap (λ (cs : List Submitted). last_refused (map set_command_of cs)) are ∙ ap last_refused (map-append set_command_of mid (one ∷ [])) ∙ last-is (map set_command_of mid) (set_command_of one)
+-- whatever was submitted so far, one more was, and stands behind those in flight
+begins-next : (ahead : ℕ) (w : Assignment) (returned : Result Handle ControlFault) (r s t : PanelState) (x : List SetCommand) (mid : List (ℕ × Assignment)) (status now : ℕ) (a b : Output)
+    → MakesPlace ahead r s x (map set_in_flight mid) status now a b → BeginsSet (set_command w returned) s t
+    → (assignments : List (ℕ × Value)) (start : PanelState) (before : Output) (begun : List (ℕ × Value)) → SoFar ahead assignments start before begun r x status a
+    → SoFar ahead assignments start before (begun ++ assignment_of w ∷ []) t (map set_in_flight mid ++ set_command w returned ∷ []) now b
+begins-next ahead w returned r s t x mid status now a b p begins assignments start before begun h =
+    begun-one ahead assignments start before begun (set_command w returned) (map set_in_flight mid) s t now b p.few (all-accepted mid) begins (p.on assignments start before begun h)
 
 -- it was accepted
-pub sets-next : (ahead : ℕ) (assignment : Assignment) (one : Submitted) (h : Handle) (r s t : PanelState) (waiting mid more : List Submitted) (status now : ℕ) (a b : Output)
-    → MakesPlace ahead r s (map set_command_of waiting) (map set_command_of mid) status now a b → one.assignment ≡ assignment → BeginsSet (set_command_of one) s t → more ≡ mid ++ one ∷ [] → one.returned ≡ Ok h
-    → SetsOn ahead (assignment_of assignment) r t (map set_command_of waiting) (map set_command_of more) status now a b
-sets-next ahead assignment one h r s t waiting mid more status now a b p of begins are ok =
-    let next = begins-next ahead assignment one r s t waiting mid more status now a b p of begins are in
-    let size : length (map set_command_of more) ≡ length (map set_command_of mid) + 1 =
-    ap (λ (cs : List Submitted). length (map set_command_of cs)) are ∙ ap length (map-append set_command_of mid (one ∷ [])) ∙ length-append (map set_command_of mid) (set_command_of one ∷ []) in
-    let few : length (map set_command_of mid) < ahead = p.few in
+pub sets-next : (ahead : ℕ) (w : Assignment) (h : Handle) (r s t : PanelState) (x : List SetCommand) (mid more : List (ℕ × Assignment)) (status now : ℕ) (a b : Output)
+    → MakesPlace ahead r s x (map set_in_flight mid) status now a b → BeginsSet (set_command w (Ok h)) s t → more ≡ mid ++ (h.0, w) ∷ []
+    → SetsOn ahead (assignment_of w) r t x (map set_in_flight more) status now a b
+sets-next ahead w h r s t x mid more status now a b p begins are =
+    let c : SetCommand = set_command w (Ok h) in
+    let both : map set_in_flight more ≡ map set_in_flight mid ++ c ∷ [] = ap (map set_in_flight) are ∙ map-append set_in_flight mid ((h.0, w) ∷ []) in
+    let size : length (map set_in_flight more) ≡ length (map set_in_flight mid) + 1 = ap length both ∙ length-append (map set_in_flight mid) (c ∷ []) in
+    let few : length (map set_in_flight mid) < ahead = p.few in
     record {
-      on = next.on;
+      on = λ (assignments : List (ℕ × Value)) (start : PanelState) (before : Output) (begun : List (ℕ × Value)) (so : SoFar ahead assignments start before begun r x status a).
+          subst (λ (cs : List SetCommand). SoFar ahead assignments start before (begun ++ assignment_of w ∷ []) t cs now b) (sym both)
+          (begins-next ahead w (Ok h) r s t x mid status now a b p begins assignments start before begun so);
       few = omega (arith, size, few);
-      accepted = last-of mid more one are ∙ ap is_refused ok;
     }
 
--- it was refused, and its line was written
-pub sets-refused : (ahead : ℕ) (assignment : Assignment) (one : Submitted) (f : ControlFault) (r s t u : PanelState) (waiting mid more none : List Submitted) (status now : ℕ) (q : Result ℕ WriteFailed) (a b c : Output)
-    → MakesPlace ahead r s (map set_command_of waiting) (map set_command_of mid) status now a b → one.assignment ≡ assignment → BeginsSet (set_command_of one) s t → more ≡ mid ++ one ∷ [] → one.returned ≡ Err f
-    → IfOk q (λ n. WaitsOn t u (map set_command_of more) [] now n b c) → OnOk q (none ≡ [])
-    → IfOk q (λ n. SetsOn ahead (assignment_of assignment) r u (map set_command_of waiting) (map set_command_of none) status n a c)
-sets-refused ahead assignment one f r s t u waiting mid more none status now (Ok n) a b c p of begins are refused w empty =
-    let next = begins-next ahead assignment one r s t waiting mid more status now a b p of begins are in
-    let few : length (map set_command_of mid) < ahead = p.few in
-    subst (λ (cs : List Submitted). SetsOn ahead (assignment_of assignment) r u (map set_command_of waiting) (map set_command_of cs) status n a c) (sym empty)
-    (record {
-      on = λ (assignments : List (ℕ × Value)) (start : PanelState) (before : Output) (begun : List (ℕ × Value)) (h : SoFar ahead assignments start before begun r (map set_command_of waiting) status a).
-          w.on ahead assignments start before (begun ++ assignment_of assignment ∷ []) (inr (last-of mid more one are ∙ ap is_refused refused)) (next.on assignments start before begun h);
+-- it was refused, and its line was written behind those of all in flight
+refused-next : (ahead : ℕ) (w : Assignment) (f : ControlFault) (r s t u : PanelState) (x : List SetCommand) (mid : List (ℕ × Assignment)) (status now last : ℕ) (a b c : Output)
+    → MakesPlace ahead r s x (map set_in_flight mid) status now a b → BeginsSet (set_command w (Err f)) s t → EndsRefused w f t u (map set_in_flight mid) now last b c
+    → SetsOn ahead (assignment_of w) r u x [] status last a c
+refused-next ahead w f r s t u x mid status now last a b c p begins ends =
+    let one : SetCommand = set_command w (Err f) in
+    let few : length (map set_in_flight mid) < ahead = p.few in
+    record {
+      on = λ (assignments : List (ℕ × Value)) (start : PanelState) (before : Output) (begun : List (ℕ × Value)) (so : SoFar ahead assignments start before begun r x status a).
+          first-ended ahead assignments start before (begun ++ assignment_of w ∷ []) one [] u u (Refused f) ends.so_far last ends.between c (inr (inr refl)) (refl, refl) ends.reports
+          (ends.waits.on ahead assignments start before (begun ++ assignment_of w ∷ []) (one ∷ []) (inr refl)
+          (begins-next ahead w (Err f) r s t x mid status now a b p begins assignments start before begun so));
       few = omega (arith, few);
-      accepted = refl;
-    })
-sets-refused ahead assignment one f r s t u waiting mid more none status now (Err e) a b c p of begins are refused w empty = tt
+    }
+
+pub sets-refused : (ahead : ℕ) (w : Assignment) (f : ControlFault) (r s t u : PanelState) (x : List SetCommand) (mid none : List (ℕ × Assignment)) (status now : ℕ) (q : Result ℕ WriteFailed) (a b c : Output)
+    → MakesPlace ahead r s x (map set_in_flight mid) status now a b → BeginsSet (set_command w (Err f)) s t
+    → IfOk q (λ n. EndsRefused w f t u (map set_in_flight mid) now n b c) → OnOk q (none ≡ [])
+    → IfOk q (λ n. SetsOn ahead (assignment_of w) r u x (map set_in_flight none) status n a c)
+sets-refused ahead w f r s t u x mid none status now (Ok n) a b c p begins ends empty =
+    subst (λ (cs : List (ℕ × Assignment)). SetsOn ahead (assignment_of w) r u x (map set_in_flight cs) status n a c) (sym empty)
+    (refused-next ahead w f r s t u x mid status now n a b c p begins ends)
+sets-refused ahead w f r s t u x mid none status now (Err e) a b c p begins ends empty = tt
 
 -- the first assignments and the next one
 pub set-so-far : (ahead : ℕ) (ws : List Assignment) (i : ℕ) (d : Assignment) (r s t : PanelState) (x y : List SetCommand) (m n : ℕ) (a b c : Output) → i < length ws
@@ -329,8 +329,8 @@ set-so-far ahead ws i d r s t x y m n a b c h so next =
     subst (λ (xs : List (ℕ × Value)). SoFar ahead (map assignment_of ws) r a xs t y n c) (sym (map-take assignment_of ws i d h)) (next.on (map assignment_of ws) r a (map assignment_of (take i ws)) so)
 
 -- so many are in flight
-pub few-commands : (waiting : List Submitted) (ahead : ℕ) → length (map set_command_of waiting) ≤ ahead → length waiting ≤ ahead
-few-commands waiting ahead few = let size : length (map set_command_of waiting) ≡ length waiting = length-map waiting set_command_of in omega (arith, size, few)
+pub few-commands : (waiting : List (ℕ × Assignment)) (ahead : ℕ) → length (map set_in_flight waiting) ≤ ahead → length waiting ≤ ahead
+few-commands waiting ahead few = let size : length (map set_in_flight waiting) ≡ length waiting = length-map waiting set_in_flight in omega (arith, size, few)
 
 -- all were waited for
 set-each : (ahead : ℕ) (assignments : List (ℕ × Value)) (r t : PanelState) (n : ℕ) (a c : Output) → SoFar ahead assignments r a assignments t [] n c → SetsEachTo ahead assignments n r t a c
@@ -345,7 +345,8 @@ pub set-done : (ahead : ℕ) (ws : List Assignment) (i : ℕ) (r s t : PanelStat
     → IfOk z (λ n. SetsEachTo ahead (map assignment_of ws) n r t a c)
 set-done ahead ws i r s t x m (Ok n) a b c end so w =
     let all : map assignment_of (take i ws) ≡ map assignment_of ws = ap (map assignment_of) (take_all i ws end) in
-    let done : SoFar ahead (map assignment_of ws) r a (map assignment_of (take i ws)) t [] n c = w.on ahead (map assignment_of ws) r a (map assignment_of (take i ws)) (inl all) so in
+    let left : SoFar ahead (map assignment_of ws) r a (map assignment_of (take i ws)) s (x ++ []) m b = subst (λ (cs : List SetCommand). SoFar ahead (map assignment_of ws) r a (map assignment_of (take i ws)) s cs m b) (sym (append-nil x)) so in
+    let done : SoFar ahead (map assignment_of ws) r a (map assignment_of (take i ws)) t [] n c = w.on ahead (map assignment_of ws) r a (map assignment_of (take i ws)) [] (inl all) left in
     set-each ahead (map assignment_of ws) r t n a c (subst (λ (xs : List (ℕ × Value)). SoFar ahead (map assignment_of ws) r a xs t [] n c) all done)
 set-done ahead ws i r s t x m (Err e) a b c end so w = tt
 

@@ -7,21 +7,24 @@ use Rattle.oca_script.specs.Ends.{Input, Output}
 use Rattle.oca_script.specs.Printing.{WritesWhole, WritesFront}
 use Rattle.oca_program.specs.declared.fault.Failure.{Failure}
 use Rattle.oca_program.specs.declared.fault.RunFault.TheVariants.{NoMemory, Write}
+use Rattle.oca_types.specs.declared.words.Handle.{Handle}
+use Rattle.oca_control.specs.declared.fault.ControlFault.{ControlFault}
 use Rattle.oca_control.specs.declared.outcome.Outcome.{Outcome}
+use Rattle.oca_control.specs.declared.outcome.Outcome.TheVariants as outcomes
 use Rattle.oca_model.specs.declared.value.Value.{Value}
 use Rattle.oca_panel.specs.declared.trouble.Trouble.{Trouble}
-use Rattle.oca_panel.specs.Panels.{PanelState, EndsIn}
+use Rattle.oca_panel.specs.Panels.{PanelState, FinishesIn}
+use Rattle.oca_panel.specs.Outcomes.{done_answered}
 use Rattle.ocactl_cli.specs.declared.objects.Pair.{Pair}
 use Rattle.ocactl_cli.specs.declared.objects.Search.{Search}
 use Rattle.ocactl_cli.specs.declared.setting.Assignment.{Assignment}
-use Rattle.ocactl_cli.specs.declared.setting.Submitted.{Submitted}
 use Rattle.ocactl_cli.specs.declared.object_line.ObjectLine.{ObjectLine}
-use Rattle.ocactl_cli.specs.declared.object_line.ObjectLine.TheVariants.{Failed}
+use Rattle.ocactl_cli.specs.declared.object_line.ObjectLine.TheVariants as shown
 use Rattle.oca_script.specs.declared.fault.ReadFailed.{ReadFailed}
 use Rattle.ocactl_cli.specs.Matching.{without_blank}
 use Rattle.ocactl_cli.specs.Objects.{InTurn, KeepsHeld, StopsUnlocking, ReadsOnce, ends_input, Locks, held_if, held_of}
 use Rattle.ocactl_cli.specs.Objects.{FindsValue, FindsAll, OnlyFinds, GivesUp, SetCommand, SetsUpTo, SetsEach}
-use Rattle.ocactl_cli.specs.Objects.{reported_by, reported_line, reported_lines, most_severe, max_severity}
+use Rattle.ocactl_cli.specs.Objects.{done_line, reported_line, reported_lines, most_severe, max_severity}
 use Rattle.ocactl_cli.specs.Objects.{last_refused, line_of_object, parsed_ono, object_status}
 
 abbrev pub pair_of : Pair → ℕ × List ℕ
@@ -33,8 +36,13 @@ ono_number ono = ono.0
 abbrev pub assignment_of : Assignment → ℕ × Value
 assignment_of w = (w.ono.0, w.value)
 
-abbrev pub set_command_of : Submitted → SetCommand
-set_command_of s = record { target = s.assignment.ono.0; value = s.assignment.value; returned = s.returned }
+-- the command that was to set an object, and what came of submitting it
+abbrev pub set_command : Assignment → Result Handle ControlFault → SetCommand
+set_command w returned = record { target = w.ono.0; value = w.value; returned = returned }
+
+-- one that is in flight under this handle
+abbrev pub set_in_flight : ℕ × Assignment → SetCommand
+set_in_flight command = set_command command.1 (Ok (record { 0 = command.0 }))
 
 -- one more pair was listed, as two words say it
 pub record AddsPair (first second : List ℕ) (old new : List Pair) : Type 0 where
@@ -97,7 +105,7 @@ abbrev pub AddsFound : Result Value Trouble → ℕ → List Assignment → Sear
 AddsFound (Ok v) target assignments search more result was is =
     AddsAssignment (target, v) assignments search more result × (is ≡ was)
 AddsFound (Err why) target assignments search more result was is =
-    ReportsMissing (target, Failed why) search result was is × (more ≡ assignments)
+    ReportsMissing (target, shown.Failed why) search result was is × (more ≡ assignments)
 
 pub record FindsOneTo (pair : ℕ × List ℕ) (assignments : List Assignment) (search : Search) (old : PanelState)
     (more : List Assignment) (result : Result Search Failure) (new : PanelState) (was is : Output) : Type 0 where
@@ -116,19 +124,18 @@ pub record SoFar (ahead : ℕ) (assignments : List (ℕ × Value)) (start : Pane
   pub sets : SetsUpTo ahead assignments begun waiting lines start panel
   pub reports : ReportsAll lines status before is
 
--- all are to be waited for: all are submitted, or the last one was refused
-abbrev pub AllAwaited : (assignments begun : List (ℕ × Value)) → List SetCommand → Type 0
-AllAwaited assignments begun waiting = (begun ≡ assignments) ⊎ (last_refused waiting ≡ true)
+-- all are to be waited for: all are submitted, or the last one, which stands behind those in flight, was refused
+abbrev pub AllAwaited : (assignments begun : List (ℕ × Value)) → (behind : List SetCommand) → Type 0
+AllAwaited assignments begun behind = (begun ≡ assignments) ⊎ (last_refused behind ≡ true)
 
--- whatever was submitted so far, some more of it was waited for and its lines were written, where all is to be waited
--- for
+-- whatever was submitted so far, and whatever stands behind those in flight, some more of these were waited for and
+-- their lines were written, where all is to be waited for
 pub record WaitsOn (old new : PanelState) (waiting more : List SetCommand) (status now : ℕ)
     (was is : Output) : Type 0 where
   pub on : (ahead : ℕ) (assignments : List (ℕ × Value)) (start : PanelState) (before : Output)
-      (begun : List (ℕ × Value)) → AllAwaited assignments begun waiting
-      → SoFar ahead assignments start before begun old waiting status was
-      → SoFar ahead assignments start before begun new more now is
-  pub last : 0 < length more → last_refused more ≡ last_refused waiting
+      (begun : List (ℕ × Value)) (behind : List SetCommand) → AllAwaited assignments begun behind
+      → SoFar ahead assignments start before begun old (waiting ++ behind) status was
+      → SoFar ahead assignments start before begun new (more ++ behind) now is
 
 -- whatever was submitted so far, the first was waited for and its line was written, if as many are in flight as may be:
 -- one more may be then
@@ -138,7 +145,6 @@ pub record MakesPlace (ahead : ℕ) (old new : PanelState) (waiting more : List 
       → SoFar ahead assignments start before begun old waiting status was
       → SoFar ahead assignments start before begun new more now is
   pub few : length more < ahead
-  pub accepted : last_refused more ≡ false
 
 -- whatever was submitted so far, one more was
 pub record SetsOn (ahead : ℕ) (assignment : ℕ × Value) (old new : PanelState) (waiting more : List SetCommand)
@@ -147,16 +153,27 @@ pub record SetsOn (ahead : ℕ) (assignment : ℕ × Value) (old new : PanelStat
       → SoFar ahead assignments start before begun old waiting status was
       → SoFar ahead assignments start before (begun ++ assignment ∷ []) new more now is
   pub few : length more ≤ ahead
-  pub accepted : last_refused more ≡ false
 
--- the first that is waited for ended so, and its line was written
-pub record WaitsForFirst (old new : PanelState) (waiting more : List Submitted) (status now : ℕ)
+-- the line of one that came out so
+abbrev pub reported_set : Assignment → Outcome → ℕ × ObjectLine
+reported_set w outcome = (w.ono.0, done_line (shown.Value w.value) (done_answered outcome))
+
+-- the first in flight was waited for and ended so, and its line was written
+pub record WaitsForFirst (old new : PanelState) (waiting more : List (ℕ × Assignment)) (status now : ℕ)
     (was is : Output) : Type 0 where
-  pub command : Submitted
+  pub command : ℕ × Assignment
   pub outcome : Outcome
   pub first : waiting ≡ command ∷ more
-  pub ends : EndsIn command.returned old new outcome
-  pub reports : ReportsNext (reported_by (set_command_of command) outcome) status now was is
+  pub ends : FinishesIn command.0 old new outcome
+  pub reports : ReportsNext (reported_set command.1 outcome) status now was is
+
+-- all in flight were waited for, and behind their lines that of one more was written, which the link refused
+pub record EndsRefused (assignment : Assignment) (fault : ControlFault) (old new : PanelState)
+    (waiting : List SetCommand) (status now : ℕ) (was is : Output) : Type 0 where
+  pub so_far : ℕ
+  pub between : Output
+  pub waits : WaitsOn old new waiting [] status so_far was between
+  pub reports : ReportsNext (reported_set assignment (outcomes.Refused fault)) so_far now between is
 
 -- all assignments were submitted and waited for, and their lines were written
 pub record SetsEachTo (ahead : ℕ) (assignments : List (ℕ × Value)) (status : ℕ) (old new : PanelState)

@@ -1,20 +1,16 @@
-//! A link, the end that it is driven over, and the commands in flight.
+//! A panel, and the commands in flight on it.
 ghost use Rattle.std.specs.Prelude.{◌≡◌, ◌==◌, ◌||◌, ◌<◌, length, true};
 ghost use Rattle.oca_types.specs.Peers.{request_of};
-ghost use Rattle.ocactl_cli.specs.Exchanges.{AwaitsFirst, IsWaitTime, NoneInFlight, TakesOne, is_over, outcome_status};
+ghost use Rattle.ocactl_cli.specs.Exchanges.{AwaitsFirst, IsWaitTime, NoneInFlight, TakesOne, is_over};
 ghost use Rattle.ocactl_cli.specs.Exchanges.{time_beside, time_until};
 ghost use Rattle.ocactl_cli.specs.PrivateExchanges.{Submitted, TakesFirst};
 
-use super::exchange::outcome_status;
-use arrayvec::ArrayVec;
-use oca_control::{ControlFault, Link, Outcome, begin, is_late, turn, wait_for};
+use oca_control::{ControlFault, Link, Outcome};
 use oca_net::End;
+use oca_panel::{InFlight, Panel};
 use oca_types::{Handle, Request, Span};
 use std::marker::Model;
 use std::os::fd::RawFd;
-
-/// The most commands that can be in flight: the largest span.
-const MOST_AHEAD: usize = 32;
 
 /// How many turns a command of a line waits for its answer: where not every receive fails, the link is lost long
 /// before.
@@ -23,47 +19,44 @@ const TURNS: u32 = u32::MAX;
 /// The longest wait for input, in milliseconds: an hour.
 const LONGEST_WAIT_MS: u64 = 3_600_000;
 
-/// A link, the end that it is driven over, the handles of the commands in flight in the order of their lines, how many
-/// may be, and whether a command got no answer so far. Besides the end's descriptor, where it has one, and whether a
-/// command was submitted.
+/// A panel, the commands in flight on it in the order of their lines, how many may be, and whether one was refused so
+/// far. Besides the end's descriptor, where it has one, and whether a command was submitted.
 pub struct Session<E: End> {
-    link: Link,
-    end: E,
-    in_flight: ArrayVec<u32, MOST_AHEAD>,
+    panel: Panel<E>,
+    in_flight: InFlight<()>,
     ahead: usize,
-    unanswered: bool,
+    refused: bool,
     socket: Option<RawFd>,
     is_open: bool,
 }
 
 impl<E: End> Model for Session<E> {
-    ghost use Rattle.std.specs.Prelude.{◌≤◌};
-    ghost use Rattle.ocactl_cli.specs.Exchanges.{SessionState};
+    ghost use Rattle.std.specs.Prelude.{◌≡◌, ◌≤◌, ◌||◌, map};
+    ghost use Rattle.ocactl_cli.specs.Exchanges.{SessionState, most_turns};
 
     ghost Value = { SessionState };
 
     ghost view = { λ s. record {
-      link = s.link;
-      end_state = E.state s.end;
-      in_flight = s.in_flight.items;
+      link = s.panel.link;
+      end_state = s.panel.end_state;
+      in_flight = map (λ c. c.0) s.in_flight;
       ahead = s.ahead;
-      unanswered = s.unanswered;
+      unanswered = s.refused || s.panel.unanswered;
       socket = s.socket;
       is_open = s.is_open;
     } };
 
-    ghost invariant = { λ s. (1 ≤ s.ahead) × (s.ahead ≤ 32) };
+    ghost invariant = { λ s. (1 ≤ s.ahead) × (s.ahead ≤ 32) × (s.panel.turns ≡ most_turns) };
 }
 
 impl<E: End + Drop> Drop for Session<E> {
     /// Lets the link and the end go.
     fn drop(self) {
         let Session {
-            link: _,
-            end: _,
+            panel: _,
             in_flight: _,
             ahead: _,
-            unanswered: _,
+            refused: _,
             socket: _,
             is_open: _,
         } = self;
@@ -88,11 +81,10 @@ impl<E: End> Session<E> {
         } }
     {
         Session {
-            link,
-            end,
-            in_flight: ArrayVec::new(),
+            panel: Panel::new(link, end, TURNS),
+            in_flight: InFlight::new(),
             ahead: usize::from(ahead.get()),
-            unanswered: false,
+            refused: false,
             socket,
             is_open: false,
         }
@@ -118,14 +110,14 @@ impl<E: End> Session<E> {
     pub fn end(&self) -> &E
         ensures { E.state result.now ≡ self.now.end_state }
     {
-        &self.end
+        self.panel.end()
     }
 
     /// Whether the link is lost, or late now.
     pub fn is_lost(&self) -> bool
         ensures { self.now.link.lost ≡ true → result ≡ true }
     {
-        self.link.is_lost() || is_late(&self.link, self.end.now())
+        self.panel.is_lost()
     }
 
     /// The end, where nothing more is to be asked.
@@ -133,29 +125,28 @@ impl<E: End> Session<E> {
         ensures { E.state result ≡ self.end_state }
     {
         let Session {
-            link: _,
-            end,
+            panel,
             in_flight: _,
             ahead: _,
-            unanswered: _,
+            refused: _,
             socket: _,
             is_open: _,
         } = self;
-        end
+        panel.into_end()
     }
 
     /// Whether a command got no answer so far.
     pub fn unanswered(&self) -> bool
         ensures { result ≡ self.now.unanswered }
     {
-        self.unanswered
+        self.refused || self.panel.unanswered()
     }
 
     /// Notes that a command got no answer.
     pub fn refuse(&mut self)
         ensures { self.new ≡ record self.old { unanswered = true } }
     {
-        self.unanswered = true;
+        self.refused = true;
     }
 
     /// Submits a command and sends it at once. What the link refuses changes nothing.
@@ -163,9 +154,8 @@ impl<E: End> Session<E> {
         requires { length self.old.in_flight < 32 }
         ensures { Submitted (request_of request.entry) result self.old self.new }
     {
-        match begin(&mut self.link, &mut self.end, request) {
+        match self.in_flight.begin_behind(&mut self.panel, request, ()) {
             Ok(handle) => {
-                self.in_flight.push(handle.0);
                 self.is_open = true;
                 Ok(handle)
             }
@@ -178,7 +168,7 @@ impl<E: End> Session<E> {
         ensures value { result ≡ is_over self.now }
         ensures none { result ≡ true → NoneInFlight self.now }
     {
-        self.in_flight.is_empty() && (!self.is_open || self.link.is_lost())
+        self.in_flight.is_empty() && (!self.is_open || self.panel.link().is_lost())
     }
 
     /// The end's descriptor.
@@ -192,33 +182,25 @@ impl<E: End> Session<E> {
     pub fn wait_time(&self) -> u64
         ensures { IsWaitTime self.now result }
     {
-        let due = self.link.next_due();
-        time_beside(self.socket, due, self.end.now())
+        let due = self.panel.next_due();
+        time_beside(self.socket, due, self.panel.end().now())
     }
 
     /// Takes a turn, and returns whether the link was found lost, or late.
     pub fn turn(&mut self) -> bool
         ensures { TakesOne self.old self.new }
     {
-        turn(&mut self.link, &mut self.end).lost
+        self.panel.turn_with_report().lost
     }
 
     /// How the first command in flight came out, where that is known without a turn; it is in flight no longer then.
     pub fn take_first(&mut self) -> Option<Outcome>
         ensures { TakesFirst result self.old self.new }
     {
-        let Some(first) = self.in_flight.first() else {
+        let Some((_, outcome)) = self.in_flight.try_finish_first(&mut self.panel) else {
             return None;
         };
-        let handle = Handle(*first);
-        match wait_for(&mut self.link, &mut self.end, handle, 0) {
-            Outcome::Unanswered => None,
-            outcome => {
-                self.in_flight.remove(0);
-                self.unanswered = gets_none(self.unanswered, &outcome);
-                Some(outcome)
-            }
-        }
+        Some(outcome)
     }
 
     /// Waits for the first command in flight.
@@ -226,9 +208,9 @@ impl<E: End> Session<E> {
         requires { 0 < length self.old.in_flight }
         ensures { AwaitsFirst self.old self.new result }
     {
-        let handle = Handle(self.in_flight.remove(0));
-        let outcome = wait_for(&mut self.link, &mut self.end, handle, TURNS);
-        self.unanswered = gets_none(self.unanswered, &outcome);
+        let Some((_, outcome)) = self.in_flight.finish_first(&mut self.panel) else {
+            unreachable!()
+        };
         outcome
     }
 }
@@ -251,11 +233,4 @@ fn time_until(moment: Option<u64>, now: u64) -> u64
         Some(due) => due.saturating_sub(now).min(LONGEST_WAIT_MS),
         None => LONGEST_WAIT_MS,
     }
-}
-
-/// Whether a command got no answer so far, this one included.
-fn gets_none(unanswered: bool, outcome: &Outcome) -> bool
-    ensures { result ≡ (unanswered || outcome_status outcome.now == 3) }
-{
-    unanswered || outcome_status(outcome) == 3
 }

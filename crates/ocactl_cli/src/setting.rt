@@ -1,24 +1,19 @@
 //! Set commands, as many in flight at once as may be.
-ghost use Rattle.std.specs.Prelude.{◌≡◌, ◌≤◌, ◌<◌, [], map, length, true, false, IfOk, OnOk, OnErr};
+ghost use Rattle.std.specs.Prelude.{◌≡◌, ◌≤◌, ◌<◌, [], map, length, true, IfOk, OnOk, OnErr, Err};
 ghost use Rattle.oca_types.specs.Sizes.{span_size};
-ghost use Rattle.oca_panel.specs.Panels.{EndsIn};
 ghost use Rattle.oca_panel.specs.Outcomes.{done_answered};
 ghost use Rattle.ocactl_cli.specs.declared.object_line.ObjectLine.TheVariants as shown;
-ghost use Rattle.ocactl_cli.specs.Objects.{BeginsSet, last_refused, done_line};
-ghost use Rattle.ocactl_cli.specs.PrivateObjects.{assignment_of, set_command_of, MakesPlace, SetsEachTo, SetsOn};
-ghost use Rattle.ocactl_cli.specs.PrivateObjects.{WaitsForFirst, WaitsOn};
+ghost use Rattle.ocactl_cli.specs.Objects.{done_line};
+ghost use Rattle.ocactl_cli.specs.PrivateObjects.{assignment_of, reported_set, set_in_flight, EndsRefused, MakesPlace};
+ghost use Rattle.ocactl_cli.specs.PrivateObjects.{ReportsNext, SetsEachTo, SetsOn, WaitsForFirst, WaitsOn};
 
 use super::object_line::{ObjectLine, max_severity, report_object};
-use arrayvec::ArrayVec;
 use oca_control::{ControlFault, Outcome};
 use oca_model::Value;
 use oca_net::End;
-use oca_panel::{Panel, done_in};
+use oca_panel::{InFlight, Panel, done_in};
 use oca_script::{Printer, Sink, WriteFailed};
-use oca_types::{Handle, Ono, Span};
-
-/// The most set commands that can be in flight: the largest span.
-const MOST_AHEAD: usize = 32;
+use oca_types::{Ono, Span};
 
 /// An object, and the value that it is to have.
 #[derive(Clone, Copy)]
@@ -27,26 +22,16 @@ pub struct Assignment {
     pub value: Value,
 }
 
-/// A set command that was to be submitted: its handle, or why the link refused it.
-#[derive(Clone, Copy)]
-struct Submitted {
-    assignment: Assignment,
-    returned: Result<Handle, ControlFault>,
-}
-
-impl Default for Submitted {
+impl Default for Assignment {
     ghost use Rattle.std.specs.Prelude.{◌≡◌};
 
-    ghost is_default = { λ s. s.assignment.ono.0 ≡ 0 };
+    ghost is_default = { λ a. a.ono.0 ≡ 0 };
 
     /// What a place holds where no command is.
     fn default() -> Self {
-        Submitted {
-            assignment: Assignment {
-                ono: Ono(0),
-                value: Value::Boolean(false),
-            },
-            returned: Err(ControlFault::Lost),
+        Assignment {
+            ono: Ono(0),
+            value: Value::Boolean(false),
         }
     }
 }
@@ -64,7 +49,7 @@ pub fn set_assignments<E: End, W: Sink>(
         panel.old panel.new printer.old printer.new) }
     ensures fails { OnErr result (printer.new.failed ≡ true) }
 {
-    let mut waiting = ArrayVec::new();
+    let mut waiting = InFlight::new();
     let mut status = 0;
     for assignment in assignments {
         status = set_next(panel, assignment, ahead, &mut waiting, status, printer)?;
@@ -78,35 +63,22 @@ fn set_next<E: End, W: Sink>(
     panel: &mut Panel<E>,
     assignment: &Assignment,
     ahead: Span,
-    waiting: &mut ArrayVec<Submitted, MOST_AHEAD>,
+    waiting: &mut InFlight<Assignment>,
     status: u8,
     printer: &mut Printer<W>,
 ) -> Result<u8, WriteFailed>
-    requires few { length waiting.old.items ≤ span_size ahead }
-    requires accepted { last_refused (map set_command_of waiting.old.items) ≡ false }
+    requires { length waiting.old ≤ span_size ahead }
     ensures sets { IfOk result (λ now. SetsOn (span_size ahead) (assignment_of assignment.now) panel.old panel.new
-        (map set_command_of waiting.old.items) (map set_command_of waiting.new.items) status now printer.old
-        printer.new) }
+        (map set_in_flight waiting.old) (map set_in_flight waiting.new) status now printer.old printer.new) }
     ensures fails { OnErr result (printer.new.failed ≡ true) }
 {
     let so_far = make_place(panel, ahead, waiting, status, printer)?;
-    let command = begin(panel, *assignment);
-    waiting.push(command);
-    match command.returned {
-        Ok(_) => Ok(so_far),
-        Err(_) => await_all(panel, waiting, so_far, printer),
-    }
-}
-
-/// Submits the command that sets an object.
-fn begin<E: End>(panel: &mut Panel<E>, assignment: Assignment) -> Submitted
-    ensures assignment { result.assignment ≡ assignment }
-    ensures begins { BeginsSet (set_command_of result) panel.old panel.new }
-{
-    let returned = panel.begin_set(assignment.ono, assignment.value);
-    Submitted {
-        assignment,
-        returned,
+    match panel.begin_set(assignment.ono, assignment.value) {
+        Ok(handle) => {
+            waiting.push(handle, *assignment);
+            Ok(so_far)
+        }
+        Err(fault) => report_refused(panel, *assignment, fault, waiting, so_far, printer),
     }
 }
 
@@ -115,15 +87,14 @@ fn begin<E: End>(panel: &mut Panel<E>, assignment: Assignment) -> Submitted
 fn make_place<E: End, W: Sink>(
     panel: &mut Panel<E>,
     ahead: Span,
-    waiting: &mut ArrayVec<Submitted, MOST_AHEAD>,
+    waiting: &mut InFlight<Assignment>,
     status: u8,
     printer: &mut Printer<W>,
 ) -> Result<u8, WriteFailed>
-    requires few { length waiting.old.items ≤ span_size ahead }
-    requires accepted { last_refused (map set_command_of waiting.old.items) ≡ false }
+    requires { length waiting.old ≤ span_size ahead }
     ensures makes { IfOk result (λ now. MakesPlace (span_size ahead) panel.old panel.new
-        (map set_command_of waiting.old.items) (map set_command_of waiting.new.items) status now printer.old
-        printer.new) }
+        (map set_in_flight waiting.old) (map set_in_flight waiting.new) status now printer.old printer.new) }
+    ensures room { OnOk result (length waiting.new < 32) }
     ensures fails { OnErr result (printer.new.failed ≡ true) }
 {
     if waiting.len() < usize::from(ahead.get()) {
@@ -132,17 +103,36 @@ fn make_place<E: End, W: Sink>(
     await_first(panel, waiting, status, printer)
 }
 
+/// Waits for all set commands in flight, and prints behind their outcomes why the link refused one more. Returns the
+/// exit status so far.
+fn report_refused<E: End, W: Sink>(
+    panel: &mut Panel<E>,
+    assignment: Assignment,
+    fault: ControlFault,
+    waiting: &mut InFlight<Assignment>,
+    status: u8,
+    printer: &mut Printer<W>,
+) -> Result<u8, WriteFailed>
+    ensures ends { IfOk result (λ now. EndsRefused assignment fault panel.old panel.new (map set_in_flight waiting.old)
+        status now printer.old printer.new) }
+    ensures empty { OnOk result (waiting.new ≡ []) }
+    ensures fails { OnErr result (printer.new.failed ≡ true) }
+{
+    let so_far = await_all(panel, waiting, status, printer)?;
+    report_set(assignment, &Outcome::Refused(fault), so_far, printer)
+}
+
 /// Waits for all set commands in flight, the first first, and prints the outcome of each. Returns the exit status so
 /// far.
 fn await_all<E: End, W: Sink>(
     panel: &mut Panel<E>,
-    waiting: &mut ArrayVec<Submitted, MOST_AHEAD>,
+    waiting: &mut InFlight<Assignment>,
     status: u8,
     printer: &mut Printer<W>,
 ) -> Result<u8, WriteFailed>
-    ensures waits { IfOk result (λ now. WaitsOn panel.old panel.new (map set_command_of waiting.old.items) [] status now
+    ensures waits { IfOk result (λ now. WaitsOn panel.old panel.new (map set_in_flight waiting.old) [] status now
         printer.old printer.new) }
-    ensures empty { OnOk result (waiting.new.items ≡ []) }
+    ensures empty { OnOk result (waiting.new ≡ []) }
     ensures fails { OnErr result (printer.new.failed ≡ true) }
 {
     let mut so_far = status;
@@ -155,30 +145,35 @@ fn await_all<E: End, W: Sink>(
 /// Waits for the first set command in flight, and prints its outcome. Returns the exit status so far.
 fn await_first<E: End, W: Sink>(
     panel: &mut Panel<E>,
-    waiting: &mut ArrayVec<Submitted, MOST_AHEAD>,
+    waiting: &mut InFlight<Assignment>,
     status: u8,
     printer: &mut Printer<W>,
 ) -> Result<u8, WriteFailed>
-    requires { 0 < length waiting.old.items }
-    ensures waits { IfOk result (λ now. WaitsForFirst panel.old panel.new waiting.old.items waiting.new.items status now
+    requires { 0 < length waiting.old }
+    ensures waits { IfOk result (λ now. WaitsForFirst panel.old panel.new waiting.old waiting.new status now
         printer.old printer.new) }
     ensures fails { OnErr result (printer.new.failed ≡ true) }
 {
-    let command = waiting.remove(0);
-    let outcome = outcome_of(panel, command.returned);
-    let line = line_of_set(command.assignment.value, &outcome);
-    let own = report_object(command.assignment.ono, &line, printer)?;
-    Ok(max_severity(status, own))
+    match waiting.finish_first(panel) {
+        Some((assignment, outcome)) => report_set(assignment, &outcome, status, printer),
+        None => unreachable!(),
+    }
 }
 
-/// The outcome of a submitted command: it is waited for, unless it was refused.
-fn outcome_of<E: End>(panel: &mut Panel<E>, returned: Result<Handle, ControlFault>) -> Outcome
-    ensures { EndsIn returned panel.old panel.new result }
+/// Prints how the command that was to set an object came out. Returns the exit status so far.
+fn report_set<W: Sink>(
+    assignment: Assignment,
+    outcome: &Outcome,
+    status: u8,
+    printer: &mut Printer<W>,
+) -> Result<u8, WriteFailed>
+    ensures reports { IfOk result (λ now. ReportsNext (reported_set assignment outcome.now) status now
+        printer.old printer.new) }
+    ensures fails { OnErr result (printer.new.failed ≡ true) }
 {
-    match returned {
-        Ok(handle) => panel.finish(handle),
-        Err(fault) => Outcome::Refused(fault),
-    }
+    let line = line_of_set(assignment.value, outcome);
+    let own = report_object(assignment.ono, &line, printer)?;
+    Ok(max_severity(status, own))
 }
 
 /// What the line of an object that was to be set shows: its value, or why it has not got it.

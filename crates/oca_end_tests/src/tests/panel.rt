@@ -6,6 +6,7 @@ use std::alloc::Global;
 use std::process::Abort;
 
 mod given_up;
+mod in_flight;
 mod objects;
 mod ports;
 mod walks;
@@ -92,6 +93,11 @@ fn tables_of_rows(rt: HostRuntime) {
         &rt,
         "answers to what was given up",
         given_up::first_wrong(rt.alloc()),
+    );
+    none_wrong(
+        &rt,
+        "commands in flight",
+        in_flight::first_wrong(rt.alloc()),
     );
     none_wrong(&rt, "walks", walks::first_wrong(rt.alloc()));
 }

@@ -5,5 +5,4 @@ pub loop-panel-init : goal.loop-panel-init
 loop-panel-init g c = waits-none _ _ _ _
 
 pub loop-panel-preserved : goal.loop-panel-preserved
-loop-panel-preserved g c =
-    waits-next _ _ _ _ c.loop-panel.waiting.items _ _ _ _ _ _ _ c.loop-panel-test.ensures c.loop-panel.invariant c.in_ok-so_far.ensures.waits
+loop-panel-preserved g c = waits-next _ _ _ _ c.loop-panel.waiting _ _ _ _ _ _ _ c.loop-panel.invariant c.in_ok-so_far.ensures.waits

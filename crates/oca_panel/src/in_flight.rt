@@ -1,0 +1,191 @@
+//! Commands in flight on a panel, in the order in which they were begun.
+ghost use Rattle.std.specs.Prelude.{◌≡◌};
+
+use crate::panel::Panel;
+use arrayvec::ArrayVec;
+use oca_control::{ControlFault, Outcome};
+use oca_net::End;
+use oca_types::{Handle, Request};
+use std::marker::Model;
+
+/// The most commands that can be in flight: the largest span.
+const MOST_IN_FLIGHT: usize = 32;
+
+/// A command that was begun, and what its caller says of it.
+#[derive(Clone, Copy)]
+struct Begun<T: Copy + Default> {
+    handle: Handle,
+    item: T,
+}
+
+impl<T: Copy + Default> Default for Begun<T> {
+    ghost use Rattle.std.specs.Prelude.{◌≡◌};
+
+    ghost is_default = { λ b. b.handle.0 ≡ 0 };
+
+    /// What a place holds where no command is.
+    fn default() -> Self {
+        Begun {
+            handle: Handle(0),
+            item: T::default(),
+        }
+    }
+}
+
+/// The commands in flight on a panel, at most 32, in the order in which they were begun, each with what its caller says
+/// of it. As many can be in flight at once as the panel's span has handles; they are waited for in this order.
+///
+/// ```
+/// let mut in_flight = InFlight::new();
+/// let mute = set_request(Value::Mute(MuteState::Muted));
+/// for channel in [4097, 4098] {
+///     in_flight.begin_behind(&mut panel, mute.of(Ono(channel)), channel)?;
+/// }
+/// while let Some((channel, outcome)) = in_flight.finish_first(&mut panel) {
+///     println!(rt; "{channel}: {outcome}")?;
+/// }
+/// ```
+///
+/// Give all calls the panel that the commands were begun on. Where its link is lost, each command that is waited for
+/// comes out `Lost`, unless its answer is there; after [`Panel::renew`] begin with a new queue.
+pub struct InFlight<T: Copy + Default> {
+    commands: ArrayVec<Begun<T>, MOST_IN_FLIGHT>,
+}
+
+impl<T: Copy + Default> Model for InFlight<T> {
+    ghost use Rattle.std.specs.Prelude.{List, ℕ, map};
+
+    ghost Value = { List (ℕ × T) };
+
+    ghost view = { λ q. map (λ c. (c.handle.0, c.item)) q.commands.items };
+}
+
+impl<T: Copy + Default> Drop for InFlight<T> {
+    /// Forgets the commands; the panel goes on with them.
+    fn drop(self) {
+        let InFlight { commands: _ } = self;
+    }
+}
+
+impl<T: Copy + Default> InFlight<T> {
+    ghost use Rattle.std.specs.Prelude.{◌≡◌, ◌<◌, ◌≤◌, ◌==◌, [], ◌∷◌, ◌++◌, length, false};
+    ghost use Rattle.oca_types.specs.Peers.{request_of};
+    ghost use Rattle.oca_panel.specs.InFlight.{BeginsBehind, FinishesFirst, SettlesFirst, is_full};
+    ghost use Rattle.oca_panel.specs.PrivateInFlight.{IsFirst, TakesOff};
+
+    /// No command is in flight.
+    pub fn new() -> InFlight<T>
+        ensures { result ≡ [] }
+    {
+        InFlight {
+            commands: ArrayVec::new(),
+        }
+    }
+
+    /// How many commands are in flight, at most 32.
+    pub fn len(&self) -> usize
+        ensures value { result ≡ length self.now }
+        ensures most { result ≤ 32 }
+    {
+        self.commands.len()
+    }
+
+    /// Whether no command is in flight.
+    pub fn is_empty(&self) -> bool
+        ensures { result ≡ (length self.now == 0) }
+    {
+        self.commands.is_empty()
+    }
+
+    /// Whether 32 commands are in flight, so that no other can be put behind them.
+    pub fn is_full(&self) -> bool
+        ensures value { result ≡ is_full self.now }
+        ensures room { result ≡ false → length self.now < 32 }
+    {
+        self.commands.is_full()
+    }
+
+    /// Puts a command that was begun on the panel behind the others, as [`Panel::begin_set`] or
+    /// [`Panel::begin_request`] returned its handle, with what is to be said of it. Fewer than 32 may be in flight.
+    pub fn push(&mut self, handle: Handle, item: T)
+        requires { length self.old < 32 }
+        ensures { self.new ≡ self.old ++ (handle.0, item) ∷ [] }
+    {
+        self.commands.push(Begun { handle, item });
+    }
+
+    /// Begins a command as [`Panel::begin`] does, and puts it behind the others, with what is to be said of it. Returns
+    /// its handle. Refusals, which change neither the queue nor the panel: `SpanFull` where 32 are in flight, and those
+    /// of [`Panel::begin`].
+    pub fn begin_behind<E: End>(
+        &mut self,
+        panel: &mut Panel<E>,
+        request: Request<'_>,
+        item: T,
+    ) -> Result<Handle, ControlFault>
+        ensures { BeginsBehind (request_of request.entry) item result self.old self.new panel.old panel.new }
+    {
+        if self.is_full() {
+            return Err(ControlFault::SpanFull);
+        }
+        match panel.begin(request) {
+            Ok(handle) => {
+                self.push(handle, item);
+                Ok(handle)
+            }
+            Err(fault) => Err(fault),
+        }
+    }
+
+    /// Waits for the first command in flight, in the panel's turns as [`Panel::finish`] does; it is in flight no longer.
+    /// Returns what was said of it, and how it came out. `None` where none is in flight, which changes nothing.
+    ///
+    /// A command that comes out `Unanswered` is still one of the panel's: [`Panel::answered`] tells when its answer has
+    /// come.
+    pub fn finish_first<E: End>(&mut self, panel: &mut Panel<E>) -> Option<(T, Outcome)>
+        ensures { FinishesFirst result self.old self.new panel.old panel.new }
+    {
+        let Some((handle, item)) = self.take_first() else {
+            return None;
+        };
+        Some((item, panel.finish(handle)))
+    }
+
+    /// How the first command in flight came out, where that is known without a turn, and what was said of it; it is in
+    /// flight no longer then. `None` where that is not known, or none is in flight: that changes nothing.
+    pub fn try_finish_first<E: End>(&mut self, panel: &mut Panel<E>) -> Option<(T, Outcome)>
+        ensures { SettlesFirst result self.old self.new panel.old panel.new }
+    {
+        let Some((handle, item)) = self.first() else {
+            return None;
+        };
+        match panel.try_finish(handle) {
+            Some(outcome) => {
+                self.take_first();
+                Some((item, outcome))
+            }
+            None => None,
+        }
+    }
+
+    /// The first command in flight.
+    fn first(&self) -> Option<(Handle, T)>
+        ensures { IsFirst result self.now }
+    {
+        match self.commands.first() {
+            Some(command) => Some((command.handle, command.item)),
+            None => None,
+        }
+    }
+
+    /// Takes the first command in flight off the queue.
+    fn take_first(&mut self) -> Option<(Handle, T)>
+        ensures { TakesOff result self.old self.new }
+    {
+        if self.commands.is_empty() {
+            return None;
+        }
+        let command = self.commands.remove(0);
+        Some((command.handle, command.item))
+    }
+}
