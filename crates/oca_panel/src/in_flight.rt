@@ -41,8 +41,11 @@ impl<T: Copy + Default> Default for Begun<T> {
 /// for channel in [4097, 4098] {
 ///     in_flight.begin_behind(&mut panel, mute.of(Ono(channel)), channel)?;
 /// }
+/// let mut refused = None;
 /// while let Some((channel, outcome)) = in_flight.finish_first(&mut panel) {
-///     println!(rt; "{channel}: {outcome}")?;
+///     if done_in(&outcome).is_err() {
+///         refused = Some(channel);
+///     }
 /// }
 /// ```
 ///

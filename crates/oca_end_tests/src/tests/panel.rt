@@ -101,3 +101,8 @@ fn tables_of_rows(rt: HostRuntime) {
     );
     none_wrong(&rt, "walks", walks::first_wrong(rt.alloc()));
 }
+
+#[test]
+fn what_is_documented(rt: HostRuntime) {
+    assert!(rt; in_flight::is_as_documented(rt.alloc()));
+}

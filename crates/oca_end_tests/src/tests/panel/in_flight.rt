@@ -1,9 +1,9 @@
 //! Several commands in flight, and how they come out in the order in which they were begun.
-use super::{Answer, DEVICE, end};
+use super::{Answer, DEVICE, end, panel};
 use oca_control::{ControlFault, Outcome};
 use oca_model::{MuteState, Value, set_request};
 use oca_net::MemoryEnd;
-use oca_panel::{InFlight, Panel};
+use oca_panel::{InFlight, Panel, done_in};
 use oca_types::{Handle, Ono, Span};
 use std::alloc::Global;
 
@@ -79,4 +79,28 @@ pub fn first_wrong(alloc: Global) -> Option<usize> {
         }
     }
     None
+}
+
+/// The example of the queue's doc comment: which of two mutes was refused last.
+fn mutes(mut panel: Panel<MemoryEnd>) -> Result<Option<u32>, ControlFault> {
+    let mut in_flight = InFlight::new();
+    let mute = set_request(Value::Mute(MuteState::Muted));
+    for channel in [4097, 4098] {
+        in_flight.begin_behind(&mut panel, mute.of(Ono(channel)), channel)?;
+    }
+    let mut refused = None;
+    while let Some((channel, outcome)) = in_flight.finish_first(&mut panel) {
+        if done_in(&outcome).is_err() {
+            refused = Some(channel);
+        }
+    }
+    Ok(refused)
+}
+
+/// Whether the second mute is refused where its answer says so.
+pub fn is_as_documented(alloc: Global) -> bool {
+    match panel(alloc, &[(0, 0, &[]), (5, 0, &[])]) {
+        Some(panel) => mutes(panel) == Ok(Some(4098)),
+        None => false,
+    }
 }
