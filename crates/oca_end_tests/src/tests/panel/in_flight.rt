@@ -43,11 +43,7 @@ fn begins(panel: &mut Panel<MemoryEnd>, in_flight: &mut InFlight<u8>) -> Option<
 }
 
 /// The first is waited for; the second comes out at the turn behind it.
-fn finishes(
-    panel: &mut Panel<MemoryEnd>,
-    in_flight: &mut InFlight<u8>,
-    statuses: [u8; 2],
-) -> bool {
+fn finishes(panel: &mut Panel<MemoryEnd>, in_flight: &mut InFlight<u8>, statuses: [u8; 2]) -> bool {
     let is_open = in_flight.try_finish_first(panel).is_none();
     let first = is_answered(in_flight.finish_first(panel), 1, statuses[0]);
     let is_next_open = in_flight.try_finish_first(panel).is_none() && in_flight.len() == 1;
