@@ -369,6 +369,46 @@ def helps(checks):
             checks.same(f"{name} --help: its examples", named, [[name]])
 
 
+SEND = ["--level", "4", "--index", "1", "--count", "0", "--target"]
+# Where a command ends with a status, in the words of its help: whether a device answers, the words behind the command,
+# and the lines of its input.
+ENDS = {
+    "get": {"if all values were read": (True, ["4097"], ""), "if something was refused": (True, ["4097", "77"], ""),
+            "if an answer did not come": (False, ["--turns", "2", "4097"], "")},
+    "set": {"if everything was set": (True, ["4097", "muted"], ""), "if something was refused": (True, ["77", "on"], ""),
+            "if a value does not fit its object": (True, ["4097", "loud"], ""),
+            "if an answer did not come": (False, ["--turns", "2", "4097", "muted"], "")},
+    "send": {"for an answer with status 0": (True, [*SEND, "4097"], ""), "for an answer with another status": (True, [*SEND, "77"], ""),
+             "if none came": (False, ["--turns", "2", *SEND, "4097"], "")},
+    "run": {"if each command was answered": (True, [], "4097 4 1 0 -\n77 4 1 0 -\n"), "if one was not": (False, [], "4097 4 1 0 -\n")}}
+
+
+def ends_as_told(checks):
+    """The exit statuses that the help of a command tells are those with which it ends where the help says so."""
+    text = ran(checks, "ocactl", "--help")[0]
+    commands = [name for name in re.findall(r"^  (\w+)  ", text.split("Options:")[0], re.M) if name != "help"]
+    for command in commands:
+        told = re.search(r"^Exit status: (.*?)\.\s", ran(checks, "ocactl", command, "--help")[0], re.M | re.S)
+        parts = re.split(r", (?=\d )", " ".join(told[1].split())) if told else []
+        said = {condition: int(status) for status, condition in (part.split(" ", 1) for part in parts)}
+        ends = {condition: ended(checks, command, *how) for condition, how in ENDS.get(command, {}).items()}
+        checks.same(f"{command} --help: its exit statuses", said, ends)
+
+
+def ended(checks, command, answers, words, lines):
+    """The status with which a command ends at a device that answers, or at one that is silent."""
+    with contextlib.ExitStack() as parts:
+        if answers:
+            port = parts.enter_context(Served(stagebox())).port
+        else:
+            silent = parts.enter_context(socket.socket(socket.AF_INET, socket.SOCK_DGRAM))
+            silent.bind(("127.0.0.1", 0))
+            port = silent.getsockname()[1]
+        done = subprocess.run([f"{checks.folder}/ocactl", command, "--device", f"127.0.0.1:{port}", "--port", str(checks.port), *words],
+                              input=lines, capture_output=True, text=True, timeout=60)
+    return done.returncode
+
+
 def locks(checks):
     """`lock` and `unlock`: who holds the lock, and what is refused."""
     tree = stagebox()
@@ -806,7 +846,7 @@ ALONE = (old_sessions, no_other_port, own_port_in_use, missed_first)
 
 def main():
     checks = Checks(sys.argv[1])
-    for part in (trees, gets, sets, sets_at_once, tells_at_once, refusals, bad_words, long_words, helps, locks,
+    for part in (trees, gets, sets, sets_at_once, tells_at_once, refusals, bad_words, long_words, helps, ends_as_told, locks,
                  strange_answers, silence, silence_of_a_run, failed_sends, old_sessions, no_other_port, own_port_in_use,
                  missed_first, at_a_terminal, at_a_terminal_alone, behind_a_terminal, behind_a_terminal_alone, held):
         try:

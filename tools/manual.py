@@ -156,7 +156,7 @@ def explanations(folder):
 
 # Pages that are wrong: the program, a text of its page, and another text in its place: a command that is missing, one
 # that is none, an option that is missing, one that is none, one of another value or without one, another default or
-# none, options that fewer or more commands have, and an option that stands twice.
+# none, options that fewer or more commands have, an option that stands twice, and another exit status.
 WRONG = [
     ("ocadev", ".SS show\nPrints", ".SS shows\nPrints"), ("ocactl", ".SS unlock\n", ".PP\n"),
     ("ocadev", '.BI \\-\\-stats " SECONDS"\n', ".PP\n"), ("ocactl", ".B \\-\\-hold\n", ".B \\-\\-held\n"),
@@ -167,13 +167,34 @@ WRONG = [
     ("ocadev", ".SS replay and serve\n", ".SS replay\n"), ("ocadev", ".SS replay and serve\n", ".SS All commands\n"),
     ("ocactl", ".SS All commands but replay\n", ".SS All commands\n"),
     ("ocactl", '.TP\n.BI \\-\\-params " HEX"', '.TP\n.BI \\-\\-span " S"\n.TP\n.BI \\-\\-params " HEX"'),
+    ("ocactl", ".TP\n3\nA command", ".TP\n4\nA command"), ("ocactl", ".TP\n4\nAn answer", ".TP\n5\nAn answer"),
 ]
+
+
+# What a page says of each exit status.
+ENDED = {
+    "ocadev": {"0": "Everything was done", "1": "could not be done", "2": "command line, or a line of a script"},
+    "ocactl": {"0": "Everything was done", "1": "could not be done", "2": "command line, or a line of the input",
+               "3": "was not answered, or not sent", "4": "has another status than 0"},
+    "ocapanel": {"0": "was printed", "1": "could not be done", "2": "command line is wrong"}}
+
+
+def ends_told(text, program):
+    """What a page does not say of exit statuses as it is, a line each."""
+    found = re.search(r"^\.SH EXIT STATUS\n(.*?)^\.SH ", text, re.MULTILINE | re.DOTALL)
+    parts = re.findall(r"^\.TP\n(\d+)\n((?:(?!\.TP\n|\.PP\n).*\n)*)", found[1] if found else "", re.MULTILINE)
+    told, wanted = dict(parts), ENDED[program]
+    faults = [f"exit status {status}: not {words!r}" for status, words in wanted.items() if words not in told.get(status, "")]
+    if len(parts) != len(wanted):
+        faults.append(f"exit statuses: {[status for status, _ in parts]}")
+    return faults
 
 
 def is_found(name, there, other, folder):
     """Whether a page that is wrong so differs from the program."""
     text = (PAGES / f"{name}.1").read_text()
-    return there in text and len(faults_of(text.replace(there, other, 1), f"{folder}/{name}")[0]) > 0
+    wrong = text.replace(there, other, 1)
+    return there in text and len(faults_of(wrong, f"{folder}/{name}")[0] + ends_told(wrong, name)) > 0
 
 
 def main():
@@ -181,7 +202,8 @@ def main():
     for name in ("ocadev", "ocactl", "ocapanel"):
         page = PAGES / f"{name}.1"
         faults, count = faults_of(page.read_text(), f"{sys.argv[1]}/{name}")
-        faults += warnings_of(page)
+        faults += warnings_of(page) + ends_told(page.read_text(), name)
+        count += len(ENDED[name])
         for fault in faults:
             print(f"{name}.1: {fault}")
         failed += len(faults)

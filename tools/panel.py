@@ -169,10 +169,16 @@ def page(panel):
     text = body.decode()
     policy = headers.get("content-security-policy", "")
     check(status == 200 and headers.get("content-type") == "text/html; charset=utf-8", "GET /")
+    digests = {}
     for tag in ("script", "style"):
         inside = re.findall(rf"<{tag}>(.*?)</{tag}>", text, re.DOTALL)
         digest = base64.b64encode(hashlib.sha256(inside[0].encode()).digest()).decode()
         check(len(inside) == 1 and f"{tag}-src 'sha256-{digest}'" in policy, f"the hash of the {tag} is sha256-{digest}")
+        digests[tag] = f"'sha256-{digest}'"
+    allows = dict(part.strip().split(" ", 1) for part in policy.split(";"))
+    wanted = {"default-src": "'none'", "script-src": digests["script"], "style-src": digests["style"],
+              "connect-src": "'self'", "frame-ancestors": "'none'", "base-uri": "'none'", "form-action": "'none'"}
+    check(allows == wanted, f"the policy allows {allows}, not {wanted}")
     check("default-src 'none'" in policy and "unsafe" not in policy and "frame-ancestors 'none'" in policy, policy)
     check(not re.search(r"src\s*=\s*[\"']|@import|https?://|innerHTML|outerHTML|insertAdjacentHTML|document\.write|eval\(", text), "nothing from elsewhere, no HTML from texts")
     for name, value in [("cache-control", "no-store"), ("x-content-type-options", "nosniff"), ("x-frame-options", "DENY"), ("referrer-policy", "no-referrer"), ("cross-origin-resource-policy", "same-origin")]:
@@ -355,6 +361,45 @@ def slow(panel):
     for s in [*halves, greedy]:
         s.close()
     check(panel.ask("GET", "/values?since=0")[0] == 200, "and others are served")
+
+
+def is_kept(panel, s):
+    """Whether the panel has its end of a connection open: before it takes it, and once it is closed, no file is behind
+    it."""
+    rows = [line.split() for line in Path("/proc/net/tcp").read_text().splitlines()[1:]]
+    ports = [f"{port:04X}" for port in (panel.port, s.getsockname()[1])]
+    return any([at.split(":")[1] for at in row[1:3]] == ports and row[9] != "0" for row in rows)
+
+
+def little_by_little(panel):
+    """A connection that sends its request a byte at a time has 5 seconds, and so has one that takes its answers so:
+    that something moves on it does not keep it."""
+    asked = f"GET / HTTP/1.1\r\nHost: {panel.host}\r\n\r\n".encode()
+    with socket.socket() as sends, socket.socket() as takes:
+        takes.setsockopt(socket.SOL_SOCKET, socket.SO_RCVBUF, 4096)
+        begun, kept, closed = time.monotonic(), set(), {}
+        for s in (sends, takes):
+            s.connect((panel.ip, panel.port))
+            s.setblocking(False)
+        rest = asked * 2500
+        with contextlib.suppress(OSError):
+            sends.send(f"GET / HTTP/1.1\r\nHost: {panel.host}\r\nX: ".encode())
+        while len(closed) < 2 and time.monotonic() - begun < 20:
+            with contextlib.suppress(OSError):
+                sends.send(b"x")
+            with contextlib.suppress(OSError):
+                rest = rest[takes.send(rest):]
+            with contextlib.suppress(OSError):
+                takes.recv(100)
+            for name, s in (("sends", sends), ("takes", takes)):
+                if is_kept(panel, s):
+                    kept.add(name)
+                elif name in kept and name not in closed:
+                    closed[name] = time.monotonic() - begun
+            time.sleep(0.1)
+    for name in ("sends", "takes"):
+        took = closed.get(name)
+        check(took is not None and took > 4, f"a connection that {name} little by little is closed after {took} s, not after 5")
 
 
 def nine(panel):
@@ -1039,6 +1084,7 @@ def main():
         hostile(panel)
         protected(panel)
         slow(panel)
+        little_by_little(panel)
         nine(panel)
     lossy(folder)
     gone_and_back(folder)
