@@ -78,10 +78,16 @@ def build_program(name, folder):
 
 
 def main():
+    if len(sys.argv) < 3:
+        sys.exit(__doc__)
     folder, names = Path(sys.argv[1]), sys.argv[2:]
     begun, rt = time.monotonic(), toolchain()
     os.chdir(TOP)
     crates = {it.name: it for it in rt.rtlib.crates_below(str(TOP))}
+    unknown = [name for name in names if name not in crates]
+    if unknown:
+        print(f"build: crates.txt has no {', '.join(unknown)}: NOTHING IS BUILT")
+        return 1
     libraries = {below for name in names for below in crates[name].below()}
     folder.mkdir(exist_ok=True)
     held = rt.rtlib.lock(list(libraries))

@@ -4,7 +4,8 @@
 Usage: library.py [TARGET [CPU]]     TARGET is x86_64-unknown-linux-gnu or aarch64-unknown-linux-gnu
 
 Writes crates/oca_c/out/TARGET/liboca_c.a, for every processor of that kind unless CPU names one (x86-64-v2, x86-64-v3;
-neoverse-v2). Crates that the gate has just proved and left are taken as they are, others are built over kept work."""
+neoverse-v2). Crates that the gate has just proved and left are taken as they are where no source has changed since,
+others are built over kept work. An archive that stood there before is taken away first: none is left where this fails."""
 import os
 import sys
 from pathlib import Path
@@ -15,9 +16,24 @@ import build
 LEAST = {"x86_64-unknown-linux-gnu": "x86-64", "aarch64-unknown-linux-gnu": "generic"}
 
 
-def is_left_by_the_gate(crate):
-    """Whether the crate's library is one that `rt ci` left: it is there, without the stamp of a check that keeps its work."""
-    return os.path.isdir(crate.rlib) and not os.path.exists(f"{os.path.dirname(crate.rlib)}/stamp")
+def is_left_by_the_gate(crate, files_of):
+    """Whether the crate's library is one that `rt ci` left of these sources: it is there, without the stamp of a check
+    that keeps its work, and newer than each file of the crate and of those below it."""
+    if not os.path.isdir(crate.rlib) or os.path.exists(f"{os.path.dirname(crate.rlib)}/stamp"):
+        return False
+    made = os.path.getmtime(crate.rlib)
+    return all(os.path.getmtime(file) < made for it in [crate, *crate.below()] for file in files_of(it.folder))
+
+
+def compiled(crate, words, to):
+    """Compiles the library into this archive, and answers the status: that of the compiler, and 1 where it made none."""
+    if os.path.exists(to):
+        os.remove(to)
+    status = crate.compile(words, to)
+    if status == 0 and not os.path.isfile(to):
+        print(f"library: {to} was NOT BUILT")
+        return 1
+    return status
 
 
 def main():
@@ -29,11 +45,12 @@ def main():
     os.chdir(build.TOP)
     crate = {it.name: it for it in rt.rtlib.crates_below(str(build.TOP))}["oca_c"]
     held = rt.rtlib.lock([*crate.below(), crate])
-    if not all(map(is_left_by_the_gate, crate.below())) and not build.build_libraries(rt, set(crate.below())):
+    is_left = all(is_left_by_the_gate(it, rt.rtlib.files_of) for it in crate.below())
+    if not is_left and not build.build_libraries(rt, set(crate.below())):
         return 1
     os.makedirs(f"{crate.folder}/out/{target}", exist_ok=True)
     words = ["--jobs", str(rt.processors()), "--target", target, "--cpu", cpu]
-    status = crate.compile(words, f"{crate.folder}/out/{target}/liboca_c.a")
+    status = compiled(crate, words, f"{crate.folder}/out/{target}/liboca_c.a")
     for it in held:
         os.close(it)
     return status

@@ -18,6 +18,9 @@ from pathlib import Path
 from types import SimpleNamespace
 
 import run
+import selftest_builds
+import selftest_tools
+from selftest_builds import FakeCrate
 
 HERE = Path(__file__).resolve().parent
 GOOD = "3 1 echo '3 passed, 0 failed'"
@@ -114,16 +117,24 @@ def knows_the_least(folder):
 
 
 def counts_all():
-    """The whole gate passes only where `rt ci`, its steps and their list do: each of them is made to fail alone."""
+    """The whole gate passes only where `rt ci`, its steps and their list do: each of them is made to fail alone. It calls
+    `rt ci` without other words, for as many checks as that is to pass, and every step of the file, as it stands there."""
     real = run.watched, run.run_steps, run.left_out
+    parts = run.paragraphs(HERE / "steps")
+    steps = [[(step.least, step.minutes, step.command) for step in part] for part in parts]
+    called = [("rt ci", run.least_of_ci()), steps, (sum(steps, []), run.TOP / "tools")]
+    words = lambda steps: [(it.least, it.minutes, it.command) for it in steps]
     try:
-        found = []
+        found, asked = [], []
         for of_ci, of_steps, missing in (((3, 0), [(5, 0)], []), ((3, 1), [(5, 0)], []), ((3, 0), [(5, 1)], []), ((3, 0), [(5, 0)], ["x.py"])):
-            run.watched, run.run_steps, run.left_out = lambda *_: of_ci, lambda _: of_steps, lambda *_: missing
+            run.watched = lambda *given: asked.append(given) or of_ci
+            run.run_steps = lambda given: asked.append([words(part) for part in given]) or of_steps
+            run.left_out = lambda given, tools: asked.append((words(given), tools)) or missing
             told = io.StringIO()
             with contextlib.redirect_stdout(told):
                 found.append((run.main([]), run.last_line(told.getvalue())))
-        return found == [(0, "8 passed, 0 failed")] + [(1, "8 passed, 1 failed")] * 3
+        is_asked = sorted(asked, key=str) == sorted(called * 4, key=str)
+        return is_asked and found == [(0, "8 passed, 0 failed")] + [(1, "8 passed, 1 failed")] * 3
     finally:
         run.watched, run.run_steps, run.left_out = real
 
@@ -196,11 +207,6 @@ def sees_what_is_not_built(folder):
     return found == [0, 1, 1, 1, 1, 1]
 
 
-class FakeCrate(SimpleNamespace):
-    """What a crate is asked for; it can stand in a set."""
-    __hash__ = object.__hash__
-
-
 def builds_as_asked():
     """`library.py` compiles the library for the kind and the processor that are asked for, else for every one of that
     kind, where the crates below are built; and it tells how that ended."""
@@ -208,6 +214,7 @@ def builds_as_asked():
     found = []
 
     def compiled(words, to):
+        Path(to).touch()
         asked = [words[words.index(word) + 1] for word in ("--target", "--cpu")]
         found.append((*asked, Path(to).parent.name, Path(to).name))
         return status
@@ -215,7 +222,7 @@ def builds_as_asked():
     with tempfile.TemporaryDirectory() as folder:
         lower = FakeCrate(name="lower", rlib=f"{folder}/none", below=list)
         crate = FakeCrate(name="oca_c", folder=folder, below=lambda: [lower], compile=compiled)
-        tools = SimpleNamespace(crates_below=lambda _: [crate, lower], lock=lambda _: [])
+        tools = SimpleNamespace(crates_below=lambda _: [crate, lower], lock=lambda _: [], files_of=lambda _: [])
         real = library.build.toolchain, library.build.build_libraries, sys.argv
         try:
             library.build.toolchain = lambda: SimpleNamespace(rtlib=tools, processors=lambda: 1)
@@ -310,24 +317,32 @@ def judges_edits():
     return found == [list(refused) for *_, refused in SAID_OF_EDITS] and all(told)
 
 
-# The fewest checks that the steps of a tool are to name: a slip in their list does not take the rest away unseen.
+# The steps, each by its whole command, and the fewest checks that it is to pass: neither a slip in their list nor another
+# word takes some of them away unseen.
+PROGRAMS = "ocadev ocactl ocapanel trials amplifier panel"
 FEWEST = {
-    "gate/selftest.py": 51, "examples/run.py": 4, "tools/c_library.py": 26000, "tools/runs.py": 100,
-    "tools/ctl_runs.py": 100, "tools/unreliable.py": 3600, "tools/fuzz.py": 200, "tools/words.py": 800,
-    "tools/hands.py": 270, "tools/panel.py": 290, "tools/network.py": 290, "tools/keep.py": 90, "tools/world.py": 13,
-    "tools/embedded.py": 120, "tools/header.py": 1180, "tools/law.py": 3, "tools/manual.py": 240,
-    "tools/snippets.py": 11, "tools/edits.py": 710}
+    "python3 gate/selftest.py": 51,
+    f"mkdir -p bin && for name in {PROGRAMS}; do cp crates/$name/out/$name bin/ || exit 1; done": 1,
+    "python3 tools/c_library.py bin": 26000, "python3 examples/run.py bin/ocadev": 4, "python3 tools/runs.py bin": 100,
+    "python3 tools/ctl_runs.py bin": 100, "python3 tools/unreliable.py bin": 3600, "python3 tools/fuzz.py bin 20": 200,
+    "python3 tools/words.py bin": 800, "python3 tools/hands.py bin": 270, "python3 tools/panel.py bin": 290,
+    "python3 tools/network.py bin": 290, "python3 tools/keep.py bin": 90, "python3 tools/neighbours.py bin": 1,
+    "python3 tools/lossy.py bin 30": 2, "python3 tools/lossy.py bin directed": 2, "python3 tools/world.py bin 8000": 13,
+    "python3 tools/embedded.py bin": 120, "python3 tools/header.py": 1180, "python3 tools/law.py bin": 3,
+    "python3 tools/manual.py bin": 240, "python3 tools/snippets.py bin": 11, "python3 tools/edits.py": 710}
 
 
 def names_enough():
-    """The steps name as many checks of each tool as they are to."""
+    """The steps are these, word by word, each once, and name as many checks as they are to."""
     steps = [step for part in run.paragraphs(HERE / "steps") for step in part]
-    named = {tool: sum(step.least for step in steps if tool in step.command.split()) for tool in FEWEST}
-    few = [f"the steps name {named[tool]} checks of {tool}, and {least} are the fewest"
-           for tool, least in FEWEST.items() if named[tool] < least]
-    for it in few:
+    named = [step.command for step in steps]
+    wrong = [f"no step is: {it}" for it in FEWEST if it not in named]
+    wrong += [f"FEWEST has no step, or it stands twice: {it}" for it in named if it not in FEWEST or named.count(it) > 1]
+    wrong += [f"a step names {step.least} checks, and {FEWEST[step.command]} are the fewest: {step.command}"
+              for step in steps if step.least < FEWEST.get(step.command, 0)]
+    for it in wrong:
         print(it)
-    return not few
+    return not wrong
 
 
 def stands_on_its_sources():
@@ -454,6 +469,9 @@ def main():
     tried += [("all that is tried counts", counts_all()), ("edits.py counts all", counts_edits()),
               ("network.py forgives no lateness", forgives_no_lateness()),
               ("lossy.py judges runs", judges_lossy_runs()), ("tools count what differs", counts_what_differs())]
+    for what, is_so in selftest_builds.ROWS + selftest_tools.ROWS:
+        with tempfile.TemporaryDirectory() as room:
+            tried.append((what, is_so(Path(room))))
     for what, is_well in tried:
         passed, failed = passed + is_well, failed + (not is_well)
         if not is_well:

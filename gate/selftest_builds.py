@@ -1,0 +1,282 @@
+"""The rows of the gate's own test that are of what builds, proves and installs: `make`, .ci/run, build.py, library.py
+and install.sh, each tried over stand-ins of what it runs."""
+import contextlib
+import functools
+import importlib
+import io
+import os
+import shutil
+import subprocess
+import sys
+from pathlib import Path
+from types import SimpleNamespace
+
+import run
+
+
+class FakeCrate(SimpleNamespace):
+    """What a crate is asked for; it can stand in a set."""
+    __hash__ = object.__hash__
+
+
+def in_turn(tasks):
+    """What the toolchain's lanes give of tasks, one at a time, each once those that it waits for have ended."""
+    given, left = {}, dict(tasks)
+    while left:
+        key = next(it for it in left if all(below in given for below in left[it][0]))
+        given[key] = left.pop(key)[3](given, 2)
+    return given
+
+
+def proves_each_library(_):
+    """`build.py` has each library checked once, after those below it and not where one of them fails, as a check that
+    keeps its work does it; one is built where its check ends well, and all are where each is."""
+    build = importlib.import_module("build")
+    rt = SimpleNamespace(in_lanes=in_turn, need=lambda _: 1)
+    found = []
+    for failing in ("", "a", "b", "c", "d"):
+        asked = []
+
+        def made(name, *below):
+            given = dict(name=name, below=lambda: [*below], count=lambda _: 1)
+            return FakeCrate(build_rlib=lambda flags, anew: asked.append((name, flags, anew)) or 3 * (name == failing), **given)
+
+        a, d = made("a"), made("d")
+        b = made("b", a)
+        with contextlib.redirect_stdout(io.StringIO()):
+            is_built = build.build_libraries(rt, {made("c", a, b), b, a, d})
+        names = "".join(name for name, *_ in asked)
+        in_order = all(names.index(low) < names.index(high) for low, high in ("ab", "bc") if high in names)
+        found.append((is_built, "".join(sorted(names)), in_order))
+        found.append(all((flags, anew) == (["--jobs", "2"], False) for _, flags, anew in asked))
+    wanted = [(True, "abcd"), (False, "ad"), (False, "abd"), (False, "abcd"), (False, "abcd")]
+    return found == [it for one in wanted for it in ((*one, True), True)]
+
+
+def builds_each_program(folder):
+    """`build.py` builds a program by `rt run`, which proves it, in the program's own folder, with words that only print; and
+    takes what that has made, where it ended well."""
+    build, path = importlib.import_module("build"), os.environ["PATH"]
+    top, log = folder / "programs", folder / "log-of-rt"
+    with_words = {"ocadev": "--help", "trials": "calls", "amplifier": "", "panel": ""}
+    found, real = [], build.TOP
+    (folder / "path-of-rt").mkdir()
+    rt = folder / "path-of-rt/rt"
+    try:
+        build.TOP, os.environ["PATH"] = top, f"{rt.parent}:{path}"
+        for status in (0, 3):
+            rt.write_text(f'#!/bin/sh\necho "$PWD: $*" >> {log}\necho new > out/"${{PWD##*/}}"\nexit {status}\n')
+            rt.chmod(0o755)
+            for name in with_words:
+                made, bin_of = top / f"crates/{name}/out/{name}", folder / f"bin-{name}-{status}"
+                for place in (made.parent, bin_of):
+                    place.mkdir(parents=True, exist_ok=True)
+                made.write_text("old\n")
+                with contextlib.redirect_stdout(io.StringIO()):
+                    found.append((build.build_program(name, bin_of), [it.read_text() for it in bin_of.iterdir()]))
+    finally:
+        build.TOP, os.environ["PATH"] = real, path
+    called = [f"{top}/crates/{name}: run -- {words}".rstrip() for name, words in with_words.items()]
+    is_asked = [line.rstrip() for line in log.read_text().splitlines()] == called * 2
+    return is_asked and found == [(True, ["new\n"])] * 4 + [(False, [])] * 4
+
+
+def builds_what_is_named(folder):
+    """`build.py` builds all libraries below the programs that are named, then each of these, and none where a library is
+    not proved; no name, or one that crates.txt has not, is a fault."""
+    build, place, argv = importlib.import_module("build"), Path.cwd(), sys.argv
+    x, y, z, other = (FakeCrate(name=name, below=list) for name in ("x", "y", "z", "other"))
+    crates = [x, y, z, other, FakeCrate(name="a", below=lambda: [x, y]), FakeCrate(name="b", below=lambda: [y, z])]
+    real = build.toolchain, build.build_libraries, build.build_program
+    found, asked = [], []
+    lock = lambda its: asked.append("locks " + "".join(sorted(it.name for it in its))) or []
+    tools = SimpleNamespace(crates_below=lambda _: crates, lock=lock)
+    try:
+        build.toolchain = lambda: SimpleNamespace(rtlib=tools)
+        build.build_program = lambda name, folder: asked.append(f"{name} to {folder.name}") or True
+        for is_proved, names in ((True, "ab"), (True, "b"), (False, "ab"), (True, "ac"), (True, "")):
+            build.build_libraries = lambda _, its, good=is_proved: asked.append("".join(sorted(it.name for it in its))) or good
+            sys.argv = ["build.py", str(folder / "named"), *names]
+            try:
+                with contextlib.redirect_stdout(io.StringIO()):
+                    status = build.main()
+            except SystemExit as ended:
+                status = int(ended.code not in (None, 0))
+            found.append((status, asked[:]))
+            asked.clear()
+    finally:
+        build.toolchain, build.build_libraries, build.build_program = real
+        sys.argv = argv
+        os.chdir(place)
+    return found == [(0, ["locks xyz", "xyz", "a to named", "b to named"]), (0, ["locks yz", "yz", "b to named"]),
+                     (1, ["locks xyz", "xyz"]), (1, []), (1, [])]
+
+
+# What `make` runs by Python for each goal, in a folder without programs.
+BUILD = ["gate/build.py bin ocadev ocactl ocapanel", "examples/run.py bin/ocadev"]
+TRIALS = "gate/build.py bin trials"
+GOALS = {
+    "test": ["gate/run.py"], "demo": ["examples/run.py"], "build": BUILD,
+    "lossy": [*BUILD, "tools/lossy.py bin 200 1", "tools/lossy.py bin directed"],
+    "fuzz": [*BUILD, "tools/fuzz.py bin 60 1"], "world": [TRIALS, "tools/world.py bin 8000 1"],
+    "law": [TRIALS, "tools/law.py bin 2000 1"], "panel-trial": [*BUILD, "tools/panel_trial.py bin"],
+    "library": ["gate/library.py x86_64-unknown-linux-gnu"],
+    "bench": [*BUILD, TRIALS, "bench/run.py bin", "bench/core.py bin", "bench/memory.py bin", "bench/sockets.py bin"]}
+
+
+def stand_in(file, text):
+    """Puts a program of the shell there."""
+    file.parent.mkdir(parents=True, exist_ok=True)
+    file.write_text(f"#!/bin/sh\n{text}\n")
+    file.chmod(0o755)
+
+
+def without_make():
+    """The environment without what a `make` around this one has put there."""
+    return {name: value for name, value in os.environ.items() if not name.startswith(("MAKE", "MFLAGS", "PYTHONPATH"))}
+
+
+def make_fails_with(goal, folder):
+    """Whether `make` runs for this goal what it is to, in that order, shows what it prints, and fails where one of it does."""
+    top, log = folder / f"make-{goal}", folder / f"make-{goal}.log"
+    stand_in(top / "path/python3", f'echo "$*" >> {log}\necho "said by $*"\n[ "$*" != "$FAILS" ]')
+    (top / "Makefile").write_text((run.TOP / "Makefile").read_text())
+    for fails in ("", *GOALS[goal]):
+        log.write_text("")
+        env = dict(without_make(), PATH=f"{top}/path:{os.environ['PATH']}", FAILS=fails)
+        ran = subprocess.run(["make", "-C", top, goal], env=env, capture_output=True, text=True, timeout=60)
+        wanted = GOALS[goal][:GOALS[goal].index(fails) + 1] if fails else GOALS[goal]
+        said = [line.removeprefix("said by ") for line in ran.stdout.splitlines() if line.startswith("said by ")]
+        if (ran.returncode == 0) != (not fails) or log.read_text().splitlines() != wanted or said != wanted:
+            print(f"make {goal}, where {fails or 'nothing'} fails: status {ran.returncode}, {log.read_text()!r}")
+            return False
+    return True
+
+
+def ci_runs_the_gate(folder):
+    """`.ci/run` calls `make test` in the repository's own folder, from wherever it is called, and ends as that does."""
+    top, log = folder / "ci", folder / "ci.log"
+    stand_in(top / "path/make", f'echo "$PWD: $*" >> {log}\necho said\nexit "$STATUS"')
+    stand_in(top / ".ci/run", (run.TOP / ".ci/run").read_text().removeprefix("#!/bin/sh\n"))
+    found = []
+    for status in (0, 1, 7):
+        env = dict(without_make(), PATH=f"{top}/path:{os.environ['PATH']}", STATUS=str(status))
+        ran = subprocess.run([top / ".ci/run"], cwd="/", env=env, capture_output=True, text=True, timeout=60)
+        found.append((ran.returncode, ran.stdout))
+    return found == [(it, "said\n") for it in (0, 1, 7)] and log.read_text() == f"{top}: test\n" * 3
+
+
+# What is done with the libraries that the gate has left, low below high below the library for C, and whether they are
+# taken as they are.
+LEFT = [
+    (lambda made: None, True), (lambda made: made("low/src/lib.rt", 200), False), (lambda made: made("high/src/lib.rt", 200), False),
+    (lambda made: made("high/specs/A.antt", 200), False), (lambda made: made("low/specs/B.antt", 100), False),
+    (lambda made: (made("low/src/lib.rt", 200), made("low/out/rlib/low.rlib", 300)), False),
+    (lambda made: made("low/out/rlib/stamp", 50), False), (lambda made: made("high/out/rlib/stamp", 50), False),
+    (lambda made: made.take("low/out/rlib/low.rlib"), False), (lambda made: made.take("high/out/rlib/high.rlib"), False)]
+
+
+class Made:
+    """Files and folders of crates, each with the second at which it was made."""
+
+    def __init__(self, folder):
+        self.folder = folder
+
+    def __call__(self, name, second):
+        place = self.folder / name
+        (place if name.endswith(".rlib") else place.parent).mkdir(parents=True, exist_ok=True)
+        if not name.endswith(".rlib"):
+            place.touch()
+        os.utime(place, (second, second))
+
+    def take(self, name):
+        (self.folder / name).rmdir()
+
+
+def takes_what_the_gate_left(folder):
+    """`library.py` takes the libraries that `rt ci` has left only where each is there, has no stamp of other checks, and is
+    newer than all sources of its crate and of those below; else it builds them."""
+    library, place, argv = importlib.import_module("library"), Path.cwd(), sys.argv
+    real, found = (library.build.toolchain, library.build.build_libraries), []
+    files_of = lambda of: [str(it) for part in ("src", "specs") for it in Path(of).glob(f"{part}/*")]
+    try:
+        for at, (change, _) in enumerate(LEFT):
+            made = Made(folder / f"left-{at}")
+            for name in ("low", "high"):
+                for file, second in ((f"src/lib.rt", 50), ("specs/A.antt", 50), (f"out/rlib/{name}.rlib", 100)):
+                    made(f"{name}/{file}", second)
+            change(made)
+            low, high = (FakeCrate(name=it, folder=str(made.folder / it), rlib=str(made.folder / f"{it}/out/rlib/{it}.rlib"))
+                         for it in ("low", "high"))
+            low.below, high.below = list, lambda: [low]
+            crate = FakeCrate(name="oca_c", folder=str(made.folder), below=lambda: [low, high])
+            crate.compile = lambda words, to: Path(to).touch() or 0
+            tools = SimpleNamespace(crates_below=lambda _: [crate], lock=lambda _: [], files_of=files_of)
+            library.build.toolchain = lambda: SimpleNamespace(rtlib=tools, processors=lambda: 1)
+            built, sys.argv = [], ["library.py"]
+            library.build.build_libraries = lambda _, crates: built.append({*crates} == {low, high}) or True
+            found.append((library.main(), built))
+    finally:
+        library.build.toolchain, library.build.build_libraries = real
+        sys.argv = argv
+        os.chdir(place)
+    wanted = [(0, [] if is_taken else [True]) for _, is_taken in LEFT]
+    wrong = [at for at, (got, it) in enumerate(zip(found, wanted)) if got != it]
+    if wrong:
+        print(f"library.py: cases {wrong} of LEFT")
+    return found == wanted
+
+
+def leaves_no_old_library(folder):
+    """`library.py` leaves no archive that it has not made: where compiling fails, or ends well and makes none, it fails."""
+    library, found = importlib.import_module("library"), []
+    for status, makes in ((0, True), (0, False), (5, False), (5, True)):
+        to = folder / "old.a"
+        to.write_text("old")
+        compile_it = lambda _, to: (Path(to).write_text("new") if makes else None, status)[1]
+        with contextlib.redirect_stdout(io.StringIO()):
+            got = library.compiled(SimpleNamespace(compile=compile_it), [], str(to))
+        found.append((got, to.exists() and to.read_text()))
+    return found == [(0, "new"), (1, False), (5, False), (5, "new")]
+
+
+# Stand-ins for what installs the library: each fails where FAILS names it, and else makes the file behind -o.
+COMPILER = """for it in "$@"; do case $it in -c) what=compile ;; -shared) what=link ;; esac; done
+[ "$what" != "$FAILS" ] || exit 1
+while [ $# -gt 1 ]; do [ "$1" != -o ] || echo made > "$2"; shift; done"""
+INSTALLS = ["", "compile", "link", "archive", "pages", "no library", "no header", "no program", "no page"]
+
+
+def installs_whole(folder):
+    """`install.sh` fails where the compiler, the linker, the archiver or the pages fail, or where a file is missing that it
+    is to install."""
+    kind, found = f"{os.uname().machine}-unknown-linux-gnu", []
+    for at, fails in enumerate(INSTALLS):
+        top = folder / f"install-{at}"
+        for name in ("gate", "include", "man", "examples"):
+            shutil.copytree(run.TOP / name, top / name, ignore=shutil.ignore_patterns("__pycache__"))
+        stand_in(top / "path/cc", COMPILER)
+        stand_in(top / "path/ar", '[ "$FAILS" != archive ]')
+        stand_in(top / "path/python3", f'[ "$FAILS" != pages ] && exec {sys.executable} "$@"')
+        files = {"no library": "made.a", "no header": "include/oca.h", "no program": "bin/ocactl", "no page": "man/ocapanel.1"}
+        for name in ("made.a", *(f"bin/{it}" for it in ("ocadev", "ocactl", "ocapanel"))):
+            stand_in(top / name, "")
+        if fails in files:
+            (top / files[fails]).unlink()
+        env = dict(os.environ, PATH=f"{top}/path:{os.environ['PATH']}", CC="cc", AR="ar", FAILS=fails, DESTDIR=str(top / "to"),
+                   LIBRARY="made.a", PREFIX="/usr")
+        ran = [subprocess.run(["sh", "gate/install.sh", "install", *words], cwd=top, env=env, capture_output=True, timeout=60).returncode
+               for words in (["library", kind], ["programs"])]
+        found.append([it == 0 for it in ran])
+    wanted = [[True, True]] + [[False, True]] * 6 + [[True, False]] * 2
+    if found != wanted:
+        print(f"install.sh: {[it for it, got, one in zip(INSTALLS, found, wanted) if got != one]}")
+    return found == wanted
+
+
+# What is tried, each in a folder of its own.
+ROWS = [(f"make {goal} fails with what it runs", functools.partial(make_fails_with, goal)) for goal in GOALS] + [
+    (".ci/run runs the gate", ci_runs_the_gate), ("build.py proves each library", proves_each_library),
+    ("build.py builds each program", builds_each_program), ("build.py builds what is named", builds_what_is_named),
+    ("library.py takes what the gate left", takes_what_the_gate_left),
+    ("library.py leaves no old library", leaves_no_old_library), ("install.sh installs all", installs_whole)]

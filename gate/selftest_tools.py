@@ -1,0 +1,319 @@
+"""The rows of the gate's own test that are of the tools: what they compare, judge and count, over stand-ins of what they
+try, and that each of their functions is called."""
+import ast
+import contextlib
+import importlib
+import io
+import os
+import re
+import sys
+from collections import Counter
+from pathlib import Path
+from types import SimpleNamespace
+
+import run
+from selftest_builds import FakeCrate, in_turn, stand_in
+
+# What the prover says where a proof names what is no more.
+GONE = "error: `x` is not in scope"
+
+# The functions of a crate of which edits are tried, and the edits: what an edit changes of them and into what, and what is
+# told of it. A body `wrong` is refused by the goal of its own function, `gone` only names what a proof has not, and any
+# other one is proved.
+BODIES = {"f": "fine", "g": "good", "h": "hale", "i": "intact"}
+TRIED = {
+    "a_f": ("fine", "wrong f", "refused"), "b_f_again": ("fine", "wrong f", "refused"), "c_g": ("good", "wrong g", "refused"),
+    "d_h_is_right": ("hale", "right", "FAILED: NOT REFUSED"), "e_i_is_gone": ("intact", "gone", "FAILED: only a proof file"),
+    "f_stands_no_more": ("never", "wrong", "FAILED: an 'old:' text is in"), "g_i": ("intact", "wrong i", "refused"),
+    "h_h": ("hale", "wrong h", "refused"), "i_number": ("N = 1", "N = 2", "refused"), "j_number": ("N = 1", "N = 1 ", "FAILED"),
+    "k_f_is_right": ("fine", "right", "FAILED: NOT REFUSED")}
+GOOD_ONES = ("a_f", "b_f_again", "c_g", "g_i", "h_h", "i_number")
+
+
+def crate_of_edits(folder, name, edits):
+    """A crate with these functions and edits, whose libraries are built."""
+    crate = folder / "crates" / name
+    for part in ("src", "wrong"):
+        (crate / part).mkdir(parents=True)
+    functions = "".join(f"fn {it}() {{\n    {body}\n}}\n" for it, body in BODIES.items())
+    (crate / "src/lib.rt").write_text(f"const N = 1;\n{functions}")
+    for edit in edits:
+        old, new, _ = TRIED[edit]
+        (crate / f"wrong/{edit}.edit").write_text(f"file: src/lib.rt\nold: {old}\nnew: {new}\n")
+    return FakeCrate(name=name, folder=str(crate), below=list, count=lambda _: 1)
+
+
+def said_by_the_prover(crate, texts, flags, kept):
+    """What the prover says of such a crate with these texts."""
+    lines, body = [], texts["src/lib.rt"]
+    for name in BODIES:
+        inside = body.split(f"fn {name}() {{\n    ")[1].split("\n}")[0]
+        if inside.startswith("wrong") or "N = 2;" in body and name == "f":
+            lines += [f"fn {crate.name}::{name}: not proved: the search did not prove a goal"]
+        elif inside == "gone":
+            lines += [f"proofs/{name}/F.antt:1:2: {GONE}", f"fn {crate.name}::{name}: not proved: its proof"]
+    said = "\n".join([*lines, "logic=not-proved" if lines else "logic=proved"]) + "\n"
+    return SimpleNamespace(returncode=int(bool(lines)), stdout=said)
+
+
+def told_by_edits(folder, crates, words):
+    """The status of `edits.py`, what it tells of each edit, and its last line, where these are all crates."""
+    edits, place = importlib.import_module("edits"), Path.cwd()
+    real = edits.ROOT, edits.SELFTEST, edits.rt, edits.rtlib
+    rtlib = SimpleNamespace(guarded=list, crates_below=lambda _: crates, STALE=real[3].STALE)
+    told = io.StringIO()
+    try:
+        edits.ROOT, edits.SELFTEST, edits.rtlib = folder, folder / "none", rtlib
+        edits.rt = SimpleNamespace(edited=real[2].edited, unread=real[2].unread, checked=said_by_the_prover,
+                                   in_lanes=in_turn, need=lambda _: 1)
+        with contextlib.redirect_stdout(told):
+            status = edits.main(words)
+    finally:
+        edits.ROOT, edits.SELFTEST, edits.rt, edits.rtlib = real
+        os.chdir(place)
+    lines = [line.split(": ", 1) for line in told.getvalue().splitlines() if line.startswith("crates/")]
+    return status, {where.removeprefix("crates/").removesuffix(".edit"): what for where, what in lines}, run.last_line(told.getvalue())
+
+
+def tries_edits_in_groups(folder):
+    """`edits.py` tells of each edit of each crate what the prover says of that one, with whatever others it is tried, and
+    fails where one is not refused, names what is gone, or stands no more."""
+    crates = [crate_of_edits(folder, "a", TRIED), crate_of_edits(folder, "b", GOOD_ONES), crate_of_edits(folder, "c", ["d_h_is_right"])]
+    right = True
+    for words, its in (([], {"a": TRIED, "b": GOOD_ONES, "c": ["d_h_is_right"]}), (["b"], {"b": GOOD_ONES}), (["a"], {"a": TRIED}),
+                       (["c"], {"c": ["d_h_is_right"]})):
+        status, told, last = told_by_edits(folder, crates, words)
+        wanted = {f"{name}/wrong/{edit}": TRIED[edit][2] for name, edits in its.items() for edit in edits}
+        good = sum(it == "refused" for it in wanted.values())
+        wrong = [it for it in {*told, *wanted} if not told.get(it, "").startswith(wanted.get(it, "none"))]
+        ends = (int(good < len(wanted)), f"{good} passed, {len(wanted) - good} failed")
+        if wrong or (status, last) != ends:
+            print(f"edits.py {words}: {[(it, told.get(it)) for it in wrong]}, {status}, {last}, in place of {ends}")
+            right = False
+    return right
+
+
+# How the programs print on each script, by what the reference says of it, and whether there is no difference.
+OF_SCRIPTS = [("cat out; cat err >&2; exit 2", True), ("cat out; cat err >&2", False), ("cat err >&2; exit 2", False),
+              ("cat out; exit 2", False), ("cat out out; cat err >&2; exit 2", False), ("cat out err; cat err >&2; exit 2", False),
+              ("head -c 6 out; cat err >&2; exit 2", False), ("cat err >&2; cat err >&2; cat out; exit 2", False)]
+
+
+def compares_scripts(folder):
+    """`fuzz.py` passes where each of both programs, on each script, with its words, prints just what the reference does,
+    with its faults and its status; any difference of one of them is told, and has failed."""
+    fuzz = importlib.import_module("fuzz")
+    place, real = folder / "fuzzed", (fuzz.device_script, fuzz.link_script, list(fuzz.ROOMS), list(fuzz.CHANNELS), sys.argv)
+    place.mkdir()
+    (place / "out").write_text("answer\n")
+    (place / "err").write_text("fault\n")
+    right = True
+    try:
+        fuzz.device_script, fuzz.link_script = (
+            lambda _, it=it: (["words", it], b"a line\nand more\n", lambda script: (b"answer\n", "fault", 2)) for it in "dl")
+        sys.argv = ["fuzz.py", str(place), "0.02"]
+        cases = [(said, OF_SCRIPTS[0][0], good) for said, good in OF_SCRIPTS] + [(OF_SCRIPTS[0][0], said, good) for said, good in OF_SCRIPTS]
+        for device, link, good in cases:
+            for name, said, letter in (("ocadev", device, "d"), ("ocactl", link, "l")):
+                heard = f'[ "$*" = "words {letter}" ] && grep -q line || exit 9'
+                stand_in(place / name, f"{heard}\ncd {place}\n{said}")
+            told = io.StringIO()
+            with contextlib.redirect_stdout(told):
+                status = fuzz.main()
+            passed, failed = map(int, re.fullmatch(r"(\d+) passed, (\d+) failed", run.last_line(told.getvalue())).groups())
+            seen = (status, failed, "DIFFERENCE" in told.getvalue(), passed > 1 or not good)
+            if seen != ((0, 0, False, True) if good else (1, 1, True, True)):
+                print(f"fuzz.py: {seen} where ocadev does '{device}' and ocactl '{link}'")
+                right = False
+    finally:
+        fuzz.device_script, fuzz.link_script, fuzz.ROOMS[:], fuzz.CHANNELS[:], sys.argv = real
+    return right
+
+
+# A document whose sessions and pieces of code are as they stand, and what of it is changed so that one of them is not.
+DOCUMENT = """A text.
+
+    $ bin/says one
+    one
+    $ bin/says two
+    ...
+
+More of it:
+
+```sh
+$ cat code/of.txt
+first
+second
+```
+
+And code:
+
+```c code/of.txt
+second
+```
+"""
+CHANGED = [("", ""), ("    one", "    other"), ("says two\n    ...", "says two\n    one"), ("bin/says one", "bin/says-not one"),
+           ("first\n", ""), ("first\n", "third\n"), ("$ cat code/of.txt", "$ cat code/none.txt"), ("c code/of.txt\nsecond", "c code/of.txt\nthird"),
+           ("c code/of.txt\n", "c code/none.txt\n")]
+
+
+def runs_what_documents_say(folder):
+    """`snippets.py` finds each session and piece of code of each of its documents, and fails where one of them is not so."""
+    snippets = importlib.import_module("snippets")
+    top, real, found = folder / "documents", (snippets.TOP, snippets.DOCUMENTS, sys.argv), []
+    stand_in(folder / "says-bin/says", 'echo "$*"')
+    (top / "code").mkdir(parents=True)
+    (top / "code/of.txt").write_text("first\nsecond\n")
+    try:
+        snippets.TOP, snippets.DOCUMENTS, sys.argv = top, ["A.md", "B.md"], ["snippets.py", str(folder / "says-bin")]
+        for old, new in CHANGED:
+            (top / "A.md").write_text(DOCUMENT)
+            (top / "B.md").write_text(DOCUMENT.replace(old, new, 1))
+            told = io.StringIO()
+            with contextlib.redirect_stdout(told):
+                status = snippets.main()
+            found.append((status, run.last_line(told.getvalue())))
+    finally:
+        snippets.TOP, snippets.DOCUMENTS, sys.argv = real
+    wrong = [it for it, got in zip(CHANGED[1:], found[1:]) if got != (1, "5 passed, 1 failed")]
+    for it in wrong:
+        print(f"snippets.py: {it[0]!r} was made {it[1]!r}: {found[CHANGED.index(it)]}")
+    return found[0] == (0, "6 passed, 0 failed") and not wrong
+
+
+def finds_what_documents_say(_):
+    """`snippets.py` comes to each session, with each of its commands, and each block of code with a path of README.md and
+    of all of docs/."""
+    snippets = importlib.import_module("snippets")
+    wanted, found, real = [], [], (snippets.fault_of_session, snippets.is_in)
+    for file in [run.TOP / "README.md", *sorted((run.TOP / "docs").glob("*.md"))]:
+        name, lines = str(file.relative_to(run.TOP)), file.read_text().splitlines()
+        wanted += [it.strip()[2:] for it in lines if re.match(r"(    )?\$ ", it)]
+        wanted += [f"{name}:{at + 2}" for at, it in enumerate(lines) if re.match(r"``` ?\w+ +\S+/\S+", it)]
+    try:
+        snippets.fault_of_session = lambda lines, _: found.extend(it for it, _ in snippets.commands_of(lines))
+        snippets.is_in = lambda *_: True
+        found += [where for name in snippets.DOCUMENTS for where, fault in snippets.checks_of(name, "none") if not fault]
+    finally:
+        snippets.fault_of_session, snippets.is_in = real
+    missing = [it for it in wanted if found.count(it) < wanted.count(it)]
+    for it in missing:
+        print(f"snippets.py does not come to: {it}")
+    return len(wanted) > 15 and not missing
+
+
+# What a peer says of its questions beside silent hosts, and alone: asked, answered, the slowest in ms; and how many
+# checks of these two pass and fail (alone, all being well is no check of its own).
+OF_NEIGHBOURS = [
+    ((20, 20, 5), (20, 20, 3), 1, 0), ((20, 20, 103), (20, 20, 3), 1, 0), ((20, 20, 104), (20, 20, 3), 0, 1),
+    ((20, 19, 5), (20, 20, 3), 0, 1), ((20, 0, 5), (20, 20, 3), 0, 1), ((0, 0, 0), (20, 20, 3), 0, 1),
+    ((19, 20, 5), (20, 20, 3), 0, 1), ((20, 20, 5000), (20, 20, 3), 0, 1), ((20, 20, 5), (20, 19, 3), 1, 1)]
+
+
+def judged_neighbours(neighbours, said, alone):
+    """How `neighbours.py` ends, and beside whom it runs, where a peer says this beside the last of the silent hosts, and
+    this alone; beside all others all is well."""
+    names, argv, beside = ("Namespaces", "run", "os", "shutil"), sys.argv, set()
+    real = {name: getattr(neighbours, name) for name in names}
+
+    def ran(room, folder, silent, seconds):
+        beside.add(silent)
+        return alone if silent is None else said if silent == neighbours.RUNS[-1] else (20, 20, alone[2])
+
+    neighbours.Namespaces, neighbours.run = contextlib.nullcontext, ran
+    neighbours.os = SimpleNamespace(geteuid=lambda: 0, path=os.path)
+    neighbours.shutil, sys.argv = SimpleNamespace(which=lambda _: "ip"), ["neighbours.py", "bin", "1"]
+    told = io.StringIO()
+    try:
+        with contextlib.redirect_stdout(told):
+            status = neighbours.main()
+    finally:
+        vars(neighbours).update(real)
+        sys.argv = argv
+    return status, run.last_line(told.getvalue()), beside == {None, *neighbours.RUNS}
+
+
+def judges_neighbours(_):
+    """`neighbours.py` counts a run as failed where what is asked is not answered, or late, each time that it is tried, and
+    tries each of its runs, and one where no host is silent."""
+    neighbours = importlib.import_module("neighbours")
+    count = len(neighbours.RUNS)
+    wrong = []
+    for said, alone, passed, failed in OF_NEIGHBOURS:
+        ends = (int(failed > 0), f"{count - 1 + passed} passed, {failed} failed", True)
+        wrong += [(said, alone)] if judged_neighbours(neighbours, said, alone) != ends else []
+    for it in wrong:
+        print(f"neighbours.py: {it}")
+    return count > 1 and not wrong
+
+
+def named_in(tree):
+    """How often each name stands in a piece of code: a variable, an attribute, what is imported."""
+    nodes = list(ast.walk(tree))
+    found = [it.id for it in nodes if isinstance(it, ast.Name)] + [it.attr for it in nodes if isinstance(it, ast.Attribute)]
+    found += [name.name for it in nodes if isinstance(it, ast.ImportFrom) for name in it.names]
+    return Counter(found)
+
+
+def texts_in(tree):
+    """The texts of a piece of code, as names."""
+    return {it.value.replace("-", "_") for it in ast.walk(tree) if isinstance(it, ast.Constant) and isinstance(it.value, str)}
+
+
+def looks_up(tree):
+    """Whether the code looks up an attribute of itself whose name is made as it runs."""
+    calls = [it for it in ast.walk(tree) if isinstance(it, ast.Call) and getattr(it.func, "id", "") == "getattr"]
+    return any(getattr(it.args[0], "id", "") == "self" and not isinstance(it.args[1], ast.Constant) for it in calls)
+
+
+def imports(tree, module):
+    return any(isinstance(it, ast.Import) and module in [name.name for name in it.names]
+               or isinstance(it, ast.ImportFrom) and it.module == module for it in ast.walk(tree))
+
+
+def uncalled(folders):
+    """The functions and methods of the modules of these folders that nothing names but they themselves: neither their own
+    module nor one that imports it. What a decorator takes is named by that, and what has a name of Python's by Python."""
+    trees = {file: ast.parse(file.read_text()) for folder in folders for file in sorted(folder.glob("*.py"))}
+    names = {file: named_in(tree) for file, tree in trees.items()}
+    texts = set().union(*map(texts_in, trees.values()))
+    found = []
+    for file, tree in trees.items():
+        named = names[file].copy()
+        for other in (it for it in trees if it != file and imports(trees[it], file.stem)):
+            named.update(names[other])
+        named.update(texts if looks_up(tree) else ())
+        found += [f"{file.name}:{it.lineno}: {it.name}" for it in ast.walk(tree) if isinstance(it, ast.FunctionDef)
+                  and not it.decorator_list and not re.fullmatch("__.*__|do_[A-Z]+", it.name)
+                  and named[it.name] <= named_in(it)[it.name]]
+    return found
+
+
+# Modules, and which of their functions nothing calls.
+MODULES = {
+    "lib.py": "def used():\n    pass\n\ndef left():\n    left()\n\nclass C:\n    def __init__(self):\n        self.a()\n\n"
+              "    def a(self):\n        pass\n\n    def b(self):\n        # self.c()\n        return 'c'\n\n    def c(self):\n        pass\n",
+    "by.py": "import lib\n\n@lib.used\ndef taken():\n    pass\n\nlib.C().b()\n",
+    "table.py": "class T:\n    def run(self):\n        getattr(self, name())()\n\n    def to_do(self):\n        pass\n\n"
+                "    def not_done(self):\n        pass\n\ndef name():\n    return 'to-do'\n\nT().run()\n",
+    "alone.py": "def left():\n    pass\n\ndef used():\n    pass\n\nused()\n"}
+UNCALLED = ["alone.py:1: left", "lib.py:18: c", "lib.py:4: left", "table.py:8: not_done"]
+
+
+def calls_all_that_it_has(folder):
+    """Each function of the tools and of the gate is named by another piece of them; one that is not is found."""
+    place = folder / "modules"
+    place.mkdir()
+    for name, text in MODULES.items():
+        (place / name).write_text(text)
+    left = uncalled([run.TOP / it for it in ("tools", "gate", "bench")])
+    for it in left:
+        print(f"nothing calls {it}")
+    return sorted(uncalled([place])) == UNCALLED and not left
+
+
+# What is tried, each in a folder of its own.
+ROWS = [("edits.py tries edits in groups", tries_edits_in_groups), ("fuzz.py compares scripts", compares_scripts),
+        ("snippets.py runs what documents say", runs_what_documents_say),
+        ("snippets.py comes to what documents say", finds_what_documents_say),
+        ("neighbours.py judges runs", judges_neighbours), ("all that the tools have is called", calls_all_that_it_has)]
