@@ -5,7 +5,7 @@ Usage: library.py [TARGET [CPU]]     TARGET is x86_64-unknown-linux-gnu or aarch
 
 Writes crates/oca_c/out/TARGET/liboca_c.a, for every processor of that kind unless CPU names one (x86-64-v2, x86-64-v3;
 neoverse-v2). Crates that the gate has just proved and left are taken as they are where no source has changed since,
-others are built over kept work. An archive that stood there before is taken away first: none is left where this fails."""
+others are built over kept work. An archive that stood there before is taken away first."""
 import os
 import sys
 from pathlib import Path
@@ -26,7 +26,7 @@ def is_left_by_the_gate(crate, files_of):
 
 
 def compiled(crate, words, to):
-    """Compiles the library into this archive, and answers the status: that of the compiler, and 1 where it made none."""
+    """Compiles the library into this archive, and answers the status: the compiler's, or 1 where it made no archive."""
     if os.path.exists(to):
         os.remove(to)
     status = crate.compile(words, to)

@@ -2,8 +2,9 @@
 """The gate's own test: steps that try nothing, too little, fail, crash, hang, or can't be read must make the gate fail, and
 so must an `rt ci` that does, and a gate that a signal ends; a tool that no step runs must be found; what a tool compares
 by must see a difference and tell it; a program that is not built must be no success; edits must be judged by what the
-prover says of them; the steps must name enough checks; and `make library` must see each source that is newer. The last
-line is 'N passed, M failed'."""
+prover says of them; the steps must be those of FEWEST and name enough checks; and `make library` must see each source
+that is newer. The rows of what builds and installs are in selftest_builds.py, those of the tools in selftest_tools.py.
+The last line is 'N passed, M failed'."""
 import contextlib
 import importlib
 import inspect
@@ -321,7 +322,7 @@ def judges_edits():
 # word takes some of them away unseen.
 PROGRAMS = "ocadev ocactl ocapanel trials amplifier panel"
 FEWEST = {
-    "python3 gate/selftest.py": 51,
+    "python3 gate/selftest.py": 84,
     f"mkdir -p bin && for name in {PROGRAMS}; do cp crates/$name/out/$name bin/ || exit 1; done": 1,
     "python3 tools/c_library.py bin": 26000, "python3 examples/run.py bin/ocadev": 4, "python3 tools/runs.py bin": 100,
     "python3 tools/ctl_runs.py bin": 100, "python3 tools/unreliable.py bin": 3600, "python3 tools/fuzz.py bin 20": 200,

@@ -20,10 +20,11 @@ class FakeCrate(SimpleNamespace):
 
 
 def in_turn(tasks):
-    """What the toolchain's lanes give of tasks, one at a time, each once those that it waits for have ended."""
+    """What the toolchain's lanes give of tasks, one at a time, each once those that it waits for have ended, else the
+    last first."""
     given, left = {}, dict(tasks)
     while left:
-        key = next(it for it in left if all(below in given for below in left[it][0]))
+        key = next(it for it in reversed(left) if all(below in given for below in left[it][0]))
         given[key] = left.pop(key)[3](given, 2)
     return given
 
@@ -38,8 +39,8 @@ def proves_each_library(_):
         asked = []
 
         def made(name, *below):
-            given = dict(name=name, below=lambda: [*below], count=lambda _: 1)
-            return FakeCrate(build_rlib=lambda flags, anew: asked.append((name, flags, anew)) or 3 * (name == failing), **given)
+            build_rlib = lambda flags, anew: asked.append((name, flags, anew)) or 3 * (name == failing)
+            return FakeCrate(name=name, below=lambda: [*below], count=lambda _: 1, build_rlib=build_rlib)
 
         a, d = made("a"), made("d")
         b = made("b", a)
@@ -54,8 +55,8 @@ def proves_each_library(_):
 
 
 def builds_each_program(folder):
-    """`build.py` builds a program by `rt run`, which proves it, in the program's own folder, with words that only print; and
-    takes what that has made, where it ended well."""
+    """`build.py` builds a program by `rt run`, which proves it, in the program's own folder, with words that only
+    print; and takes what that has made, where it ended well."""
     build, path = importlib.import_module("build"), os.environ["PATH"]
     top, log = folder / "programs", folder / "log-of-rt"
     with_words = {"ocadev": "--help", "trials": "calls", "amplifier": "", "panel": ""}
@@ -82,20 +83,21 @@ def builds_each_program(folder):
 
 
 def builds_what_is_named(folder):
-    """`build.py` builds all libraries below the programs that are named, then each of these, and none where a library is
-    not proved; no name, or one that crates.txt has not, is a fault."""
+    """`build.py` builds all libraries below the programs that are named, then each of these, and none where a library
+    is not proved; no name, or one that crates.txt has not, is a fault."""
     build, place, argv = importlib.import_module("build"), Path.cwd(), sys.argv
     x, y, z, other = (FakeCrate(name=name, below=list) for name in ("x", "y", "z", "other"))
     crates = [x, y, z, other, FakeCrate(name="a", below=lambda: [x, y]), FakeCrate(name="b", below=lambda: [y, z])]
     real = build.toolchain, build.build_libraries, build.build_program
     found, asked = [], []
-    lock = lambda its: asked.append("locks " + "".join(sorted(it.name for it in its))) or []
+    named = lambda its: "".join(sorted(it.name for it in its))
+    lock = lambda its: asked.append("locks " + named(its)) or []
     tools = SimpleNamespace(crates_below=lambda _: crates, lock=lock)
     try:
         build.toolchain = lambda: SimpleNamespace(rtlib=tools)
         build.build_program = lambda name, folder: asked.append(f"{name} to {folder.name}") or True
         for is_proved, names in ((True, "ab"), (True, "b"), (False, "ab"), (True, "ac"), (True, "")):
-            build.build_libraries = lambda _, its, good=is_proved: asked.append("".join(sorted(it.name for it in its))) or good
+            build.build_libraries = lambda _, its, good=is_proved: asked.append(named(its)) or good
             sys.argv = ["build.py", str(folder / "named"), *names]
             try:
                 with contextlib.redirect_stdout(io.StringIO()):
@@ -112,19 +114,24 @@ def builds_what_is_named(folder):
                      (1, ["locks xyz", "xyz"]), (1, []), (1, [])]
 
 
-# What `make` runs by Python for each goal, as it is and with settings, in a folder without programs.
+# What `make` runs by Python or `sh` for each goal, as it is and with settings, in a folder without programs.
 BUILD = ["gate/build.py bin ocadev ocactl ocapanel", "examples/run.py bin/ocadev"]
 TRIALS = "gate/build.py bin trials"
+KIND, OTHER = "x86_64-unknown-linux-gnu", "aarch64-unknown-linux-gnu"
+LIBRARY, INSTALL = f"gate/library.py {KIND}", "gate/install.sh install"
 GOALS = {
     "test": ["gate/run.py"], "demo": ["examples/run.py"], "build": BUILD,
     "lossy": [*BUILD, "tools/lossy.py bin 200 1", "tools/lossy.py bin directed"],
     "fuzz": [*BUILD, "tools/fuzz.py bin 60 1"], "world": [TRIALS, "tools/world.py bin 8000 1"],
     "law": [TRIALS, "tools/law.py bin 2000 1"], "panel-trial": [*BUILD, "tools/panel_trial.py bin"],
-    "library": ["gate/library.py x86_64-unknown-linux-gnu"],
     "lossy COMMANDS=7 SEED=3": [*BUILD, "tools/lossy.py bin 7 3", "tools/lossy.py bin directed"],
-    "fuzz SECONDS=7 SEED=3": [*BUILD, "tools/fuzz.py bin 7 3"], "world SCHEDULES=7 SEED=3": [TRIALS, "tools/world.py bin 7 3"],
+    "fuzz SECONDS=7 SEED=3": [*BUILD, "tools/fuzz.py bin 7 3"],
+    "world SCHEDULES=7 SEED=3": [TRIALS, "tools/world.py bin 7 3"],
     "law HISTORIES=7 SEED=3": [TRIALS, "tools/law.py bin 7 3"],
-    "library TARGET=aarch64-unknown-linux-gnu": ["gate/library.py aarch64-unknown-linux-gnu"],
+    f"install-library TARGET={OTHER}": [f"gate/library.py {OTHER}", f"{INSTALL} library {OTHER}"],
+    "library": [LIBRARY], "install-library": [LIBRARY, f"{INSTALL} library {KIND}"],
+    "install": [LIBRARY, f"{INSTALL} library {KIND}", *BUILD, f"{INSTALL} programs"],
+    "uninstall": [f"gate/install.sh uninstall {it}" for it in ("programs", f"library {KIND}")],
     "bench": [*BUILD, TRIALS, "bench/run.py bin", "bench/core.py bin", "bench/memory.py bin", "bench/sockets.py bin"]}
 
 
@@ -141,9 +148,11 @@ def without_make():
 
 
 def make_fails_with(goal, folder):
-    """Whether `make` runs for this goal what it is to, in that order, shows what it prints, and fails where one of it does."""
+    """Whether `make` runs for this goal, with its settings, what it is to, in that order, shows what it prints, and
+    fails where one of it does."""
     top, log = folder / "make", folder / "make.log"
-    stand_in(top / "path/python3", f'echo "$*" >> {log}\necho "said by $*"\n[ "$*" != "$FAILS" ]')
+    for name in ("python3", "sh"):
+        stand_in(top / f"path/{name}", f'echo "$*" >> {log}\necho "said by $*"\n[ "$*" != "$FAILS" ]')
     (top / "Makefile").write_text((run.TOP / "Makefile").read_text())
     for fails in ("", *GOALS[goal]):
         log.write_text("")
@@ -173,11 +182,13 @@ def ci_runs_the_gate(folder):
 # What is done with the libraries that the gate has left, low below high below the library for C, and whether they are
 # taken as they are.
 LEFT = [
-    (lambda made: None, True), (lambda made: made("low/src/lib.rt", 200), False), (lambda made: made("high/src/lib.rt", 200), False),
+    (lambda made: None, True), (lambda made: made("low/src/lib.rt", 200), False),
+    (lambda made: made("high/src/lib.rt", 200), False),
     (lambda made: made("high/specs/A.antt", 200), False), (lambda made: made("low/specs/B.antt", 100), False),
     (lambda made: (made("low/src/lib.rt", 200), made("low/out/rlib/low.rlib", 300)), False),
     (lambda made: made("low/out/rlib/stamp", 50), False), (lambda made: made("high/out/rlib/stamp", 50), False),
-    (lambda made: made.take("low/out/rlib/low.rlib"), False), (lambda made: made.take("high/out/rlib/high.rlib"), False)]
+    (lambda made: made.take("low/out/rlib/low.rlib"), False),
+    (lambda made: made.take("high/out/rlib/high.rlib"), False)]
 
 
 class Made:
@@ -197,42 +208,55 @@ class Made:
         (self.folder / name).rmdir()
 
 
+def left_crates(folder, change):
+    """Two crates, low below high, as the gate leaves their libraries, with this change."""
+    made = Made(folder)
+    for name in ("low", "high"):
+        for file, second in (("src/lib.rt", 50), ("specs/A.antt", 50), (f"out/rlib/{name}.rlib", 100)):
+            made(f"{name}/{file}", second)
+    change(made)
+    low, high = (FakeCrate(name=name, folder=str(folder / name), rlib=str(folder / f"{name}/out/rlib/{name}.rlib"),
+                           is_built=lambda: False) for name in ("low", "high"))
+    low.below, high.below = list, lambda: [low]
+    return low, high
+
+
+def files_of(folder):
+    """The sources of a crate."""
+    return [str(it) for part in ("src", "specs") for it in Path(folder).glob(f"{part}/*")]
+
+
 def takes_what_the_gate_left(folder):
-    """`library.py` takes the libraries that `rt ci` has left only where each is there, has no stamp of other checks, and is
-    newer than all sources of its crate and of those below; else it builds them."""
-    library, place, argv = importlib.import_module("library"), Path.cwd(), sys.argv
-    real, found = (library.build.toolchain, library.build.build_libraries), []
-    files_of = lambda of: [str(it) for part in ("src", "specs") for it in Path(of).glob(f"{part}/*")]
+    """`library.py` takes the libraries that `rt ci` has left only where each is there, has no stamp of other checks,
+    and is newer than all sources of its crate and of those below; else it builds them. `edits.py` takes them so,
+    too."""
+    library, edits = (importlib.import_module(name) for name in ("library", "edits"))
+    place, argv = Path.cwd(), sys.argv
+    real, found = (library.build.toolchain, library.build.build_libraries, edits.rtlib), []
     try:
         for at, (change, _) in enumerate(LEFT):
-            made = Made(folder / f"left-{at}")
-            for name in ("low", "high"):
-                for file, second in ((f"src/lib.rt", 50), ("specs/A.antt", 50), (f"out/rlib/{name}.rlib", 100)):
-                    made(f"{name}/{file}", second)
-            change(made)
-            low, high = (FakeCrate(name=it, folder=str(made.folder / it), rlib=str(made.folder / f"{it}/out/rlib/{it}.rlib"))
-                         for it in ("low", "high"))
-            low.below, high.below = list, lambda: [low]
-            crate = FakeCrate(name="oca_c", folder=str(made.folder), below=lambda: [low, high])
+            low, high = left_crates(folder / f"left-{at}", change)
+            crate = FakeCrate(name="oca_c", folder=str(folder / f"left-{at}"), below=lambda: [low, high])
             crate.compile = lambda words, to: Path(to).touch() or 0
             tools = SimpleNamespace(crates_below=lambda _: [crate], lock=lambda _: [], files_of=files_of)
             library.build.toolchain = lambda: SimpleNamespace(rtlib=tools, processors=lambda: 1)
-            built, sys.argv = [], ["library.py"]
+            built, sys.argv, edits.rtlib = [], ["library.py"], tools
             library.build.build_libraries = lambda _, crates: built.append({*crates} == {low, high}) or True
-            found.append((library.main(), built))
+            found.append((library.main(), built, all(map(edits.stands, (low, high)))))
     finally:
-        library.build.toolchain, library.build.build_libraries = real
+        library.build.toolchain, library.build.build_libraries, edits.rtlib = real
         sys.argv = argv
         os.chdir(place)
-    wanted = [(0, [] if is_taken else [True]) for _, is_taken in LEFT]
+    wanted = [(0, [] if is_taken else [True], is_taken) for _, is_taken in LEFT]
     wrong = [at for at, (got, it) in enumerate(zip(found, wanted)) if got != it]
     if wrong:
-        print(f"library.py: cases {wrong} of LEFT")
+        print(f"library.py or edits.py: cases {wrong} of LEFT")
     return found == wanted
 
 
 def leaves_no_old_library(folder):
-    """`library.py` leaves no archive that it has not made: where compiling fails, or ends well and makes none, it fails."""
+    """`library.py` leaves no archive that it has not made: where compiling fails, or ends well and makes none, it
+    fails."""
     library, found = importlib.import_module("library"), []
     for status, makes in ((0, True), (0, False), (5, False), (5, True)):
         to = folder / "old.a"
@@ -252,8 +276,8 @@ INSTALLS = ["", "compile", "link", "archive", "pages", "no library", "no header"
 
 
 def installs_whole(folder):
-    """`install.sh` fails where the compiler, the linker, the archiver or the pages fail, or where a file is missing that it
-    is to install."""
+    """`install.sh` fails where the compiler, the linker, the archiver or the pages fail, or where a file is missing
+    that it is to install."""
     kind, found = f"{os.uname().machine}-unknown-linux-gnu", []
     for at, fails in enumerate(INSTALLS):
         top = folder / f"install-{at}"
@@ -261,20 +285,21 @@ def installs_whole(folder):
             shutil.copytree(run.TOP / name, top / name, ignore=shutil.ignore_patterns("__pycache__"))
         stand_in(top / "path/cc", COMPILER)
         stand_in(top / "path/ar", '[ "$FAILS" != archive ]')
-        stand_in(top / "path/python3", f'[ "$FAILS" != pages ] && exec {sys.executable} "$@"')
-        files = {"no library": "made.a", "no header": "include/oca.h", "no program": "bin/ocactl", "no page": "man/ocapanel.1"}
+        stand_in(top / "path/python3", '[ "$FAILS" != pages ] && mkdir -p "$2" && echo page > "$2/oca_page.3"')
+        files = {"no library": "made.a", "no header": "include/oca.h", "no program": "bin/ocactl",
+                 "no page": "man/ocapanel.1"}
         for name in ("made.a", *(f"bin/{it}" for it in ("ocadev", "ocactl", "ocapanel"))):
             stand_in(top / name, "")
         if fails in files:
             (top / files[fails]).unlink()
-        env = dict(os.environ, PATH=f"{top}/path:{os.environ['PATH']}", CC="cc", AR="ar", FAILS=fails, DESTDIR=str(top / "to"),
-                   LIBRARY="made.a", PREFIX="/usr")
-        ran = [subprocess.run(["sh", "gate/install.sh", "install", *words], cwd=top, env=env, capture_output=True, timeout=60).returncode
-               for words in (["library", kind], ["programs"])]
-        found.append([it == 0 for it in ran])
-    wanted = [[True, True]] + [[False, True]] * 6 + [[True, False]] * 2
+        env = dict(os.environ, PATH=f"{top}/path:{os.environ['PATH']}", CC="cc", AR="ar", FAILS=fails,
+                   DESTDIR=str(top / "to"), LIBRARY="made.a", PREFIX="/usr")
+        for words in (["library", kind], ["programs"]):
+            ran = subprocess.run(["sh", "gate/install.sh", "install", *words], cwd=top, env=env, capture_output=True)
+            found.append(ran.returncode == 0)
+    wanted = [True, True] + [False, True] * 6 + [True, False] * 2
     if found != wanted:
-        print(f"install.sh: {[it for it, got, one in zip(INSTALLS, found, wanted) if got != one]}")
+        print(f"install.sh: {[INSTALLS[at // 2] for at, it in enumerate(wanted) if found[at] != it]}")
     return found == wanted
 
 

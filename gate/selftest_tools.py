@@ -1,5 +1,5 @@
-"""The rows of the gate's own test that are of the tools: what they compare, judge and count, over stand-ins of what they
-try, and that each of their functions is called."""
+"""The rows of the gate's own test that are of the tools: what they compare, judge and count, over stand-ins of what
+they try, and that each of their functions is called."""
 import ast
 import contextlib
 import importlib
@@ -17,25 +17,26 @@ from selftest_builds import FakeCrate, in_turn, stand_in
 # What the prover says where a proof names what is no more.
 GONE = "error: `x` is not in scope"
 
-# The functions of a crate of which edits are tried, and the edits: what an edit changes of them and into what, and what is
-# told of it. A body `wrong` is refused by the goal of its own function, `gone` only names what a proof has not, and any
-# other one is proved.
-BODIES = {"f": "fine", "g": "good", "h": "hale", "i": "intact"}
+# The functions of a crate of which edits are tried, and the edits: what an edit changes of them and into what, and what
+# is told of it. A body `wrong` is refused by the goal of its own function, `gone` only names what a proof has not, and
+# any other one is proved.
+BODIES = {"f": "fine\n    more", "g": "good", "h": "hale", "i": "intact"}
 TRIED = {
-    "a_f": ("fine", "wrong f", "refused"), "b_f_again": ("fine", "wrong f", "refused"), "c_g": ("good", "wrong g", "refused"),
-    "d_h_is_right": ("hale", "right", "FAILED: NOT REFUSED"), "e_i_is_gone": ("intact", "gone", "FAILED: only a proof file"),
+    "a_f": ("fine", "wrong f", "refused"), "b_f_again": ("fine", "wrong f", "refused"),
+    "c_g": ("good", "wrong g", "refused"), "d_h_is_right": ("hale", "right", "FAILED: NOT REFUSED"),
+    "e_i_is_gone": ("intact", "gone", "FAILED: only a proof file"),
     "f_stands_no_more": ("never", "wrong", "FAILED: an 'old:' text is in"), "g_i": ("intact", "wrong i", "refused"),
-    "h_h": ("hale", "wrong h", "refused"), "i_number": ("N = 1", "N = 2", "refused"), "j_number": ("N = 1", "N = 1 ", "FAILED"),
-    "k_f_is_right": ("fine", "right", "FAILED: NOT REFUSED")}
+    "h_h": ("hale", "wrong h", "refused"), "i_number": ("N = 1", "N = 2", "refused"),
+    "j_number": ("N = 1", "N = 1 ", "FAILED"), "k_f_is_right": ("more", "right", "FAILED: NOT REFUSED")}
 GOOD_ONES = ("a_f", "b_f_again", "c_g", "g_i", "h_h", "i_number")
 
 
-def crate_of_edits(folder, name, edits):
+def crate_of_edits(folder, name, edits, bodies=BODIES):
     """A crate with these functions and edits, whose libraries are built."""
     crate = folder / "crates" / name
     for part in ("src", "wrong"):
         (crate / part).mkdir(parents=True)
-    functions = "".join(f"fn {it}() {{\n    {body}\n}}\n" for it, body in BODIES.items())
+    functions = "".join(f"fn {it}() {{\n    {body}\n}}\n" for it, body in bodies.items())
     (crate / "src/lib.rt").write_text(f"const N = 1;\n{functions}")
     for edit in edits:
         old, new, _ = TRIED[edit]
@@ -48,9 +49,9 @@ def said_by_the_prover(crate, texts, flags, kept):
     lines, body = [], texts["src/lib.rt"]
     for name in BODIES:
         inside = body.split(f"fn {name}() {{\n    ")[1].split("\n}")[0]
-        if inside.startswith("wrong") or "N = 2;" in body and name == "f":
+        if "wrong" in inside or "N = 2;" in body and name == "f":
             lines += [f"fn {crate.name}::{name}: not proved: the search did not prove a goal"]
-        elif inside == "gone":
+        elif "gone" in inside:
             lines += [f"proofs/{name}/F.antt:1:2: {GONE}", f"fn {crate.name}::{name}: not proved: its proof"]
     said = "\n".join([*lines, "logic=not-proved" if lines else "logic=proved"]) + "\n"
     return SimpleNamespace(returncode=int(bool(lines)), stdout=said)
@@ -71,17 +72,18 @@ def told_by_edits(folder, crates, words):
     finally:
         edits.ROOT, edits.SELFTEST, edits.rt, edits.rtlib = real
         os.chdir(place)
-    lines = [line.split(": ", 1) for line in told.getvalue().splitlines() if line.startswith("crates/")]
-    return status, {where.removeprefix("crates/").removesuffix(".edit"): what for where, what in lines}, run.last_line(told.getvalue())
+    lines = re.findall(r"(?m)^crates/(\S+)\.edit: (.*)$", told.getvalue())
+    return status, dict(lines), run.last_line(told.getvalue())
 
 
 def tries_edits_in_groups(folder):
-    """`edits.py` tells of each edit of each crate what the prover says of that one, with whatever others it is tried, and
-    fails where one is not refused, names what is gone, or stands no more."""
-    crates = [crate_of_edits(folder, "a", TRIED), crate_of_edits(folder, "b", GOOD_ONES), crate_of_edits(folder, "c", ["d_h_is_right"])]
+    """`edits.py` tells of each edit of each crate what the prover says of that one, with whatever others it is tried,
+    and fails where one is not refused, names what is gone, or stands no more."""
+    crates = [crate_of_edits(folder, name, edits)
+              for name, edits in (("a", TRIED), ("b", GOOD_ONES), ("c", ["d_h_is_right"]))]
     right = True
-    for words, its in (([], {"a": TRIED, "b": GOOD_ONES, "c": ["d_h_is_right"]}), (["b"], {"b": GOOD_ONES}), (["a"], {"a": TRIED}),
-                       (["c"], {"c": ["d_h_is_right"]})):
+    for words, its in (([], {"a": TRIED, "b": GOOD_ONES, "c": ["d_h_is_right"]}), (["b"], {"b": GOOD_ONES}),
+                       (["a"], {"a": TRIED}), (["c"], {"c": ["d_h_is_right"]})):
         status, told, last = told_by_edits(folder, crates, words)
         wanted = {f"{name}/wrong/{edit}": TRIED[edit][2] for name, edits in its.items() for edit in edits}
         good = sum(it == "refused" for it in wanted.values())
@@ -93,35 +95,48 @@ def tries_edits_in_groups(folder):
     return right
 
 
+def sees_what_is_not_proved(folder):
+    """`edits.py` counts no edit of a crate as refused where a function fails that none touches."""
+    crate = crate_of_edits(folder, "a", ["a_f", "c_g", "h_h"], dict(BODIES, i="wrong as it is"))
+    status, told, last = told_by_edits(folder, [crate], [])
+    are_so = [it.startswith("FAILED: i is not proved") for it in told.values()]
+    return (status, last, are_so) == (1, "0 passed, 3 failed", [True] * 3)
+
+
 # How the programs print on each script, by what the reference says of it, and whether there is no difference.
 OF_SCRIPTS = [("cat out; cat err >&2; exit 2", True), ("cat out; cat err >&2", False), ("cat err >&2; exit 2", False),
-              ("cat out; exit 2", False), ("cat out out; cat err >&2; exit 2", False), ("cat out err; cat err >&2; exit 2", False),
-              ("head -c 6 out; cat err >&2; exit 2", False), ("cat err >&2; cat err >&2; cat out; exit 2", False)]
+              ("cat out; exit 2", False), ("cat out out; cat err >&2; exit 2", False),
+              ("cat out err; cat err >&2; exit 2", False), ("head -c 6 out; cat err >&2; exit 2", False),
+              ("cat err >&2; cat err >&2; cat out; exit 2", False)]
 
 
 def compares_scripts(folder):
     """`fuzz.py` passes where each of both programs, on each script, with its words, prints just what the reference does,
-    with its faults and its status; any difference of one of them is told, and has failed."""
+    with its faults and its status; any difference of one of them is told, and has failed. Each script is drawn anew."""
     fuzz = importlib.import_module("fuzz")
-    place, real = folder / "fuzzed", (fuzz.device_script, fuzz.link_script, list(fuzz.ROOMS), list(fuzz.CHANNELS), sys.argv)
+    place, real = folder / "fuzzed", (fuzz.device_script, fuzz.link_script, [*fuzz.ROOMS], [*fuzz.CHANNELS], sys.argv)
     place.mkdir()
     (place / "out").write_text("answer\n")
     (place / "err").write_text("fault\n")
     right = True
     try:
-        fuzz.device_script, fuzz.link_script = (
-            lambda _, it=it: (["words", it], b"a line\nand more\n", lambda script: (b"answer\n", "fault", 2)) for it in "dl")
-        sys.argv = ["fuzz.py", str(place), "0.02"]
-        cases = [(said, OF_SCRIPTS[0][0], good) for said, good in OF_SCRIPTS] + [(OF_SCRIPTS[0][0], said, good) for said, good in OF_SCRIPTS]
-        for device, link, good in cases:
+        expected = lambda script: (b"answer\n", "fault", 2)
+        fuzz.device_script = lambda r: drawn.append(r.random()) or (["words", "d"], b"a line\nand more\n", expected)
+        fuzz.link_script = lambda r: drawn.append(r.random()) or (["words", "l"], b"a line\nand more\n", expected)
+        sys.argv = ["fuzz.py", str(place), "0.5"]
+        right_one = OF_SCRIPTS[0][0]
+        cases = [(said, right_one, good) for said, good in OF_SCRIPTS]
+        for device, link, good in cases + [(link, device, good) for device, link, good in cases]:
             for name, said, letter in (("ocadev", device, "d"), ("ocactl", link, "l")):
                 heard = f'[ "$*" = "words {letter}" ] && grep -q line || exit 9'
                 stand_in(place / name, f"{heard}\ncd {place}\n{said}")
-            told = io.StringIO()
+            told, drawn = io.StringIO(), []
             with contextlib.redirect_stdout(told):
                 status = fuzz.main()
-            passed, failed = map(int, re.fullmatch(r"(\d+) passed, (\d+) failed", run.last_line(told.getvalue())).groups())
-            seen = (status, failed, "DIFFERENCE" in told.getvalue(), passed > 1 or not good)
+            counts = re.fullmatch(r"(\d+) passed, (\d+) failed", run.last_line(told.getvalue()))
+            passed, failed = map(int, counts.groups())
+            is_tried = (passed > 1 or not good) and len({*drawn}) == len(drawn) > 0
+            seen = (status, failed, "DIFFERENCE" in told.getvalue(), is_tried)
             if seen != ((0, 0, False, True) if good else (1, 1, True, True)):
                 print(f"fuzz.py: {seen} where ocadev does '{device}' and ocactl '{link}'")
                 right = False
@@ -152,13 +167,15 @@ And code:
 second
 ```
 """
-CHANGED = [("", ""), ("    one", "    other"), ("says two\n    ...", "says two\n    one"), ("bin/says one", "bin/says-not one"),
-           ("first\n", ""), ("first\n", "third\n"), ("$ cat code/of.txt", "$ cat code/none.txt"), ("c code/of.txt\nsecond", "c code/of.txt\nthird"),
-           ("c code/of.txt\n", "c code/none.txt\n")]
+CHANGED = [("", ""), ("    one", "    other"), ("says two\n    ...", "says two\n    one"),
+           ("bin/says one", "bin/says-not one"), ("bin/says one", "says-not one"), ("first\n", ""), ("second\n", ""),
+           ("first\n", "third\n"), ("$ cat code/of.txt", "$ cat code/none.txt"),
+           ("c code/of.txt\nsecond", "c code/of.txt\nthird"), ("c code/of.txt\n", "c code/none.txt\n")]
 
 
 def runs_what_documents_say(folder):
-    """`snippets.py` finds each session and piece of code of each of its documents, and fails where one of them is not so."""
+    """`snippets.py` finds each session and piece of code of each of its documents, and fails where one of them is not
+    so."""
     snippets = importlib.import_module("snippets")
     top, real, found = folder / "documents", (snippets.TOP, snippets.DOCUMENTS, sys.argv), []
     stand_in(folder / "says-bin/says", 'echo "$*"')
@@ -182,8 +199,8 @@ def runs_what_documents_say(folder):
 
 
 def finds_what_documents_say(_):
-    """`snippets.py` comes to each session, with each of its commands, and each block of code with a path of README.md and
-    of all of docs/."""
+    """`snippets.py` comes to each session, with each of its commands, and each block of code with a path of README.md
+    and of all of docs/."""
     snippets = importlib.import_module("snippets")
     wanted, found, real = [], [], (snippets.fault_of_session, snippets.is_in)
     for file in [run.TOP / "README.md", *sorted((run.TOP / "docs").glob("*.md"))]:
@@ -202,27 +219,29 @@ def finds_what_documents_say(_):
     return len(wanted) > 15 and not missing
 
 
-# What a peer says of its questions beside silent hosts, and alone: asked, answered, the slowest in ms; and how many
-# checks of these two pass and fail (alone, all being well is no check of its own).
+# What a peer says of its questions beside silent hosts, and alone: asked, answered, the slowest in ms, how many
+# datagrams came; and how many checks of these two pass and fail (alone, all being well is no check of its own).
 OF_NEIGHBOURS = [
-    ((20, 20, 5), (20, 20, 3), 1, 0), ((20, 20, 103), (20, 20, 3), 1, 0), ((20, 20, 104), (20, 20, 3), 0, 1),
-    ((20, 19, 5), (20, 20, 3), 0, 1), ((20, 0, 5), (20, 20, 3), 0, 1), ((0, 0, 0), (20, 20, 3), 0, 1),
-    ((19, 20, 5), (20, 20, 3), 0, 1), ((20, 20, 5000), (20, 20, 3), 0, 1), ((20, 20, 5), (20, 19, 3), 1, 1)]
+    ((20, 20, 5, 4000), (20, 20, 3, 0), 1, 0), ((20, 20, 103, 2000), (20, 20, 3, 0), 1, 0),
+    ((20, 20, 104, 4000), (20, 20, 3, 0), 0, 1), ((20, 19, 5, 4000), (20, 20, 3, 0), 0, 1),
+    ((20, 0, 5, 4000), (20, 20, 3, 0), 0, 1), ((0, 0, 0, 4000), (20, 20, 3, 0), 0, 1),
+    ((19, 20, 5, 4000), (20, 20, 3, 0), 0, 1), ((20, 20, 5000, 4000), (20, 20, 3, 0), 0, 1),
+    ((20, 20, 5, 1999), (20, 20, 3, 0), 0, 1), ((20, 20, 5, 4000), (20, 19, 3, 0), 1, 1)]
 
 
 def judged_neighbours(neighbours, said, alone):
-    """How `neighbours.py` ends, and beside whom it runs, where a peer says this beside the last of the silent hosts, and
-    this alone; beside all others all is well."""
+    """How `neighbours.py` ends, and beside whom it runs, where a peer says this beside the last of the silent hosts,
+    and this alone; beside all others all is well."""
     names, argv, beside = ("Namespaces", "run", "os", "shutil"), sys.argv, set()
     real = {name: getattr(neighbours, name) for name in names}
 
     def ran(room, folder, silent, seconds):
         beside.add(silent)
-        return alone if silent is None else said if silent == neighbours.RUNS[-1] else (20, 20, alone[2])
+        return alone if silent is None else said if silent == neighbours.RUNS[-1] else (20, 20, alone[2], 4000)
 
     neighbours.Namespaces, neighbours.run = contextlib.nullcontext, ran
     neighbours.os = SimpleNamespace(geteuid=lambda: 0, path=os.path)
-    neighbours.shutil, sys.argv = SimpleNamespace(which=lambda _: "ip"), ["neighbours.py", "bin", "1"]
+    neighbours.shutil, sys.argv = SimpleNamespace(which=lambda _: "ip"), ["neighbours.py", "bin", "4"]
     told = io.StringIO()
     try:
         with contextlib.redirect_stdout(told):
@@ -234,11 +253,16 @@ def judged_neighbours(neighbours, said, alone):
 
 
 def judges_neighbours(_):
-    """`neighbours.py` counts a run as failed where what is asked is not answered, or late, each time that it is tried, and
-    tries each of its runs, and one where no host is silent."""
+    """`neighbours.py` counts a run as failed where what is asked is not answered, or late, each time that it is tried,
+    and tries each of its runs, and one where no host is silent."""
     neighbours = importlib.import_module("neighbours")
     count = len(neighbours.RUNS)
-    wrong = []
+    sent = neighbours.forged("10.91.0.100", 9000, b"abc")
+    head, udp = sent[:20], sent[20:]
+    total = sum(int.from_bytes(head[at:at + 2], "big") for at in range(0, 20, 2))
+    wrong = [] if (total & 0xffff) + (total >> 16) == 0xffff and len(sent) == 31 else ["what it forges"]
+    wrong += [] if (head[:4], head[8:10]) == (b"\x45\0\0\x1f", b"\x40\x11") else [head]
+    wrong += [] if (head[12:], udp) == (b"\x0a\x5b\0\x64\x0a\x5b\0\1", b"\x23\x28\xfd\xe8\0\x0b\0\0abc") else [udp]
     for said, alone, passed, failed in OF_NEIGHBOURS:
         ends = (int(failed > 0), f"{count - 1 + passed} passed, {failed} failed", True)
         wrong += [(said, alone)] if judged_neighbours(neighbours, said, alone) != ends else []
@@ -247,17 +271,51 @@ def judges_neighbours(_):
     return count > 1 and not wrong
 
 
-def named_in(tree):
-    """How often each name stands in a piece of code: a variable, an attribute, what is imported."""
+SCOPES = (ast.FunctionDef, ast.Lambda, ast.ListComp, ast.SetComp, ast.DictComp, ast.GeneratorExp)
+
+
+def own_names(tree):
+    """The names that a piece of code gives to values of its own."""
     nodes = list(ast.walk(tree))
-    found = [it.id for it in nodes if isinstance(it, ast.Name)] + [it.attr for it in nodes if isinstance(it, ast.Attribute)]
-    found += [name.name for it in nodes if isinstance(it, ast.ImportFrom) for name in it.names]
-    return Counter(found)
+    return {it.arg for it in nodes if isinstance(it, ast.arg)} | {
+        it.id for it in nodes if isinstance(it, ast.Name) and isinstance(it.ctx, ast.Store)}
+
+
+def named_in(tree, modules):
+    """How often each name stands in a piece of code where it is none of a function's own: `name`, `module.name` of a
+    module by what it is called there, and `.name` of any attribute."""
+    left, found = [(tree, frozenset())], Counter()
+    while left:
+        node, own = left.pop()
+        own = own | own_names(node) if isinstance(node, SCOPES) else own
+        left += [(it, own) for it in ast.iter_child_nodes(node)]
+        if isinstance(node, ast.Name):
+            found[node.id] += node.id not in own
+        elif isinstance(node, ast.Attribute):
+            found["." + node.attr] += 1
+            of = modules.get(getattr(node.value, "id", None))
+            found[f"{of}.{node.attr}"] += of is not None
+        elif isinstance(node, ast.ImportFrom):
+            found.update(f"{node.module}.{it.name}" for it in node.names)
+    return found
+
+
+def imported(tree):
+    """The modules that a piece of code imports, by what they are called there; those of which it imports names, by
+    theirs."""
+    found = {}
+    for it in ast.walk(tree):
+        if isinstance(it, ast.Import):
+            found.update({name.asname or name.name: name.name for name in it.names})
+        elif isinstance(it, ast.ImportFrom):
+            found[f"from {it.module}"] = it.module
+    return found
 
 
 def texts_in(tree):
     """The texts of a piece of code, as names."""
-    return {it.value.replace("-", "_") for it in ast.walk(tree) if isinstance(it, ast.Constant) and isinstance(it.value, str)}
+    constants = (it.value for it in ast.walk(tree) if isinstance(it, ast.Constant))
+    return {it.replace("-", "_") for it in constants if isinstance(it, str)}
 
 
 def looks_up(tree):
@@ -266,38 +324,88 @@ def looks_up(tree):
     return any(getattr(it.args[0], "id", "") == "self" and not isinstance(it.args[1], ast.Constant) for it in calls)
 
 
-def imports(tree, module):
-    return any(isinstance(it, ast.Import) and module in [name.name for name in it.names]
-               or isinstance(it, ast.ImportFrom) and it.module == module for it in ast.walk(tree))
-
-
 def uncalled(folders):
-    """The functions and methods of the modules of these folders that nothing names but they themselves: neither their own
-    module nor one that imports it. What a decorator takes is named by that, and what has a name of Python's by Python."""
+    """The functions and methods of the modules of these folders that nothing names but they themselves: neither their
+    own module nor one that imports it. What a decorator takes is named by that, and what has a name of Python's by
+    Python."""
     trees = {file: ast.parse(file.read_text()) for folder in folders for file in sorted(folder.glob("*.py"))}
-    names = {file: named_in(tree) for file, tree in trees.items()}
+    modules = {file: imported(tree) for file, tree in trees.items()}
+    names = {file: named_in(tree, modules[file]) for file, tree in trees.items()}
     texts = set().union(*map(texts_in, trees.values()))
     found = []
     for file, tree in trees.items():
-        named = names[file].copy()
-        for other in (it for it in trees if it != file and imports(trees[it], file.stem)):
-            named.update(names[other])
-        named.update(texts if looks_up(tree) else ())
-        found += [f"{file.name}:{it.lineno}: {it.name}" for it in ast.walk(tree) if isinstance(it, ast.FunctionDef)
-                  and not it.decorator_list and not re.fullmatch("__.*__|do_[A-Z]+", it.name)
-                  and named[it.name] <= named_in(it)[it.name]]
+        methods = {it for of in ast.walk(tree) if isinstance(of, ast.ClassDef) for it in of.body}
+        users = [names[it] for it in trees if it != file and file.stem in modules[it].values()]
+        for it in (it for it in ast.walk(tree) if isinstance(it, ast.FunctionDef) and not it.decorator_list):
+            name, of_others = ("." + it.name,) * 2 if it in methods else (it.name, f"{file.stem}.{it.name}")
+            count = names[file][name] - named_in(it, modules[file])[name] + sum(its[of_others] for its in users)
+            is_python = re.fullmatch("__.*__|do_[A-Z]+", it.name) or it.name in texts and it in methods and looks_up(tree)
+            found += [] if count or is_python else [f"{file.name}:{it.lineno}: {it.name}"]
     return found
 
 
 # Modules, and which of their functions nothing calls.
 MODULES = {
-    "lib.py": "def used():\n    pass\n\ndef left():\n    left()\n\nclass C:\n    def __init__(self):\n        self.a()\n\n"
-              "    def a(self):\n        pass\n\n    def b(self):\n        # self.c()\n        return 'c'\n\n    def c(self):\n        pass\n",
-    "by.py": "import lib\n\n@lib.used\ndef taken():\n    pass\n\nlib.C().b()\n",
-    "table.py": "class T:\n    def run(self):\n        getattr(self, name())()\n\n    def to_do(self):\n        pass\n\n"
-                "    def not_done(self):\n        pass\n\ndef name():\n    return 'to-do'\n\nT().run()\n",
-    "alone.py": "def left():\n    pass\n\ndef used():\n    pass\n\nused()\n"}
-UNCALLED = ["alone.py:1: left", "lib.py:18: c", "lib.py:4: left", "table.py:8: not_done"]
+    "lib.py": """def used():
+    pass
+
+def left():
+    left()
+
+class C:
+    def __init__(self):
+        self.a()
+
+    def a(self):
+        pass
+
+    def b(self, d):
+        # self.c()
+        return "c"
+
+    def c(self, left=0):
+        return left
+
+def d():
+    pass
+""",
+    "by.py": """import lib as of
+
+@of.used
+def taken():
+    pass
+
+of.C().b(d=1)
+""",
+    "table.py": """class T:
+    def run(self):
+        getattr(self, name())()
+
+    def to_do(self):
+        pass
+
+    def not_done(self):
+        pass
+
+def name():
+    return "to-do"
+
+T().run()
+""",
+    "alone.py": """def left(used):
+    used = [d for d in used]
+    return used
+
+def used():
+    pass
+
+def d():
+    pass
+
+TABLE = [used]
+"""}
+UNCALLED = ["alone.py:1: left", "alone.py:8: d", "lib.py:18: c", "lib.py:21: d", "lib.py:4: left",
+            "table.py:8: not_done"]
 
 
 def calls_all_that_it_has(folder):
@@ -306,14 +414,15 @@ def calls_all_that_it_has(folder):
     place.mkdir()
     for name, text in MODULES.items():
         (place / name).write_text(text)
-    left = uncalled([run.TOP / it for it in ("tools", "gate", "bench")])
+    left = uncalled([run.TOP / it for it in ("tools", "gate", "bench", "examples")])
     for it in left:
         print(f"nothing calls {it}")
     return sorted(uncalled([place])) == UNCALLED and not left
 
 
 # What is tried, each in a folder of its own.
-ROWS = [("edits.py tries edits in groups", tries_edits_in_groups), ("fuzz.py compares scripts", compares_scripts),
+ROWS = [("edits.py tries edits in groups", tries_edits_in_groups),
+        ("edits.py sees what is not proved", sees_what_is_not_proved), ("fuzz.py compares scripts", compares_scripts),
         ("snippets.py runs what documents say", runs_what_documents_say),
         ("snippets.py comes to what documents say", finds_what_documents_say),
         ("neighbours.py judges runs", judges_neighbours), ("all that the tools have is called", calls_all_that_it_has)]

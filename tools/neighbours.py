@@ -6,8 +6,8 @@ Usage: neighbours.py BIN [SECONDS]     BIN is the folder with `ocadev`; each run
 
 Datagrams in the name of silent hosts come at several rates, of 122 keep-alives each, which the device returns one by one,
 or of one. Meanwhile a peer asks for a state twenty times a second. Each of its commands must be answered, the slowest
-within 100 ms longer than where no host is silent. It needs root and `ip` (iproute2); without them it says so, and tries
-nothing. The last line is 'N passed, M failed'."""
+within 100 ms longer than where no host is silent; and at least half of the datagrams must have been sent. It needs root
+and `ip` (iproute2); without them it says so, and tries nothing. The last line is 'N passed, M failed'."""
 import os
 import re
 import shutil
@@ -41,7 +41,7 @@ def forged(source, port, payload):
 
 
 def flood(hosts, rate, alive, seconds):
-    """Sends datagrams in the names of silent hosts."""
+    """Sends datagrams in the names of silent hosts, and prints how many."""
     raw = socket.socket(socket.AF_INET, socket.SOCK_RAW, socket.IPPROTO_RAW)
     made = [forged(SILENT.format(100 + host), 9000, oca.pdu(4, [oca.u16(5)]) * alive) for host in range(hosts)]
     begun, sent = time.monotonic(), 0
@@ -51,6 +51,7 @@ def flood(hosts, rate, alive, seconds):
             sent += 1
         else:
             time.sleep(0.0005)
+    print(sent)
 
 
 def ask(seconds):
@@ -98,32 +99,33 @@ class Namespaces:
 
 
 def run(room, folder, silent, seconds):
-    """What the peer says of its questions while these hosts are silent."""
+    """What the peer says of its questions while these hosts are silent, and how many datagrams came in their names."""
     device = room.start(room.device, f"{folder}/ocadev", "serve", "--ip", DEVICE, "--port", PORT)
     assert re.match("listening ", device.stderr.readline())
     me = [sys.executable, os.path.abspath(__file__)]
     flooding = room.start(room.peers, *me, "flood", *silent, seconds + 1) if silent else None
     asking = room.start(room.peers, *me, "ask", seconds)
     said = asking.communicate(timeout=seconds + 60)[0]
-    if flooding:
-        flooding.communicate(timeout=60)
+    sent = flooding.communicate(timeout=60)[0] if flooding else "0"
     device.kill()
     device.communicate()
-    return tuple(map(int, said.split()))
+    return tuple(map(int, f"{said} {sent}".split()))
 
 
-def is_well(said, alone):
-    """Whether all was answered that was asked, and the slowest within 100 ms longer than where no host is silent."""
-    asked, answered, slowest = said
-    return asked == answered > 0 and slowest <= alone[2] + 100
+def is_well(said, alone, fewest):
+    """Whether all was answered that was asked, the slowest within 100 ms longer than where no host is silent, and so many
+    datagrams at least came in the names of those that are."""
+    asked, answered, slowest, sent = said
+    return asked == answered > 0 and slowest <= alone[2] + 100 and sent >= fewest
 
 
 def tried(room, folder, silent, seconds, alone=None):
     """What the peer says beside these hosts, at the first time that all is well, else at the last; and whether it is.
-    Where no host is silent, `alone` is what the peer says itself."""
+    Where no host is silent, `alone` is what the peer says itself. At least half of what is to come in their names must."""
+    fewest = silent[1] * seconds // 2 if silent else 0
     for _ in range(TRIES):
         said = run(room, folder, silent, seconds)
-        if is_well(said, alone or said):
+        if is_well(said, alone or said, fewest):
             return said, True
     return said, False
 
@@ -144,10 +146,10 @@ def main():
             print(f"alone: FAILED: {alone[1]} of {alone[0]} answered")
         failed += not good
         for silent in RUNS:
-            (asked, answered, slowest), good = tried(room, folder, silent, seconds, alone)
+            (asked, answered, slowest, sent), good = tried(room, folder, silent, seconds, alone)
             passed, failed = passed + good, failed + (not good)
-            print(f"{silent[0]} silent, {silent[1]} datagrams a second of {silent[2]} keep-alives: {answered} of {asked} answered, "
-                  f"the slowest in {slowest} ms (alone {alone[2]})", flush=True)
+            print(f"{silent[0]} silent, {silent[1]} datagrams a second of {silent[2]} keep-alives, {sent} in all: {answered} of "
+                  f"{asked} answered, the slowest in {slowest} ms (alone {alone[2]})", flush=True)
     print(f"{passed} passed, {failed} failed")
     return 1 if failed else 0
 
