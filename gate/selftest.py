@@ -322,15 +322,15 @@ def judges_edits():
 # word takes some of them away unseen.
 PROGRAMS = "ocadev ocactl ocapanel trials amplifier panel"
 FEWEST = {
-    "python3 gate/selftest.py": 80,
+    "python3 gate/selftest.py": 86,
     f"mkdir -p bin && for name in {PROGRAMS}; do cp crates/$name/out/$name bin/ || exit 1; done": 1,
-    "python3 tools/c_library.py bin": 26000, "python3 examples/run.py bin/ocadev": 4, "python3 tools/runs.py bin": 100,
+    "python3 tools/c_library.py bin": 26200, "python3 examples/run.py bin/ocadev": 4, "python3 tools/runs.py bin": 100,
     "python3 tools/ctl_runs.py bin": 100, "python3 tools/unreliable.py bin": 3600, "python3 tools/fuzz.py bin 20": 200,
-    "python3 tools/words.py bin": 800, "python3 tools/hands.py bin": 270, "python3 tools/panel.py bin": 290,
+    "python3 tools/words.py bin": 800, "python3 tools/hands.py bin": 279, "python3 tools/panel.py bin": 298,
     "python3 tools/network.py bin": 290, "python3 tools/keep.py bin": 90, "python3 tools/neighbours.py bin": 1,
     "python3 tools/lossy.py bin 30": 2, "python3 tools/lossy.py bin directed": 2, "python3 tools/world.py bin 8000": 13,
-    "python3 tools/embedded.py bin": 120, "python3 tools/header.py": 1180, "python3 tools/law.py bin": 3,
-    "python3 tools/manual.py bin": 240, "python3 tools/snippets.py bin": 14, "python3 tools/edits.py": 710}
+    "python3 tools/embedded.py bin": 126, "python3 tools/header.py": 1180, "python3 tools/law.py bin": 3,
+    "python3 tools/manual.py bin": 259, "python3 tools/snippets.py bin": 14, "python3 tools/edits.py": 710}
 
 
 def names_enough():
@@ -412,6 +412,48 @@ def judges_lossy_runs():
     return judged() and judged(old=0) and not any(judged(**one) for one in bad)
 
 
+def is_carried_badly(network, waits, order):
+    """Whether a network that carried so many datagrams has counted what it did, and done it as often as it is to: a fifth
+    of them lost, a fifth of the others doubled, each copy for itself held for more than 20 ms at 3 of 20, up to 700."""
+    copies, twice = sum(waits, []), [its for its in waits if len(its) == 2]
+    lost, overtaken, latest = sum(not its for its in waits), 0, {True: -1, False: -1}
+    for way, number in order:
+        overtaken += number < latest[way]
+        latest[way] = max(latest[way], number)
+    shares = {"lost": (lost / len(waits), 0.2), "doubled": (len(twice) / (len(waits) - lost), 0.2),
+              "held": (sum(it > 20 for it in copies) / len(copies), 0.15),
+              "copies apart": (sum(abs(a - b) > 100 for a, b in twice) / len(twice), 0.23)}
+    wrong = [f"{what}: {got:.2f}" for what, (got, wanted) in shares.items() if abs(got - wanted) > 0.03]
+    counts = network.carried, network.lost, network.doubled, network.overtaken
+    wrong += [f"counts {counts}"] if counts != (len(waits), lost, len(twice), overtaken) or not overtaken else []
+    wrong += ["a third copy"] if max(map(len, waits)) > 2 else []
+    wrong += ["a wait"] if min(copies) < 0 or max(copies) > 701 else []
+    if wrong:
+        print(f"lossy.py: {wrong}")
+    return not wrong
+
+
+def carries_badly():
+    """The network of lossy.py loses, doubles, delays and reorders datagrams both ways, by its own clock: here one that
+    goes on by a millisecond with each datagram, and by a second behind the last."""
+    lossy, count, clock = importlib.import_module("lossy"), 5000, SimpleNamespace(now=0)
+    waits, order, real = [[] for _ in range(count)], [], lossy.time
+    try:
+        lossy.time = SimpleNamespace(time=lambda: clock.now / 1000)
+        network = lossy.Network(None, 1)
+        network.carry = lambda way, number: order.append((way, number)) or waits[number].append(clock.now - number)
+        for moment in range(count + 1000):
+            clock.now = moment
+            if moment < count:
+                network.accept(moment % 3 == 0, moment)
+            network.deliver()
+    finally:
+        lossy.time = real
+    for end in (network.front, network.back):
+        end.close()
+    return is_carried_badly(network, waits, order) and all(way == (number % 3 == 0) for way, number in order)
+
+
 def counts_what_differs():
     """What tools without a class `Checks` count by: what ends or prints otherwise, or is not so, has failed."""
     runs, panel, unreliable = (importlib.import_module(name) for name in ("runs", "panel", "unreliable"))
@@ -469,7 +511,8 @@ def main():
               ("make library stands on its sources", stands_on_its_sources())]
     tried += [("all that is tried counts", counts_all()), ("edits.py counts all", counts_edits()),
               ("network.py forgives no lateness", forgives_no_lateness()),
-              ("lossy.py judges runs", judges_lossy_runs()), ("tools count what differs", counts_what_differs())]
+              ("lossy.py judges runs", judges_lossy_runs()), ("lossy.py carries badly", carries_badly()),
+              ("tools count what differs", counts_what_differs())]
     for what, is_so in selftest_builds.ROWS + selftest_tools.ROWS:
         with tempfile.TemporaryDirectory() as room:
             tried.append((what, is_so(Path(room))))

@@ -114,16 +114,21 @@ def builds_what_is_named(folder):
                      (1, ["locks xyz", "xyz"]), (1, []), (1, [])]
 
 
-# What `make` runs by Python or `sh` for each goal, in a folder without programs.
+# What `make` runs by Python or `sh` for each goal, as it is and with settings, in a folder without programs.
 BUILD = ["gate/build.py bin ocadev ocactl ocapanel", "examples/run.py bin/ocadev"]
 TRIALS = "gate/build.py bin trials"
-KIND = "x86_64-unknown-linux-gnu"
+KIND, OTHER = "x86_64-unknown-linux-gnu", "aarch64-unknown-linux-gnu"
 LIBRARY, INSTALL = f"gate/library.py {KIND}", "gate/install.sh install"
 GOALS = {
     "test": ["gate/run.py"], "demo": ["examples/run.py"], "build": BUILD,
     "lossy": [*BUILD, "tools/lossy.py bin 200 1", "tools/lossy.py bin directed"],
     "fuzz": [*BUILD, "tools/fuzz.py bin 60 1"], "world": [TRIALS, "tools/world.py bin 8000 1"],
     "law": [TRIALS, "tools/law.py bin 2000 1"], "panel-trial": [*BUILD, "tools/panel_trial.py bin"],
+    "lossy COMMANDS=7 SEED=3": [*BUILD, "tools/lossy.py bin 7 3", "tools/lossy.py bin directed"],
+    "fuzz SECONDS=7 SEED=3": [*BUILD, "tools/fuzz.py bin 7 3"],
+    "world SCHEDULES=7 SEED=3": [TRIALS, "tools/world.py bin 7 3"],
+    "law HISTORIES=7 SEED=3": [TRIALS, "tools/law.py bin 7 3"],
+    f"install-library TARGET={OTHER}": [f"gate/library.py {OTHER}", f"{INSTALL} library {OTHER}"],
     "library": [LIBRARY], "install-library": [LIBRARY, f"{INSTALL} library {KIND}"],
     "install": [LIBRARY, f"{INSTALL} library {KIND}", *BUILD, f"{INSTALL} programs"],
     "uninstall": [f"gate/install.sh uninstall {it}" for it in ("programs", f"library {KIND}")],
@@ -143,16 +148,16 @@ def without_make():
 
 
 def make_fails_with(goal, folder):
-    """Whether `make` runs for this goal what it is to, in that order, shows what it prints, and fails where one of it
-    does."""
-    top, log = folder / f"make-{goal}", folder / f"make-{goal}.log"
+    """Whether `make` runs for this goal, with its settings, what it is to, in that order, shows what it prints, and
+    fails where one of it does."""
+    top, log = folder / "make", folder / "make.log"
     for name in ("python3", "sh"):
         stand_in(top / f"path/{name}", f'echo "$*" >> {log}\necho "said by $*"\n[ "$*" != "$FAILS" ]')
     (top / "Makefile").write_text((run.TOP / "Makefile").read_text())
     for fails in ("", *GOALS[goal]):
         log.write_text("")
         env = dict(without_make(), PATH=f"{top}/path:{os.environ['PATH']}", FAILS=fails)
-        ran = subprocess.run(["make", "-C", top, goal], env=env, capture_output=True, text=True, timeout=60)
+        ran = subprocess.run(["make", "-C", top, *goal.split()], env=env, capture_output=True, text=True, timeout=60)
         wanted = GOALS[goal][:GOALS[goal].index(fails) + 1] if fails else GOALS[goal]
         said = [line.removeprefix("said by ") for line in ran.stdout.splitlines() if line.startswith("said by ")]
         if (ran.returncode == 0) != (not fails) or log.read_text().splitlines() != wanted or said != wanted:

@@ -219,6 +219,7 @@ static void reads(struct oca_panel *panel) {
     seen.len = 0;
     seen.at_most = 3;
     same("a walk that is ended", oca_panel_walk(panel, &walk, visits, &seen).asked == OCA_ASKED_DONE && seen.len == 3, 1);
+    same("its turns behind that", panel->turns, 400);
 }
 
 static void sets(struct oca_panel *panel) {
@@ -307,6 +308,7 @@ static void at_device(uint32_t seed, uint32_t lost, uint32_t doubled, uint32_t d
         seen.len = 0;
         seen.at_most = 4100;
         same("nor walks", oca_panel_walk(&panels[0], &walk, visits, &seen).asked == OCA_ASKED_LOST && seen.len == 0, 1);
+        same("its turns behind that", panels[0].turns, 400);
         says("in words", oca_outcome_text(oca_panel_state(&panels[0])), "lost");
     }
     oca_panel_close(&panels[0]);
@@ -377,6 +379,44 @@ static void walks_in_single_turns(uint32_t seed, bool hurries) {
     for (uint32_t i = 0; i < seen.len && i < 4100; i++) unknown += seen.classes[i] == 99;
     same("each is described", unknown, 0);
     same("the turns are the panel's own again", panel.turns, 1);
+    oca_panel_close(&panel);
+    oca_device_close(&device);
+}
+
+/* A visitor that asks the panel itself where nobody answers: it waits for the panel's own turns, 50 ms each, and then
+ * takes the answer to what the link sends again. */
+struct asking { struct oca_panel *panel; struct network *network; uint32_t visits, waits, answers; };
+
+static bool asks_too(void *context, const struct oca_visit *visit) {
+    struct asking *asking = (struct asking *)context;
+    static struct oca_answer answer;
+    const uint64_t before = asking->network->now;
+    asking->visits++;
+    asking->network->silent = true;
+    struct oca_outcome outcome = oca_panel_read(asking->panel, visit->ono, OCA_GET_ROLE, &answer);
+    asking->waits += outcome.asked == OCA_ASKED_UNANSWERED && asking->network->now - before == 150;
+    asking->network->silent = false;
+    for (uint32_t k = 0; k < 10 && outcome.asked == OCA_ASKED_UNANSWERED; k++)
+        outcome = oca_panel_finish(asking->panel, outcome.result, &answer);
+    asking->answers += outcome.asked == OCA_ASKED_DONE;
+    return true;
+}
+
+static void walks_and_asks(void) {
+    static struct network network;
+    struct oca_device device = device_of();
+    struct oca_panel panel = OCA_PANEL_INIT;
+    struct asking asking = {&panel, &network, 0, 0, 0};
+    memset(&network, 0, sizeof network);
+    network.device = &device;
+    network.port = 40000;
+    opens(&panel, &network, 1);
+    panel.turns = 3;
+    same("a walk whose visitor asks", oca_panel_walk(&panel, &walk, asks_too, &asking).asked, OCA_ASKED_DONE);
+    same("of all objects", asking.visits, 8);
+    same("each question waits for the panel's turns", asking.waits, 8);
+    same("each is answered at last", asking.answers, 8);
+    same("the turns are the panel's own again", panel.turns, 3);
     oca_panel_close(&panel);
     oca_device_close(&device);
 }
@@ -635,6 +675,7 @@ static void walks_without_commands(void) {
     struct oca_outcome outcome = oca_panel_walk(&panel, &walk, visits, &seen);
     same("a walk over a full span", outcome.asked, OCA_ASKED_NOT_SENT);
     same("says so, and visits nothing", outcome.result == OCA_SPAN_FULL && seen.len == 0, 1);
+    same("its turns behind that", panel.turns, 400);
     oca_panel_close(&panel);
     memset(&network, 0, sizeof network);
     network.answers = answers_without_end;
@@ -642,6 +683,7 @@ static void walks_without_commands(void) {
     outcome = oca_panel_walk(&panel, &walk, visits, &seen);
     same("a walk without handles", outcome.asked, OCA_ASKED_NOT_SENT);
     same("says so, and visits nothing", outcome.result == OCA_HANDLES_SPENT && seen.len == 0, 1);
+    same("its turns behind that", panel.turns, 400);
     oca_panel_close(&panel);
 }
 
@@ -825,6 +867,7 @@ int main(int count, char **words) {
     for (uint32_t seed = 0; seed < 20; seed++) at_device(seed, 20, 20, 30);
     walks_all();
     for (uint32_t seed = 0; seed < 5; seed++) walks_in_single_turns(seed, seed > 2);
+    walks_and_asks();
     hostile();
     classes();
     drops_what_is_too_long(false);

@@ -146,6 +146,7 @@ def listing(checks, folder):
         silent.bind(("127.0.0.1", 0))
         port = silent.getsockname()[1]
         checks.same("a listing where nobody answers", panel(folder, port, "objects"), "100: lost\n")
+        checks.same("the panel where nobody answers", panel(folder, port), "lost\n")
     for words in ((9, "object"), (9, "objects", "all"), ("objects", 9)):
         checks.same(f"the words {words}", panel(folder, *words), "usage: panel [PORT [objects]]\n")
 
@@ -257,6 +258,9 @@ def ends(checks, folder):
     for words, said in (((), first + second), ((0, 0), ""), ((0, 1), first), ((0, 2), first + second),
                         ((0, 3), first + second + third)):
         checks.same(f"an amplifier with the words {words}", ended(folder, words, lines), (said, "", 0))
+    checks.same("a last line that nothing ends", ended(folder, (0, 3), "open 1\nopen 2"), (first + second, "", 0))
+    refused = "note: the value is out of range\nnote: a line turns no knob\n"
+    checks.same("lines that turn nothing", ended(folder, (0, 3), "gain 1 101\nmute 3\nopen 1\n"), (first, refused, 0))
     with socket.socket(socket.AF_INET, socket.SOCK_DGRAM) as other:
         other.bind(("127.0.0.1", 0))
         port = other.getsockname()[1]
