@@ -1,7 +1,10 @@
 /* The panel of the C library over a network and a clock of its own: a device of the library behind it, or a peer that answers as a test
  * wants. It prints what is wrong. With a word, a port of this machine, it prints the objects of the device there, as `ocactl tree` does. */
 #define _POSIX_C_SOURCE 200809L
+/* What a panel hands to its link goes by this file's `handed`. */
+#define oca_link_datagram handed
 #include <oca.h>
+#undef oca_link_datagram
 
 #include <arpa/inet.h>
 #include <netinet/in.h>
@@ -21,6 +24,21 @@ static void same(const char *what, uint32_t got, uint32_t expected) {
 
 static void says(const char *what, const char *got, const char *expected) {
     same(what, strcmp(got, expected) == 0, 1);
+}
+
+#ifdef __cplusplus
+extern "C"
+#endif
+enum oca_result oca_link_datagram(struct oca_link *link, uint32_t ip, uint16_t port, const uint8_t *bytes, size_t bytes_len, uint64_t now, uint32_t *reception, uint32_t *answered);
+
+/* How many datagrams panels handed to their links, and the most bytes that one had. */
+static uint32_t handed_over;
+static size_t longest_handed;
+
+enum oca_result handed(struct oca_link *link, uint32_t ip, uint16_t port, const uint8_t *bytes, size_t bytes_len, uint64_t now, uint32_t *reception, uint32_t *answered) {
+    handed_over++;
+    if (bytes_len > longest_handed) longest_handed = bytes_len;
+    return oca_link_datagram(link, ip, port, bytes, bytes_len, now, reception, answered);
 }
 
 enum { QUEUED = 64, DEVICE_IP = 0x0a000001, DEVICE_PORT = 65000 };
@@ -596,7 +614,8 @@ static void refuses_a_smaller_end(void) {
     free(small);
 }
 
-/* A datagram of 1,472 bytes is taken, and one of a byte more is dropped, also where the socket cuts it. */
+/* A datagram of 1,472 bytes is taken, and one of a byte or of many more is dropped, also where the socket cuts it: the
+ * link is not handed a length for which there was no room. */
 static void drops_what_is_too_long(bool cuts) {
     static struct network network;
     static struct oca_answer answer;
@@ -609,13 +628,20 @@ static void drops_what_is_too_long(bool cuts) {
     same("1,472 bytes", oca_panel_read(&panel, 4097, OCA_GET_ROLE, &answer).asked, OCA_ASKED_DONE);
     same("all of its parameters", (uint32_t)answer.params_len, 1452);
     same("the first and the last", answer.params[0] == 'a' && answer.params[1451] == 'a', 1);
-    network.more = 1;
-    panel.turns = 20;
-    const struct oca_outcome outcome = oca_panel_read(&panel, 4097, OCA_GET_ROLE, &answer);
-    same("a byte more is dropped", outcome.asked, OCA_ASKED_UNANSWERED);
-    network.more = 0;
-    panel.turns = 400;
-    same("and without it taken", oca_panel_finish(&panel, outcome.result, &answer).asked, OCA_ASKED_DONE);
+    static const uint32_t more[] = {1, 2, 50};
+    for (size_t k = 0; k < sizeof more / sizeof *more; k++) {
+        network.more = more[k];
+        panel.turns = 20;
+        const uint32_t before = handed_over;
+        const struct oca_outcome outcome = oca_panel_read(&panel, 4097, OCA_GET_ROLE, &answer);
+        same("what is longer is dropped", outcome.asked, OCA_ASKED_UNANSWERED);
+        same("and handed to no link", handed_over, before);
+        network.more = 0;
+        panel.turns = 400;
+        same("and without it taken", oca_panel_finish(&panel, outcome.result, &answer).asked, OCA_ASKED_DONE);
+        same("as a link is handed it", handed_over, before + 1);
+    }
+    same("the longest that was handed to a link", (uint32_t)longest_handed, OCA_MOST_BYTES);
     oca_panel_close(&panel);
 }
 
