@@ -658,21 +658,58 @@ def by_cmake(checks, made, prefix):
         checks.same(f"version {version}", (found.returncode == 0, is_refused), (is_kept, not is_kept))
 
 
+ARM, OF_ARM = "aarch64-unknown-linux-gnu", "lib/aarch64-linux-gnu"
+
+
+def installs_for_arm(checks, made, prefix, archive, **settings):
+    """What is installed for AArch64 has a folder of its own, which its oca.pc and its file for CMake name: the panel is
+    compiled by what they say."""
+    make("install-library", prefix, archive, TARGET=ARM, **settings)
+    wanted = [it.replace("lib/", f"{OF_ARM}/", 1) if it[:4] == "lib/" else it for it in INSTALLED]
+    checks.same("what is installed for AArch64", files_below(prefix), wanted)
+    said = re.findall(r"^(\w+)=(.*)$", (prefix / OF_ARM / "pkgconfig/oca.pc").read_text(), re.MULTILINE)
+    folders = {"prefix": str(prefix), "includedir": "${prefix}/include", "libdir": f"${{prefix}}/{OF_ARM}"}
+    checks.same("the folders that its oca.pc names", dict(said), folders)
+    cflags, libs = flags(prefix, OF_ARM)
+    path = settings.get("PATH", os.environ["PATH"])
+    compiler = shutil.which("aarch64-linux-gnu-gcc", path=path)
+    built = subprocess.run([compiler, "-std=c11", *STRICT, *cflags, "-o", made / "panel-by-flags", TOP / "examples/c/panel.c", *libs],
+                           capture_output=True, text=True)
+    checks.same("the panel for AArch64 by its oca.pc", (built.returncode, built.stderr), (0, ""))
+    if shutil.which("cmake"):
+        run = configured(made, f"for-{prefix.name}", f"-Doca_DIR={prefix}/{OF_ARM}/cmake/oca")
+        checks.same("the files of each target for AArch64", targets_in(run), targets_below(prefix, OF_ARM))
+
+
+def beside_another_kind(checks, made, archive):
+    """The same with stand-ins for the compiler of AArch64, which are this machine's own: where there is none, too."""
+    place, prefix = made / "stand-ins", made / "as-arm"
+    place.mkdir()
+    for name, own in (("gcc", "cc"), ("ar", "ar")):
+        (place / f"aarch64-linux-gnu-{name}").symlink_to(shutil.which(own))
+    path = f"{place}:{os.environ['PATH']}"
+    make("install-library", prefix, archive)
+    before = files_below(prefix)
+    installs_for_arm(checks, made, made / "arm-alone", archive, PATH=path)
+    make("install-library", prefix, archive, TARGET=ARM, PATH=path)
+    wanted = sorted({*before, *files_below(made / "arm-alone")})
+    checks.same("what is installed of two kinds", files_below(prefix), wanted)
+    make("uninstall", prefix, "none", TARGET=ARM)
+    checks.same("what `make uninstall` leaves of two", files_below(prefix), [it for it in before if it[:4] == "lib/"])
+    make("uninstall", made / "arm-alone", "none", TARGET=ARM)
+    checks.same("what `make uninstall` leaves of AArch64", files_below(made / "arm-alone"), [])
+
+
 def on_arm(checks, made):
     """For AArch64: device and panel against each other and each call, under emulation."""
     tools = [it for it in ("aarch64-linux-gnu-gcc", "qemu-aarch64") if not shutil.which(it)]
     if tools:
         return print(f"NOT TRIED: AArch64, without {' and '.join(tools)}")
-    target, prefix = "aarch64-unknown-linux-gnu", made / "arm"
-    make("install-library", prefix, library(target), TARGET=target)
-    checks.same("what is installed for AArch64", files_below(prefix), [it.replace("lib/", "lib/aarch64-linux-gnu/", 1) if it[:4] == "lib/" else it for it in INSTALLED])
+    prefix = made / "arm"
+    installs_for_arm(checks, made, prefix, library(ARM))
     for name, source in (("device", "examples/c/device.c"), ("panel", "examples/c/panel.c"), ("calls", "tools/c_library.c")):
         subprocess.run(["aarch64-linux-gnu-gcc", "-std=c11", *STRICT, f"-I{prefix}/include", "-o", made / f"{name}-arm", TOP / source,
-                        f"{prefix}/lib/aarch64-linux-gnu/liboca.a"], check=True)
-    cflags, libs = flags(prefix, "lib/aarch64-linux-gnu")
-    built = subprocess.run(["aarch64-linux-gnu-gcc", "-std=c11", *STRICT, *cflags, "-o", made / "panel-by-flags",
-                            TOP / "examples/c/panel.c", *libs], capture_output=True, text=True)
-    checks.same("the panel for AArch64 by its oca.pc", (built.returncode, built.stderr), (0, ""))
+                        f"{prefix}/{OF_ARM}/liboca.a"], check=True)
     emulated = ["qemu-aarch64", "-L", "/usr/aarch64-linux-gnu"]
     run, port = serving([*emulated, made / "device-arm", 0, 6])
     checks.same("the panel on AArch64", said_by([*emulated, made / "panel-arm", port]), (PANEL, 0))
@@ -680,11 +717,7 @@ def on_arm(checks, made):
     checks.same("each call on AArch64", said_by([*emulated, made / "calls-arm"])[1], 0)
     first = ["qemu-aarch64", "-cpu", "cortex-a53", "-L", "/usr/aarch64-linux-gnu"]
     checks.same("each call on an AArch64 of the first kind", said_by([*first, made / "calls-arm"])[1], 0)
-    if shutil.which("cmake"):
-        run = configured(made, "for-arm", f"-Doca_DIR={prefix}/lib/aarch64-linux-gnu/cmake/oca")
-        wanted = targets_below(prefix, "lib/aarch64-linux-gnu")
-        checks.same("the files of each target for AArch64", targets_in(run), wanted)
-    make("uninstall", prefix, "none", TARGET=target)
+    make("uninstall", prefix, "none", TARGET=ARM)
     checks.same("what `make uninstall` leaves for AArch64", files_below(prefix), [])
 
 
@@ -730,6 +763,7 @@ def main():
         stays_below(checks, made, archive)
         prefixes(checks, made, archive)
         by_cmake(checks, made, prefix)
+        beside_another_kind(checks, made, archive)
         on_arm(checks, made)
         on_the_first_kind(checks, made)
         for language in LANGUAGES:
