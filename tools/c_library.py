@@ -431,24 +431,39 @@ def a_mixer(checks, made, name, before=()):
         checks.same(f"{name}: and it stays", kept.read_bytes() == bad, True)
 
 
-def kept_safely(checks, made):
-    """What the mixer keeps is on the disk before it takes the place of the file before it, and so is the folder then."""
-    layer, kept, calls = made / "calls.so", made / "kept safely", made / "calls of the mixer"
+def calls_of_a_mixer(made, kept, turns, **settings):
+    """What a mixer that keeps this file calls for it, and what it says: each line of its front is given, and then so many
+    calls in all are waited for."""
+    calls = made / f"calls for {kept.name}"
     run = subprocess.Popen([made / "mixer-plain", kept, "0", "600"], stdin=subprocess.PIPE, stdout=subprocess.PIPE, stderr=subprocess.PIPE, text=True,
-                           env=dict(os.environ, LD_PRELOAD=str(layer), CALLS=str(calls)))
+                           env=dict(os.environ, LD_PRELOAD=str(made / "calls.so"), CALLS=str(calls), **settings))
     listening(run)
-    run.stdin.write("gain 7 -30\n")
-    run.stdin.flush()
     made_so_far = lambda: calls.read_text().splitlines() if calls.exists() else []
-    for _ in range(400):
-        if len(made_so_far()) >= 3:
-            break
-        time.sleep(0.05)
-    said = made_so_far()
+    for line, count in turns:
+        run.stdin.write(f"{line}\n")
+        run.stdin.flush()
+        until = time.monotonic() + 20
+        while len(made_so_far()) < count and time.monotonic() < until:
+            time.sleep(0.05)
     run.kill()
-    run.communicate()
-    wanted = [f"fsync {kept}.new", f"rename {kept}.new {kept}", f"fsync {made}"]
-    checks.same("the mixer's file: what is called", (len(said) >= 3, said), (True, (wanted * len(said))[:len(said)]))
+    return made_so_far(), run.communicate()[1]
+
+
+# What fails as the mixer keeps its second state, how the mixer calls that, and how many calls it has made of that state.
+FAILS = [({}, "", 0), ({"FULL": "3"}, "not kept: No space left on device\n", 0),
+         ({"FAIL_SYNC": "3"}, "not kept: Input/output error\n", 1)]
+
+
+def kept_safely(checks, made):
+    """What the mixer keeps is on the disk before it takes the place of the file before it, and so is the folder then. Where
+    it cannot be written whole or synced it takes no place: the mixer says so, and tries again."""
+    for at, (fails, says, before) in enumerate(FAILS):
+        kept = made / f"kept safely {at}"
+        wanted = [f"fsync {kept}.new", f"rename {kept}.new {kept}", f"fsync {made}"]
+        calls = [*wanted, *wanted[:before], *wanted]
+        said = calls_of_a_mixer(made, kept, (("gain 7 -30", 3), ("gain 7 -31", len(calls))), **fails)
+        checks.same(f"the mixer's file: what is called where {fails} fails", said, (calls, says))
+        checks.same(f"and what is kept then, {fails}", struct.pack("<q", -31) in kept.read_bytes(), True)
 
 
 # Put before the mixer: each call of its running device ends the program where nobody has the lock.

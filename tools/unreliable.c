@@ -12,7 +12,8 @@
  *                    CLOCK_BOOTTIME, is so far ahead, and no other
  *   UNBOOTED=N       the clock that counts sleep can't be read, and the date is so many seconds ahead behind the first send that is taken
  *   CALLS=FILE       a line goes to this file for each fsync and each rename, as it is made, with the names of the files
- *   SLOW=N           each fsync takes N milliseconds more */
+ *   SLOW=N           each fsync takes N milliseconds more              FAIL_SYNC=N    the fsync number N fails
+ *   FULL=N           the write number N to what is no standard stream finds no room: the one before it takes half */
 #define _GNU_SOURCE
 #include <dlfcn.h>
 #include <errno.h>
@@ -38,6 +39,7 @@ static int (*real_clock_gettime)(clockid_t, struct timespec *);
 static int (*real_fsync)(int);
 static int (*real_rename)(const char *, const char *);
 static long receives, sends, interrupt, interrupted, fail_receive, fail_send, with, stall, slept, unbooted;
+static long syncs, fail_sync, kept_writes, full;
 static int started, has_sent;
 
 static long set(const char *name) {
@@ -81,6 +83,8 @@ __attribute__((constructor)) static void start(void) {
     stall = set("STALL");
     slept = set("SLEPT");
     unbooted = set("UNBOOTED");
+    fail_sync = set("FAIL_SYNC");
+    full = set("FULL");
     if (set("SIGNALS")) send_signals(set("SIGNALS"));
     started = 1;
 }
@@ -118,6 +122,8 @@ ssize_t write(int file, const void *bytes, size_t size) {
         if (++writes == fail_write) { errno = EIO; return -1; }
         if (piece && size > (size_t)piece) size = piece;
     }
+    if (file > 2 && ++kept_writes == full) { errno = ENOSPC; return -1; }
+    if (file > 2 && kept_writes + 1 == full) size = size / 2;
     return real_write(file, bytes, size);
 }
 
@@ -183,6 +189,7 @@ int fsync(int file) {
     tell_call(line);
     struct timespec time = {set("SLOW") / 1000, set("SLOW") % 1000 * 1000000};
     if (time.tv_sec || time.tv_nsec) nanosleep(&time, NULL);
+    if (++syncs == fail_sync) { errno = EIO; return -1; }
     return real_fsync(file);
 }
 
