@@ -188,12 +188,22 @@ def objects_of_the_device(checks, asker):
         checks.same(f"the limits of {block + 2}", asker.ask(block + 2, 5, 1), (0, struct.pack(">hhh", 0, -600, 100)))
 
 
+def printed(run):
+    """The next line that a program which goes on has printed into a pipe: nothing where none comes in 30 seconds."""
+    return run.stdout.readline() if select.select([run.stdout], [], [], 30)[0] else ""
+
+
 def examples_alone(checks, made):
-    """The device of the example has its objects and is at this machine alone; at a taken port it says so, as the mixer
-    does. The panel says what a lock of another peer refuses, and that nobody answers."""
+    """The device of the example has its objects, prints each change as it is made, and is at this machine alone; at a
+    taken port it says so, as the mixer does. The panel says what a lock of another peer refuses, and that nobody
+    answers."""
     run, port = serving([made / "device-c11", 0, 600])
     asker = Asker(port)
     objects_of_the_device(checks, asker)
+    for ono, level, params, said in ((4113, 4, b"\2", "1: muted 0 dB/10, 2: open 0 dB/10\n"),
+                                     (4114, 5, b"\xff\xfb", "1: muted 0 dB/10, 2: open -5 dB/10\n")):
+        checks.same(f"set {ono}", asker.ask(ono, level, 2, params, 1), (0, b""))
+        checks.same(f"what the device prints while it goes on, {ono}", printed(run), said)
     checks.same("where the device listens", bound_at(int(port)), ["127.0.0.1"])
     for name, words in (("device", [made / "device-c11", port, 1]),
                         ("mixer", [made / "mixer-plain", made / "kept of none", port, 1])):
