@@ -23,6 +23,7 @@ TARGET = x86_64-unknown-linux-gnu
 LIBRARY = crates/oca_c/out/$(TARGET)/liboca_c.a
 PROGRAMS = ocadev ocactl ocapanel
 BUILD = python3 gate/build.py bin
+SOURCES = $(shell find crates \( -name out -o -name '*_tests' \) -prune -o \( -name '*.rt' -o -name '*.antt' \) -print 2>/dev/null)
 .PHONY: build demo test lossy fuzz world law bench panel-trial library install install-library uninstall clean
 
 demo:
@@ -68,9 +69,11 @@ bench: build
 
 export PREFIX DESTDIR LIBRARY
 
-install: install-library
-	@test -x bin/ocapanel || $(MAKE) build
+install: install-library bin/ocapanel
 	@sh gate/install.sh install programs
+
+bin/ocapanel: $(SOURCES)
+	@$(MAKE) build
 
 install-library: $(LIBRARY)
 	@sh gate/install.sh install library $(TARGET)

@@ -72,7 +72,7 @@ def build_program(name, folder):
     if ran.returncode:
         print(f"{ran.stderr}build: {name} NOT BUILT")
         return False
-    shutil.copy2(TOP / "crates" / name / "out" / name, folder)
+    shutil.copy(TOP / "crates" / name / "out" / name, folder)  # now: newer than its sources
     print(f"build: {name} proved and built, {time.monotonic() - begun:.0f} s", flush=True)
     return True
 

@@ -166,6 +166,26 @@ def make_fails_with(goal, folder):
     return True
 
 
+def builds_programs_anew(folder):
+    """`make install` has the programs built where there are none, or where a source or a definition of any crate is
+    newer than they are; not where only what was made of them, or a test, is."""
+    found = []
+    cases = [("src/in/a.rt", 200, False), ("specs/A.antt", 200, False), ("proofs/f/A.antt", 200, False),
+             ("src/a.rt", 50, True), ("out/a.rt", 200, True), (None, 0, False)]
+    for at, (name, second, _) in enumerate(cases):
+        made = Made(folder / f"programs-{at}")
+        made("Makefile", 50)
+        (made.folder / "Makefile").write_text((run.TOP / "Makefile").read_text())
+        for file in ("crates/low/src/in/a.rt", "crates/low_tests/src/a.rt"):
+            made(file, 50 if file.startswith("crates/low/") else 200)
+        if name:
+            made("bin/ocapanel", 100)
+            made(f"crates/low/{name}", second)
+        asked = ["make", "-q", "-C", made.folder, "bin/ocapanel"]
+        found.append(subprocess.run(asked, env=without_make(), capture_output=True, timeout=60).returncode == 0)
+    return found == [is_there for *_, is_there in cases]
+
+
 def ci_runs_the_gate(folder):
     """`.ci/run` calls `make test` in the repository's own folder, from wherever it is called, and ends as that does."""
     top, log = folder / "ci", folder / "ci.log"
@@ -308,4 +328,5 @@ ROWS = [(f"make {goal} fails with what it runs", functools.partial(make_fails_wi
     (".ci/run runs the gate", ci_runs_the_gate), ("build.py proves each library", proves_each_library),
     ("build.py builds each program", builds_each_program), ("build.py builds what is named", builds_what_is_named),
     ("library.py takes what the gate left", takes_what_the_gate_left),
-    ("library.py leaves no old library", leaves_no_old_library), ("install.sh installs all", installs_whole)]
+    ("library.py leaves no old library", leaves_no_old_library), ("install.sh installs all", installs_whole),
+    ("make install builds programs anew", builds_programs_anew)]

@@ -1,6 +1,6 @@
 #!/usr/bin/env python3
 """Runs the sessions of README.md and docs/EMBEDDING.md and compares what is printed, and finds their pieces of code in
-the files that they are of, and the examples of doc comments in the tests.
+the files that they are of, and the examples of doc comments in tests and samples.
 
 Usage: snippets.py BIN     BIN is the folder with the programs, which sessions call `bin/`
 
@@ -14,7 +14,8 @@ compared, nor is the note of a system that grants a socket little room. A sessio
 A fenced block whose info string has a path behind its first word, as `rust crates/panel/src/main.rt`, must stand in
 that file line by line, but for its indentation; `...` alone on a line, or in a comment, stands for any lines.
 
-A fenced block in a doc comment of crates/ must stand so in a file of the tests' crates, which `rt ci` runs.
+A fenced block in a doc comment of crates/ must stand so in a file of the tests' crates or of the samples, which the gate
+runs.
 
 The last line is 'N passed, M failed'."""
 import os
@@ -159,13 +160,14 @@ def checks_of(name, programs):
 
 def examples():
     """Of each example of a doc comment: where it stands, and what is wrong with it or None."""
-    tests = [file.read_text() for file in sorted(TOP.glob("crates/*_tests/src/**/*.rt"))]
+    files = [file for name in ("*_tests", "amplifier", "panel") for file in sorted(TOP.glob(f"crates/{name}/src/**/*.rt"))]
+    tests = [file.read_text() for file in files]
     for file in sorted(TOP.glob("crates/*/src/**/*.rt")):
         said = [line.strip() for line in file.read_text().split("\n")]
         comments = [line[3:].strip() if line.startswith("///") else "" for line in said]
         for number, _, lines in blocks("\n".join(comments)):
             found = any(is_in(lines, text) for text in tests)
-            yield f"{file.relative_to(TOP)}:{number}", None if found else "stands in no test"
+            yield f"{file.relative_to(TOP)}:{number}", None if found else "stands in no test and no sample"
 
 
 def main():

@@ -42,6 +42,19 @@ const MOST_WRITTEN: usize = 86;
 
 /// A device: a tree of objects, and the sessions of its peers.
 ///
+/// ```
+/// let tree = build(rt.alloc()).map_err(|_| "no memory")?;
+/// let mut device = Device::new(rt.alloc(), tree, Window::default()).map_err(|_| "no memory")?;
+/// let mut outbox = Outbox::new(rt.alloc()).map_err(|_| "no memory")?;
+/// let mut end = UdpEnd::bind(rt.alloc(), rt, LOOPBACK, port).map_err(|_| "socket failed")?;
+/// // ...
+/// for _turn in 0..turns {
+///     // ...
+///     let _ = serve_with(&mut device, &mut end, &mut outbox, &mut channels, 1);
+///     // ...
+/// }
+/// ```
+///
 /// What it is follows from the tree that it was made with and the events that it was given: datagrams, clock readings
 /// and changes at its own front. Moments are in milliseconds; one that is earlier than a moment already seen counts as
 /// the one already seen.

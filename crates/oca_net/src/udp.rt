@@ -82,6 +82,11 @@ impl BindError {
 /// datagrams to hosts that do not answer fill, it is `false`, as where a network can't be reached, and counts as a
 /// failure. `bind` asks for a buffer of 4,000,000 bytes; what the system granted, `send_buffer` says. That a send was
 /// taken does not say that the datagram arrives. No call but `bind` takes memory.
+///
+/// ```
+/// let mut end = UdpEnd::bind(rt.alloc(), rt, LOOPBACK, port).map_err(|_| "socket failed")?;
+/// let _ = eprintln!(rt; "listening 127.0.0.1:{}", end.local().port);
+/// ```
 #[derive(Drop)]
 pub struct UdpEnd<'a, C: Clock> {
     socket: Socket<'a, C>,

@@ -14,6 +14,16 @@ mod renewal;
 /// A panel for one device: a link, the end that it is driven over, how many turns a command waits for its answer, and
 /// whether one that was waited for got none.
 ///
+/// ```
+/// let end = UdpEnd::bind(rt.alloc(), rt, device.ip, 0)?;
+/// let mut panel = Panel::open(device, end, Handle(1), Span::default(), 210);
+/// // ...
+/// match panel.get(gain) {
+///     Ok(value) => println!(rt; "gain: {} dB/10", word_of(value).as_str())?,
+///     // ...
+/// }
+/// ```
+///
 /// No call takes memory. A panel is some 94 kB, which is its link: do not move it, pass `&mut`.
 pub struct Panel<E: End> {
     link: Link,

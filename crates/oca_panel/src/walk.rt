@@ -63,6 +63,16 @@ pub struct Visit {
 
 /// A walk through the objects of a device, from the root block on, each block's members behind it in their order. It
 /// asks each object once, for its class, its role and the members of a block, and sets nothing.
+///
+/// ```
+/// let mut walk = Walk::new(rt.alloc())?;
+/// for _place in 0..MOST_PLACES {
+///     let Some(visit) = walk.next(&mut panel)? else {
+///         return Ok(());
+///     };
+///     print_found(rt, &mut panel, visit.place.ono, &visit.found)?;
+/// }
+/// ```
 #[derive(Drop)]
 pub struct Walk {
     waiting: Vec<Place>,

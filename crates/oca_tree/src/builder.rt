@@ -420,6 +420,18 @@ fn root_object() -> Object
 
 /// A tree to which objects are added. Contracts see the list of them in order of adding, and for how many there is
 /// room.
+///
+/// ```
+/// let mut builder = TreeBuilder::new(alloc)?;
+/// // ...
+/// let block = Spec {
+///     role,
+///     lockable: true,
+///     kind: Kind::Block,
+/// };
+/// // ...
+/// builder.add(ROOT, channel.block(), &block)?;
+/// ```
 #[derive(Drop)]
 pub struct TreeBuilder {
     objects: Objects,
