@@ -10,8 +10,8 @@ is not installed here is named as NOT TRIED. The mixer is killed and started ane
 it is and under the sanitizers. Each call is tried on a closed handle and at its limits (c_library.c), and the panel that the header
 writes over a network that loses, doubles and delays, and at peers that answer wrongly (c_library_panel.c). Each request
 for memory is refused in turn. Header and library name the same functions, and the library needs what EMBEDDING names. What is
-installed lies below its folder, also with a space in its name or a relative one, and `make uninstall` leaves nothing of it. The
-last line is 'N passed, M failed'."""
+installed lies below its folder, also with a space in its name or a relative one, and `make uninstall` leaves nothing of it; what
+is installed of another kind of processor lies in a folder of its own. The last line is 'N passed, M failed'."""
 import os
 import random
 import re
