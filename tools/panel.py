@@ -826,6 +826,39 @@ def troubled(folder):
         check(told == {4096: "BufferOverflow"} and len(panel.shown) > 4, f"why a block has no members: {told}")
 
 
+class Ailing(Served):
+    """The second implementation's device, which answers DeviceError where it is asked for the value of one object, as
+    long as it ails."""
+
+    def __init__(self, tree, ono):
+        super().__init__(tree)
+        self.answers, self.ono, self.ails = self.device.datagram, ono, True
+        self.device.datagram = self.datagram
+
+    def datagram(self, peer, data, now):
+        said, packets = self.answers(peer, data, now)
+        commands = [command[0] for kind, _, *command in oca.check(data) if kind == "command"]
+        asked = [it.handle for it in commands if (it.target, it.level, it.index) == (self.ono, 5, 1)]
+        if self.ails and asked:
+            return said, [oca.pdu(3, [oca.response_body(handle, 2, 0, b"") for handle in asked])]
+        return said, packets
+
+
+def ailing(folder):
+    """Why the value of an object can't be read is shown, beside the last one that was, and no longer once it is read
+    again."""
+    with Ailing(oca.bench(), TRIM) as device, Panel(folder, device.port) as panel:
+        for value in (None, "0"):
+            device.ails = True
+            is_told = panel.wait(lambda _: panel.shown.get(TRIM, {}).get("trouble") == "DeviceError")
+            shown = panel.shown.get(TRIM)
+            check(is_told is not None, f"why a value can't be read is shown: {shown}")
+            check(panel.value(TRIM) == value, f"a value that can't be read any more is the last one, {value}: {shown}")
+            device.ails = False
+            is_well = panel.wait(lambda _: panel.value(TRIM) == "0" and panel.shown[TRIM]["trouble"] is None)
+            check(is_well is not None, f"a value that is read again has no trouble: {panel.shown.get(TRIM)}")
+
+
 def asleep(folder):
     """The sleep of the machine counts: a command that was sent before it is not sent again."""
     with tempfile.TemporaryDirectory() as place, socket.socket(socket.AF_INET, socket.SOCK_DGRAM) as silent:
@@ -1073,7 +1106,7 @@ def main():
     words(folder)
     spans(folder)
     for part in (bound_for, classes, seldom, of_other_classes, visible_first, often, newer_than_an_answer,
-                 beside_an_order, asleep, failing, unwatched, troubled, counted, without_a_page, at_its_port,
+                 beside_an_order, asleep, failing, unwatched, troubled, ailing, counted, without_a_page, at_its_port,
                  by_its_names):
         part(folder)
     with Device(folder) as device, Panel(folder, device.port) as panel:
