@@ -802,10 +802,11 @@ def failing(folder):
 
 
 def unwatched(folder):
-    """A device is found while no page asks for anything: its answers wake the panel. The fastest of three runs counts,
-    which takes a third of a second; where its timers alone wake it, it takes some two seconds."""
+    """A device is found while no page asks for anything: its answers wake the panel. The fastest of nine runs counts,
+    which takes a third of a second where the machine is not busy; where its timers alone wake it, each takes some two
+    seconds."""
     took, is_found = [], False
-    while len(took) < 3 and min(took, default=9) >= 1:
+    while len(took) < 9 and min(took, default=9) >= 1:
         with Served(oca.bench(80)) as device, Panel(folder, device.port) as panel:
             begun = time.monotonic()
             while len(device.heard) < 1300 and time.monotonic() - begun < 9:
