@@ -653,14 +653,19 @@ def without_a_page(folder):
 
 
 def seldom(folder):
-    """What changes seldom is shown too: a label, whether an object is enabled, and which positions are."""
+    """What changes seldom is shown too, there and back: a label, whether an object is enabled, and which positions
+    are."""
     with Device(folder) as device, Panel(folder, device.port) as panel:
         panel.wait(lambda v: v["walked"])
-        check(command(device.port, MUTE, 2, 9, 1, oca.text_bytes("Vox")) == 0 and command(device.port, TRIM, 2, 2, 1, b"\0") == 0
-              and command(device.port, SOURCE, 4, 8, 2, b"\0\1\0") == 0, "another controller sets a label and two flags")
-        check(panel.wait(lambda _: panel.shown[MUTE]["label"] == "Vox", 60) is not None, "its label is shown")
-        check(panel.wait(lambda _: panel.shown[TRIM]["enabled"] is False, 60) is not None, "that it is not enabled is shown")
-        check(panel.wait(lambda _: panel.shown[SOURCE]["flags"] == [True, False, True, True], 60) is not None, "that a position is not enabled is shown")
+        for label, enabled in (("Vox", False), ("", True)):
+            flag = bytes([enabled])
+            answers = [command(device.port, MUTE, 2, 9, 1, oca.text_bytes(label)),
+                       command(device.port, TRIM, 2, 2, 1, flag), command(device.port, SOURCE, 4, 8, 2, b"\0\1" + flag)]
+            check(answers == [0, 0, 0], f"another controller sets a label and two flags: {answers}")
+            for ono, name, wanted in ((MUTE, "label", label), (TRIM, "enabled", enabled),
+                                      (SOURCE, "flags", [True, enabled, True, True])):
+                is_shown = panel.wait(lambda _, o=ono, n=name, w=wanted: panel.shown[o][n] == w, 60) is not None
+                check(is_shown, f"the {name} of {ono} is shown as {panel.shown[ono][name]}, not {wanted}")
 
 
 def of_other_classes(folder):
