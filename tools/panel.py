@@ -653,14 +653,19 @@ def without_a_page(folder):
 
 
 def seldom(folder):
-    """What changes seldom is shown too: a label, whether an object is enabled, and which positions are."""
+    """What changes seldom is shown too, there and back: a label, whether an object is enabled, and which positions
+    are."""
     with Device(folder) as device, Panel(folder, device.port) as panel:
         panel.wait(lambda v: v["walked"])
-        check(command(device.port, MUTE, 2, 9, 1, oca.text_bytes("Vox")) == 0 and command(device.port, TRIM, 2, 2, 1, b"\0") == 0
-              and command(device.port, SOURCE, 4, 8, 2, b"\0\1\0") == 0, "another controller sets a label and two flags")
-        check(panel.wait(lambda _: panel.shown[MUTE]["label"] == "Vox", 60) is not None, "its label is shown")
-        check(panel.wait(lambda _: panel.shown[TRIM]["enabled"] is False, 60) is not None, "that it is not enabled is shown")
-        check(panel.wait(lambda _: panel.shown[SOURCE]["flags"] == [True, False, True, True], 60) is not None, "that a position is not enabled is shown")
+        for label, enabled in (("Vox", False), ("", True)):
+            flag = bytes([enabled])
+            answers = [command(device.port, MUTE, 2, 9, 1, oca.text_bytes(label)),
+                       command(device.port, TRIM, 2, 2, 1, flag), command(device.port, SOURCE, 4, 8, 2, b"\0\1" + flag)]
+            check(answers == [0, 0, 0], f"another controller sets a label and two flags: {answers}")
+            for ono, name, wanted in ((MUTE, "label", label), (TRIM, "enabled", enabled),
+                                      (SOURCE, "flags", [True, enabled, True, True])):
+                is_shown = panel.wait(lambda _, o=ono, n=name, w=wanted: panel.shown[o][n] == w, 60) is not None
+                check(is_shown, f"the {name} of {ono} is shown as {panel.shown[ono][name]}, not {wanted}")
 
 
 def of_other_classes(folder):
@@ -802,10 +807,11 @@ def failing(folder):
 
 
 def unwatched(folder):
-    """A device is found while no page asks for anything: its answers wake the panel. The fastest of three runs counts,
-    which takes a third of a second; where its timers alone wake it, it takes some two seconds."""
+    """A device is found while no page asks for anything: its answers wake the panel. The fastest of nine runs counts,
+    which takes a third of a second where the machine is not busy; where its timers alone wake it, each takes some two
+    seconds."""
     took, is_found = [], False
-    while len(took) < 3 and min(took, default=9) >= 1:
+    while len(took) < 9 and min(took, default=9) >= 1:
         with Served(oca.bench(80)) as device, Panel(folder, device.port) as panel:
             begun = time.monotonic()
             while len(device.heard) < 1300 and time.monotonic() - begun < 9:
@@ -824,6 +830,39 @@ def troubled(folder):
         check(panel.wait(lambda v: v["walked"]) is not None, "a device with a long block is walked")
         told = {ono: o["trouble"] for ono, o in panel.shown.items() if o["trouble"] is not None}
         check(told == {4096: "BufferOverflow"} and len(panel.shown) > 4, f"why a block has no members: {told}")
+
+
+class Ailing(Served):
+    """The second implementation's device, which answers DeviceError where it is asked for the value of one object, as
+    long as it ails."""
+
+    def __init__(self, tree, ono):
+        super().__init__(tree)
+        self.answers, self.ono, self.ails = self.device.datagram, ono, True
+        self.device.datagram = self.datagram
+
+    def datagram(self, peer, data, now):
+        said, packets = self.answers(peer, data, now)
+        commands = [command[0] for kind, _, *command in oca.check(data) if kind == "command"]
+        asked = [it.handle for it in commands if (it.target, it.level, it.index) == (self.ono, 5, 1)]
+        if self.ails and asked:
+            return said, [oca.pdu(3, [oca.response_body(handle, 2, 0, b"") for handle in asked])]
+        return said, packets
+
+
+def ailing(folder):
+    """Why the value of an object can't be read is shown, beside the last one that was, and no longer once it is read
+    again."""
+    with Ailing(oca.bench(), TRIM) as device, Panel(folder, device.port) as panel:
+        for value in (None, "0"):
+            device.ails = True
+            is_told = panel.wait(lambda _: panel.shown.get(TRIM, {}).get("trouble") == "DeviceError")
+            shown = panel.shown.get(TRIM)
+            check(is_told is not None, f"why a value can't be read is shown: {shown}")
+            check(panel.value(TRIM) == value, f"a value that can't be read any more is the last one, {value}: {shown}")
+            device.ails = False
+            is_well = panel.wait(lambda _: panel.value(TRIM) == "0" and panel.shown[TRIM]["trouble"] is None)
+            check(is_well is not None, f"a value that is read again has no trouble: {panel.shown.get(TRIM)}")
 
 
 def asleep(folder):
@@ -1073,7 +1112,7 @@ def main():
     words(folder)
     spans(folder)
     for part in (bound_for, classes, seldom, of_other_classes, visible_first, often, newer_than_an_answer,
-                 beside_an_order, asleep, failing, unwatched, troubled, counted, without_a_page, at_its_port,
+                 beside_an_order, asleep, failing, unwatched, troubled, ailing, counted, without_a_page, at_its_port,
                  by_its_names):
         part(folder)
     with Device(folder) as device, Panel(folder, device.port) as panel:

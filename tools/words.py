@@ -451,6 +451,30 @@ def typed(checks):
             checks.same(f"run {more}, typed: its end", (*out, run.returncode), ("", "", 0))
 
 
+def one_by_one(checks):
+    """`run` prints each answer as soon as it is there, also where all lines came at once: none waits for the answer to
+    the next line, nor for more lines."""
+    for more in ([], ["--ahead", 2]):
+        with bound() as device:
+            to = f"127.0.0.1:{device.getsockname()[1]}"
+            run = checks.start("ocactl", "run", "--device", to, "--first-handle", 1, "--port", free_port(), *more)
+            run.stdin.write("1 2 3 0 -\n" * 5)
+            run.stdin.flush()
+            for handle in range(1, 6):
+                data, wanted = b"", oca.pdu(1, [oca.Command(handle, 1, 2, 3, 0, b"").body()])
+                while data != wanted:
+                    data, sender = device.recvfrom(2000)
+                device.sendto(response(handle, handle, 0, b""), sender)
+                ready = select.select([run.stdout], [], [], 4)[0]
+                answered = ready and run.stdout.readline()
+                checks.same(f"run {more}, lines at once: answer {handle}", answered, f"answer {handle} 0 -\n")
+                if not ready:
+                    run.kill()
+                    break
+            out = run.communicate(timeout=30)
+            checks.same(f"run {more}, lines at once: its end", (*out, run.returncode), ("", "", 0))
+
+
 def limits(checks):
     """`send`: the greatest value of each option is sent, and one more is bad words and sends nothing."""
     most = {"target": oca.U32, "level": 65535, "index": 65535, "count": 255, "params": "5a" * 1445, "turns": oca.U32, "port": 65535}
@@ -731,7 +755,7 @@ def trees(checks):
 
 def main():
     checks = Checks(sys.argv[1])
-    for part in (sends, runs, runs_ahead, drives_while_it_waits, typed, wide_spans, spans_of_hands, holds, at_own_ports,
+    for part in (sends, runs, runs_ahead, drives_while_it_waits, typed, one_by_one, wide_spans, spans_of_hands, holds, at_own_ports,
                  limits, defaults, faults, bad_options, bad_values, missing_options, versions, unwritten,
                  without_streams, serves, serves_until_stopped, trees):
         try:
