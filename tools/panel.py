@@ -833,18 +833,18 @@ def troubled(folder):
 
 
 class Ailing(Served):
-    """The second implementation's device, which answers DeviceError where it is asked for the value of one object, as
-    long as it ails."""
+    """The second implementation's device, which answers DeviceError where it is asked for one thing of one object, as
+    long as it ails: for its value, unless another method is given."""
 
-    def __init__(self, tree, ono):
+    def __init__(self, tree, ono, method=(5, 1)):
         super().__init__(tree)
-        self.answers, self.ono, self.ails = self.device.datagram, ono, True
+        self.answers, self.asked, self.ails = self.device.datagram, (ono, *method), True
         self.device.datagram = self.datagram
 
     def datagram(self, peer, data, now):
         said, packets = self.answers(peer, data, now)
         commands = [command[0] for kind, _, *command in oca.check(data) if kind == "command"]
-        asked = [it.handle for it in commands if (it.target, it.level, it.index) == (self.ono, 5, 1)]
+        asked = [it.handle for it in commands if (it.target, it.level, it.index) == self.asked]
         if self.ails and asked:
             return said, [oca.pdu(3, [oca.response_body(handle, 2, 0, b"") for handle in asked])]
         return said, packets
@@ -863,6 +863,15 @@ def ailing(folder):
             device.ails = False
             is_well = panel.wait(lambda _: panel.value(TRIM) == "0" and panel.shown[TRIM]["trouble"] is None)
             check(is_well is not None, f"a value that is read again has no trouble: {panel.shown.get(TRIM)}")
+    with Ailing(oca.bench(), 4096, (3, 5)) as device, Panel(folder, device.port) as panel:
+        device.ails = False
+        panel.wait(lambda v: v["walked"] and panel.value(TRIM) is not None)
+        device.ails = True
+        is_told = panel.wait(lambda _: panel.shown.get(4096, {}).get("trouble") == "DeviceError") is not None
+        check(is_told, f"why a block that was walked can't be listed is shown: {panel.shown.get(4096)}")
+        device.ails = False
+        is_well = panel.wait(lambda _: panel.shown.get(4096, {}).get("trouble") is None) is not None
+        check(is_well, f"a block that is listed again has no trouble: {panel.shown.get(4096)}")
 
 
 def asleep(folder):

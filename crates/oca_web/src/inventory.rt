@@ -348,6 +348,7 @@ impl Inventory {
         let container = object.ono;
         if self.walked {
             self.is_stale = self.is_stale || !self.lists(container, members);
+            self.show_listed(place);
             return Ok(());
         }
         self.walk
@@ -356,6 +357,21 @@ impl Inventory {
             self.add_next(member.class)?;
         }
         Ok(())
+    }
+
+    /// The members of a block were listed: there is no trouble.
+    fn show_listed(&mut self, place: usize)
+        ensures { KeepsWalk self.old self.new }
+    {
+        if let Some(shown) = self.objects.shown(place) {
+            self.objects.show(
+                place,
+                Shown {
+                    trouble: None,
+                    ..shown
+                },
+            );
+        }
     }
 
     /// Whether these are the members of a block that are known, but for those that stand in another one too.

@@ -180,7 +180,8 @@ fn write_unless_failed<W: Sink>(
 
 /// Prints a command's outcome, and flushes it.
 fn write_outcome<W: Sink>(outcome: &Outcome, printer: &mut Printer<W>) -> Result<(), WriteFailed>
-    ensures { Prints result printer.old printer.new (outcome_line outcome.now) }
+    ensures prints { Prints result printer.old printer.new (outcome_line outcome.now) }
+    ensures empty { OnOk result (printer.new.held ≡ []) }
 {
     print_outcome(outcome, printer)?;
     printer.flush()
