@@ -383,6 +383,19 @@ fn is_not_before(clock: &CountsSleep<'_, HostRuntime>, before: Duration) -> bool
     }
 }
 
+/// Whether the clock's date is the system's.
+fn has_the_date(rt: &HostRuntime, clock: &CountsSleep<'_, HostRuntime>) -> Option<bool> {
+    let before = rt.since_1970().ok()?;
+    let date = clock.since_1970().ok()?;
+    let behind = rt.since_1970().ok()?;
+    Some(before <= date && date <= behind)
+}
+
+#[test]
+fn a_clock_that_counts_sleep_has_the_date(rt: HostRuntime) {
+    assert_eq!(rt; has_the_date(&rt, &CountsSleep(&rt)), Some(true));
+}
+
 /// Whether a clock that counts sleep is not behind the system's, and an end over it gives moments that rise with it.
 fn counts_sleep(rt: &HostRuntime) -> Option<bool> {
     let before = rt.monotonic().ok()?;
