@@ -4,4 +4,4 @@ use Rattle.ocactl_cli.proofs.commands.write_unless_failed.Goals as goal
 
 pub returns-in-Ok : goal.returns-in-Ok
 returns-in-Ok g c =
-    goes-ok c.args.written c.write_outcome.result _ c.args.printer.now c.write_outcome.new.printer (outcome_line c.args.outcome.now) c.in-Ok.is c.write_outcome.ensures
+    goes-ok c.args.written c.write_outcome.result _ c.args.printer.now c.write_outcome.new.printer (outcome_line c.args.outcome.now) c.in-Ok.is c.write_outcome.ensures.prints
