@@ -498,8 +498,7 @@ def fails_each_in_turn(_):
         runs = unreliable.Runs("", "")
         runs.run = run_with(slip)
         with contextlib.redirect_stdout(io.StringIO()):
-            requests, without = runs.memory(["a"], b"")
-            runs.after_building(["a"], b"", requests)
+            runs.after_building(["a"], b"", runs.memory(["a"], b"")[0])
             runs.failing_ends(["a"], b"", 1)
             runs.pieces_of(["a"], b"")
         wanted = (slip != ("", 0), 4 - (slip in slips[:4]), 8, 3)
