@@ -469,6 +469,93 @@ def finds_names_defined_twice(folder):
     return [*defined_twice(folder)] == ["same"] and not found
 
 
+# What a run asks for, reads and writes that `unreliable.py` makes fail, and what each failure is answered with.
+OF_FAILURES = {"REFUSE": (4, b"no memory\n"), "FAIL_READ": (3, b"read failed\n"), "FAIL_WRITE": (5, b"write failed\n")}
+
+
+def run_with(slip):
+    """A run that asks for memory four times, reads three times and writes a byte five times. It answers each failure as
+    it is to, and prints the same in pieces of each size, but for one: that it passes over."""
+    def of(words, script, **settings):
+        counts = [number for number, _ in OF_FAILURES.values()]
+        failing = {name: number for name, number in settings.items() if name != "PIECE"} or settings
+        if failing == dict([slip]):
+            return b"1", b"", 0, counts
+        for setting, (number, fault) in OF_FAILURES.items():
+            if 0 < settings.get(setting, 0) <= number:
+                return b"12345"[:settings[setting] - 1] if setting == "FAIL_WRITE" else b"", fault, 1, counts
+        return b"12345", b"", 0, counts
+    return of
+
+
+def fails_each_in_turn(_):
+    """`unreliable.py` makes each request for memory, each read and each write of a run fail, from the first to the last,
+    and finds the one that the run passes over, whichever it is."""
+    unreliable, wrong = importlib.import_module("unreliable"), []
+    slips = [("REFUSE", n) for n in range(1, 6)] + [("FAIL_READ", n) for n in range(1, 4)] + [
+        ("FAIL_WRITE", n) for n in range(1, 6)] + [("PIECE", n) for n in (1, 7, 100)] + [("REFUSE_FROM", 5)]
+    for slip in [("", 0), *slips]:
+        runs = unreliable.Runs("", "")
+        runs.run = run_with(slip)
+        with contextlib.redirect_stdout(io.StringIO()):
+            runs.after_building(["a"], b"", runs.memory(["a"], b"")[0])
+            runs.failing_ends(["a"], b"", 1)
+            runs.pieces_of(["a"], b"")
+        wanted = (slip != ("", 0), 4 - (slip in slips[:4]), 8, 3)
+        wrong += [slip] if (runs.wrong > 0, runs.refused, runs.ends, runs.pieces) != wanted else []
+    for it in wrong:
+        print(f"unreliable.py: {it} is passed over")
+    return not wrong
+
+
+# A device of one number, which it answers with and sets by what it is asked; behind each answer it keeps a number.
+KEEPER = """import os
+import socket
+import struct
+import sys
+import time
+keep = sys.argv[sys.argv.index("--keep") + 1]
+value = int(open(keep).read()) if os.path.exists(keep) else 0
+end = socket.socket(socket.AF_INET, socket.SOCK_DGRAM)
+end.bind(("127.0.0.1", 0))
+print(f"listening 127.0.0.1:{end.getsockname()[1]}", file=sys.stderr, flush=True)
+while True:
+    data, peer = end.recvfrom(2000)
+    time.sleep(0.004)
+    if data[25] == 2:
+        value = struct.unpack(">h", data[27:29])[0]
+    end.sendto(data[:18] + bytes(2) + struct.pack(">h", value), peer)
+    with open(f"{keep}.new", "w") as file:
+        file.write(f"{KEPT}")
+    os.replace(f"{keep}.new", keep)
+"""
+# Which number it keeps, and whether that is as it is to be.
+OF_KEEPERS = [("{value}", True), ("0", False), ("{value - 3}", False), ("{value + 3}", False), ("", False)]
+
+
+def sees_what_is_not_kept(folder):
+    """`keep.py` kills a device, and finds one that comes back with less than was answered, with more than was set, or
+    not at all."""
+    keep, found = importlib.import_module("keep"), []
+    real = keep.KILLS, keep.random
+    try:
+        keep.KILLS, keep.random = 3, SimpleNamespace(uniform=lambda *_: 0.15)
+        for at, (kept, _) in enumerate(OF_KEEPERS):
+            place = folder / f"keeper-{at}"
+            stand_in(place / "ocadev", f"exec {sys.executable} {place}/device.py \"$@\"")
+            (place / "device.py").write_text(KEEPER.replace("{KEPT}", kept))
+            checks = keep.Checks(str(place))
+            with contextlib.redirect_stdout(io.StringIO()):
+                keep.kills(checks, str(place))
+            found.append((checks.passed == 3, checks.failed == 0))
+    finally:
+        keep.KILLS, keep.random = real
+    wrong = [it for it, got in zip(OF_KEEPERS, found) if got != (it[1], it[1])]
+    for it in wrong:
+        print(f"keep.py: of a device that keeps {it[0]!r}: {found[OF_KEEPERS.index(it)]}")
+    return not wrong
+
+
 # What is tried, each in a folder of its own.
 ROWS = [("edits.py tries edits in groups", tries_edits_in_groups),
         ("edits.py sees what is not proved", sees_what_is_not_proved), ("fuzz.py compares scripts", compares_scripts),
@@ -476,4 +563,6 @@ ROWS = [("edits.py tries edits in groups", tries_edits_in_groups),
         ("snippets.py comes to what documents say", finds_what_documents_say),
         ("neighbours.py judges runs", judges_neighbours), ("all that the tools have is called", calls_all_that_it_has),
         ("snippets.py finds examples of doc comments", finds_examples),
-        ("a definition's name stands in one spec", finds_names_defined_twice)]
+        ("a definition's name stands in one spec", finds_names_defined_twice),
+        ("unreliable.py fails each in turn", fails_each_in_turn),
+        ("keep.py sees what is not kept", sees_what_is_not_kept)]

@@ -770,17 +770,18 @@ def newer_than_an_answer(folder):
 
 
 def beside_an_order(folder):
-    """While an order waits for its answer, pages are answered."""
-    with Deaf(stagebox(), SETS) as device, Panel(folder, device.port) as panel:
-        panel.wait(lambda v: v["walked"])
-        for _ in range(3):
-            status, _ticket = panel.order("/set", 4097, "unmuted")
+    """While an order waits for its answer, pages are answered: the fastest of five counts, each at a panel whose link is
+    still there."""
+    took, taken = [], []
+    while len(took) < 5 and min(took, default=9) >= 0.25:
+        with Deaf(stagebox(), SETS) as device, Panel(folder, device.port) as panel:
+            panel.wait(lambda v: v["walked"])
+            taken.append(panel.order("/set", 4097, "unmuted")[0])
             begun = time.monotonic()
             panel.look()
-            took = time.monotonic() - begun
-            if took < 1:
-                break
-        check(status == 202 and took < 1, f"a page beside an order without an answer waits {took:.1f} s")
+            took.append(time.monotonic() - begun)
+    check(set(taken) == {202}, f"orders without an answer are taken: {taken}")
+    check(min(took) < 0.25, f"a page beside an order without an answer waits {1000 * min(took):.0f} ms")
 
 
 def layer_in(place):
