@@ -265,8 +265,12 @@ SENT = ("--target", 1, "--level", 1, "--index", 1, "--count", 0)
 
 
 def ended_so(run):
-    """What a run printed, what it said of faults, and its status."""
-    return (*run.communicate(timeout=60), run.returncode)
+    """What a run printed, what it said of faults, and its status; that it did not end, where it does not in a minute."""
+    try:
+        return (*run.communicate(timeout=60), run.returncode)
+    except subprocess.TimeoutExpired:
+        run.kill()
+        return ("it did not end", *run.communicate(timeout=60))
 
 
 def refused_sockets(checks):
