@@ -265,8 +265,12 @@ SENT = ("--target", 1, "--level", 1, "--index", 1, "--count", 0)
 
 
 def ended_so(run):
-    """What a run printed, what it said of faults, and its status."""
-    return (*run.communicate(timeout=60), run.returncode)
+    """What a run printed, what it said of faults, and its status; that it did not end, where it does not in a minute."""
+    try:
+        return (*run.communicate(timeout=60), run.returncode)
+    except subprocess.TimeoutExpired:
+        run.kill()
+        return ("it did not end", *run.communicate(timeout=60))
 
 
 def refused_sockets(checks):
@@ -398,6 +402,40 @@ def lines_at_once(checks):
             break
     checks.expect("`run`: a line is sent sooner than half a wait of 50 ms ends", fourth[-1] < 0.5,
                   f"{fourth} of such a wait", is_time=True)
+
+
+def copies_behind_a_pause(checks):
+    """A run of `ocactl run` whose second line comes a second behind the answer to the first, and is answered one wait of
+    50 ms behind its command: how often that command came."""
+    with bound() as device:
+        device.setsockopt(socket.SOL_SOCKET, SO_TIMESTAMPNS, 1)
+        to = ("--device", f"127.0.0.1:{device.getsockname()[1]}")
+        run = checks.start("ocactl", "run", *to, "--first-handle", 1, "--port", free_port(), stdin=subprocess.PIPE)
+        printed, heard = [], []
+        for handle, pause in ((1, 0), (2, 1)):
+            time.sleep(pause)
+            run.stdin.write("4097 4 1 0 -\n")
+            run.stdin.flush()
+            data, sender = next_command(device)
+            time.sleep(WAIT_MS / 1000)
+            heard = [data, *(more for more, _, _ in arrivals(device))]
+            device.settimeout(10)
+            if sender:
+                device.sendto(response(handle), sender)
+            printed.append(sender and line_of(run))
+        checks.same("`run` with a pause: its lines", printed, ["answer 0 1 01\n"] * 2)
+        checks.same("`run` with a pause: its end", ended_so(run), ("", "", 0))
+    return heard.count(get_command(2))
+
+
+def a_line_behind_a_pause(checks):
+    """A command that is submitted behind a pause is sent at its own moment, and not at that of what was heard last: it is
+    sent again 250 ms later, and not at once."""
+    for _ in range(3):
+        times = copies_behind_a_pause(checks)
+        if times == 1:
+            break
+    checks.same("`run` with a pause: how often the second command is sent in 50 ms", times, 1, is_time=True)
 
 
 def a_stalled_neighbour(checks):
@@ -627,7 +665,7 @@ def main():
         try:
             for part in (closed_descriptors, broken_pipes, null_at_closed, quiet_turns, signals, runs_under_signals,
                          refused_sends, refused_sockets, send_buffers, is_a_program_there, lines_at_once,
-                         a_stalled_neighbour, asleep, a_failed_receive, reports_behind_a_sleep, kept_safely,
+                         a_line_behind_a_pause, a_stalled_neighbour, asleep, a_failed_receive, reports_behind_a_sleep, kept_safely,
                          calls_in_a_row, other_addresses):
                 checks.part(part)
         finally:
