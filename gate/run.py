@@ -23,7 +23,11 @@ from pathlib import Path
 
 HERE = Path(__file__).resolve().parent
 TOP = HERE.parent
+sys.path.insert(0, str(HERE))
+import build
+
 BESIDE = 3
+NEEDS = 4_000_000_000  # bytes for a check: the most that one took, measured, is 3.3 GB (ocactl_cli)
 LAST_LINES = 12  # so many are shown of a step that passed
 RUNNING = []
 TABLE = []  # a line for each command that has ended
@@ -148,6 +152,15 @@ def least_of_ci(top=TOP):
     return sum(map(bool, lines)) + len(list(top.glob("crates/*/must-fail/*.edit")))
 
 
+def lanes():
+    """How many checks `rt ci` is to run at once: as many as there are processors, and as memory holds; or as many as
+    RT_JOBS says. Left to itself it reckons with three to five times the memory that they take, and waits."""
+    if os.environ.get("RT_JOBS", "").isdigit():
+        return int(os.environ["RT_JOBS"])
+    rt = build.toolchain()
+    return max(1, min(rt.processors(), rt.free() // NEEDS))
+
+
 def processor_minutes():
     used = resource.getrusage(resource.RUSAGE_CHILDREN)
     return (used.ru_utime + used.ru_stime) / 60
@@ -188,7 +201,7 @@ def main(words):
     if not words:
         print(f"gate: every proof from nothing, then {len(steps)} steps: an hour or two on four processors. "
               "Each crate and each step is shown as it ends.", flush=True)
-        counts.append(watched("rt ci", least_of_ci()))
+        counts.append(watched(f"RT_JOBS={lanes()} rt ci", least_of_ci()))
         print(f"gate: {processor_minutes():.1f} processor minutes for rt ci", flush=True)
     counts += [(0, len(wrong))] + run_steps([[step for step in part if step.is_read] for part in parts])
     passed, failed = (sum(of) for of in zip(*counts))

@@ -119,11 +119,13 @@ def knows_the_least(folder):
 
 def counts_all():
     """The whole gate passes only where `rt ci`, its steps and their list do: each of them is made to fail alone. It calls
-    `rt ci` without other words, for as many checks as that is to pass, and every step of the file, as it stands there."""
-    real = run.watched, run.run_steps, run.left_out
+    `rt ci` without other words, on as many lanes as there are, for as many checks as that is to pass, and every step of
+    the file, as it stands there."""
+    real = run.watched, run.run_steps, run.left_out, run.lanes
+    run.lanes = lambda: 3
     parts = run.paragraphs(HERE / "steps")
     steps = [[(step.least, step.minutes, step.command) for step in part] for part in parts]
-    called = [("rt ci", run.least_of_ci()), steps, (sum(steps, []), run.TOP / "tools")]
+    called = [("RT_JOBS=3 rt ci", run.least_of_ci()), steps, (sum(steps, []), run.TOP / "tools")]
     words = lambda steps: [(it.least, it.minutes, it.command) for it in steps]
     try:
         found, asked = [], []
@@ -137,7 +139,25 @@ def counts_all():
         is_asked = sorted(asked, key=str) == sorted(called * 4, key=str)
         return is_asked and found == [(0, "8 passed, 0 failed")] + [(1, "8 passed, 1 failed")] * 3
     finally:
-        run.watched, run.run_steps, run.left_out = real
+        run.watched, run.run_steps, run.left_out, run.lanes = real
+
+
+def knows_the_lanes():
+    """`rt ci` is to run as many checks at once as there are processors and as memory holds, at least one, or as many as
+    RT_JOBS says."""
+    real, said = run.build.toolchain, os.environ.pop("RT_JOBS", None)
+    try:
+        found = []
+        for processors, memory in ((4, 23_000_000_000), (4, 9_000_000_000), (2, 23_000_000_000), (4, 1_000_000_000)):
+            run.build.toolchain = lambda: SimpleNamespace(processors=lambda: processors, free=lambda: memory)
+            found.append(run.lanes())
+        os.environ["RT_JOBS"] = "7"
+        return [*found, run.lanes()] == [4, 2, 2, 1, 7]
+    finally:
+        run.build.toolchain = real
+        os.environ.pop("RT_JOBS", None)
+        if said is not None:
+            os.environ["RT_JOBS"] = said
 
 
 def counts_edits():
@@ -313,16 +333,167 @@ def judges_edits():
     found, told = [], []
     for status, lines, _ in SAID_OF_EDITS:
         answer = edits.Answer(SimpleNamespace(returncode=status, stdout="\n".join(lines) + "\n"), {})
-        found.append([name for name in tried if answer.refuses(tried[name])])
+        found.append([name for name in tried if answer.refuses(tried[name].functions)])
         told += [answer.reason(tried[name]) for name in tried if name not in found[-1]]
     return found == [list(refused) for *_, refused in SAID_OF_EDITS] and all(told)
+
+
+# A crate with a function that two edits change, one that none does, and a method of a trait; the copies that one check
+# has of it, behind that function: as it stands, since it has a proof by hand, and with the second edit.
+SOURCE = """/// Counts.
+#[tactic(auto,
+    using(a::b))]
+pub fn f(n: u8) -> u8 {
+    n + 1
+}
+
+impl Default for T {
+    fn default() -> T {
+        T(1)
+    }
+}
+"""
+COPIES = """
+#[tactic(auto,
+    using(a::b))]
+pub fn f_edited_1(n: u8) -> u8 {
+    n + 3
+}
+
+#[tactic(auto,
+    using(a::b))]
+pub fn f_as_it_stands(n: u8) -> u8 {
+    n + 1
+}
+"""
+OF_F = "use Rattle.a.proofs.m.f.Goals as goal\nx : goal.f.proofs.m.fine\n"
+# Of which functions the prover says in the check that a goal fails, and which of the two edits are refused by that.
+SAID_OF_COPIES = [("f f_edited_1", "a b"), ("f", "a"), ("f_edited_1", "b"), ("f f_edited_1 f_as_it_stands", "a"), ("", "")]
+
+
+def copies_edits():
+    """A further edit of a function is tried in a copy of it, with a copy of its proof and a copy as it stands, which
+    must be proved; a further one of a method of a trait, or of two functions, in another check. Edits that are left are
+    tried without copies."""
+    edits = importlib.import_module("edits")
+    with tempfile.TemporaryDirectory() as folder:
+        for name, text in (("src/m.rt", SOURCE), ("proofs/m/f/Answers.antt", OF_F)):
+            Path(folder, name).parent.mkdir(parents=True)
+            Path(folder, name).write_text(text)
+        crate = SimpleNamespace(folder=folder, name="a")
+        changes = {"a": ("n + 1", "n + 2"), "b": ("n + 1", "n + 3"), "c": ("T(1)", "T(2)"), "d": ("T(1)", "T(3)")}
+        for name, (old, new) in changes.items():
+            Path(folder, f"{name}.edit").write_text(f"file: src/m.rt\nold: {old}\nnew: {new}\n")
+        of = {name: edits.Edit(Path(folder, f"{name}.edit"), crate) for name in changes}
+        groups = edits.grouped(of.values(), crate, True)
+        is_grouped = [(it.placed, it.copied) for it in groups] == [([of["a"], of["c"]], [of["b"]]), ([of["d"]], [])]
+        alone = [it.edits() for it in edits.grouped(of.values(), crate)]
+        is_grouped = is_grouped and alone == [[of["a"], of["c"]], [of["b"], of["d"]]]
+        texts = groups[0].texts(crate, groups[0].copies(crate))
+        behind = SOURCE.replace("n + 1\n}\n", "n + 2\n}\n" + COPIES).replace("T(1)", "T(2)")
+        names = ["f_as_it_stands", "f_edited_1"]
+        proofs = {f"proofs/m/{it}/Answers.antt": OF_F.replace("proofs.m.f.", f"proofs.m.{it}.") for it in names}
+        is_copied = texts == {"src/m.rt": behind, **proofs}
+        return is_grouped and is_copied and [judged_copies(edits, crate, of, said) for said, _ in SAID_OF_COPIES] == [
+            refused.split() for _, refused in SAID_OF_COPIES]
+
+
+def judged_copies(edits, crate, of, said):
+    """Which of the two edits of the function are refused where the prover says so."""
+    trial, asked = edits.Trial(crate, crate.folder), []
+    lines = [f"fn a::m::{name}: not proved: the search did not prove a goal" for name in said.split()]
+    ran = SimpleNamespace(returncode=1, stdout="\n".join([*lines, "logic=not-proved"]) + "\n")
+    trial.checked = lambda texts, paths, without: asked.append(sorted(paths)) or edits.Answer(ran, texts)
+    group = edits.grouped([of["a"], of["b"]], crate, True)[0]
+    left = trial.try_group(group)
+    refused = [name for name in "ab" if of[name].is_refused]
+    is_told = not trial.why and [it for it in (of["a"], of["b"]) if not it.is_refused] == left and all(it.why for it in left)
+    return refused if is_told and asked == [["m::f", "m::f_as_it_stands", "m::f_edited_1"]] else None
+
+
+# Functions of a file with what stands in their bodies, and whether that can be left out where only `touched` is checked.
+BODIES = """pub const fn full() -> bool {
+    true
+}
+
+#[cycle(around)]
+fn round(n: u8) -> u8 {
+    round(n)
+}
+
+pub fn touched(n: u8) -> u8 {
+    other(n)
+}
+
+#[tactic(auto)]
+pub fn other(
+    n: u8,
+) -> u8
+    requires { n < 9 }
+{
+    let m = n;
+    m + 2
+}
+
+extern "C" {
+    fn write(
+        n: u8,
+    ) -> u8;
+}
+
+impl Default for T {
+    fn default() -> T {
+        T(1)
+    }
+}
+
+impl T {
+    pub fn of(n: u8) -> T {
+        T(n)
+    }
+}
+"""
+EMPTY = BODIES.replace("    let m = n;\n    m + 2\n", "    unreachable!()\n\n").replace("        T(n)\n", "        unreachable!()\n")
+# What the prover says of `touched` and others where these are empty, and where they are not; whether the edit of `touched`
+# is refused, and how many checks that takes.
+LEMMA = f"proofs/Lemmas.antt:1:2: {GONE}"
+OPEN, ALSO = (f"fn a::m::{it}: no proof: the search did not prove a goal" for it in ("touched", "other"))
+SAID_OF_EMPTY = [([OPEN, ALSO], [], True, 1), ([OPEN, LEMMA], [], False, 2), ([OPEN, LEMMA], [OPEN], True, 2),
+                 ([ALSO], [OPEN], False, 1), ([OPEN, "fn a::m::full: no proof: the search did not prove a goal"], [], False, 2)]
+
+
+def empties_functions():
+    """Functions that no edit touches are checked without their bodies and proofs, but for those of traits, constants,
+    cycles and C; where anything else than what was changed fails then, they are checked once more with them."""
+    edits = importlib.import_module("edits")
+    with tempfile.TemporaryDirectory() as folder:
+        Path(folder, "src").mkdir()
+        Path(folder, "src/m.rt").write_text(BODIES)
+        Path(folder, "one.edit").write_text("file: src/m.rt\nold: other(n)\nnew: 1 + other(n)\n")
+        crate = SimpleNamespace(folder=folder, name="a")
+        edit = edits.Edit(Path(folder, "one.edit"), crate)
+        texts, empty = edits.emptied(crate, {}, edit.functions)
+        found = [texts == {"src/m.rt": EMPTY}, [it.path() for it in empty] == ["m::other", "m::T::of"]]
+        for without_bodies, whole, is_refused, checks in SAID_OF_EMPTY:
+            asked, trial = [], edits.Trial(crate, folder)
+
+            def checked(texts, paths, without):
+                asked.append(sorted(it.path() for it in without))
+                lines = without_bodies if without else whole
+                said = "\n".join([*lines, "logic=not-proved" if lines else "logic=proved"]) + "\n"
+                return edits.Answer(SimpleNamespace(returncode=int(bool(lines)), stdout=said), texts)
+
+            trial.checked = checked
+            trial.try_group(edits.Group(edit), True)
+            found.append(edit.is_refused == is_refused and asked == [["m::T::of", "m::other"], []][:checks])
+        return all(found)
 
 
 # The steps, each by its whole command, and the fewest checks that it is to pass: neither a slip in their list nor another
 # word takes some of them away unseen.
 PROGRAMS = "ocadev ocactl ocapanel trials amplifier panel"
 FEWEST = {
-    "python3 gate/selftest.py": 89,
+    "python3 gate/selftest.py": 92,
     f"mkdir -p bin && for name in {PROGRAMS}; do cp crates/$name/out/$name bin/ || exit 1; done": 1,
     "python3 tools/c_library.py bin": 26600, "python3 examples/run.py bin/ocadev": 4, "python3 tools/runs.py bin": 100,
     "python3 tools/ctl_runs.py bin": 100, "python3 tools/unreliable.py bin": 3690, "python3 tools/fuzz.py bin 20": 200,
@@ -509,7 +680,8 @@ def main():
               ("edits.py lists each edit", lists_each_edit()), ("edits.py judges edits", judges_edits()),
               ("the steps name enough", names_enough()),
               ("make library stands on its sources", stands_on_its_sources())]
-    tried += [("all that is tried counts", counts_all()), ("edits.py counts all", counts_edits()),
+    tried += [("all that is tried counts", counts_all()), ("the lanes of rt ci", knows_the_lanes()), ("edits.py counts all", counts_edits()),
+              ("edits.py copies functions", copies_edits()), ("edits.py empties functions", empties_functions()),
               ("network.py forgives no lateness", forgives_no_lateness()),
               ("lossy.py judges runs", judges_lossy_runs()), ("lossy.py carries badly", carries_badly()),
               ("tools count what differs", counts_what_differs())]

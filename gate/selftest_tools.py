@@ -31,12 +31,12 @@ TRIED = {
 GOOD_ONES = ("a_f", "b_f_again", "c_g", "g_i", "h_h", "i_number")
 
 
-def crate_of_edits(folder, name, edits, bodies=BODIES):
-    """A crate with these functions and edits, whose libraries are built."""
+def crate_of_edits(folder, name, edits, bodies=BODIES, constant=""):
+    """A crate with these functions, one of which may be constant, and edits, whose libraries are built."""
     crate = folder / "crates" / name
     for part in ("src", "wrong"):
         (crate / part).mkdir(parents=True)
-    functions = "".join(f"fn {it}() {{\n    {body}\n}}\n" for it, body in bodies.items())
+    functions = "".join(f"{'const ' * (it == constant)}fn {it}() {{\n    {body}\n}}\n" for it, body in bodies.items())
     (crate / "src/lib.rt").write_text(f"const N = 1;\n{functions}")
     for edit in edits:
         old, new, _ = TRIED[edit]
@@ -47,12 +47,13 @@ def crate_of_edits(folder, name, edits, bodies=BODIES):
 def said_by_the_prover(crate, texts, flags, kept):
     """What the prover says of such a crate with these texts."""
     lines, body = [], texts["src/lib.rt"]
-    for name in BODIES:
-        inside = body.split(f"fn {name}() {{\n    ")[1].split("\n}")[0]
+    for name, inside in re.findall(r"(?s)fn (\w+)\(\) \{\n    (.*?)\n\}", body):
         if "wrong" in inside or "N = 2;" in body and name == "f":
             lines += [f"fn {crate.name}::{name}: not proved: the search did not prove a goal"]
         elif "gone" in inside:
             lines += [f"proofs/{name}/F.antt:1:2: {GONE}", f"fn {crate.name}::{name}: not proved: its proof"]
+        elif inside.startswith("unreachable!()"):
+            lines += [f"fn {crate.name}::{name}: no proof: `search` did not prove `unreachable-requires`"]
     said = "\n".join([*lines, "logic=not-proved" if lines else "logic=proved"]) + "\n"
     return SimpleNamespace(returncode=int(bool(lines)), stdout=said)
 
@@ -61,7 +62,7 @@ def told_by_edits(folder, crates, words):
     """The status of `edits.py`, what it tells of each edit, and its last line, where these are all crates."""
     edits, place = importlib.import_module("edits"), Path.cwd()
     real = edits.ROOT, edits.SELFTEST, edits.rt, edits.rtlib
-    rtlib = SimpleNamespace(guarded=list, crates_below=lambda _: crates, STALE=real[3].STALE)
+    rtlib = SimpleNamespace(guarded=list, crates_below=lambda _: crates, STALE=real[3].STALE, PARTS=("src", "specs"))
     told = io.StringIO()
     try:
         edits.ROOT, edits.SELFTEST, edits.rtlib = folder, folder / "none", rtlib
@@ -96,8 +97,8 @@ def tries_edits_in_groups(folder):
 
 
 def sees_what_is_not_proved(folder):
-    """`edits.py` counts no edit of a crate as refused where a function fails that none touches."""
-    crate = crate_of_edits(folder, "a", ["a_f", "c_g", "h_h"], dict(BODIES, i="wrong as it is"))
+    """`edits.py` counts no edit of a crate as refused where a function fails that none touches, and that it can't empty."""
+    crate = crate_of_edits(folder, "a", ["a_f", "c_g", "h_h"], dict(BODIES, i="wrong as it is"), "i")
     status, told, last = told_by_edits(folder, [crate], [])
     are_so = [it.startswith("FAILED: i is not proved") for it in told.values()]
     return (status, last, are_so) == (1, "0 passed, 3 failed", [True] * 3)

@@ -4,12 +4,18 @@
   edits.py [CRATE ..]      the edits of all crates of crates.txt, or of those alone
 
 An edit has the form of a must-fail edit: a line 'file: src/lib.rt', then pairs of lines 'old: TEXT' and 'new: TEXT',
-each old text standing once in that file. Edits of different functions are checked together, one check of a copy of the
-crate for each group, of these functions and what they call: `rt ci` has proved the crate itself. An edit is refused where
-a goal of a function that it touches fails: not where that function only calls one that is not proved, and not only since
-a proof file names what the edit took away. What is not refused in its group is tried in smaller ones, and at last alone;
-what is not refused there has failed. An edit that touches no function, but a definition or a number, is alone; a line
-'of: PATH' has the function whose proof it must break, and only that one and the lemmas that it cites are checked.
+each old text standing once in that file. Edits are checked together, one check of a copy of the crate for each group, of
+the functions that they touch and what these call: `rt ci` has proved the crate itself. The first edit of a function is
+made in its place; a further one in a copy of that function, which stands behind it under another name, with its contract
+and a copy of its proof files; where there are such files, one more copy, as the function stands, must be proved beside
+them. A function that no edit touches has no body there, since what calls it needs its contract alone; where anything
+fails then that was not changed, the check is made once more with these bodies.
+
+An edit is refused where a goal of a function that it touches fails: not where that function only calls one that is not
+proved, and not only since a proof file names what the edit took away. What is not refused in its group is tried in
+smaller ones without copies and with all bodies, and at last alone; what is not refused there has failed. An edit that
+touches no function, but a definition or a number, is alone; a line 'of: PATH' has the function whose proof it must
+break, and only that one and the lemmas that it cites are checked.
 
 The edits of tools/edits_selftest/CRATE/ must not be refused, and for what their line 'says: ' has: they try this tool.
 
@@ -17,8 +23,10 @@ Crates run side by side, as many as there are processors and memory for, or as m
 a crate are taken from out/rlib as `rt ci` left them, and are built where they are not there. With EDITS_KEPT=1 a check
 begins with what earlier checks of the crate kept in out/incremental, which is faster while edits are written.
 The last line is 'N passed, M failed', and the exit status 1 where anything failed."""
+import copy
 import importlib.machinery
 import importlib.util
+import itertools
 import os
 import re
 import shutil
@@ -31,6 +39,7 @@ from pathlib import Path
 ROOT = Path(__file__).resolve().parent.parent
 SELFTEST = ROOT / "tools" / "edits_selftest"
 FLAGS = ["--jobs", "1"]
+EMPTIED = "unreachable!()"
 FUNCTION = re.compile(r"( *)(?:pub(?:\([a-z: ]+\))? )?(?:const |unsafe |extern \"C\" )*fn (\w+)")
 BLOCK = re.compile(r"( *)(?:unsafe )?(?:pub )?(impl|trait)\b(.*)")
 GONE = re.compile(r"has no field|is not in scope|has no `|was not admitted|is no name")
@@ -61,9 +70,16 @@ def say(text):
 class Function:
     """A function of the sources: its module, the type or trait that it belongs to, the trait of its impl, its name and its lines."""
 
-    def __init__(self, module, block, name, first, last):
+    def __init__(self, module, block, name, first, last, is_of_trait=False):
         self.module, self.name, self.first, self.last = module, name, first, last
         self.of, self.trait = block or (None, "")
+        self.is_of_trait = is_of_trait
+
+    def named(self, name):
+        """The same function under another name."""
+        other = copy.copy(self)
+        other.name = name
+        return other
 
     def path(self):
         """Its path below the crate, as the prover prints it."""
@@ -75,9 +91,7 @@ class Function:
         if inside[:len(self.module)] != self.module:
             return False
         rest = inside[len(self.module):]
-        if self.of:
-            return len(rest) > 1 and rest[0].startswith(self.of) and rest[1] == self.name
-        return rest[:1] == [self.name]
+        return rest[:2] == [self.of + self.trait, self.name] if self.of else rest[:1] == [self.name]
 
 
 def names_of(head):
@@ -119,12 +133,13 @@ def functions_of(path, text):
     for at, line in enumerate(lines):
         head, of = FUNCTION.match(line), BLOCK.match(line)
         if of:
-            block = of[1], names_of(of[3])
+            block = of[1], names_of(of[3]), of[2]
         elif block and line == block[0] + "}":
             block = None
         if head:
             ends = (i for i in range(at, len(lines)) if lines[i] in (head[1] + "}", head[1] + "};"))
-            found.append(Function(module, block[1] if block else None, head[2], at, next(ends, len(lines))))
+            is_of_trait = bool(block) and (block[2] == "trait" or bool(block[1][1]))
+            found.append(Function(module, block[1] if block else None, head[2], at, next(ends, len(lines)), is_of_trait))
     return found
 
 
@@ -165,20 +180,140 @@ class Edit:
     def keys(self):
         return {(*it.module, it.of, it.name) for it in self.functions}
 
+    def is_alone(self):
+        return not self.functions or self.must_pass
 
-def grouped(edits, crate):
-    """Puts the edits into groups that touch no function twice; what touches no function, or must pass, is alone."""
+    def can_be_copied(self):
+        """Whether it changes one function alone, which is no method of a trait."""
+        counts = [len(re.findall(rf"(?m)^{word}: ", self.text)) for word in ("file", "old")]
+        return counts == [1, len(self.functions)] and len(self.keys()) == 1 and not self.functions[0].is_of_trait
+
+
+def attributes_at(lines, first):
+    """The line at which the attributes of the function begin whose head is this line."""
+    while first > 0 and lines[first - 1].strip() and not re.search(r"^ *//|[};{]$", lines[first - 1]):
+        first -= 1
+    return first
+
+
+class Copy:
+    """A copy of a function of a crate under another name: with an edit, or as it stands where there is none."""
+
+    def __init__(self, crate, function, path, edit, other):
+        text = rt.edited(edit.text, crate.folder)[0][path] if edit else Path(crate.folder, path).read_text()
+        lines = text.split("\n")
+        head = re.sub(rf"\bfn {function.name}\b", f"fn {other.name}", lines[function.first], count=1)
+        attributes = lines[attributes_at(lines, function.first):function.first]
+        self.edit, self.path, self.behind, self.function = edit, path, function.last, other
+        self.lines = [*attributes, head, *lines[function.first + 1:function.last + 1]]
+        self.proofs = {}
+        old, new = (Path("proofs", *it.path().split("::")) for it in (function, self.function))
+        for file in proofs_of(crate, function):
+            text = file.read_text().replace(".".join(old.parts) + ".", ".".join(new.parts) + ".")
+            self.proofs[str(new / file.name)] = text
+
+
+def as_it_stands(function):
+    """What a copy of the function without an edit is called."""
+    return function.named(f"{function.name}_as_it_stands")
+
+
+def proofs_of(crate, function):
+    """The files of the function's own proof."""
+    folder = Path(crate.folder, "proofs", *function.path().split("::"))
+    return sorted(folder.glob("*.antt"))
+
+
+def body_of(lines, function):
+    """The line at which the body of the function opens, if it is one that can be emptied: that of a method of a trait, of
+    what the compiler itself runs, and of a cycle of calls is not, nor one that stands in one line with other text."""
+    head = lines[function.first]
+    attributes = "\n".join(lines[attributes_at(lines, function.first):function.first])
+    if function.is_of_trait or re.search(r"\bconst fn|extern \"C\"", head) or "cycle(" in attributes:
+        return None
+    indent = re.match(" *", head)[0]
+    for at in range(function.first, function.last):
+        ends = at == function.first or lines[at].startswith(f"{indent})")
+        if lines[at] == f"{indent}{{" or ends and lines[at].endswith("{"):
+            return at if len(re.findall(r"\bfn \w", head)) == 1 and function.last < len(lines) else None
+        if ends and lines[at].endswith((";", "}")):
+            return None
+    return None
+
+
+def emptied(crate, texts, touched):
+    """Empties the bodies of the functions that are not among those that edits touch, since what calls these needs their
+    contracts alone. Returns the texts of the files that have them, with those given, and the functions."""
+    found, paths = [], {it.path() for it in touched}
+    texts = dict(texts)
+    for file in sorted(Path(crate.folder, "src").rglob("*.rt")):
+        path = str(file.relative_to(crate.folder))
+        text = texts.get(path) or file.read_text()
+        lines = text.split("\n")
+        for function in functions_of(path, text):
+            function, opens = at_its_type(function, crate.folder, text), body_of(lines, function)
+            if opens is not None and function.path() not in paths:
+                body = [f"{lines[opens][:len(lines[opens]) - len(lines[opens].lstrip())]}    {EMPTIED}"]
+                lines[opens + 1:function.last] = (body + [""] * function.last)[:function.last - opens - 1]
+                found.append(function)
+        texts[path] = "\n".join(lines)
+    return texts, found
+
+
+class Group:
+    """Edits that one check tries: some in their places, others in copies of the functions that those change."""
+
+    def __init__(self, edit):
+        self.placed, self.copied = [edit], []
+
+    def edits(self):
+        return [*self.placed, *self.copied]
+
+    def empties(self):
+        """Whether other functions may be empty: not where the edit touches none, or must not be refused."""
+        return not self.placed[0].is_alone()
+
+    def take(self, edit, crate, with_copies):
+        """Takes the edit, where it can be tried beside the others, and says whether it can."""
+        if edit.is_alone() or self.placed[0].is_alone():
+            return False
+        taken = set().union(*(it.keys() for it in self.placed))
+        if not taken & edit.keys() and not rt.edited("\n".join(it.text for it in [*self.placed, edit]), crate.folder)[1]:
+            self.placed.append(edit)
+            return True
+        if with_copies and edit.can_be_copied():
+            self.copied.append(edit)
+            return True
+        return False
+
+    def copies(self, crate):
+        """The copies in which edits are tried, and those of functions as they stand."""
+        found, seen = [], set()
+        for number, edit in enumerate(self.copied, 1):
+            function, path = edit.functions[0], re.search(r"(?m)^file: (.*)$", edit.text)[1].strip()
+            if proofs_of(crate, function) and not edit.keys() <= seen:
+                found.append(Copy(crate, function, path, None, as_it_stands(function)))
+            seen |= edit.keys()
+            found.append(Copy(crate, function, path, edit, function.named(f"{function.name}_edited_{number}")))
+        return found
+
+    def texts(self, crate, copies):
+        """The texts of the files that the group changes or adds, by their paths in the crate."""
+        texts = dict(rt.edited("\n".join(it.text for it in self.placed), crate.folder)[0])
+        for it in sorted(copies, key=lambda it: -it.behind):
+            text = texts.get(it.path) or Path(crate.folder, it.path).read_text()
+            lines = text.split("\n")
+            texts[it.path] = "\n".join([*lines[:it.behind + 1], "", *it.lines, *lines[it.behind + 1:]])
+        return texts | {path: text for it in copies for path, text in it.proofs.items()}
+
+
+def grouped(edits, crate, with_copies=False):
+    """Puts the edits into groups that touch no function twice, but for copies of it; what touches no function, or must
+    pass, is alone."""
     groups = []
     for edit in edits:
-        for group in groups if edit.functions and not edit.must_pass else []:
-            taken = set().union(*(it.keys() for it in group))
-            is_open = all(it.functions and not it.must_pass for it in group)
-            together = "\n".join(it.text for it in [*group, edit])
-            if is_open and not taken & edit.keys() and not rt.edited(together, crate.folder)[1]:
-                group.append(edit)
-                break
-        else:
-            groups.append([edit])
+        if not any(group.take(edit, crate, with_copies) for group in groups):
+            groups.append(Group(edit))
     return groups
 
 
@@ -211,26 +346,30 @@ class Answer:
             if "did not prove" in told[2]:
                 self.open.append(parts)
 
-    def refuses(self, edit):
-        """Whether a goal of a function of the edit fails by itself; of an edit of no function, any goal."""
+    def refuses(self, functions):
+        """Whether a goal of one of the functions that an edit touches fails by itself; of an edit of no function, any goal."""
         if self.why:
             return False
-        if not edit.functions:
+        if not functions:
             return bool(self.wrong or self.open)
-        return any(self.fails(it) for it in edit.functions)
+        return any(map(self.fails, functions))
+
+    def leaves(self, function):
+        """Whether it is not proved by itself, for whatever reason."""
+        own = [*self.wrong, *self.open, *self.gone, *(parts for parts, calls in self.unproved if not calls)]
+        return any(map(function.is_named, own))
 
     def fails(self, function):
         """Whether its own proof does not fit, or the search finds none; that says nothing where a name is gone."""
         is_its = function.is_named
         return any(map(is_its, self.wrong)) or any(map(is_its, self.open)) and not any(map(is_its, self.gone))
 
-    def strange(self, group):
-        """A function that fails by itself though no edit touches it: then the crate itself is not proved."""
-        if any(not it.functions for it in group):
-            return None
-        own = [it for edit in group for it in edit.functions]
-        others = [it for it, calls in self.unproved if not calls] + self.wrong
-        return next(("::".join(it) for it in others if not any(f.is_named(it) for f in own)), None)
+    def strange(self, own, empty):
+        """A function that fails by itself though none of those that were changed: then the crate itself is not proved. Where
+        some are empty, also a lemma that is not there without their proofs."""
+        others = [it for it, calls in self.unproved if not calls] + self.wrong + (self.gone if empty else [])
+        own = [*own, *empty]
+        return next(("::".join(it) or "a lemma" for it in others if (it or empty) and not any(f.is_named(it) for f in own)), None)
 
     def reason(self, edit):
         """Why the edit does not count as refused."""
@@ -254,38 +393,64 @@ class Trial:
         if os.environ.get("EDITS_KEPT") and os.path.isdir(earlier):
             shutil.copytree(earlier, self.kept)
 
-    def checked(self, texts, paths):
-        """Checks a copy of the crate with these texts: the functions of these paths, or all where there is none."""
+    def checked(self, texts, paths, without=()):
+        """Checks a copy of the crate with these texts: the functions of these paths, or all where there is none; without
+        the proofs of some functions."""
         self.checks += 1
         only = [word for path in sorted(paths) for word in ("--only", path)]
-        ran = rt.checked(self.crate, texts, [*FLAGS, *only], self.kept)
-        if only and "` has no function `" in ran.stdout:  # a path that the prover writes in another way
-            ran = rt.checked(self.crate, texts, FLAGS, self.kept)
+        with tempfile.TemporaryDirectory(prefix="edits-") as room:
+            crate = copy.copy(self.crate)
+            crate.folder = room
+            for part in rtlib.PARTS:
+                if os.path.isdir(f"{self.crate.folder}/{part}"):
+                    shutil.copytree(f"{self.crate.folder}/{part}", f"{room}/{part}")
+            for file in itertools.chain(*(proofs_of(crate, it) for it in without)):
+                file.unlink()
+            for path in texts:  # the folders of the proofs of copies
+                Path(room, path).parent.mkdir(parents=True, exist_ok=True)
+            ran = rt.checked(crate, texts, [*FLAGS, *only], self.kept)
+            if only and "` has no function `" in ran.stdout:  # a path that the prover writes in another way
+                ran = rt.checked(crate, texts, FLAGS, self.kept)
         return Answer(ran, texts)
 
-    def try_group(self, group):
-        """Checks the crate with the edits of a group, and returns those that are not refused, with why."""
-        texts = rt.edited("\n".join(it.text for it in group), self.crate.folder)[0]
-        paths = {path for edit in group for path in [*edit.of, *(it.path() for it in edit.functions)]}
-        answer = self.checked(texts, paths if all(it.functions or it.of for it in group) else set())
-        strange = None if answer.why else answer.strange(group)
+    def try_group(self, group, empties=False):
+        """Checks the crate with the edits of a group, and returns those that are not refused, with why. Where it empties
+        what no edit touches, and anything else fails too, it checks once more without that."""
+        copies = group.copies(self.crate)
+        copied = {it.edit.name: [it.function] for it in copies if it.edit}
+        tried = {edit.name: copied.get(edit.name, edit.functions) for edit in group.edits()}
+        functions = [*itertools.chain(*tried.values()), *(it.function for it in copies if not it.edit)]
+        paths = {path for edit in group.edits() for path in edit.of} | {it.path() for it in functions}
+        is_whole = any(not it.functions and not it.of for it in group.edits())
+        texts, empty = group.texts(self.crate, copies), []
+        empties = empties and group.empties()
+        if empties:
+            texts, empty = emptied(self.crate, texts, functions)
+        answer = self.checked(texts, set() if is_whole else paths, empty)
+        strange = answer.strange(functions, empty) if functions and not answer.why else None
+        if empties and (strange or answer.why):
+            return self.try_group(group)
         if strange:
             self.why = f"{strange} is not proved, though no edit touches it"
-        for edit in group:
-            edit.is_refused = answer.refuses(edit)
+        unproved = {it.function.path() for it in copies if not it.edit and answer.leaves(it.function)}
+        for edit in group.edits():
+            is_void = edit.name in copied and as_it_stands(edit.functions[0]).path() in unproved
+            edit.is_refused = not is_void and answer.refuses(tried[edit.name])
             edit.why = None if edit.is_refused else answer.reason(edit)
-        return [it for it in group if not it.is_refused]
+        return [it for it in group.edits() if not it.is_refused]
 
     def run(self):
-        """Tries all edits: in groups, then those that are left in new groups, at last each alone."""
-        left, alone = [it for it in self.edits if not it.why], False
+        """Tries all edits: in groups, with copies and without other bodies; then those that are left in new groups, with
+        all that the crate has; at last each alone."""
+        left, alone, is_first = [it for it in self.edits if not it.why], False, True
         while left and not self.why:
-            groups = [[it] for it in left] if alone else grouped(left, self.crate)
+            groups = [Group(it) for it in left] if alone else grouped(left, self.crate, is_first)
             missed = []
             for group in groups if not self.why else []:
-                missed += [it for it in self.try_group(group) if len(group) > 1]
-            alone = len(missed) == len(left) or len(missed) < 3
-            left = missed
+                is_last = len(group.edits()) == 1 and not (is_first and group.empties())
+                missed += [it for it in self.try_group(group, is_first) if not is_last]
+            alone = not is_first and len(missed) == len(left) or len(missed) < 3
+            left, is_first = missed, False
 
     def told(self):
         """A line for each edit, with how many passed and failed, and how many of the tool's own."""
