@@ -58,20 +58,21 @@ def said_by_the_prover(crate, texts, flags, kept):
     return SimpleNamespace(returncode=int(bool(lines)), stdout=said)
 
 
-def told_by_edits(folder, crates, words):
-    """The status of `edits.py`, what it tells of each edit, and its last line, where these are all crates."""
+def told_by_edits(folder, crates, words, most=60):
+    """The status of `edits.py`, what it tells of each edit, and its last line, where these are all crates and a lane
+    tries so many edits at most."""
     edits, place = importlib.import_module("edits"), Path.cwd()
-    real = edits.ROOT, edits.SELFTEST, edits.rt, edits.rtlib
+    real = edits.ROOT, edits.SELFTEST, edits.rt, edits.rtlib, edits.MOST
     rtlib = SimpleNamespace(guarded=list, crates_below=lambda _: crates, STALE=real[3].STALE, PARTS=("src", "specs"))
     told = io.StringIO()
     try:
-        edits.ROOT, edits.SELFTEST, edits.rtlib = folder, folder / "none", rtlib
+        edits.ROOT, edits.SELFTEST, edits.rtlib, edits.MOST = folder, folder / "none", rtlib, most
         edits.rt = SimpleNamespace(edited=real[2].edited, unread=real[2].unread, checked=said_by_the_prover,
                                    in_lanes=in_turn, need=lambda _: 1)
         with contextlib.redirect_stdout(told):
             status = edits.main(words)
     finally:
-        edits.ROOT, edits.SELFTEST, edits.rt, edits.rtlib = real
+        edits.ROOT, edits.SELFTEST, edits.rt, edits.rtlib, edits.MOST = real
         os.chdir(place)
     lines = re.findall(r"(?m)^crates/(\S+)\.edit: (.*)$", told.getvalue())
     return status, dict(lines), run.last_line(told.getvalue())
@@ -83,9 +84,10 @@ def tries_edits_in_groups(folder):
     crates = [crate_of_edits(folder, name, edits)
               for name, edits in (("a", TRIED), ("b", GOOD_ONES), ("c", ["d_h_is_right"]))]
     right = True
-    for words, its in (([], {"a": TRIED, "b": GOOD_ONES, "c": ["d_h_is_right"]}), (["b"], {"b": GOOD_ONES}),
-                       (["a"], {"a": TRIED}), (["c"], {"c": ["d_h_is_right"]})):
-        status, told, last = told_by_edits(folder, crates, words)
+    every = {"a": TRIED, "b": GOOD_ONES, "c": ["d_h_is_right"]}
+    for words, its, most in (([], every, 60), ([], every, 3), (["b"], {"b": GOOD_ONES}, 60), (["a"], {"a": TRIED}, 60),
+                             (["c"], {"c": ["d_h_is_right"]}, 60)):
+        status, told, last = told_by_edits(folder, crates, words, most)
         wanted = {f"{name}/wrong/{edit}": TRIED[edit][2] for name, edits in its.items() for edit in edits}
         good = sum(it == "refused" for it in wanted.values())
         wrong = [it for it in {*told, *wanted} if not told.get(it, "").startswith(wanted.get(it, "none"))]

@@ -40,6 +40,7 @@ ROOT = Path(__file__).resolve().parent.parent
 SELFTEST = ROOT / "tools" / "edits_selftest"
 FLAGS = ["--jobs", "1"]
 EMPTIED = "unreachable!()"
+MOST = 60  # edits of a crate that are tried by one lane: with more, the others would wait for it at the end
 FUNCTION = re.compile(r"( *)(?:pub(?:\([a-z: ]+\))? )?(?:const |unsafe |extern \"C\" )*fn (\w+)")
 BLOCK = re.compile(r"( *)(?:unsafe )?(?:pub )?(impl|trait)\b(.*)")
 GONE = re.compile(r"has no field|is not in scope|has no `|was not admitted|is no name")
@@ -385,10 +386,10 @@ class Trial:
     """The edits of a crate, each group tried over what the checks of the groups before it kept: only the functions that the edits touch
     are checked, and what these call. The gate has proved the crate itself."""
 
-    def __init__(self, crate, room):
+    def __init__(self, crate, room, part=0, parts=1):
         self.crate, self.kept, self.checks, self.why = crate, f"{room}/kept", 0, None
-        self.edits = [Edit(it, crate) for it in listed(Path(crate.folder, "wrong"))]
-        self.edits += [Edit(it, crate, must_pass=True) for it in listed(SELFTEST / crate.name)]
+        edits = [Edit(it, crate) for it in listed(Path(crate.folder, "wrong"))]
+        self.edits = (edits + [Edit(it, crate, must_pass=True) for it in listed(SELFTEST / crate.name)])[part::parts]
         earlier = f"{crate.folder}/out/incremental"
         if os.environ.get("EDITS_KEPT") and os.path.isdir(earlier):
             shutil.copytree(earlier, self.kept)
@@ -470,11 +471,11 @@ def listed(folder):
     return sorted(it for it in folder.iterdir() if it.suffix != ".md") if folder.is_dir() else []
 
 
-def tried(crate):
-    """Tries the edits of a crate, and tells of them."""
+def tried(crate, part, parts):
+    """Tries the edits of a crate, or a part of them, and tells of them."""
     begun = time.monotonic()
     with tempfile.TemporaryDirectory(prefix="edits-") as room:
-        trial = Trial(crate, room)
+        trial = Trial(crate, room, part, parts)
         trial.run()
     counts = trial.told()
     minutes = (time.monotonic() - begun) / 60
@@ -514,11 +515,14 @@ def main(names):
             sys.exit(f"edits: a library below {crate.name} is not proved")
     tasks = {}
     for crate in crates:
-        work = crate.count(rb"\n") + 30 * len(listed(Path(crate.folder, "wrong")))
+        number = len(listed(Path(crate.folder, "wrong"))) + len(listed(SELFTEST / crate.name))
+        parts = -(-number // MOST)
+        work = (crate.count(rb"\n") + 30 * number) // parts
         # Half of what the kit reckons: the most that was taken, measured, is 0.2 to 0.4 of it (oca_web 2.8 GB of 7.3,
         # ocactl_cli 2.7 of 9.1, oca_tree 1.7 of 6.8, oca_c 1.3 of 7.4), since a group checks few functions.
         memory = rt.need(crate) // 2
-        tasks[crate.name, "edits"] = ([], work, memory, lambda given, jobs, it=crate: tried(it))
+        for part in range(parts):
+            tasks[crate.name, "edits", part] = ([], work, memory, lambda given, jobs, of=(crate, part, parts): tried(*of))
     passed, failed = verdict(rt.in_lanes(tasks).values())
     print(f"{passed} passed, {failed} failed")
     return 1 if failed else 0
