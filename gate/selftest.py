@@ -339,7 +339,7 @@ def judges_edits():
 
 
 # A crate with a function that two edits change, one that none does, and a method of a trait; the copies that one check
-# has of it, behind that function: as it stands, since it has a proof by hand, and with the second edit.
+# has of it, behind that function: as it stands, and with the second edit.
 SOURCE = """/// Counts.
 #[tactic(auto,
     using(a::b))]
@@ -354,12 +354,14 @@ impl Default for T {
 }
 """
 COPIES = """
+/// Counts.
 #[tactic(auto,
     using(a::b))]
 pub fn f_edited_1(n: u8) -> u8 {
     n + 3
 }
 
+/// Counts.
 #[tactic(auto,
     using(a::b))]
 pub fn f_as_it_stands(n: u8) -> u8 {
@@ -421,6 +423,10 @@ fn round(n: u8) -> u8 {
     round(n)
 }
 
+pub fn law()
+    ensures { here }
+{}
+
 pub fn touched(n: u8) -> u8 {
     other(n)
 }
@@ -434,6 +440,8 @@ pub fn other(
     let m = n;
     m + 2
 }
+
+impl Copy for T {}
 
 extern "C" {
     fn write(

@@ -7,8 +7,7 @@ An edit has the form of a must-fail edit: a line 'file: src/lib.rt', then pairs 
 each old text standing once in that file. Edits are checked together, one check of a copy of the crate for each group, of
 the functions that they touch and what these call: `rt ci` has proved the crate itself. The first edit of a function is
 made in its place; a further one in a copy of that function, which stands behind it under another name, with its contract
-and a copy of its proof files; where there are such files, one more copy, as the function stands, must be proved beside
-them. A function that no edit touches has no body there, since what calls it needs its contract alone; where anything
+and a copy of its proof files; one more copy, as the function stands, must be proved beside them. A function that no edit touches has no body there, since what calls it needs its contract alone; where anything
 fails then that was not changed, the check is made once more with these bodies.
 
 An edit is refused where a goal of a function that it touches fails: not where that function only calls one that is not
@@ -42,7 +41,7 @@ FLAGS = ["--jobs", "1"]
 EMPTIED = "unreachable!()"
 MOST = 60  # edits of a crate that are tried by one lane: with more, the others would wait for it at the end
 FUNCTION = re.compile(r"( *)(?:pub(?:\([a-z: ]+\))? )?(?:const |unsafe |extern \"C\" )*fn (\w+)")
-BLOCK = re.compile(r"( *)(?:unsafe )?(?:pub )?(impl|trait)\b(.*)")
+BLOCK = re.compile(r"( *)(?:unsafe )?(?:pub(?:\([a-z: ]+\))? )?(impl|trait)\b(.*)")
 GONE = re.compile(r"has no field|is not in scope|has no `|was not admitted|is no name")
 # What is counted: whether an edit must not be refused, and whether all is well with it.
 KINDS = [(False, True), (False, False), (True, True), (True, False)]
@@ -127,20 +126,30 @@ def at_its_type(function, folder, text):
     return function
 
 
+def end_of(lines, first, indent):
+    """The line at which the function ends whose head begins here, in the layout of `rt fmt`: a brace as far in as that,
+    or an empty body; or the end of its head, where this has a body too, or none."""
+    for at in range(first, len(lines)):
+        is_head = at == first or lines[at].startswith(f"{indent})")
+        if lines[at] in (f"{indent}}}", f"{indent}}};", f"{indent}{{}}") or is_head and lines[at].endswith(("}", ";")):
+            return at
+    return len(lines)
+
+
 def functions_of(path, text):
-    """The functions of a source file in the layout of `rt fmt`: each ends at a brace as far in as its head."""
+    """The functions of a source file."""
     module = module_of(path)
     lines, found, block = text.split("\n"), [], None
     for at, line in enumerate(lines):
         head, of = FUNCTION.match(line), BLOCK.match(line)
-        if of:
+        if of and not line.endswith("}"):
             block = of[1], names_of(of[3]), of[2]
         elif block and line == block[0] + "}":
             block = None
         if head:
-            ends = (i for i in range(at, len(lines)) if lines[i] in (head[1] + "}", head[1] + "};"))
             is_of_trait = bool(block) and (block[2] == "trait" or bool(block[1][1]))
-            found.append(Function(module, block[1] if block else None, head[2], at, next(ends, len(lines)), is_of_trait))
+            last = end_of(lines, at, head[1])
+            found.append(Function(module, block[1] if block else None, head[2], at, last, is_of_trait))
     return found
 
 
@@ -191,8 +200,8 @@ class Edit:
 
 
 def attributes_at(lines, first):
-    """The line at which the attributes of the function begin whose head is this line."""
-    while first > 0 and lines[first - 1].strip() and not re.search(r"^ *//|[};{]$", lines[first - 1]):
+    """The line at which the comments and attributes of the function begin whose head is this line."""
+    while first > 0 and lines[first - 1].strip() and (lines[first - 1].lstrip().startswith("//") or lines[first - 1][-1] not in "};{"):
         first -= 1
     return first
 
@@ -251,13 +260,18 @@ def emptied(crate, texts, touched):
         path = str(file.relative_to(crate.folder))
         text = texts.get(path) or file.read_text()
         lines = text.split("\n")
-        for function in functions_of(path, text):
-            function, opens = at_its_type(function, crate.folder, text), body_of(lines, function)
+        functions = [at_its_type(it, crate.folder, text) for it in functions_of(path, text)]
+        empty = []
+        for function in functions:
+            opens = body_of(lines, function)
             if opens is not None and function.path() not in paths:
                 body = [f"{lines[opens][:len(lines[opens]) - len(lines[opens].lstrip())]}    {EMPTIED}"]
                 lines[opens + 1:function.last] = (body + [""] * function.last)[:function.last - opens - 1]
-                found.append(function)
-        texts[path] = "\n".join(lines)
+                empty.append(function)
+        whole = [text.split("\n")[it.first:it.last + 1] == lines[it.first:it.last + 1] for it in functions if it.path() in paths]
+        if all(whole):
+            texts[path] = "\n".join(lines)
+            found += empty
     return texts, found
 
 
@@ -292,7 +306,7 @@ class Group:
         found, seen = [], set()
         for number, edit in enumerate(self.copied, 1):
             function, path = edit.functions[0], re.search(r"(?m)^file: (.*)$", edit.text)[1].strip()
-            if proofs_of(crate, function) and not edit.keys() <= seen:
+            if not edit.keys() <= seen:
                 found.append(Copy(crate, function, path, None, as_it_stands(function)))
             seen |= edit.keys()
             found.append(Copy(crate, function, path, edit, function.named(f"{function.name}_edited_{number}")))
