@@ -7,8 +7,9 @@ An edit has the form of a must-fail edit: a line 'file: src/lib.rt', then pairs 
 each old text standing once in that file. Edits are checked together, one check of a copy of the crate for each group, of
 the functions that they touch and what these call: `rt ci` has proved the crate itself. The first edit of a function is
 made in its place; a further one in a copy of that function, which stands behind it under another name, with its contract
-and a copy of its proof files; one more copy, as the function stands, must be proved beside them. A function that no edit touches has no body there, since what calls it needs its contract alone; where anything
-fails then that was not changed, the check is made once more with these bodies.
+and a copy of its proof files; one more copy, as the function stands, must be proved beside them. A function that no edit
+touches has no body there, since what calls it needs its contract alone (but methods of traits, constants, calls from C
+and cycles of calls keep theirs); where anything fails then that was not changed, the check is made once more with all.
 
 An edit is refused where a goal of a function that it touches fails: not where that function only calls one that is not
 proved, and not only since a proof file names what the edit took away. What is not refused in its group is tried in
