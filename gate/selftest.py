@@ -497,11 +497,71 @@ def empties_functions():
         return all(found)
 
 
+# Functions with a clause that is wanted of them alone and others; those whose contract is narrowed where `f` and `g` are
+# checked, and where `h`, which calls `g`, is too.
+CONTRACT = """    requires { n < 9 }
+    ensures low { result < 9 }
+    ensures high {
+        0 < result
+    }
+    ensures* kept { n }
+"""
+PROMISES = "".join(f"/// Counts.\npub fn {name}(\n    n: u8,\n) -> u8\n{CONTRACT}{{\n    {body}\n}}\n\n"
+                   for name, body in (("f", "n + 1"), ("g", "n + f(n)"), ("h", "g(n)"), ("by_hand", "n + 2")))
+NARROW = CONTRACT.replace("    ensures high {\n        0 < result\n    }\n", "\n\n\n")
+# The clause that an edit of `f` names, what the prover says of `f`, narrowed and alone, and what is told of the edit.
+SAID_OF_CLAUSES = [("low", ["f"], ["f"], "refused"), ("low", [], ["f"], "FAILED: the clause low does not refuse it"),
+                   ("low", [], [], "FAILED: NOT REFUSED"), ("none", ["f"], ["f"], "FAILED: its function ensures no clause none"),
+                   ("kept", ["f"], ["f"], "FAILED: its function ensures no clause kept")]
+
+
+def narrows_contracts():
+    """Where edits name the clauses that refuse them, their functions ensure those alone, but for a function that other
+    code in the check calls, and one whose proof is by hand. An edit that another clause refuses has failed."""
+    edits = importlib.import_module("edits")
+    with tempfile.TemporaryDirectory() as folder:
+        for name, text in (("src/m.rt", PROMISES), ("proofs/m/by_hand/Answers.antt", ""), ("f.edit", "n + 1"), ("g.edit", "n + f(n)"),
+                           ("h.edit", "    g(n)"), ("by_hand.edit", "n + 2")):
+            Path(folder, name).parent.mkdir(parents=True, exist_ok=True)
+            Path(folder, name).write_text(text if "/" in name else f"clause: low\nfile: src/m.rt\nold: {text}\nnew: {text} + 1\n")
+        crate = SimpleNamespace(folder=folder, name="a")
+        of = {name: edits.Edit(Path(folder, f"{name}.edit"), crate) for name in ("f", "g", "h", "by_hand")}
+        found = [not it.why for it in of.values()]
+        for names, narrow in (("f g by_hand", "g"), ("f g h", "h"), ("f by_hand", "f"), ("by_hand", "")):
+            groups = edits.grouped([of[it] for it in names.split()], crate, True)
+            texts, _ = edits.emptied(crate, groups[0].texts(crate, []), [of[it].functions[0] for it in names.split()])
+            texts, paths = edits.narrowed(crate, texts, groups[0].wanted(crate, []))
+            wanted = {name: "\n    n: u8,\n) -> u8\n" + (NARROW if name == narrow else CONTRACT) for name in of}
+            starts = {name: texts["src/m.rt"].split(f"fn {name}(")[1].startswith(wanted[name]) for name in of}
+            found += [len(groups) == 1, paths == ({f"m::{narrow}"} if narrow else set()), all(starts.values())]
+        return all(found) and all(told_of_clause(edits, crate, *row) for row in SAID_OF_CLAUSES)
+
+
+def told_of_clause(edits, crate, clause, narrow, whole, wanted):
+    """Whether this is told of the edit of `f` that names this clause, where the prover says so of `f` with that clause
+    alone, and with all."""
+    Path(crate.folder, "wrong").mkdir(exist_ok=True)
+    Path(crate.folder, "wrong/f.edit").write_text(f"clause: {clause}\nfile: src/m.rt\nold: n + 1\nnew: n + 3\n")
+    trial = edits.Trial(crate, crate.folder)
+
+    def checked(texts, paths, without=()):
+        is_narrow = "0 < result" not in texts["src/m.rt"].split("n + 3")[0]
+        lines = [f"fn a::m::{it}: not proved: the search did not prove a goal" for it in (narrow if is_narrow else whole)]
+        said = "\n".join([*lines, "logic=not-proved" if lines else "logic=proved"]) + "\n"
+        return edits.Answer(SimpleNamespace(returncode=int(bool(lines)), stdout=said), texts)
+
+    trial.checked = checked
+    trial.run()
+    with contextlib.redirect_stdout(io.StringIO()) as said:
+        trial.told()
+    return said.getvalue().strip().split(": ", 1)[1].startswith(wanted)
+
+
 # The steps, each by its whole command, and the fewest checks that it is to pass: neither a slip in their list nor another
 # word takes some of them away unseen.
 PROGRAMS = "ocadev ocactl ocapanel trials amplifier panel"
 FEWEST = {
-    "python3 gate/selftest.py": 92,
+    "python3 gate/selftest.py": 93,
     f"mkdir -p bin && for name in {PROGRAMS}; do cp crates/$name/out/$name bin/ || exit 1; done": 1,
     "python3 tools/c_library.py bin": 26600, "python3 examples/run.py bin/ocadev": 4, "python3 tools/runs.py bin": 100,
     "python3 tools/ctl_runs.py bin": 100, "python3 tools/unreliable.py bin": 3690, "python3 tools/fuzz.py bin 20": 200,
@@ -689,7 +749,7 @@ def main():
               ("the steps name enough", names_enough()),
               ("make library stands on its sources", stands_on_its_sources())]
     tried += [("all that is tried counts", counts_all()), ("the lanes of rt ci", knows_the_lanes()), ("edits.py counts all", counts_edits()),
-              ("edits.py copies functions", copies_edits()), ("edits.py empties functions", empties_functions()),
+              ("edits.py copies functions", copies_edits()), ("edits.py empties functions", empties_functions()), ("edits.py narrows contracts", narrows_contracts()),
               ("network.py forgives no lateness", forgives_no_lateness()),
               ("lossy.py judges runs", judges_lossy_runs()), ("lossy.py carries badly", carries_badly()),
               ("tools count what differs", counts_what_differs())]

@@ -3,7 +3,7 @@
 
 Usage: ctl_runs.py BIN     BIN is the folder with `ocactl`
 
-A row is a run, as in `runs.py`. Readers that give and writers that take a little at a time are tried in `ocactl_tests`; here a read or a
+A row is a run, as in `runs.py`. Readers that give and writers that take a little at a time are tried in `oca_program_tests`; here a read or a
 write fails by the system. The last line is 'N passed, M failed'."""
 import contextlib
 import os

@@ -11,6 +11,10 @@ and a copy of its proof files; one more copy, as the function stands, must be pr
 touches has no body there, since what calls it needs its contract alone (but methods of traits, constants, calls from C
 and cycles of calls keep theirs); where anything fails then that was not changed, the check is made once more with all.
 
+A line 'clause: NAME' says which clause of the function's contract refuses the edit. The function, or its copy, then ensures
+that one alone in this check, since a search that fails takes long and each clause that the edit breaks has one; not where
+other code that is checked calls it, and relies on the others, or where its proof is by hand and may name their goals.
+
 An edit is refused where a goal of a function that it touches fails: not where that function only calls one that is not
 proved, and not only since a proof file names what the edit took away. What is not refused in its group is tried in
 smaller ones without copies and with all bodies, and at last alone; what is not refused there has failed. An edit that
@@ -34,13 +38,16 @@ import sys
 import tempfile
 import threading
 import time
+from collections import Counter
 from pathlib import Path
 
 ROOT = Path(__file__).resolve().parent.parent
 SELFTEST = ROOT / "tools" / "edits_selftest"
 FLAGS = ["--jobs", "1"]
 EMPTIED = "unreachable!()"
+BY_HAND = ("Answers.antt", "Proof.antt")
 MOST = 60  # edits of a crate that are tried by one lane: with more, the others would wait for it at the end
+CLAUSE = re.compile(r"( *)(requires|ensures|ghost)(\*?)(?: (\w+):?)? \{")
 FUNCTION = re.compile(r"( *)(?:pub(?:\([a-z: ]+\))? )?(?:const |unsafe |extern \"C\" )*fn (\w+)")
 BLOCK = re.compile(r"( *)(?:unsafe )?(?:pub(?:\([a-z: ]+\))? )?(impl|trait)\b(.*)")
 GONE = re.compile(r"has no field|is not in scope|has no `|was not admitted|is no name")
@@ -154,21 +161,50 @@ def functions_of(path, text):
     return found
 
 
+def clauses_of(lines, function):
+    """What the contract of the function ensures: the name of each clause, if it has one, and its lines."""
+    indent, found, is_ensured = re.match(" *", lines[function.first])[0], [], False
+    for at in range(function.first + 1, function.last):
+        head = CLAUSE.match(lines[at])
+        if lines[at] == indent + "{" or lines[at].startswith(f"{indent})") and lines[at].endswith("{"):
+            break
+        if head and head[1] == indent + "    ":
+            is_ensured = (head[2], head[3]) == ("ensures", "")
+            found += [(head[4], [])] if is_ensured else []
+        if is_ensured:
+            found[-1][1].append(at)
+    return found if not lines[function.first].endswith("{") else []
+
+
 class Edit:
     """An edit: its text, the functions that it touches, none where it touches what lies in no function."""
 
     def __init__(self, path, crate, must_pass=False):
         self.path, self.name, self.must_pass = path, path.stem, must_pass
-        self.why, self.functions, self.of, self.is_refused, self.says = None, [], [], False, ""
+        self.why, self.functions, self.of, self.is_refused, self.says, self.clause = None, [], [], False, "", ""
         if path.suffix != ".edit" or not path.is_file():
             self.why = "it is no edit"
             return
         self.text = path.read_text(errors="replace").strip("\n")
         self.says = "".join(re.findall(r"(?m)^says: (.*)$", self.text)[:1])
         self.of = re.findall(r"(?m)^of: (\S+)$", self.text)
+        self.is_misnamed = False
+        self.clause = "".join(re.findall(r"(?m)^clause: (.*)$", self.text)[:1])
         self.why = rt.edited(self.text, crate.folder)[1]
         if not self.why:
             self.find(crate)
+            self.why = self.why_not_its_clause(crate)
+
+    def why_not_its_clause(self, crate):
+        """Why the edit can't be refused by the clause that it names, if so."""
+        if not self.clause:
+            return None
+        if len(self.keys()) != 1:
+            return "it names a clause, and does not change one function alone"
+        path = re.search(r"(?m)^file: (.*)$", self.text)[1].strip()
+        lines = Path(crate.folder, path).read_text().split("\n")
+        is_there = any(name == self.clause for name, _ in clauses_of(lines, self.functions[0]))
+        return None if is_there else f"its function ensures no clause {self.clause}"
 
     def find(self, crate):
         """Finds the functions in which its old texts stand."""
@@ -276,6 +312,32 @@ def emptied(crate, texts, touched):
     return texts, found
 
 
+def code_of(text):
+    """A source without what names functions and calls none: lines of comments, and uses."""
+    text = re.sub(r"(?m)^ *//.*$", "", text)
+    return re.sub(r"(?ms)^ *(?:pub(?:\([a-z: ]+\))? )?(?:ghost )?use .*?;", "", text)
+
+
+def narrowed(crate, texts, wanted):
+    """Leaves of what a function ensures the clauses that are wanted of it, by its path, where no other code names it.
+    Returns the texts of the files, with those given, and the paths of the functions."""
+    sources = {str(it.relative_to(crate.folder)): it.read_text() for it in sorted(Path(crate.folder, "src").rglob("*.rt"))}
+    sources |= {path: text for path, text in texts.items() if path.startswith("src/")}
+    named = Counter(itertools.chain(*(re.findall(r"\w+", code_of(text)) for text in sources.values())))
+    texts, found = dict(texts), set()
+    for path, text in sources.items():
+        lines = text.split("\n")
+        for function in (at_its_type(it, crate.folder, text) for it in functions_of(path, text)):
+            if function.path() in wanted and named[function.name] == 1:
+                others = [at for name, places in clauses_of(lines, function) if name not in wanted[function.path()] for at in places]
+                for at in others:
+                    lines[at] = ""
+                found |= {function.path()} if others else set()
+        if "\n".join(lines) != text:
+            texts[path] = "\n".join(lines)
+    return texts, found
+
+
 class Group:
     """Edits that one check tries: some in their places, others in copies of the functions that those change."""
 
@@ -312,6 +374,19 @@ class Group:
             seen |= edit.keys()
             found.append(Copy(crate, function, path, edit, function.named(f"{function.name}_edited_{number}")))
         return found
+
+    def wanted(self, crate, copies):
+        """The clauses that refuse the edits of a function, by its path, where each of them names one: its copy as it stands
+        has those of all its copies. None of a function whose proof is by hand, since that may name the goals of others."""
+        of = [(it.functions[0], it.functions[0].path(), it.clause) for it in self.placed if len(it.keys()) == 1]
+        for it in copies:
+            whose = [it.edit] if it.edit else [its for its in self.copied if as_it_stands(its.functions[0]).path() == it.function.path()]
+            of += [(its.functions[0], it.function.path(), its.clause) for its in whose]
+        found = {}
+        for function, path, clause in of:
+            by_hand = any(file.name in BY_HAND for file in proofs_of(crate, function))
+            found.setdefault(path, set()).add("" if by_hand else clause)
+        return {path: clauses for path, clauses in found.items() if "" not in clauses}
 
     def texts(self, crate, copies):
         """The texts of the files that the group changes or adds, by their paths in the crate."""
@@ -438,10 +513,11 @@ class Trial:
         functions = [*itertools.chain(*tried.values()), *(it.function for it in copies if not it.edit)]
         paths = {path for edit in group.edits() for path in edit.of} | {it.path() for it in functions}
         is_whole = any(not it.functions and not it.of for it in group.edits())
-        texts, empty = group.texts(self.crate, copies), []
+        texts, empty, narrow = group.texts(self.crate, copies), [], set()
         empties = empties and group.empties()
         if empties:
             texts, empty = emptied(self.crate, texts, functions)
+            texts, narrow = narrowed(self.crate, texts, group.wanted(self.crate, copies))
         answer = self.checked(texts, set() if is_whole else paths, empty)
         strange = answer.strange(functions, empty) if functions and not answer.why else None
         if empties and (strange or answer.why):
@@ -453,6 +529,8 @@ class Trial:
             is_void = edit.name in copied and as_it_stands(edit.functions[0]).path() in unproved
             edit.is_refused = not is_void and answer.refuses(tried[edit.name])
             edit.why = None if edit.is_refused else answer.reason(edit)
+            is_narrow = bool(tried[edit.name]) and tried[edit.name][0].path() in narrow
+            edit.is_misnamed |= is_narrow and not is_void and not edit.is_refused
         return [it for it in group.edits() if not it.is_refused]
 
     def run(self):
@@ -472,6 +550,8 @@ class Trial:
         """A line for each edit, with how many passed and failed, and how many of the tool's own."""
         counts = dict.fromkeys(KINDS, 0)
         for edit in self.edits:
+            if edit.is_refused and edit.is_misnamed:
+                edit.is_refused, edit.why = False, f"the clause {edit.clause} does not refuse it, but another one"
             is_well = not self.why and (edit.is_refused if not edit.must_pass else edit.says in (edit.why or ""))
             counts[edit.must_pass, is_well] += 1
             place = os.path.relpath(edit.path, ROOT)

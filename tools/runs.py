@@ -4,7 +4,7 @@
 Usage: runs.py BIN     BIN is the folder with `ocadev`
 
 A row is a run. What notes stand before a fault, lines that begin with `note: `, is left open. Ends that fail or cut what they give are
-tried in `ocadev_tests`. The last line is 'N passed, M failed'."""
+tried in `oca_program_tests`. The last line is 'N passed, M failed'."""
 import re
 import subprocess
 import sys

@@ -1,7 +1,7 @@
 //! What the clauses leave open: runs between ends that cut what they give and take, and what goes over sockets. Whole
 //! runs between ends that do not are rows of `tools/runs.py`.
+use crate::tests::fakes::{PieceReader, ShortWriter};
 use oca_device::Device;
-use oca_fakes::{PieceReader, ShortWriter};
 use oca_script::Printer;
 use oca_tree::bench;
 use oca_types::Window;

@@ -1,5 +1,5 @@
 //! What is printed: lines, faults, and more than is held.
-use oca_fakes::ShortWriter;
+use crate::tests::fakes::ShortWriter;
 use oca_script::{LineFault, Printer, ReadFailed, ReplayFault, Stop, WriteFailed};
 use std::alloc::Global;
 use std::fmt::Display;

@@ -1,7 +1,7 @@
 //! Objects that are set, over an end in memory.
 use super::NO_LIMIT;
+use crate::tests::fakes::ShortWriter;
 use oca_control::Link;
-use oca_fakes::ShortWriter;
 use oca_net::{MemoryEnd, Scripted};
 use oca_panel::Panel;
 use oca_script::Printer;

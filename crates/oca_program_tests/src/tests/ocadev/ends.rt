@@ -1,7 +1,7 @@
 //! Ends that cut what they give and take, or fail, and how a run that fails ends.
 use super::{Cuts, UNMUTED, UNMUTES, WHOLE, bench_device, passes, ran};
+use crate::tests::fakes::{PieceReader, ShortWriter};
 use oca_device::{Device, Outbox};
-use oca_fakes::{PieceReader, ShortWriter};
 use oca_script::{Printer, ReplayFault};
 use oca_tree::Setting;
 use oca_types::Ono;

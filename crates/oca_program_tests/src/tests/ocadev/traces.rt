@@ -1,7 +1,7 @@
 //! A device that is served until its end is closed, and what is printed of each datagram.
 use super::{bench_device, passes};
+use crate::tests::fakes::ShortWriter;
 use oca_device::{Device, Outbox, Report};
-use oca_fakes::ShortWriter;
 use oca_net::{MemoryEnd, Scripted};
 use oca_script::Printer;
 use oca_types::Peer;

@@ -1,5 +1,5 @@
 //! What the clauses leave open: printed texts, and faults where memory or the writer refuses.
-use oca_fakes::ShortWriter;
+use crate::tests::fakes::ShortWriter;
 use oca_net::BindFault;
 use oca_program::{Failure, Form, RunFault, report};
 use oca_script::{LineFault, Printer, ReplayFault};

@@ -1,7 +1,7 @@
 //! Lines in, lines out: how a script is cut, where its reads and writes fail, and which lines are refused.
 ghost use Rattle.std.specs.Prelude.{Ok};
 
-use oca_fakes::{Discard, PatternReader, PieceReader, ShortWriter};
+use crate::tests::fakes::{Discard, PatternReader, PieceReader, ShortWriter};
 use oca_script::lines::serve_lines;
 use oca_script::{
     FromReader, Language, LineFault, Printer, ReplayFault, Sink, Source, Stop, ToWriter,

@@ -1,7 +1,7 @@
 //! A replay whose reader and writer give and take a little at a time, or fail.
 use super::NO_LIMIT;
+use crate::tests::fakes::{PieceReader, ShortWriter};
 use oca_control::Link;
-use oca_fakes::{PieceReader, ShortWriter};
 use oca_script::{LineFault, Printer, ReplayFault};
 use oca_types::{Handle, MethodId, Ono, Peer, Span};
 use ocactl_replay::replay::replay;

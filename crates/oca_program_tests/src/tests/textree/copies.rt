@@ -1,5 +1,5 @@
 //! Lines that also say what was stored of an object, and trees written as texts.
-use oca_fakes::ShortWriter;
+use crate::tests::fakes::ShortWriter;
 use oca_script::Printer;
 use oca_textree::{ObjectFault, TreeFault, print_tree, tree_from_text};
 use oca_tree::{MuteState, PolarityState, Tree, Value, bench_with_channels};

@@ -1,7 +1,7 @@
 //! Commands that are sent, over an end in memory.
 use super::{MUTED_1, NO_LIMIT};
+use crate::tests::fakes::{PausedReader, PieceReader, ShortWriter};
 use oca_control::Link;
-use oca_fakes::{PausedReader, PieceReader, ShortWriter};
 use oca_net::{MemoryEnd, Scripted};
 use oca_script::{LineFault, Printer, ReplayFault, WriteFailed};
 use oca_types::{Handle, MethodId, Ono, Peer, Request, Span};

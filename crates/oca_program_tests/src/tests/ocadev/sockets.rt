@@ -1,7 +1,7 @@
 //! The device at a socket.
 use super::{bench_device, passes};
+use crate::tests::fakes::ShortWriter;
 use oca_device::{Device, Outbox, Report, serve};
-use oca_fakes::ShortWriter;
 use oca_net::{End, Heard, UdpEnd};
 use oca_script::Printer;
 use oca_types::{LOOPBACK, Packet, Peer};

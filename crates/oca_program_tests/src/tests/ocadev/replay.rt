@@ -1,7 +1,7 @@
 //! Scripts that one device replays, one after the other.
 use super::{bench_device, passes};
+use crate::tests::fakes::{PieceReader, ShortWriter};
 use oca_device::{Device, Outbox};
-use oca_fakes::{PieceReader, ShortWriter};
 use oca_script::Printer;
 use ocadev_replay::replay::replay;
 use std::alloc::Global;

@@ -1,4 +1,0 @@
-//! A module for each crate.
-mod program;
-mod script;
-mod textree;
