@@ -461,7 +461,8 @@ impl T {
     }
 }
 """
-EMPTY = BODIES.replace("    let m = n;\n    m + 2\n", "    unreachable!()\n\n").replace("        T(n)\n", "        unreachable!()\n")
+EMPTY = BODIES.replace("    let m = n;\n    m + 2\n", "    #[tactic(none)] unreachable!();\n\n").replace(
+    "        T(n)\n", "        #[tactic(none)] unreachable!();\n")
 # What the prover says of `touched` and others where these are empty, and where they are not; whether the edit of `touched`
 # is refused, and how many checks that takes.
 LEMMA = f"proofs/Lemmas.antt:1:2: {GONE}"

@@ -52,8 +52,8 @@ def said_by_the_prover(crate, texts, flags, kept):
             lines += [f"fn {crate.name}::{name}: not proved: the search did not prove a goal"]
         elif "gone" in inside:
             lines += [f"proofs/{name}/F.antt:1:2: {GONE}", f"fn {crate.name}::{name}: not proved: its proof"]
-        elif inside.startswith("unreachable!()"):
-            lines += [f"fn {crate.name}::{name}: no proof: `search` did not prove `unreachable-requires`"]
+        elif inside.startswith("#[tactic(none)] unreachable!();"):
+            lines += [f"fn {crate.name}::{name}: no proof: expected answers; `#[tactic(none)]` leaves `unreachable-requires`"]
     said = "\n".join([*lines, "logic=not-proved" if lines else "logic=proved"]) + "\n"
     return SimpleNamespace(returncode=int(bool(lines)), stdout=said)
 
