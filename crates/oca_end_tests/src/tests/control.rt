@@ -11,8 +11,8 @@ mod reports;
 mod sending;
 mod standstill;
 
-use oca_types::Peer;
-use std::process::Abort;
+use super::none_wrong;
+use oca_types::{Packet, Peer};
 
 /// The address of the device.
 pub const DEVICE: Peer = Peer {
@@ -27,12 +27,12 @@ pub const STRANGER: Peer = Peer {
 };
 
 /// A GetState of the object 4097 under the handle 1.
-pub const COMMAND: [u8; 27] = [
+pub const COMMAND: &[u8] = &[
     0x3b, 0, 1, 0, 0, 0, 0x1a, 1, 0, 1, 0, 0, 0, 0x11, 0, 0, 0, 1, 0, 0, 0x10, 1, 0, 4, 0, 1, 0,
 ];
 
 /// A keep-alive of 5 seconds.
-pub const KEEP_ALIVE: [u8; 12] = [0x3b, 0, 1, 0, 0, 0, 0x0b, 4, 0, 1, 0, 5];
+pub const KEEP_ALIVE: &[u8] = &[0x3b, 0, 1, 0, 0, 0, 0x0b, 4, 0, 1, 0, 5];
 
 /// Status, ParamCount and parameters of an answer.
 pub type Gave = (u8, u8, &'static [u8]);
@@ -47,41 +47,36 @@ pub fn response(handle: u8) -> [u8; 21] {
     ]
 }
 
-/// Nothing is wrong.
-fn none_wrong(rt: &impl Abort, wrong: Option<(&'static str, usize)>) {
-    if let Some((name, at)) = wrong {
-        panic!(rt; "{name}: step {at}");
-    }
-}
-
 /// The laws run nothing.
 #[test]
 fn scripts_over_a_link(rt: HostRuntime) {
+    let mut packet = Packet::new();
     sending::laws();
-    none_wrong(&rt, datagrams::wrong());
-    none_wrong(&rt, handles::wrong());
-    none_wrong(&rt, questions::wrong());
-    none_wrong(&rt, sending::wrong());
+    none_wrong(&rt, links::wrong_script(&mut packet, datagrams::SCRIPTS));
+    none_wrong(&rt, links::wrong_script(&mut packet, handles::SCRIPTS));
+    none_wrong(&rt, links::wrong_script(&mut packet, questions::SCRIPTS));
+    none_wrong(&rt, links::wrong_script(&mut packet, sending::SCRIPTS));
 }
 
 #[test]
 fn scripts_over_an_end(rt: HostRuntime) {
-    none_wrong(&rt, asking::wrong(rt.alloc()));
-    none_wrong(&rt, driving::wrong(rt.alloc()));
-    none_wrong(&rt, standstill::wrong(rt.alloc()));
-}
-
-/// The table of this name has no row that comes out otherwise.
-fn none_in(rt: &impl Abort, table: &'static str, wrong: Option<usize>) {
-    if let Some(at) = wrong {
-        panic!(rt; "{table}: row {at}");
-    }
+    let alloc = rt.alloc();
+    let mut packet = Packet::new();
+    none_wrong(&rt, ends::wrong_script(alloc, &mut packet, asking::SCRIPTS));
+    none_wrong(
+        &rt,
+        ends::wrong_script(alloc, &mut packet, driving::SCRIPTS),
+    );
+    none_wrong(
+        &rt,
+        ends::wrong_script(alloc, &mut packet, standstill::SCRIPTS),
+    );
 }
 
 #[test]
 fn tables_of_rows(rt: HostRuntime) {
-    none_in(&rt, "refusals", asking::first_wrong());
-    none_in(&rt, "standstills", standstill::first_wrong());
-    none_in(&rt, "sums", reports::first_wrong());
-    none_in(&rt, "texts", reports::first_other(rt.alloc()));
+    none_wrong(&rt, asking::first_wrong());
+    none_wrong(&rt, standstill::first_wrong());
+    none_wrong(&rt, reports::first_wrong());
+    none_wrong(&rt, reports::first_other(rt.alloc()));
 }

@@ -9,8 +9,8 @@ mod stepping;
 mod turns;
 mod windows;
 
+use super::none_wrong;
 use oca_types::{LOOPBACK, Peer};
-use std::process::Abort;
 
 /// The port of the first link.
 pub const A_PORT: u16 = 9001;
@@ -37,32 +37,22 @@ pub const DEVICE: Peer = Peer {
 };
 
 /// GetState of 4097 under handle 1.
-pub const GET: [u8; 27] = [
+pub const GET: &[u8] = &[
     0x3b, 0, 1, 0, 0, 0, 0x1a, 1, 0, 1, 0, 0, 0, 0x11, 0, 0, 0, 1, 0, 0, 0x10, 1, 0, 4, 0, 1, 0,
 ];
 
 /// A keep-alive of 5 seconds.
-pub const KEEP_ALIVE: [u8; 12] = [0x3b, 0, 1, 0, 0, 0, 0x0b, 4, 0, 1, 0, 5];
-
-/// No schedule leads to something else.
-fn none_wrong(rt: &impl Abort, wrong: Option<&'static str>) {
-    if let Some(name) = wrong {
-        panic!(rt; "{name}");
-    }
-}
+pub const KEEP_ALIVE: &[u8] = &[0x3b, 0, 1, 0, 0, 0, 0x0b, 4, 0, 1, 0, 5];
 
 /// The laws run nothing.
 #[test]
 fn schedules_lead_to(rt: HostRuntime) {
+    let alloc = rt.alloc();
     delivering::laws();
-    none_wrong(&rt, delivering::wrong(rt.alloc()));
-    none_wrong(&rt, peers::wrong(rt.alloc()));
-    none_wrong(&rt, stepping::wrong(rt.alloc()));
-    none_wrong(&rt, windows::wrong(rt.alloc()));
-}
-
-/// The numbers of the faults.
-#[test]
-fn numbers_of_faults(rt: HostRuntime) {
-    assert_eq!(rt; stepping::first_wrong(), None);
+    none_wrong(&rt, schedules::wrong_case(alloc, delivering::CASES));
+    none_wrong(&rt, schedules::wrong_case(alloc, peers::CASES));
+    none_wrong(&rt, schedules::wrong_case(alloc, stepping::CASES));
+    none_wrong(&rt, schedules::wrong_case(alloc, windows::CASES));
+    none_wrong(&rt, stepping::first_wrong());
+    none_wrong(&rt, turns::wrong(&rt));
 }

@@ -1,6 +1,6 @@
 //! Commands that are asked over an end in memory.
 use super::ends::Step::*;
-use super::ends::{Delivery, Ending, Fared, QUIET, Script, Step, is_outcome, wrong_script};
+use super::ends::{Delivery, Ending, Fared, QUIET, Script, Step, is_outcome};
 use super::links::Step::{HearsResponse, IsLost, Submits, Takes};
 use super::{ANSWER, COMMAND};
 use oca_control::{ControlFault, DriveReport, Reception, refused};
@@ -37,8 +37,6 @@ const QUIET_TWICE: Ending = Ending {
     fail_send: None,
 };
 
-use std::alloc::Global;
-
 /// An end that is quiet each 50 ms.
 const EVERY_50_MS: Ending = Ending {
     quiet: 0,
@@ -67,7 +65,7 @@ const EVERY_50_MS: Ending = Ending {
 const ANSWERED: &[Step] = &[
     Asks(5, Fared::Answered(ANSWER)),
     Taken(1),
-    Sent(0, &COMMAND),
+    Sent(0, COMMAND),
     At(Takes(1, None)),
 ];
 
@@ -166,17 +164,17 @@ const REFUSALS: &[(ControlFault, Fared)] = &[
 ];
 
 /// The first refusal after which a command fared otherwise.
-pub fn first_wrong() -> Option<usize> {
+pub fn first_wrong() -> Option<(&'static str, usize)> {
     for (at, (fault, want)) in REFUSALS.iter().enumerate() {
         if !is_outcome(&refused(*fault), *want) {
-            return Some(at);
+            return Some(("refusals", at));
         }
     }
     None
 }
 
 /// The scripts.
-const SCRIPTS: &[Script] = &[
+pub const SCRIPTS: &[Script] = &[
     Script {
         name: "a_command_is_answered",
         span: 16,
@@ -244,8 +242,3 @@ const SCRIPTS: &[Script] = &[
         steps: ONE_TURN,
     },
 ];
-
-/// The first script that goes otherwise, and where.
-pub fn wrong(alloc: Global) -> Option<(&'static str, usize)> {
-    wrong_script(alloc, SCRIPTS)
-}

@@ -1,6 +1,6 @@
 //! Datagrams of any bytes, from any address.
 use super::links::Step::*;
-use super::links::{Script, Step, wrong_script};
+use super::links::{Script, Step};
 use super::{ANSWER, COMMAND, DEVICE, STRANGER};
 use oca_control::Reception;
 
@@ -40,7 +40,7 @@ const OTHERS: &[Step] = &[
     Hears(STRANGER, &[], 1, Reception::Stranger),
     Hears(DEVICE, &[], 1, Reception::Malformed),
     HearsOversize(1, Reception::Malformed),
-    Hears(DEVICE, &COMMAND, 1, Reception::NothingNew),
+    Hears(DEVICE, COMMAND, 1, Reception::NothingNew),
     HearsResponse(9, 1, Reception::NothingNew),
 ];
 
@@ -52,7 +52,7 @@ const MOST: &[Step] = &[
 ];
 
 /// The scripts.
-const SCRIPTS: &[Script] = &[
+pub const SCRIPTS: &[Script] = &[
     Script {
         name: "two_answers_in_one_datagram",
         first: 1,
@@ -84,8 +84,3 @@ const SCRIPTS: &[Script] = &[
         steps: MOST,
     },
 ];
-
-/// The first script that goes otherwise, and where.
-pub fn wrong() -> Option<(&'static str, usize)> {
-    wrong_script(SCRIPTS)
-}

@@ -1,6 +1,6 @@
 //! The loop over an end in memory.
 use super::ends::Step::*;
-use super::ends::{Delivery, Ending, QUIET, Script, Step, wrong_script};
+use super::ends::{Delivery, Ending, QUIET, Script, Step};
 use super::links::Step::{IsLost, Submits, Takes};
 use super::{ANSWER, COMMAND, KEEP_ALIVE};
 use oca_control::DriveReport;
@@ -12,8 +12,6 @@ const ANSWERS: Ending = Ending {
     room: 4,
     fail_send: None,
 };
-
-use std::alloc::Global;
 
 // The loop ends behind the last entry of the end.
 const ANSWERED: &[Step] = &[
@@ -31,7 +29,7 @@ const ANSWERED: &[Step] = &[
         },
     ),
     Taken(1),
-    Sent(0, &COMMAND),
+    Sent(0, COMMAND),
     At(Takes(1, Some(ANSWER))),
 ];
 
@@ -111,12 +109,12 @@ const KEEP_ALIVES: &[Step] = &[
         },
     ),
     Taken(2),
-    Sent(0, &KEEP_ALIVE),
-    Sent(1, &KEEP_ALIVE),
+    Sent(0, KEEP_ALIVE),
+    Sent(1, KEEP_ALIVE),
 ];
 
 /// The scripts.
-const SCRIPTS: &[Script] = &[
+pub const SCRIPTS: &[Script] = &[
     Script {
         name: "a_command_is_sent_and_answered",
         span: 16,
@@ -148,8 +146,3 @@ const SCRIPTS: &[Script] = &[
         steps: KEEP_ALIVES,
     },
 ];
-
-/// The first script that goes otherwise, and where.
-pub fn wrong(alloc: Global) -> Option<(&'static str, usize)> {
-    wrong_script(alloc, SCRIPTS)
-}

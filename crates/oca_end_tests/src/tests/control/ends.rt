@@ -99,25 +99,42 @@ fn entry(alloc: Global, delivery: Delivery) -> Option<Scripted> {
 }
 
 /// Adds so many silences, each 250 ms.
-fn add_quiet(script: &mut Vec<Scripted>, count: u64) -> Option<()> {
+fn add_quiet(script: &mut Vec<Scripted>, count: u64) -> bool {
     for turn in 0..count {
-        script
-            .push(Scripted::Quiet {
-                now: turn.saturating_mul(250),
-            })
-            .ok()?;
+        let now = turn.saturating_mul(250);
+        if script.push(Scripted::Quiet { now }).is_err() {
+            return false;
+        }
     }
-    Some(())
+    true
+}
+
+/// Adds a delivery.
+fn add(alloc: Global, script: &mut Vec<Scripted>, delivery: Delivery) -> bool {
+    match entry(alloc, delivery) {
+        Some(entry) => script.push(entry).is_ok(),
+        None => false,
+    }
+}
+
+/// Adds the deliveries.
+fn add_all(alloc: Global, script: &mut Vec<Scripted>, deliveries: &[Delivery]) -> bool {
+    for delivery in deliveries {
+        if !add(alloc, script, *delivery) {
+            return false;
+        }
+    }
+    true
 }
 
 /// The end.
 fn end_of(alloc: Global, ending: Ending) -> Option<MemoryEnd> {
     let mut script = Vec::new(alloc);
-    add_quiet(&mut script, ending.quiet)?;
-    for delivery in ending.deliveries {
-        script.push(entry(alloc, *delivery)?).ok()?;
+    if add_quiet(&mut script, ending.quiet) && add_all(alloc, &mut script, ending.deliveries) {
+        MemoryEnd::new(alloc, script, ending.room, ending.fail_send).ok()
+    } else {
+        None
     }
-    MemoryEnd::new(alloc, script, ending.room, ending.fail_send).ok()
 }
 
 /// Whether a command fared so.
@@ -177,16 +194,10 @@ fn is_sent(end: &MemoryEnd, number: usize, bytes: &[u8]) -> bool {
     }
 }
 
-/// Whether the step at the link alone is answered so.
-fn agrees_at(link: &mut Link, step: links::Step) -> bool {
-    let mut packet = Packet::new();
-    link_agrees(link, &mut packet, step)
-}
-
 /// Whether the step is answered so.
-fn agrees(link: &mut Link, end: &mut MemoryEnd, step: Step) -> bool {
+fn agrees(link: &mut Link, end: &mut MemoryEnd, packet: &mut Packet, step: Step) -> bool {
     match step {
-        At(step) => agrees_at(link, step),
+        At(step) => link_agrees(link, packet, step),
         Asks(turns, want) => is_outcome(&asked(link, end, turns), want),
         Waits(handle, turns, want) => is_outcome(&waited(link, end, handle, turns), want),
         GivesOut(now, sent, keep_alives) => given_out(link, end, now) == given(sent, keep_alives),
@@ -211,9 +222,14 @@ pub struct Script {
 }
 
 /// The first step that is answered otherwise.
-fn first_wrong(link: &mut Link, end: &mut MemoryEnd, steps: &[Step]) -> Option<usize> {
+fn first_wrong(
+    link: &mut Link,
+    end: &mut MemoryEnd,
+    packet: &mut Packet,
+    steps: &[Step],
+) -> Option<usize> {
     for (at, step) in steps.iter().enumerate() {
-        if !agrees(link, end, *step) {
+        if !agrees(link, end, packet, *step) {
             return Some(at);
         }
     }
@@ -221,25 +237,34 @@ fn first_wrong(link: &mut Link, end: &mut MemoryEnd, steps: &[Step]) -> Option<u
 }
 
 /// The first step over a link that is answered otherwise; the last number where there is no room for the end.
-fn wrong_over(alloc: Global, link: &mut Link, script: &Script) -> Option<usize> {
+fn wrong_over(
+    alloc: Global,
+    link: &mut Link,
+    packet: &mut Packet,
+    script: &Script,
+) -> Option<usize> {
     match end_of(alloc, script.ending) {
-        Some(mut end) => first_wrong(link, &mut end, script.steps),
+        Some(mut end) => first_wrong(link, &mut end, packet, script.steps),
         None => Some(usize::MAX),
     }
 }
 
 /// The first step of a script that is answered otherwise; the last number where there is no such span.
-fn wrong_step(alloc: Global, script: &Script) -> Option<usize> {
+fn wrong_step(alloc: Global, packet: &mut Packet, script: &Script) -> Option<usize> {
     match link(1, script.span) {
-        Some(mut link) => wrong_over(alloc, &mut link, script),
+        Some(mut link) => wrong_over(alloc, &mut link, packet, script),
         None => Some(usize::MAX),
     }
 }
 
 /// The first script with a step that is answered otherwise, and that step.
-pub fn wrong_script(alloc: Global, scripts: &[Script]) -> Option<(&'static str, usize)> {
+pub fn wrong_script(
+    alloc: Global,
+    packet: &mut Packet,
+    scripts: &[Script],
+) -> Option<(&'static str, usize)> {
     for script in scripts {
-        if let Some(at) = wrong_step(alloc, script) {
+        if let Some(at) = wrong_step(alloc, packet, script) {
             return Some((script.name, at));
         }
     }

@@ -1,7 +1,7 @@
 //! Handles and spans.
 use super::ANSWER;
 use super::links::Step::*;
-use super::links::{Script, Step, wrong_script};
+use super::links::{Script, Step};
 use oca_control::{ControlFault, Reception};
 
 // No handle follows 4294967295.
@@ -33,7 +33,7 @@ const ONE: &[Step] = &[Submits(0, Ok(1)), Submits(0, Err(ControlFault::SpanFull)
 const THIRTY_TWO: &[Step] = &[SubmitsMany(7, 39), Submits(0, Err(ControlFault::SpanFull))];
 
 /// The scripts.
-const SCRIPTS: &[Script] = &[
+pub const SCRIPTS: &[Script] = &[
     Script {
         name: "the_last_handle_is_given_out",
         first: 4_294_967_294,
@@ -59,8 +59,3 @@ const SCRIPTS: &[Script] = &[
         steps: THIRTY_TWO,
     },
 ];
-
-/// The first script that goes otherwise, and where.
-pub fn wrong() -> Option<(&'static str, usize)> {
-    wrong_script(SCRIPTS)
-}

@@ -61,9 +61,12 @@ fn is_handle(submitted: Result<Handle, ControlFault>, want: Result<u32, ControlF
     }
 }
 
+/// No parameters.
+const NONE: &[u8] = &[];
+
 /// Submits a GetState of the object 4097.
 fn submit(link: &mut Link, now: u64) -> Result<Handle, ControlFault> {
-    link.submit(Ono(4097), MethodId { level: 4, index: 1 }, 0, &[], now)
+    link.submit(Ono(4097), MethodId { level: 4, index: 1 }, 0, NONE, now)
 }
 
 /// Whether the commands that are submitted get the handles from `first` to below `end`.
@@ -76,32 +79,23 @@ fn submits_many(link: &mut Link, first: u32, end: u32) -> bool {
     true
 }
 
-/// Submits a SetState of 4097 with so many parameter bytes, at most 1,446.
-fn submit_long(link: &mut Link, size: usize) -> Option<Result<Handle, ControlFault>> {
-    let bytes = [7; 1446];
-    if size > 1446 {
-        return None;
-    }
-    Some(link.submit(
-        Ono(4097),
-        MethodId { level: 4, index: 2 },
-        1,
-        &bytes[..size],
-        0,
-    ))
-}
+/// Parameter bytes, more than a command may have.
+const PARAMS: &[u8] = &[7; 1446];
 
-/// Whether a command with so many parameter bytes is submitted so.
+/// Whether a SetState of 4097 with so many parameter bytes, at most 1,446, is submitted so.
 fn submits_long(link: &mut Link, size: usize, want: Result<u32, ControlFault>) -> bool {
-    match submit_long(link, size) {
-        Some(submitted) => is_handle(submitted, want),
+    match PARAMS.get(..size) {
+        Some(params) => is_handle(
+            link.submit(Ono(4097), MethodId { level: 4, index: 2 }, 1, params, 0),
+            want,
+        ),
         None => false,
     }
 }
 
 /// Whether the command of the handle 1 is due at a moment, with the bytes that it had at first.
 fn is_sent(link: &mut Link, now: u64, packet: &mut Packet) -> bool {
-    link.due(now, packet) == Due::Send(Handle(1)) && packet.as_slice() == COMMAND.as_slice()
+    link.due(now, packet) == Due::Send(Handle(1)) && packet.as_slice() == COMMAND
 }
 
 /// Whether it is due at each of these multiples of 250 ms.
@@ -119,32 +113,24 @@ fn hear(link: &mut Link, from: Peer, handle: u8, now: u64) -> Reception {
     link.datagram(from, &response(handle), now)
 }
 
-/// Responses of the status 5 to the command of the handle 1, as many as a datagram holds.
-fn most_responses() -> Option<Packet> {
-    let mut packet = Packet::new();
-    packet
-        .try_extend_from_slice(&[0x3b, 0, 1, 0, 0, 5, 0xbd, 3, 0, 146])
-        .ok()?;
+/// The head of a datagram of 146 messages.
+const MOST_HEAD: &[u8] = &[0x3b, 0, 1, 0, 0, 5, 0xbd, 3, 0, 146];
+
+/// A response of the status 5 to the command of the handle 1.
+const OF_STATUS_5: &[u8] = &[0, 0, 0, 10, 0, 0, 0, 1, 5, 0];
+
+/// Whether a datagram of 146 responses is taken so, as many as a datagram holds. The packet holds it then.
+fn hears_most(link: &mut Link, packet: &mut Packet, now: u64, want: Reception) -> bool {
+    packet.clear();
+    let _ = packet.try_extend_from_slice(MOST_HEAD);
     for _ in 0..146 {
-        packet
-            .try_extend_from_slice(&[0, 0, 0, 10, 0, 0, 0, 1, 5, 0])
-            .ok()?;
+        let _ = packet.try_extend_from_slice(OF_STATUS_5);
     }
-    Some(packet)
+    link.datagram(DEVICE, packet.as_slice(), now) == want
 }
 
-/// Whether a datagram of 146 responses is taken so.
-fn hears_most(link: &mut Link, now: u64, want: Reception) -> bool {
-    match most_responses() {
-        Some(packet) => link.datagram(DEVICE, packet.as_slice(), now) == want,
-        None => false,
-    }
-}
-
-/// What becomes of a datagram of 1,473 bytes.
-fn hear_oversize(link: &mut Link, now: u64) -> Reception {
-    link.datagram(DEVICE, &[0x3b; 1473], now)
-}
+/// A datagram of 1,473 bytes.
+const OVERSIZE: &[u8] = &[0x3b; 1473];
 
 /// Whether an answer is this one.
 pub fn is_answer(answer: &Answer, want: Gave) -> bool {
@@ -153,10 +139,12 @@ pub fn is_answer(answer: &Answer, want: Gave) -> bool {
 
 /// Whether this is taken under the handle.
 fn takes(link: &mut Link, handle: u32, want: Option<Gave>) -> bool {
-    match (link.take(Handle(handle)), want) {
-        (Some(answer), Some(want)) => is_answer(&answer, want),
-        (None, None) => true,
-        _ => false,
+    match link.take(Handle(handle)) {
+        Some(answer) => match want {
+            Some(want) => is_answer(&answer, want),
+            None => false,
+        },
+        None => want.is_none(),
     }
 }
 
@@ -181,8 +169,8 @@ pub fn agrees(link: &mut Link, packet: &mut Packet, step: Step) -> bool {
         Hears(from, bytes, now, want) => link.datagram(from, bytes, now) == want,
         HearsResponse(handle, now, want) => hear(link, DEVICE, handle, now) == want,
         HearsStranger(from, now, want) => hear(link, from, 1, now) == want,
-        HearsMost(now, want) => hears_most(link, now, want),
-        HearsOversize(now, want) => hear_oversize(link, now) == want,
+        HearsMost(now, want) => hears_most(link, packet, now, want),
+        HearsOversize(now, want) => link.datagram(DEVICE, OVERSIZE, now) == want,
         Takes(handle, want) => takes(link, handle, want),
         NextDue(want) => link.next_due() == want,
         Answered(want) => is_number(link.answered(), want),
@@ -201,10 +189,10 @@ pub struct Script {
 }
 
 /// The first step that is answered otherwise.
-fn first_wrong(link: &mut Link, steps: &[Step]) -> Option<usize> {
-    let mut packet = Packet::new();
+fn first_wrong(link: &mut Link, packet: &mut Packet, steps: &[Step]) -> Option<usize> {
+    packet.clear();
     for (at, step) in steps.iter().enumerate() {
-        if !agrees(link, &mut packet, *step) {
+        if !agrees(link, packet, *step) {
             return Some(at);
         }
     }
@@ -212,17 +200,17 @@ fn first_wrong(link: &mut Link, steps: &[Step]) -> Option<usize> {
 }
 
 /// The first step of a script that is answered otherwise; the last number where there is no such span.
-fn wrong_step(script: &Script) -> Option<usize> {
+fn wrong_step(packet: &mut Packet, script: &Script) -> Option<usize> {
     match link(script.first, script.span) {
-        Some(mut link) => first_wrong(&mut link, script.steps),
+        Some(mut link) => first_wrong(&mut link, packet, script.steps),
         None => Some(usize::MAX),
     }
 }
 
 /// The first script with a step that is answered otherwise, and that step.
-pub fn wrong_script(scripts: &[Script]) -> Option<(&'static str, usize)> {
+pub fn wrong_script(packet: &mut Packet, scripts: &[Script]) -> Option<(&'static str, usize)> {
     for script in scripts {
-        if let Some(at) = wrong_step(script) {
+        if let Some(at) = wrong_step(packet, script) {
             return Some((script.name, at));
         }
     }

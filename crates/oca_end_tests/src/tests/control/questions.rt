@@ -1,6 +1,6 @@
 //! What a link tells of itself.
 use super::links::Step::*;
-use super::links::{Script, Step, wrong_script};
+use super::links::{Script, Step};
 use super::{ANSWER, DEVICE, KEEP_ALIVE, STRANGER};
 use oca_control::{Due, Reception};
 use oca_types::Handle;
@@ -53,17 +53,17 @@ const LOWEST: &[Step] = &[
 // A well-formed datagram of the device alone moves the moment at which it was heard last, and never backwards.
 const HEARD: &[Step] = &[
     LastHeard(0),
-    Hears(DEVICE, &KEEP_ALIVE, 10, Reception::NothingNew),
+    Hears(DEVICE, KEEP_ALIVE, 10, Reception::NothingNew),
     LastHeard(10),
-    Hears(STRANGER, &KEEP_ALIVE, 20, Reception::Stranger),
+    Hears(STRANGER, KEEP_ALIVE, 20, Reception::Stranger),
     Hears(DEVICE, &[1], 30, Reception::Malformed),
     LastHeard(10),
-    Hears(DEVICE, &KEEP_ALIVE, 5, Reception::NothingNew),
+    Hears(DEVICE, KEEP_ALIVE, 5, Reception::NothingNew),
     LastHeard(30),
 ];
 
 /// The scripts.
-const SCRIPTS: &[Script] = &[
+pub const SCRIPTS: &[Script] = &[
     Script {
         name: "a_keep_alive_is_due_next",
         first: 1,
@@ -101,8 +101,3 @@ const SCRIPTS: &[Script] = &[
         steps: HEARD,
     },
 ];
-
-/// The first script that goes otherwise, and where.
-pub fn wrong() -> Option<(&'static str, usize)> {
-    wrong_script(SCRIPTS)
-}

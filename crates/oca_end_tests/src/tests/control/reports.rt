@@ -1,4 +1,5 @@
 //! Reports that are added, and outcomes as text.
+use crate::tests::reads;
 use oca_control::{ControlFault, DriveReport, Outcome, refused};
 use std::alloc::Global;
 
@@ -70,19 +71,14 @@ const SUMS: &[(DriveReport, DriveReport, DriveReport)] = &[
     (NONE, ONE, ONE),
 ];
 
-/// Whether a report that nobody made is that of nothing.
-fn is_none_by_default() -> bool {
-    DriveReport::default() == NONE
-}
-
 /// The first sum that is another; the last number where a report that nobody made is not that of nothing.
-pub fn first_wrong() -> Option<usize> {
-    if !is_none_by_default() {
-        return Some(usize::MAX);
+pub fn first_wrong() -> Option<(&'static str, usize)> {
+    if DriveReport::default() != NONE {
+        return Some(("sums", usize::MAX));
     }
     for (at, (one, other, both)) in SUMS.iter().enumerate() {
         if *one + *other != *both {
-            return Some(at);
+            return Some(("sums", at));
         }
     }
     None
@@ -98,24 +94,16 @@ const TEXTS: &[(ControlFault, &str)] = &[
     ),
 ];
 
-/// Whether an outcome reads so.
-fn reads(alloc: Global, outcome: &Outcome, wanted: &str) -> bool {
-    match format!(in alloc; "{outcome}") {
-        Ok(text) => text.as_str() == wanted,
-        Err(_) => false,
-    }
-}
-
 /// The first fault that reads otherwise; the last number where a command without an answer does.
-pub fn first_other(alloc: Global) -> Option<usize> {
+pub fn first_other(alloc: Global) -> Option<(&'static str, usize)> {
     for (at, (fault, wanted)) in TEXTS.iter().enumerate() {
         if !reads(alloc, &refused(*fault), wanted) {
-            return Some(at);
+            return Some(("texts", at));
         }
     }
     if reads(alloc, &Outcome::Unanswered, "not answered yet") {
         None
     } else {
-        Some(usize::MAX)
+        Some(("texts", usize::MAX))
     }
 }

@@ -1,6 +1,6 @@
 //! What is given out, and when.
 use super::links::Step::*;
-use super::links::{Script, Step, wrong_script};
+use super::links::{Script, Step};
 use super::{ANSWER, DEVICE, KEEP_ALIVE};
 use oca_control::{
     ControlFault, Due, Reception, law_of_answering, law_of_giving_out, law_of_histories,
@@ -19,7 +19,7 @@ const SILENCE: &[Step] = &[
     Gives(2_499, Due::Nothing),
     Gave(&[]),
     Gives(2_500, Due::KeepAlive),
-    Gave(&KEEP_ALIVE),
+    Gave(KEEP_ALIVE),
 ];
 
 // A command is given out 20 times, 250 ms apart. A lost link still hands answers on.
@@ -50,7 +50,7 @@ const LONG: &[Step] = &[
 ];
 
 /// The scripts.
-const SCRIPTS: &[Script] = &[
+pub const SCRIPTS: &[Script] = &[
     Script {
         name: "a_keep_alive_after_2500_ms",
         first: 1,
@@ -76,8 +76,3 @@ const SCRIPTS: &[Script] = &[
         steps: LONG,
     },
 ];
-
-/// The first script that goes otherwise, and where.
-pub fn wrong() -> Option<(&'static str, usize)> {
-    wrong_script(SCRIPTS)
-}

@@ -2,7 +2,7 @@
 ghost use Rattle.std.specs.Prelude.{[], false, None};
 
 use super::ends::Step::*;
-use super::ends::{Delivery, Ending, Fared, Script, Step, is_outcome, wrong_script};
+use super::ends::{Delivery, Ending, Fared, Script, Step, is_outcome};
 use super::links::link;
 use super::{ANSWER, KEEP_ALIVE};
 use arrayvec::ArrayVec;
@@ -39,8 +39,6 @@ const LONG: Ending = Ending {
     fail_send: None,
 };
 
-use std::alloc::Global;
-
 // After 200 seconds the command is lost. An answer that comes all the same is taken.
 const LOST: &[Step] = &[
     Asks(9, Fared::Lost),
@@ -48,7 +46,7 @@ const LOST: &[Step] = &[
     Delivered(1),
     Waits(1, 9, Fared::Answered(ANSWER)),
     Taken(2),
-    Sent(1, &KEEP_ALIVE),
+    Sent(1, KEEP_ALIVE),
 ];
 
 const WAITING: Ending = Ending {
@@ -62,7 +60,7 @@ const WAITING: Ending = Ending {
 const ANSWERED: &[Step] = &[
     Asks(9, Fared::Answered(ANSWER)),
     Taken(2),
-    Sent(1, &KEEP_ALIVE),
+    Sent(1, KEEP_ALIVE),
 ];
 
 const GIVEN: &[Step] = &[
@@ -159,27 +157,30 @@ fn all_fare(link: &mut Link, end: &mut Timed, asks: &[Asked]) -> bool {
     true
 }
 
-/// Whether the row is so over a new link and a new end: the commands fare so, and the end sends at these moments.
-fn is_so(row: &Row) -> bool {
+/// Whether the row is so over a link and a new end: the commands fare so, and the end sends at these moments.
+fn is_so_over(link: &mut Link, row: &Row) -> bool {
     let mut end = Timed {
         now: row.begun,
         still: row.still,
         sends: ArrayVec::new(),
         receives: 0,
     };
+    all_fare(link, &mut end, row.asks) && end.sends.as_slice() == row.moments
+}
+
+/// Whether the row is so over a new link.
+fn is_so(row: &Row) -> bool {
     match link(1, 16) {
-        Some(mut link) => {
-            all_fare(&mut link, &mut end, row.asks) && end.sends.as_slice() == row.moments
-        }
+        Some(mut link) => is_so_over(&mut link, row),
         None => false,
     }
 }
 
 /// The first row that is otherwise.
-pub fn first_wrong() -> Option<usize> {
+pub fn first_wrong() -> Option<(&'static str, usize)> {
     for (at, row) in ROWS.iter().enumerate() {
         if !is_so(row) {
-            return Some(at);
+            return Some(("standstills", at));
         }
     }
     None
@@ -228,7 +229,7 @@ const ROWS: &[Row] = &[
 ];
 
 /// The scripts.
-const SCRIPTS: &[Script] = &[
+pub const SCRIPTS: &[Script] = &[
     Script {
         name: "a_copy_follows_within_100_seconds_alone",
         span: 16,
@@ -254,8 +255,3 @@ const SCRIPTS: &[Script] = &[
         steps: GIVEN,
     },
 ];
-
-/// The first script that goes otherwise, and where.
-pub fn wrong(alloc: Global) -> Option<(&'static str, usize)> {
-    wrong_script(alloc, SCRIPTS)
-}

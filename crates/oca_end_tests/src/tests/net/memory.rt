@@ -1,7 +1,7 @@
 //! Ends in memory.
 ghost use Rattle.std.specs.Prelude.{IsTrue};
 
-use super::{A, B, LARGEST};
+use super::{A, B, LARGEST, heard_by_now, sends};
 use oca_net::{End, Heard, MemoryEnd, Scripted};
 use oca_types::{Packet, Peer};
 use std::alloc::Global;
@@ -19,6 +19,8 @@ enum Entry {
 enum Step {
     /// A receive returns this, and the packet then holds these bytes.
     Hears(Heard, &'static [u8]),
+    /// The end's moment, what a receive by it returns, and its moment then.
+    HearsByNow(u64, Heard, u64),
     /// A send of bytes to a peer is taken, or not.
     Sends(Peer, &'static [u8], bool),
     /// So many calls failed.
@@ -43,13 +45,22 @@ fn scripted(alloc: Global, entry: Entry) -> Option<Scripted> {
     }
 }
 
-/// The entries as an end takes them.
-fn all_scripted(alloc: Global, entries: &[Entry]) -> Option<Vec<Scripted>> {
-    let mut script = Vec::new(alloc);
-    for entry in entries {
-        script.push(scripted(alloc, *entry)?).ok()?;
+/// Adds an entry.
+fn add(alloc: Global, script: &mut Vec<Scripted>, entry: Entry) -> bool {
+    match scripted(alloc, entry) {
+        Some(entry) => script.push(entry).is_ok(),
+        None => false,
     }
-    Some(script)
+}
+
+/// Adds the entries.
+fn add_all(alloc: Global, script: &mut Vec<Scripted>, entries: &[Entry]) -> bool {
+    for entry in entries {
+        if !add(alloc, script, *entry) {
+            return false;
+        }
+    }
+    true
 }
 
 /// Asks for an end that tells.
@@ -59,15 +70,25 @@ fn is_given<E: End>(_end: &E) -> bool
     true
 }
 
-/// An end that will deliver these entries, with this room, one of whose sends fails. It tells.
+/// An end that will deliver this script, with this room, one of whose sends fails. It tells.
 fn end_of(
     alloc: Global,
-    entries: &[Entry],
+    script: Vec<Scripted>,
     room: usize,
     fail_send: Option<u64>,
 ) -> Option<MemoryEnd> {
-    let end = MemoryEnd::new(alloc, all_scripted(alloc, entries)?, room, fail_send).ok()?;
+    let end = MemoryEnd::new(alloc, script, room, fail_send).ok()?;
     if is_given(&end) { Some(end) } else { None }
+}
+
+/// The entries as an end takes them.
+fn all_scripted(alloc: Global, entries: &[Entry]) -> Option<Vec<Scripted>> {
+    let mut script = Vec::new(alloc);
+    if add_all(alloc, &mut script, entries) {
+        Some(script)
+    } else {
+        None
+    }
 }
 
 /// Whether this was delivered for the entry.
@@ -107,15 +128,11 @@ fn hears(end: &mut MemoryEnd, packet: &mut Packet, heard: Heard, bytes: &[u8]) -
     end.receive(packet) == heard && packet.as_slice() == bytes
 }
 
-/// Whether a send of at most so many bytes as a datagram has is taken, or not.
-fn sends(end: &mut MemoryEnd, to: Peer, bytes: &[u8], taken: bool) -> bool {
-    bytes.len() <= LARGEST && end.send(to, bytes) == taken
-}
-
 /// Whether the call is answered so.
 fn agrees(end: &mut MemoryEnd, packet: &mut Packet, step: Step) -> bool {
     match step {
         Hears(heard, bytes) => hears(end, packet, heard, bytes),
+        HearsByNow(before, heard, after) => heard_by_now(end, packet) == (before, heard, after),
         Sends(to, bytes, taken) => sends(end, to, bytes, taken),
         Failures(count) => end.failures() == count,
         Delivered(entries) => are_entries(end.delivered(), entries),
@@ -123,14 +140,15 @@ fn agrees(end: &mut MemoryEnd, packet: &mut Packet, step: Step) -> bool {
     }
 }
 
+/// What the packet holds before the first call.
+const HELD: &[u8] = &[1, 2, 3];
+
 /// The first call that is answered otherwise. The packet holds bytes before the first.
-fn first_wrong(end: &mut MemoryEnd, steps: &[Step]) -> Option<usize> {
-    let mut packet = Packet::new();
-    if packet.try_extend_from_slice(&[1, 2, 3]).is_err() {
-        return Some(usize::MAX);
-    }
+fn first_wrong(end: &mut MemoryEnd, packet: &mut Packet, steps: &[Step]) -> Option<usize> {
+    packet.clear();
+    let _ = packet.try_extend_from_slice(HELD);
     for (at, step) in steps.iter().enumerate() {
-        if !agrees(end, &mut packet, *step) {
+        if !agrees(end, packet, *step) {
             return Some(at);
         }
     }
@@ -147,21 +165,14 @@ struct Script {
 }
 
 /// The first call that is answered otherwise; the last number where there is no end.
-fn wrong_step(alloc: Global, script: &Script) -> Option<usize> {
-    match end_of(alloc, script.entries, script.room, script.fail_send) {
-        Some(mut end) => first_wrong(&mut end, script.steps),
+fn wrong_step(alloc: Global, packet: &mut Packet, script: &Script) -> Option<usize> {
+    let Some(entries) = all_scripted(alloc, script.entries) else {
+        return Some(usize::MAX);
+    };
+    match end_of(alloc, entries, script.room, script.fail_send) {
+        Some(mut end) => first_wrong(&mut end, packet, script.steps),
         None => Some(usize::MAX),
     }
-}
-
-/// The first script with a call that is answered otherwise, and that call.
-fn wrong_script(alloc: Global, scripts: &[Script]) -> Option<(&'static str, usize)> {
-    for script in scripts {
-        if let Some(at) = wrong_step(alloc, script) {
-            return Some((script.name, at));
-        }
-    }
-    None
 }
 
 /// Datagrams of 2, 1,473 and 1,472 bytes, and between them silence and a receive that fails.
@@ -250,9 +261,21 @@ const SCRIPTS: &[Script] = &[
         fail_send: Some(0),
         steps: BEYOND,
     },
+    Script {
+        name: "an_end_in_memory_keeps_no_time",
+        entries: &[Entry::Quiet(7)],
+        room: 1,
+        fail_send: None,
+        steps: &[HearsByNow(0, Heard::Quiet { now: 7 }, 0)],
+    },
 ];
 
-#[test]
-fn scripts(rt: HostRuntime) {
-    assert_eq!(rt; wrong_script(rt.alloc(), SCRIPTS), None);
+/// The first script with a call that is answered otherwise, and that call.
+pub fn wrong(alloc: Global, packet: &mut Packet) -> Option<(&'static str, usize)> {
+    for script in SCRIPTS {
+        if let Some(at) = wrong_step(alloc, packet, script) {
+            return Some((script.name, at));
+        }
+    }
+    None
 }

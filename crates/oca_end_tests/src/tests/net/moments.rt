@@ -1,6 +1,6 @@
 //! How long a receive waits, and what its moments are. No clause says what a clock tells, so these tests alone refuse
 //! an end whose moments lag or stand still, or that waits longer or shorter than it says.
-use super::{LARGEST, LOCALHOST, end_here};
+use super::{HELD, LOCALHOST, SocketEnd, end_here, heard_by_now, sends};
 use oca_net::{CountsSleep, End, Heard, UdpEnd};
 use oca_types::Packet;
 use std::cell::Cell;
@@ -17,78 +17,14 @@ fn quiet(heard: Heard) -> Option<u64> {
     }
 }
 
-/// Whole milliseconds.
-fn milliseconds(time: Duration) -> u64 {
-    u64::try_from(time.as_millis()).unwrap_or(u64::MAX)
-}
-
 /// The milliseconds since then.
 fn since(rt: &HostRuntime, then: Instant) -> Option<u64> {
-    Some(milliseconds(then.elapsed(rt).ok()?))
+    let time = then.elapsed(rt).ok()?;
+    u64::try_from(time.as_millis()).ok()
 }
 
-/// An end, and the clock before it was bound and after.
-#[derive(Drop)]
-struct Clocked<'a> {
-    end: UdpEnd<'a, HostRuntime>,
-    before: Instant,
-    bound: Instant,
-}
-
-/// An end that is bound now.
-fn clocked_end(rt: &HostRuntime) -> Option<Clocked<'_>> {
-    let before = Instant::now(rt).ok()?;
-    let end = end_here(rt)?;
-    let bound = Instant::now(rt).ok()?;
-    Some(Clocked { end, before, bound })
-}
-
-/// After a pause: the milliseconds since the end was bound, what it says of them, what a receive says, and the
-/// milliseconds since before it was bound.
-fn moments_after(rt: &HostRuntime, clocked: &mut Clocked<'_>, pause: u64) -> Option<[u64; 4]> {
-    thread::sleep(rt, Duration::from_millis(pause));
-    let mut packet = Packet::new();
-    let least = since(rt, clocked.bound)?;
-    let asked = clocked.end.now();
-    let heard = quiet(clocked.end.receive_by(&mut packet, 0))?;
-    Some([least, asked, heard, since(rt, clocked.before)?])
-}
-
-/// Whether no moment is before the one that stands before it.
-fn is_rising(moments: [u64; 4]) -> bool {
-    moments[0] <= moments[1] && moments[1] <= moments[2] && moments[2] <= moments[3]
-}
-
-/// The first pause behind which the moments do not follow one another.
-fn first_lag(rt: &HostRuntime, clocked: &mut Clocked<'_>, pauses: &[u64]) -> Option<usize> {
-    for (at, pause) in pauses.iter().enumerate() {
-        match moments_after(rt, clocked, *pause) {
-            Some(moments) => {
-                if !is_rising(moments) {
-                    return Some(at);
-                }
-            }
-            None => return Some(at),
-        }
-    }
-    None
-}
-
-/// The same of an end that is bound now; the last number where there is none.
-fn lag(rt: &HostRuntime, pauses: &[u64]) -> Option<usize> {
-    match clocked_end(rt) {
-        Some(mut clocked) => first_lag(rt, &mut clocked, pauses),
-        None => Some(usize::MAX),
-    }
-}
-
-// The pauses before the moments are asked for.
-const PAUSES: &[u64] = &[0, 3, 40, 400, 800];
-
-#[test]
-fn moments_are_milliseconds_since_bind(rt: HostRuntime) {
-    assert_eq!(rt; lag(&rt, PAUSES), None);
-}
+/// The clock before an end was bound, and after.
+type Begun = (Instant, Instant);
 
 /// Until when a receive waits.
 #[derive(Clone, Copy)]
@@ -106,6 +42,11 @@ use Until::*;
 /// Calls of one end, and what they must answer.
 #[derive(Clone, Copy)]
 enum Step {
+    /// After a pause of so many milliseconds no moment is before the one that stands before it: the milliseconds since
+    /// the end was bound, what it says of them, what a receive says, and the milliseconds since before it was bound.
+    Follows(u64),
+    /// The end's moment does not go back from before a receive by it, in which no datagram comes, to behind it.
+    IsTimed,
     /// Receives in which no datagram comes: each waits to its end, and the shortest takes less than so many
     /// milliseconds.
     Quiet(&'static [Until], u64),
@@ -132,23 +73,23 @@ fn least(until: Until) -> u64 {
 const WAITS: usize = 5;
 
 /// How long one receive takes in which no datagram comes. The packet is empty then.
-fn time_once(end: &mut UdpEnd<'_, HostRuntime>, until: Until) -> Option<u64> {
-    let mut packet = Packet::new();
-    packet.try_extend_from_slice(&[1]).ok()?;
+fn time_once(end: &mut SocketEnd<'_>, packet: &mut Packet, until: Until) -> Option<u64> {
+    packet.clear();
+    let _ = packet.try_extend_from_slice(HELD);
     let begun = end.now();
     let heard = match until {
-        NoMoment => end.receive(&mut packet),
-        After(wait) => end.receive_by(&mut packet, begun.saturating_add(wait)),
-        Past => end.receive_by(&mut packet, 0),
+        NoMoment => end.receive(packet),
+        After(wait) => end.receive_by(packet, begun.saturating_add(wait)),
+        Past => end.receive_by(packet, 0),
     };
     let took = quiet(heard)?.saturating_sub(begun);
     if packet.is_empty() { Some(took) } else { None }
 }
 
 /// How long a receive takes in which no datagram comes, where the wait was not cut short.
-fn time_quiet(end: &mut UdpEnd<'_, HostRuntime>, until: Until) -> Option<u64> {
+fn time_quiet(end: &mut SocketEnd<'_>, packet: &mut Packet, until: Until) -> Option<u64> {
     for _wait in 0..WAITS {
-        let took = time_once(end, until)?;
+        let took = time_once(end, packet, until)?;
         if took >= least(until) {
             return Some(took);
         }
@@ -156,57 +97,97 @@ fn time_quiet(end: &mut UdpEnd<'_, HostRuntime>, until: Until) -> Option<u64> {
     None
 }
 
-/// The least of the times of these receives.
-fn shortest_quiet(end: &mut UdpEnd<'_, HostRuntime>, receives: &[Until]) -> Option<u64> {
+/// The least of the times of these receives; the last number where a datagram came.
+fn shortest_quiet(end: &mut SocketEnd<'_>, packet: &mut Packet, receives: &[Until]) -> u64 {
     let mut shortest = u64::MAX;
     for until in receives {
-        shortest = shortest.min(time_quiet(end, *until)?);
+        match time_quiet(end, packet, *until) {
+            Some(took) => shortest = shortest.min(took),
+            None => return u64::MAX,
+        }
     }
-    Some(shortest)
+    shortest
 }
 
-/// Whether the receives are quiet, and the shortest is as short as the step says.
-fn are_quiet(end: &mut UdpEnd<'_, HostRuntime>, receives: &[Until], most: u64) -> bool {
-    match shortest_quiet(end, receives) {
-        Some(shortest) => shortest < most,
-        None => false,
+/// Whether the moments follow one another after a pause.
+fn follows(
+    rt: &HostRuntime,
+    end: &mut SocketEnd<'_>,
+    packet: &mut Packet,
+    begun: Begun,
+    pause: u64,
+) -> Option<bool> {
+    thread::sleep(rt, Duration::from_millis(pause));
+    let least = since(rt, begun.1)?;
+    let asked = end.now();
+    let heard = quiet(end.receive_by(packet, 0))?;
+    let most = since(rt, begun.0)?;
+    Some(least <= asked && asked <= heard && heard <= most)
+}
+
+/// Whether the end hears nothing, at a moment no earlier than it said before and no later than it says then.
+fn is_timed(end: &mut SocketEnd<'_>, packet: &mut Packet) -> bool {
+    match heard_by_now(end, packet) {
+        (before, Heard::Quiet { now }, after) => before <= now && now <= after,
+        _ => false,
     }
 }
 
 /// Whether 20 receives by a moment that is past are as short together as the step says, by the clock.
-fn are_past(rt: &HostRuntime, end: &mut UdpEnd<'_, HostRuntime>, most: u64) -> Option<bool> {
+fn are_past(
+    rt: &HostRuntime,
+    end: &mut SocketEnd<'_>,
+    packet: &mut Packet,
+    most: u64,
+) -> Option<bool> {
     let begun = Instant::now(rt).ok()?;
-    let _ = shortest_quiet(end, &[Past; 20])?;
-    Some(since(rt, begun)? < most)
+    let shortest = shortest_quiet(end, packet, &[Past; 20]);
+    let took = since(rt, begun)?;
+    Some(shortest < u64::MAX && took < most)
 }
 
 /// Whether the end hears what it sends to itself.
-fn echoes(end: &mut UdpEnd<'_, HostRuntime>, bytes: &[u8], moment: u64) -> bool {
-    if bytes.len() > LARGEST || !end.send(end.local(), bytes) {
+fn echoes(end: &mut SocketEnd<'_>, packet: &mut Packet, bytes: &[u8], moment: u64) -> bool {
+    let place = end.local();
+    if !sends(end, place, bytes, true) {
         return false;
     }
-    let mut packet = Packet::new();
-    let heard = end.receive_by(&mut packet, moment);
-    matches!(heard, Heard::Datagram { .. }) && packet.as_slice() == bytes
+    match end.receive_by(packet, moment) {
+        Heard::Datagram { .. } => packet.as_slice() == bytes,
+        _ => false,
+    }
 }
 
 /// Whether the calls are answered so.
-fn agrees(rt: &HostRuntime, end: &mut UdpEnd<'_, HostRuntime>, step: Step) -> bool {
+fn agrees(
+    rt: &HostRuntime,
+    end: &mut SocketEnd<'_>,
+    packet: &mut Packet,
+    begun: Begun,
+    step: Step,
+) -> bool {
     match step {
-        Quiet(receives, most) => are_quiet(end, receives, most),
-        TwentyPast(most) => are_past(rt, end, most) == Some(true),
-        Echoes(bytes, moment) => echoes(end, bytes, moment),
+        Follows(pause) => follows(rt, end, packet, begun, pause) == Some(true),
+        IsTimed => is_timed(end, packet),
+        Quiet(receives, most) => shortest_quiet(end, packet, receives) < most,
+        TwentyPast(most) => are_past(rt, end, packet, most) == Some(true),
+        Echoes(bytes, moment) => echoes(end, packet, bytes, moment),
     }
 }
 
-/// The first step that is answered otherwise.
+/// The first step that is answered otherwise; the last number where the clock can't be read.
 fn first_wrong(
     rt: &HostRuntime,
-    end: &mut UdpEnd<'_, HostRuntime>,
+    end: &mut SocketEnd<'_>,
+    packet: &mut Packet,
+    before: Instant,
     steps: &[Step],
 ) -> Option<usize> {
+    let Ok(bound) = Instant::now(rt) else {
+        return Some(usize::MAX);
+    };
     for (at, step) in steps.iter().enumerate() {
-        if !agrees(rt, end, *step) {
+        if !agrees(rt, end, packet, (before, bound), *step) {
             return Some(at);
         }
     }
@@ -214,9 +195,12 @@ fn first_wrong(
 }
 
 /// The first step at a new end that is answered otherwise; the last number where there is none.
-fn wrong_step(rt: &HostRuntime, steps: &[Step]) -> Option<usize> {
+fn wrong_step(rt: &HostRuntime, packet: &mut Packet, steps: &[Step]) -> Option<usize> {
+    let Ok(before) = Instant::now(rt) else {
+        return Some(usize::MAX);
+    };
     match end_here(rt) {
-        Some(mut end) => first_wrong(rt, &mut end, steps),
+        Some(mut end) => first_wrong(rt, &mut end, packet, before, steps),
         None => Some(usize::MAX),
     }
 }
@@ -224,15 +208,14 @@ fn wrong_step(rt: &HostRuntime, steps: &[Step]) -> Option<usize> {
 /// A script by its name.
 type Script = (&'static str, &'static [Step]);
 
-/// The first script with a step that is answered otherwise, and that step.
-fn wrong_script(rt: &HostRuntime, scripts: &[Script]) -> Option<(&'static str, usize)> {
-    for (name, steps) in scripts {
-        if let Some(at) = wrong_step(rt, steps) {
-            return Some((*name, at));
-        }
-    }
-    None
-}
+// After each of these pauses the moments are asked for.
+const PAUSES: &[Step] = &[
+    Follows(0),
+    Follows(3),
+    Follows(40),
+    Follows(400),
+    Follows(800),
+];
 
 // A receive that is given no moment waits 50 ms.
 const NO_MOMENT: &[Step] = &[Quiet(&[NoMoment; 6], 80)];
@@ -265,6 +248,8 @@ const IN_TURN: &[Step] = &[
 
 /// The scripts.
 const SCRIPTS: &[Script] = &[
+    ("moments_are_milliseconds_since_bind", PAUSES),
+    ("an_end_at_a_socket_keeps_time", &[IsTimed]),
     ("a_quiet_receive_takes_50_milliseconds", NO_MOMENT),
     ("a_receive_waits_until_its_moment", BY_A_MOMENT),
     (
@@ -274,23 +259,28 @@ const SCRIPTS: &[Script] = &[
     ("each_wait_has_its_own_time", IN_TURN),
 ];
 
-#[test]
-fn scripts(rt: HostRuntime) {
-    assert_eq!(rt; wrong_script(&rt, SCRIPTS), None);
+/// The first script with a step that is answered otherwise, and that step.
+pub fn wrong(rt: &HostRuntime, packet: &mut Packet) -> Option<(&'static str, usize)> {
+    for (name, steps) in SCRIPTS {
+        if let Some(at) = wrong_step(rt, packet, steps) {
+            return Some((*name, at));
+        }
+    }
+    None
 }
 
-/// A system whose clock gives what it is set to, and nothing where it is not set.
+/// A system whose clock gives the milliseconds that it is set to, and nothing where it is not set.
 #[derive(Drop)]
 struct SetClock<'a> {
     system: &'a HostRuntime,
-    time: Cell<Option<Duration>>,
+    time: Cell<Option<u64>>,
 }
 
 impl Clock for SetClock<'_> {
     /// What the clock is set to.
     fn monotonic(&self) -> io::Result<Duration> {
         match self.time.get() {
-            Some(time) => Ok(time),
+            Some(time) => Ok(Duration::from_millis(time)),
             None => Err(io::Error::other("no clock")),
         }
     }
@@ -328,38 +318,12 @@ impl Net for SetClock<'_> {
 fn is_moment(
     end: &mut UdpEnd<'_, SetClock<'_>>,
     net: &SetClock<'_>,
+    packet: &mut Packet,
     clock: Option<u64>,
     moment: u64,
 ) -> bool {
-    net.time.set(clock.map(Duration::from_millis));
-    let mut packet = Packet::new();
-    end.now() == moment && quiet(end.receive_by(&mut packet, 0)) == Some(moment)
-}
-
-/// The first reading of the clock for which the end gives another moment.
-fn first_wrong_reading(
-    end: &mut UdpEnd<'_, SetClock<'_>>,
-    net: &SetClock<'_>,
-    readings: &[(Option<u64>, u64)],
-) -> Option<usize> {
-    for (at, (clock, moment)) in readings.iter().enumerate() {
-        if !is_moment(end, net, *clock, *moment) {
-            return Some(at);
-        }
-    }
-    None
-}
-
-/// The same of an end that is bound when the clock gives 1,000 ms; the last number where there is none.
-fn wrong_reading(rt: &HostRuntime, readings: &[(Option<u64>, u64)]) -> Option<usize> {
-    let net = SetClock {
-        system: rt,
-        time: Cell::new(Some(Duration::from_millis(1_000))),
-    };
-    match UdpEnd::bind(rt.alloc(), &net, LOCALHOST, 0) {
-        Ok(mut end) => first_wrong_reading(&mut end, &net, readings),
-        Err(_) => Some(usize::MAX),
-    }
+    net.time.set(clock);
+    end.now() == moment && quiet(end.receive_by(packet, 0)) == Some(moment)
 }
 
 // Where the clock goes back, and where it can't be read, the latest moment is given again.
@@ -372,16 +336,36 @@ const READINGS: &[(Option<u64>, u64)] = &[
     (Some(3_009), 2_009),
 ];
 
-#[test]
-fn moments_do_not_go_back(rt: HostRuntime) {
-    assert_eq!(rt; wrong_reading(&rt, READINGS), None);
+/// The first reading of the clock for which the end gives another moment.
+fn first_wrong_reading(
+    end: &mut UdpEnd<'_, SetClock<'_>>,
+    net: &SetClock<'_>,
+    packet: &mut Packet,
+) -> Option<usize> {
+    for (at, (clock, moment)) in READINGS.iter().enumerate() {
+        if !is_moment(end, net, packet, *clock, *moment) {
+            return Some(at);
+        }
+    }
+    None
+}
+
+/// The same of an end that is bound when the clock gives 1,000 ms; the last number where there is none.
+fn wrong_reading(rt: &HostRuntime, packet: &mut Packet) -> Option<usize> {
+    let net = SetClock {
+        system: rt,
+        time: Cell::new(Some(1_000)),
+    };
+    match UdpEnd::bind(rt.alloc(), &net, LOCALHOST, 0) {
+        Ok(mut end) => first_wrong_reading(&mut end, &net, packet),
+        Err(_) => Some(usize::MAX),
+    }
 }
 
 /// Whether an end at this clock hears nothing up to the moment 40, and then gives moments that are no earlier.
-fn is_quiet_until(end: &mut UdpEnd<'_, CountsSleep<'_, HostRuntime>>) -> bool {
-    let mut packet = Packet::new();
+fn is_quiet_until(end: &mut UdpEnd<'_, CountsSleep<'_, HostRuntime>>, packet: &mut Packet) -> bool {
     for _wait in 0..WAITS {
-        match quiet(end.receive_by(&mut packet, 40)) {
+        match quiet(end.receive_by(packet, 40)) {
             Some(now) if now < 40 => {}
             Some(now) => return end.now() >= now,
             None => return false,
@@ -406,22 +390,36 @@ fn has_the_date(rt: &HostRuntime, clock: &CountsSleep<'_, HostRuntime>) -> Optio
     Some(before <= date && date <= behind)
 }
 
-#[test]
-fn a_clock_that_counts_sleep_has_the_date(rt: HostRuntime) {
-    assert_eq!(rt; has_the_date(&rt, &CountsSleep(&rt)), Some(true));
-}
-
-/// Whether a clock that counts sleep is not behind the system's, and an end over it gives moments that rise with it.
-fn counts_sleep(rt: &HostRuntime) -> Option<bool> {
-    let before = rt.monotonic().ok()?;
-    let clock = CountsSleep(rt);
-    match UdpEnd::bind(rt.alloc(), &clock, LOCALHOST, 0) {
-        Ok(mut end) => Some(is_quiet_until(&mut end) && is_not_before(&clock, before)),
-        Err(_) => None,
+/// Whether an end over a clock that counts sleep gives moments that rise with it, and it is not behind this moment then.
+fn goes_on(
+    rt: &HostRuntime,
+    packet: &mut Packet,
+    clock: &CountsSleep<'_, HostRuntime>,
+    before: Duration,
+) -> bool {
+    match UdpEnd::bind(rt.alloc(), clock, LOCALHOST, 0) {
+        Ok(mut end) => is_quiet_until(&mut end, packet) && is_not_before(clock, before),
+        Err(_) => false,
     }
 }
 
-#[test]
-fn a_clock_that_counts_sleep_goes_on(rt: HostRuntime) {
-    assert_eq!(rt; counts_sleep(&rt), Some(true));
+/// Whether a clock that counts sleep has the system's date, and is not behind the system's.
+fn counts_sleep(rt: &HostRuntime, packet: &mut Packet) -> bool {
+    let clock = CountsSleep(rt);
+    match rt.monotonic() {
+        Ok(before) => has_the_date(rt, &clock) == Some(true) && goes_on(rt, packet, &clock, before),
+        Err(_) => false,
+    }
+}
+
+/// The first reading of a clock that is set for which an end gives another moment, or the clock that counts sleep.
+pub fn wrong_clock(rt: &HostRuntime, packet: &mut Packet) -> Option<(&'static str, usize)> {
+    if let Some(at) = wrong_reading(rt, packet) {
+        return Some(("moments_do_not_go_back", at));
+    }
+    if counts_sleep(rt, packet) {
+        None
+    } else {
+        Some(("a_clock_that_counts_sleep_goes_on", 0))
+    }
 }

@@ -1,11 +1,11 @@
 //! Where no end is bound, why, and the words of that; and the descriptor of one that is.
-use super::{LOCALHOST, end_here};
+use super::{LOCALHOST, SocketEnd, end_here};
+use crate::tests::reads;
 use oca_net::{
     BindError, BindFault, UdpEnd, fill_standard_descriptors, is_refused as host_refuses,
 };
 use oca_types::Peer;
 use std::alloc::Global;
-use std::io;
 use std::io::ErrorKind;
 use std::os::fd::{AsFd, AsRawFd};
 
@@ -31,128 +31,87 @@ fn is_bound(rt: &HostRuntime, at: Peer) -> bool {
     }
 }
 
-/// Whether a port in use and an address of no machine are refused, and the port is free again once its end is gone.
-fn is_taken_once(rt: &HostRuntime) -> Option<[bool; 3]> {
-    let end = end_here(rt)?;
-    let local = end.local();
-    let in_use = is_refused(rt, local);
-    let nowhere = is_refused(rt, NO_MACHINE);
-    drop(end);
-    Some([in_use, nowhere, is_bound(rt, local)])
-}
-
-#[test]
-fn a_port_in_use_is_refused(rt: HostRuntime) {
-    assert_eq!(rt; is_taken_once(&rt), Some([true; 3]));
-}
-
-/// The system's reason why no end is bound there.
-fn refusal(rt: &HostRuntime, at: Peer) -> Option<io::Error> {
+/// Whether no end is bound there for a reason of this kind with these words.
+fn is_refused_for(rt: &HostRuntime, at: Peer, kind: ErrorKind, text: &str) -> bool {
     match UdpEnd::bind_with_reason(rt.alloc(), rt, at.ip, at.port) {
-        Err(BindError::Io(reason)) => Some(reason),
-        _ => None,
+        Err(BindError::Io(reason)) => {
+            reason.kind() == kind && reads(rt.alloc(), &BindError::Io(reason), text)
+        }
+        _ => false,
     }
-}
-
-/// Whether no end is bound there for a reason of this kind.
-fn is_refused_for(rt: &HostRuntime, at: Peer, kind: ErrorKind) -> bool {
-    match refusal(rt, at) {
-        Some(reason) => reason.kind() == kind,
-        None => false,
-    }
-}
-
-/// Whether no end is bound there for a reason with these words.
-fn is_refused_with(rt: &HostRuntime, at: Peer, text: &str) -> bool {
-    match refusal(rt, at) {
-        Some(reason) => error_reads(rt.alloc(), BindError::Io(reason), text),
-        None => false,
-    }
-}
-
-/// Whether the error is displayed so.
-fn error_reads(alloc: Global, error: BindError, text: &str) -> bool {
-    match error.to_string(alloc) {
-        Ok(words) => words.as_str() == text,
-        Err(_) => false,
-    }
-}
-
-/// Whether a port in use and an address of no machine have the system's reasons, and the first one its words.
-fn has_reasons(rt: &HostRuntime) -> Option<[bool; 3]> {
-    let end = end_here(rt)?;
-    let local = end.local();
-    Some([
-        is_refused_for(rt, local, ErrorKind::AddrInUse),
-        is_refused_for(rt, NO_MACHINE, ErrorKind::AddrNotAvailable),
-        is_refused_with(rt, local, "Address already in use (os error 98)"),
-    ])
-}
-
-#[test]
-fn a_refused_socket_has_the_systems_reason(rt: HostRuntime) {
-    assert_eq!(rt; has_reasons(&rt), Some([true; 3]));
-}
-
-/// Whether a host refuses a port that an end has, once the end is gone, and at an address that no program may send to.
-fn refuses(rt: &HostRuntime) -> Option<[bool; 3]> {
-    let end = end_here(rt)?;
-    let local = end.local();
-    let bound = host_refuses(rt, LOCALHOST, local);
-    drop(end);
-    let unbound = host_refuses(rt, LOCALHOST, local);
-    Some([bound, unbound, host_refuses(rt, NO_MACHINE.ip, local)])
 }
 
 /// Whether an end has a descriptor behind the standard ones, the same both ways.
-fn has_a_descriptor(rt: &HostRuntime) -> Option<[bool; 2]> {
-    fill_standard_descriptors(rt).ok()?;
-    let end = end_here(rt)?;
+fn has_a_descriptor(end: &SocketEnd<'_>) -> bool {
     let number = end.as_raw_fd();
-    Some([number > 2, end.as_fd().as_raw_fd() == number])
-}
-
-#[test]
-fn an_end_has_a_descriptor(rt: HostRuntime) {
-    assert_eq!(rt; has_a_descriptor(&rt), Some([true; 2]));
-}
-
-/// Whether the fault is displayed so.
-fn fault_reads(alloc: Global, fault: BindFault, text: &str) -> bool {
-    match fault.to_string(alloc) {
-        Ok(words) => words.as_str() == text,
-        Err(_) => false,
-    }
+    number > 2 && end.as_fd().as_raw_fd() == number
 }
 
 /// Whether the faults are displayed so.
 fn faults_read(alloc: Global) -> bool {
-    fault_reads(alloc, BindFault::Io, "socket failed")
-        && fault_reads(alloc, BindFault::NoMemory, "no memory")
-        && error_reads(alloc, BindError::NoMemory, "no memory")
+    reads(alloc, &BindFault::Io, "socket failed")
+        && reads(alloc, &BindFault::NoMemory, "no memory")
+        && reads(alloc, &BindError::NoMemory, "no memory")
+}
+
+/// What is refused or answered otherwise while an end is bound.
+fn wrong_while_bound(rt: &HostRuntime, end: &SocketEnd<'_>) -> Option<&'static str> {
+    let local = end.local();
+    if !is_refused(rt, local) || !is_refused(rt, NO_MACHINE) {
+        return Some("a_port_in_use_is_refused");
+    }
+    let in_use = "Address already in use (os error 98)";
+    let nowhere = "Cannot assign requested address (os error 99)";
+    if !is_refused_for(rt, local, ErrorKind::AddrInUse, in_use)
+        || !is_refused_for(rt, NO_MACHINE, ErrorKind::AddrNotAvailable, nowhere)
+    {
+        return Some("a_refused_socket_has_the_systems_reason");
+    }
+    if host_refuses(rt, LOCALHOST, local) {
+        return Some("a_host_refuses_a_port_that_no_program_has");
+    }
+    if has_a_descriptor(end) {
+        None
+    } else {
+        Some("an_end_has_a_descriptor")
+    }
+}
+
+/// What is refused or answered otherwise where an end was bound that is gone.
+fn wrong_behind(rt: &HostRuntime, local: Peer) -> Option<&'static str> {
+    if !is_bound(rt, local) {
+        return Some("a_port_is_free_once_its_end_is_gone");
+    }
+    if !host_refuses(rt, LOCALHOST, local) || host_refuses(rt, NO_MACHINE.ip, local) {
+        return Some("a_host_refuses_a_port_that_no_program_has");
+    }
+    if faults_read(rt.alloc()) {
+        None
+    } else {
+        Some("faults_in_words")
+    }
+}
+
+/// Where an end was bound that is gone, and what was refused or answered otherwise while it was bound.
+fn bound_once(rt: &HostRuntime) -> Option<(Peer, Option<&'static str>)> {
+    match end_here(rt) {
+        Some(end) => Some((end.local(), wrong_while_bound(rt, &end))),
+        None => None,
+    }
 }
 
 /// What is refused or answered otherwise.
-fn first_wrong(rt: &HostRuntime) -> Option<&'static str> {
-    if is_taken_once(rt) != Some([true; 3]) {
-        return Some("a_port_in_use_is_refused");
+pub fn wrong(rt: &HostRuntime) -> Option<(&'static str, usize)> {
+    if fill_standard_descriptors(rt).is_err() {
+        return Some(("standard_descriptors", 0));
     }
-    if has_reasons(rt) != Some([true; 3]) {
-        return Some("a_refused_socket_has_the_systems_reason");
+    let wrong = match bound_once(rt) {
+        Some((_, Some(name))) => Some(name),
+        Some((local, None)) => wrong_behind(rt, local),
+        None => Some("an_end_is_bound"),
+    };
+    match wrong {
+        Some(name) => Some((name, 0)),
+        None => None,
     }
-    if refuses(rt) != Some([false, true, false]) {
-        return Some("a_host_refuses_a_port_that_no_program_has");
-    }
-    if has_a_descriptor(rt) != Some([true; 2]) {
-        return Some("an_end_has_a_descriptor");
-    }
-    if !faults_read(rt.alloc()) {
-        return Some("faults_in_words");
-    }
-    None
-}
-
-#[test]
-fn refusals(rt: HostRuntime) {
-    assert_eq!(rt; first_wrong(&rt), None);
 }

@@ -1,8 +1,8 @@
 //! Ends at UDP sockets, in one process: what is sent lies at the socket until it is received, so no thread is needed.
 //! Each port is the system's choice. No clause says what goes through a socket, so these tests alone refuse an end that
 //! always returns Quiet or Failed, that drops datagrams, or that sends nothing and returns true.
-use super::{LARGEST, LOCALHOST, end_here};
-use oca_net::{End, Heard, UdpEnd};
+use super::{HELD, LARGEST, LOCALHOST, SocketEnd, end_here, sends};
+use oca_net::{End, Heard};
 use oca_types::{Packet, Peer};
 use std::io::ErrorKind;
 use std::net::{Ipv4Addr, UdpSocket};
@@ -11,7 +11,7 @@ use std::net::{Ipv4Addr, UdpSocket};
 const LONGEST: usize = 65507;
 
 /// A socket of the script.
-#[derive(Clone, Copy, Debug, PartialEq, Eq)]
+#[derive(Clone, Copy)]
 enum Holder {
     /// An end.
     First,
@@ -46,96 +46,50 @@ enum Step {
 
 use Step::*;
 
-/// Three sockets on this machine.
-#[derive(Drop)]
-struct Sockets<'a> {
-    first: UdpEnd<'a, HostRuntime>,
-    second: UdpEnd<'a, HostRuntime>,
-    plain: UdpSocket,
-}
-
-/// Two ends.
-fn two_ends(rt: &HostRuntime) -> Option<(UdpEnd<'_, HostRuntime>, UdpEnd<'_, HostRuntime>)> {
-    let first = end_here(rt)?;
-    match end_here(rt) {
-        Some(second) => Some((first, second)),
-        None => None,
-    }
-}
-
-/// Two ends and a socket without one.
-fn three_sockets(rt: &HostRuntime) -> Option<Sockets<'_>> {
-    let plain = UdpSocket::bind(rt, (Ipv4Addr::LOCALHOST, 0u16)).ok()?;
-    match two_ends(rt) {
-        Some((first, second)) => Some(Sockets {
-            first,
-            second,
-            plain,
-        }),
-        None => None,
-    }
+/// Where the sockets are.
+#[derive(Clone, Copy)]
+struct Places {
+    first: Peer,
+    second: Peer,
+    plain: Peer,
 }
 
 /// Where the socket is.
-fn place(sockets: &Sockets<'_>, who: Holder) -> Option<Peer> {
+fn place(places: Places, who: Holder) -> Peer {
     match who {
-        First => Some(sockets.first.local()),
-        Second => Some(sockets.second.local()),
-        Plain => Some(Peer {
-            ip: LOCALHOST,
-            port: sockets.plain.local_addr().ok()?.port(),
-        }),
-        Nobody => Some(Peer {
+        First => places.first,
+        Second => places.second,
+        Plain => places.plain,
+        Nobody => Peer {
             ip: LOCALHOST,
             port: 0,
-        }),
-        Everyone => Some(Peer {
+        },
+        Everyone => Peer {
             ip: 0xffff_ffff,
             port: 9,
-        }),
+        },
     }
 }
 
 /// Whether each end has an address of its own.
-fn are_bound(sockets: &Sockets<'_>) -> bool {
-    let (first, second) = (sockets.first.local(), sockets.second.local());
+fn are_bound(places: Places) -> bool {
+    let (first, second) = (places.first, places.second);
     first.ip == LOCALHOST && first.port != 0 && first.port != second.port
 }
 
-/// Whether the end took the bytes.
-fn send_by(end: &mut UdpEnd<'_, HostRuntime>, to: Peer, bytes: &[u8]) -> Option<bool> {
-    if bytes.len() > LARGEST {
-        return None;
+/// Whether a send of a socket without an end takes all these bytes, or not.
+fn plain_sends(plain: &UdpSocket, to: Peer, bytes: &[u8], taken: bool) -> bool {
+    match plain.send_to(bytes, (Ipv4Addr::LOCALHOST, to.port)) {
+        Ok(count) => (count == bytes.len()) == taken,
+        Err(_) => false,
     }
-    Some(end.send(to, bytes))
-}
-
-/// Whether the bytes were taken.
-fn send(sockets: &mut Sockets<'_>, from: Holder, to: Holder, bytes: &[u8]) -> Option<bool> {
-    let to = place(sockets, to)?;
-    match from {
-        First => send_by(&mut sockets.first, to, bytes),
-        Second => send_by(&mut sockets.second, to, bytes),
-        Plain => {
-            let sent = sockets.plain.send_to(bytes, (Ipv4Addr::LOCALHOST, to.port));
-            Some(sent.ok()? == bytes.len())
-        }
-        Nobody | Everyone => None,
-    }
-}
-
-/// What an end hears, into a packet that held a byte before.
-fn receive(end: &mut UdpEnd<'_, HostRuntime>) -> (Heard, Packet) {
-    let mut packet = Packet::new();
-    let _ = packet.try_extend_from_slice(&[1]);
-    let heard = end.receive(&mut packet);
-    (heard, packet)
 }
 
 /// Whether an end hears these bytes of this peer.
-fn end_hears(end: &mut UdpEnd<'_, HostRuntime>, peer: Peer, bytes: &[u8]) -> bool {
-    let (heard, packet) = receive(end);
-    match heard {
+fn end_hears(end: &mut SocketEnd<'_>, packet: &mut Packet, peer: Peer, bytes: &[u8]) -> bool {
+    packet.clear();
+    let _ = packet.try_extend_from_slice(HELD);
+    match end.receive(packet) {
         Heard::Datagram { from, .. } => from == peer && packet.as_slice() == bytes,
         _ => false,
     }
@@ -150,27 +104,18 @@ fn plain_hears(plain: &UdpSocket, peer: Peer, wanted: &[u8]) -> bool {
     }
 }
 
-/// Whether a socket hears these bytes of another.
-fn hears(sockets: &mut Sockets<'_>, who: Holder, from: Holder, bytes: &[u8]) -> bool {
-    let Some(peer) = place(sockets, from) else {
-        return false;
-    };
-    match who {
-        First => end_hears(&mut sockets.first, peer, bytes),
-        Second => end_hears(&mut sockets.second, peer, bytes),
-        Plain => plain_hears(&sockets.plain, peer, bytes),
-        Nobody | Everyone => false,
+/// Whether an end hears a datagram as oversize, and the packet is empty.
+fn hears_oversize(end: &mut SocketEnd<'_>, packet: &mut Packet) -> bool {
+    packet.clear();
+    let _ = packet.try_extend_from_slice(HELD);
+    match end.receive(packet) {
+        Heard::Oversize { .. } => packet.is_empty(),
+        _ => false,
     }
 }
 
-/// Whether an end hears a datagram as oversize, and the packet is empty.
-fn hears_oversize(end: &mut UdpEnd<'_, HostRuntime>) -> bool {
-    let (heard, packet) = receive(end);
-    matches!(heard, Heard::Oversize { .. }) && packet.is_empty()
-}
-
 /// Whether the last send failed for this reason, or none has, and no receive has failed.
-fn failed_for(end: &UdpEnd<'_, HostRuntime>, wanted: Option<ErrorKind>) -> bool {
+fn failed_for(end: &SocketEnd<'_>, wanted: Option<ErrorKind>) -> bool {
     let kind = match end.last_failed_send() {
         Some(reason) => Some(reason.kind()),
         None => None,
@@ -179,43 +124,89 @@ fn failed_for(end: &UdpEnd<'_, HostRuntime>, wanted: Option<ErrorKind>) -> bool 
 }
 
 /// Whether the call is answered so.
-fn agrees(sockets: &mut Sockets<'_>, step: Step) -> bool {
+fn agrees(
+    first: &mut SocketEnd<'_>,
+    second: &mut SocketEnd<'_>,
+    plain: &UdpSocket,
+    packet: &mut Packet,
+    places: Places,
+    step: Step,
+) -> bool {
     match step {
-        Granted(least) => sockets.first.send_buffer() >= least,
-        AreBound => are_bound(sockets),
-        Sends(from, to, bytes, taken) => send(sockets, from, to, bytes) == Some(taken),
-        Hears(who, from, bytes) => hears(sockets, who, from, bytes),
-        HearsOversize => hears_oversize(&mut sockets.first),
-        LastFailure(reason) => failed_for(&sockets.first, reason),
+        Granted(least) => first.send_buffer() >= least,
+        AreBound => are_bound(places),
+        Sends(First, to, bytes, taken) => sends(first, place(places, to), bytes, taken),
+        Sends(Second, to, bytes, taken) => sends(second, place(places, to), bytes, taken),
+        Sends(Plain, to, bytes, taken) => plain_sends(plain, place(places, to), bytes, taken),
+        Hears(First, from, bytes) => end_hears(first, packet, place(places, from), bytes),
+        Hears(Second, from, bytes) => end_hears(second, packet, place(places, from), bytes),
+        Hears(Plain, from, bytes) => plain_hears(plain, place(places, from), bytes),
+        HearsOversize => hears_oversize(first, packet),
+        LastFailure(reason) => failed_for(first, reason),
+        Sends(..) | Hears(..) => false,
     }
 }
 
-/// The first call that is answered otherwise.
-fn first_wrong(sockets: &mut Sockets<'_>, steps: &[Step]) -> Option<usize> {
+/// The first call that is answered otherwise; the last number where a socket has no address.
+fn first_wrong(
+    first: &mut SocketEnd<'_>,
+    second: &mut SocketEnd<'_>,
+    plain: &UdpSocket,
+    packet: &mut Packet,
+    steps: &[Step],
+) -> Option<usize> {
+    let Ok(address) = plain.local_addr() else {
+        return Some(usize::MAX);
+    };
+    let places = Places {
+        first: first.local(),
+        second: second.local(),
+        plain: Peer {
+            ip: LOCALHOST,
+            port: address.port(),
+        },
+    };
     for (at, step) in steps.iter().enumerate() {
-        if !agrees(sockets, *step) {
+        if !agrees(first, second, plain, packet, places, *step) {
             return Some(at);
         }
     }
     None
 }
 
-/// The first call at new sockets that is answered otherwise; the last number where there are none.
-fn wrong_step(rt: &HostRuntime, steps: &[Step]) -> Option<usize> {
-    match three_sockets(rt) {
-        Some(mut sockets) => first_wrong(&mut sockets, steps),
+/// The same between two ends; the last number where there is no socket without one.
+fn wrong_between(
+    rt: &HostRuntime,
+    first: &mut SocketEnd<'_>,
+    second: &mut SocketEnd<'_>,
+    packet: &mut Packet,
+    steps: &[Step],
+) -> Option<usize> {
+    match UdpSocket::bind(rt, (Ipv4Addr::LOCALHOST, 0u16)) {
+        Ok(plain) => first_wrong(first, second, &plain, packet, steps),
+        Err(_) => Some(usize::MAX),
+    }
+}
+
+/// The same at an end; the last number where there is no other.
+fn wrong_at(
+    rt: &HostRuntime,
+    first: &mut SocketEnd<'_>,
+    packet: &mut Packet,
+    steps: &[Step],
+) -> Option<usize> {
+    match end_here(rt) {
+        Some(mut second) => wrong_between(rt, first, &mut second, packet, steps),
         None => Some(usize::MAX),
     }
 }
 
-/// The first script with a call that is answered otherwise, and that call.
-fn wrong_script(rt: &HostRuntime, scripts: &[Script]) -> Option<(&'static str, usize)> {
-    for (name, steps) in scripts {
-        if let Some(at) = wrong_step(rt, steps) {
-            return Some((*name, at));
-        }
+/// The same at new sockets; the last number where there are none.
+fn wrong_step(rt: &HostRuntime, packet: &mut Packet, steps: &[Step]) -> Option<usize> {
+    match end_here(rt) {
+        Some(mut first) => wrong_at(rt, &mut first, packet, steps),
+        None => Some(usize::MAX),
     }
-    None
 }
 
 /// A script by its name.
@@ -284,7 +275,12 @@ const SCRIPTS: &[Script] = &[
     ("a_send_buffer_is_asked_for", BUFFER),
 ];
 
-#[test]
-fn scripts(rt: HostRuntime) {
-    assert_eq!(rt; wrong_script(&rt, SCRIPTS), None);
+/// The first script with a call that is answered otherwise, and that call.
+pub fn wrong(rt: &HostRuntime, packet: &mut Packet) -> Option<(&'static str, usize)> {
+    for (name, steps) in SCRIPTS {
+        if let Some(at) = wrong_step(rt, packet, steps) {
+            return Some((*name, at));
+        }
+    }
+    None
 }

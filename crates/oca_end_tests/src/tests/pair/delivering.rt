@@ -1,11 +1,10 @@
 //! Commands that come twice, and what is lost.
 use super::rows::Row::*;
 use super::rows::{ANSWERED, EXECUTED, Each, KEPT, Row, Seen};
-use super::schedules::{Case, ONE_LINK, Ran, wrong_case};
+use super::schedules::{Case, ONE_LINK, Ran};
 use super::{A, B, DEVICE, GET};
 use oca_control::{ControlFault, Reception};
 use oca_pair::{PairFault, law_answers, law_getting_through, law_never_old, law_round_trip};
-use std::alloc::Global;
 
 /// The laws, whose functions run nothing.
 pub fn laws() {
@@ -71,7 +70,7 @@ const OF_ANOTHER: Ran = Ran {
 };
 
 /// The schedules.
-const CASES: &[Case] = &[
+pub const CASES: &[Case] = &[
     // A command that comes twice is executed once and answered twice, and its link hears the first answer.
     Case {
         name: "a_duplicate_is_answered_once",
@@ -116,24 +115,19 @@ const CASES: &[Case] = &[
     Case {
         name: "bytes_of_a_links_peer",
         network: ONE_LINK,
-        parts: &[GIVEN_OUT_TWICE, &[Other(A, &GET, 300, EXECUTED)]],
+        parts: &[GIVEN_OUT_TWICE, &[Other(A, GET, 300, EXECUTED)]],
         want: Err(PairFault::BadStep(8)),
     },
     Case {
         name: "bytes_of_another_peer",
         network: ONE_LINK,
-        parts: &[GIVEN_OUT_TWICE, &[Other(B, &GET, 300, EXECUTED)]],
+        parts: &[GIVEN_OUT_TWICE, &[Other(B, GET, 300, EXECUTED)]],
         want: Ok(OF_ANOTHER),
     },
     Case {
         name: "bytes_of_the_devices_peer",
         network: ONE_LINK,
-        parts: &[GIVEN_OUT_TWICE, &[Other(DEVICE, &GET, 300, EXECUTED)]],
+        parts: &[GIVEN_OUT_TWICE, &[Other(DEVICE, GET, 300, EXECUTED)]],
         want: Ok(OF_ANOTHER),
     },
 ];
-
-/// The first schedule that leads to something else.
-pub fn wrong(alloc: Global) -> Option<&'static str> {
-    wrong_case(alloc, CASES)
-}

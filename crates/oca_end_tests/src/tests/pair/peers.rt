@@ -1,11 +1,10 @@
 //! Peers, with room for their sessions and without.
 use super::rows::Row::*;
 use super::rows::{ANSWERED, EXECUTED, Each, Row, STATE, Seen};
-use super::schedules::{Case, Network, ONE_LINK, Ran, wrong_case};
+use super::schedules::{Case, Network, ONE_LINK, Ran};
 use super::{A_PORT, B, DEVICE_PORT, GET};
 use oca_device::Verdict;
 use oca_pair::PairFault;
-use std::alloc::Global;
 
 /// A link of A, and a device with sessions of one peer.
 const ONE_PEER: Network = Network {
@@ -16,7 +15,7 @@ const ONE_PEER: Network = Network {
 };
 
 const NO_ROOM: &[Row] = &[
-    Other(B, &GET, 0, EXECUTED),
+    Other(B, GET, 0, EXECUTED),
     Gets(0, Seen::Submitted(1)),
     Due(0, Seen::Sent(0)),
     ToDevice(0, 0, Seen::Device(Verdict::NoRoom)),
@@ -78,7 +77,7 @@ const SEVENTEEN: Network = Network {
 };
 
 /// The schedules.
-const CASES: &[Case] = &[
+pub const CASES: &[Case] = &[
     // A device with sessions of one peer has no room for the link once another peer has the session.
     Case {
         name: "no_room_beside_one_peer",
@@ -133,8 +132,3 @@ const CASES: &[Case] = &[
         }),
     },
 ];
-
-/// The first schedule that leads to something else.
-pub fn wrong(alloc: Global) -> Option<&'static str> {
-    wrong_case(alloc, CASES)
-}

@@ -8,7 +8,7 @@ use oca_types::{Handle, LOOPBACK, MethodId, Ono, Peer};
 use std::alloc::Global;
 
 /// What a step led to, but for the bytes of an answer's parameters, of which it has the number.
-#[derive(Clone, Copy, PartialEq, Eq)]
+#[derive(Clone, Copy)]
 pub enum Seen {
     Submitted(u32),
     Refused(ControlFault),
@@ -89,36 +89,50 @@ pub enum Row {
     All(Each, u32, u32),
 }
 
-/// What the tests compare of a verdict.
-fn seen_of(verdict: Verdict) -> Seen {
-    match verdict {
-        Verdict::Served {
-            executed,
-            kept,
-            old,
-            reused,
-        } => Seen::Served(executed, kept, old, reused),
-        _ => Seen::Device(verdict),
+/// Whether the device's verdict is this.
+fn is_verdict(verdict: Verdict, want: Seen) -> bool {
+    match (verdict, want) {
+        (
+            Verdict::Served {
+                executed,
+                kept,
+                old,
+                reused,
+            },
+            Seen::Served(new, duplicates, late, again),
+        ) => executed == new && kept == duplicates && old == late && reused == again,
+        (Verdict::Served { .. }, _) => false,
+        (other, Seen::Device(wanted)) => other == wanted,
+        _ => false,
     }
 }
 
-/// What the tests compare of an outcome.
-pub fn shown(outcome: &Outcome) -> Seen {
-    match outcome {
-        Outcome::Submitted(handle) => Seen::Submitted(handle.0),
-        Outcome::Refused(fault) => Seen::Refused(*fault),
-        Outcome::Sent(number) => Seen::Sent(*number),
-        Outcome::Nothing => Seen::Nothing,
-        Outcome::Lost => Seen::Lost,
-        Outcome::Device(verdict) => seen_of(*verdict),
-        Outcome::Link(reception) => Seen::Link(*reception),
-        Outcome::Ticked => Seen::Ticked,
-        Outcome::Set => Seen::Set,
-        Outcome::NotSet(fault) => Seen::NotSet(*fault),
-        Outcome::Answer(answer) => Seen::Answer(answer.status, answer.count, answer.params.len()),
-        Outcome::NoAnswer => Seen::NoAnswer,
+/// Whether a step led to this.
+pub fn is_seen(outcome: &Outcome, want: Seen) -> bool {
+    match (outcome, want) {
+        (Outcome::Submitted(handle), Seen::Submitted(wanted)) => handle.0 == wanted,
+        (Outcome::Refused(fault), Seen::Refused(wanted)) => *fault == wanted,
+        (Outcome::Sent(number), Seen::Sent(wanted)) => *number == wanted,
+        (Outcome::Nothing, Seen::Nothing) => true,
+        (Outcome::Lost, Seen::Lost) => true,
+        (Outcome::Device(verdict), _) => is_verdict(*verdict, want),
+        (Outcome::Link(reception), Seen::Link(wanted)) => *reception == wanted,
+        (Outcome::Ticked, Seen::Ticked) => true,
+        (Outcome::Set, Seen::Set) => true,
+        (Outcome::NotSet(fault), Seen::NotSet(wanted)) => *fault == wanted,
+        (Outcome::Answer(answer), Seen::Answer(status, count, size)) => {
+            answer.status == status && answer.count == count && answer.params.len() == size
+        }
+        (Outcome::NoAnswer, Seen::NoAnswer) => true,
+        _ => false,
     }
 }
+
+/// No parameters.
+const NONE: &[u8] = &[];
+
+/// Unmuted, as a parameter.
+const UNMUTED: &[u8] = &[2];
 
 /// GetState of 4097 at a link.
 fn get_state(link: usize, now: u64) -> Step<'static> {
@@ -127,7 +141,7 @@ fn get_state(link: usize, now: u64) -> Step<'static> {
         target: Ono(4097),
         method: MethodId { level: 4, index: 1 },
         count: 0,
-        params: &[],
+        params: NONE,
         now,
     }
 }
@@ -139,7 +153,7 @@ fn unmute(now: u64) -> Step<'static> {
         target: Ono(4097),
         method: MethodId { level: 4, index: 2 },
         count: 1,
-        params: &[2],
+        params: UNMUTED,
         now,
     }
 }
@@ -159,7 +173,7 @@ fn keep_alive(number: u32) -> Step<'static> {
             ip: LOOPBACK,
             port: 9100u16.saturating_add(u16::try_from(number).unwrap_or(0)),
         },
-        bytes: &KEEP_ALIVE,
+        bytes: KEEP_ALIVE,
         now: 0,
     }
 }

@@ -1,6 +1,6 @@
 //! Networks with the bench device, and what schedules over them led to.
 use super::A_PORT;
-use super::rows::{Row, Script, Seen, script_of, shown};
+use super::rows::{Row, Script, Seen, is_seen, script_of};
 use oca_pair::{Outcome, PairFault, Start, Step, Transcript, run_pair, run_pair_with_sizes};
 use oca_tree::{Tree, bench};
 use oca_types::{Handle, LOOPBACK, Peer, Peers, Sizes, Span, Window};
@@ -28,7 +28,7 @@ pub const ONE_LINK: Network = Network {
 };
 
 /// What a schedule led to.
-#[derive(Clone, Copy, PartialEq, Eq)]
+#[derive(Clone, Copy)]
 pub struct Ran {
     /// The first step that led to something else.
     pub wrong: Option<usize>,
@@ -109,8 +109,8 @@ fn run(
 
 /// The first step that led to something else.
 fn first_wrong(log: &[Outcome], wants: &[Seen]) -> Option<usize> {
-    for (at, outcome) in log.iter().enumerate() {
-        if wants.get(at) != Some(&shown(outcome)) {
+    for (at, (outcome, want)) in log.iter().zip(wants.iter()).enumerate() {
+        if !is_seen(outcome, *want) {
             return Some(at);
         }
     }
@@ -121,21 +121,19 @@ fn first_wrong(log: &[Outcome], wants: &[Seen]) -> Option<usize> {
     }
 }
 
-/// What is compared of a transcript.
-fn ran_of(transcript: &Transcript, wants: &[Seen]) -> Ran {
-    Ran {
-        wrong: first_wrong(&transcript.log, wants),
-        to_device: transcript.to_device.len(),
-        to_links: transcript.to_links.len(),
-        last_byte: last_byte(transcript),
-        sessions: transcript.device.sessions(),
-    }
-}
-
 /// The last byte of the last datagram that was sent to a link.
 fn last_byte(transcript: &Transcript) -> Option<u8> {
     let sent = transcript.to_links.last()?;
     sent.bytes.last().copied()
+}
+
+/// Whether a run led to this.
+fn is_ran(transcript: &Transcript, wants: &[Seen], want: Ran) -> bool {
+    first_wrong(&transcript.log, wants) == want.wrong
+        && transcript.to_device.len() == want.to_device
+        && transcript.to_links.len() == want.to_links
+        && last_byte(transcript) == want.last_byte
+        && transcript.device.sessions() == want.sessions
 }
 
 /// Whether this is what a run leads to.
@@ -145,8 +143,14 @@ fn is_led_to(
     want: Result<Ran, PairFault>,
 ) -> bool {
     match ran {
-        Ok(transcript) => want == Ok(ran_of(&transcript, wants)),
-        Err(fault) => want == Err(fault),
+        Ok(transcript) => match want {
+            Ok(want) => is_ran(&transcript, wants, want),
+            Err(_) => false,
+        },
+        Err(fault) => match want {
+            Ok(_) => false,
+            Err(want) => fault == want,
+        },
     }
 }
 
@@ -178,11 +182,11 @@ fn is_so(alloc: Global, case: &Case) -> bool {
     add_starts(&mut starts, case.network.starts) && is_so_from(alloc, case, starts.as_slice())
 }
 
-/// The first case that is otherwise.
-pub fn wrong_case(alloc: Global, cases: &[Case]) -> Option<&'static str> {
-    for case in cases {
+/// The first case that is otherwise, and its place.
+pub fn wrong_case(alloc: Global, cases: &[Case]) -> Option<(&'static str, usize)> {
+    for (at, case) in cases.iter().enumerate() {
         if !is_so(alloc, case) {
-            return Some(case.name);
+            return Some((case.name, at));
         }
     }
     None

@@ -1,10 +1,9 @@
 //! Changes at the device's front, the clock, and the numbers of faults.
 use super::rows::Row::*;
 use super::rows::{EXECUTED, Each, Row, Seen};
-use super::schedules::{Case, Network, ONE_LINK, Ran, wrong_case};
+use super::schedules::{Case, Network, ONE_LINK, Ran};
 use oca_pair::PairFault;
 use oca_tree::{MuteState, SetFault, Value};
-use std::alloc::Global;
 
 const CHANGES: &[Row] = &[
     Sets(4097, Value::Mute(MuteState::Unmuted), Seen::Set),
@@ -35,17 +34,17 @@ const FAULTS: &[(PairFault, u8)] = &[
 ];
 
 /// The first fault with another number.
-pub fn first_wrong() -> Option<usize> {
+pub fn first_wrong() -> Option<(&'static str, usize)> {
     for (at, (fault, number)) in FAULTS.iter().enumerate() {
         if fault.number() != *number {
-            return Some(at);
+            return Some(("numbers_of_faults", at));
         }
     }
     None
 }
 
 /// The schedules.
-const CASES: &[Case] = &[
+pub const CASES: &[Case] = &[
     // A change at the device's front is seen by the next command, and a refused one changes nothing.
     Case {
         name: "a_local_change",
@@ -73,8 +72,3 @@ const CASES: &[Case] = &[
         }),
     },
 ];
-
-/// The first schedule that leads to something else.
-pub fn wrong(alloc: Global) -> Option<&'static str> {
-    wrong_case(alloc, CASES)
-}

@@ -9,6 +9,12 @@ use std::alloc::Global;
 
 const LOCALHOST: u32 = 0x7f00_0001;
 
+/// No parameters.
+const NONE: &[u8] = &[];
+
+/// The parameter of Muted.
+const MUTED: &[u8] = &[1];
+
 const GET_STATE: MethodId = MethodId { level: 4, index: 1 };
 
 /// What is done at one of the ends, and comes out so.
@@ -41,26 +47,10 @@ const STEPS: &[Step] = &[
     Takes(2, 18),
 ];
 
-/// The bench device with its outbox.
-#[derive(Drop)]
-struct Side {
-    device: Device,
-    outbox: Outbox,
-}
-
 /// The bench device.
 fn device(alloc: Global) -> Option<Device> {
     let tree = bench(alloc).ok()?;
     Device::new(alloc, tree, Window::default()).ok()
-}
-
-/// The same with its outbox.
-fn served(alloc: Global) -> Option<Side> {
-    let outbox = Outbox::new(alloc).ok()?;
-    match device(alloc) {
-        Some(device) => Some(Side { device, outbox }),
-        None => None,
-    }
 }
 
 /// An end at a socket of this machine.
@@ -69,7 +59,7 @@ type SocketEnd<'a> = UdpEnd<'a, HostRuntime>;
 /// Whether GetState of 4097 gets each of these handles.
 fn submits(link: &mut Link, first: u32, end: u32) -> bool {
     for handle in first..end {
-        if link.submit(Ono(4097), GET_STATE, 0, &[], 0) != Ok(Handle(handle)) {
+        if link.submit(Ono(4097), GET_STATE, 0, NONE, 0) != Ok(Handle(handle)) {
             return false;
         }
     }
@@ -80,7 +70,7 @@ fn submits(link: &mut Link, first: u32, end: u32) -> bool {
 fn takes_muted(link: &mut Link, handle: u32) -> bool {
     match link.take(Handle(handle)) {
         Some(answer) => {
-            answer.status == 0 && answer.count == 1 && answer.params.as_slice() == [1].as_slice()
+            answer.status == 0 && answer.count == 1 && answer.params.as_slice() == MUTED
         }
         None => false,
     }
@@ -97,8 +87,8 @@ fn takes(link: &mut Link, first: u32, end: u32) -> bool {
 }
 
 /// How many commands the device executes in so many turns.
-fn executed(served: &mut Side, end: &mut SocketEnd<'_>, turns: u32) -> u64 {
-    serve(&mut served.device, end, &mut served.outbox, turns).executed
+fn executed(device: &mut Device, outbox: &mut Outbox, end: &mut SocketEnd<'_>, turns: u32) -> u64 {
+    serve(device, end, outbox, turns).executed
 }
 
 /// What the link does in so many turns.
@@ -108,7 +98,8 @@ fn driven(link: &mut Link, end: &mut SocketEnd<'_>, turns: u32) -> DriveReport {
 
 /// Whether the step comes out so.
 fn agrees(
-    served: &mut Side,
+    device: &mut Device,
+    outbox: &mut Outbox,
     device_end: &mut SocketEnd<'_>,
     link: &mut Link,
     link_end: &mut SocketEnd<'_>,
@@ -117,36 +108,52 @@ fn agrees(
     match step {
         Submits(first, end) => submits(link, first, end),
         Sends(count) => driven(link, link_end, 1).sent == count,
-        Executes(count) => executed(served, device_end, count) == u64::from(count),
+        Executes(count) => executed(device, outbox, device_end, count) == u64::from(count),
         Hears(count) => driven(link, link_end, count).answered == u64::from(count),
         Takes(first, end) => takes(link, first, end),
     }
 }
 
-/// The first step that comes out otherwise, of a link to the device's end.
+/// The first step that comes out otherwise.
 fn first_wrong(
-    served: &mut Side,
+    device: &mut Device,
+    outbox: &mut Outbox,
     device_end: &mut SocketEnd<'_>,
+    link: &mut Link,
     link_end: &mut SocketEnd<'_>,
 ) -> Option<usize> {
-    let mut link = Link::new(device_end.local(), Handle(1), 0, Span::default());
     for (at, step) in STEPS.iter().enumerate() {
-        if !agrees(served, device_end, &mut link, link_end, *step) {
+        if !agrees(device, outbox, device_end, link, link_end, *step) {
             return Some(at);
         }
     }
     None
 }
 
-/// The same between two ends; the last number where there is no device.
+/// The same of a new device; the last number where there is none.
+fn wrong_with(
+    alloc: Global,
+    outbox: &mut Outbox,
+    device_end: &mut SocketEnd<'_>,
+    link: &mut Link,
+    link_end: &mut SocketEnd<'_>,
+) -> Option<usize> {
+    match device(alloc) {
+        Some(mut device) => first_wrong(&mut device, outbox, device_end, link, link_end),
+        None => Some(usize::MAX),
+    }
+}
+
+/// The same of a link to the device's end; the last number where there is no outbox.
 fn wrong_between(
     alloc: Global,
     device_end: &mut SocketEnd<'_>,
     link_end: &mut SocketEnd<'_>,
 ) -> Option<usize> {
-    match served(alloc) {
-        Some(mut served) => first_wrong(&mut served, device_end, link_end),
-        None => Some(usize::MAX),
+    let mut link = Link::new(device_end.local(), Handle(1), 0, Span::default());
+    match Outbox::new(alloc) {
+        Ok(mut outbox) => wrong_with(alloc, &mut outbox, device_end, &mut link, link_end),
+        Err(_) => Some(usize::MAX),
     }
 }
 
@@ -166,7 +173,10 @@ fn wrong_step(rt: &HostRuntime) -> Option<usize> {
     }
 }
 
-#[test]
-fn a_device_and_a_link_turn_by_turn(rt: HostRuntime) {
-    assert_eq!(rt; wrong_step(&rt), None);
+/// The first step that comes out otherwise.
+pub fn wrong(rt: &HostRuntime) -> Option<(&'static str, usize)> {
+    match wrong_step(rt) {
+        Some(at) => Some(("a_device_and_a_link_turn_by_turn", at)),
+        None => None,
+    }
 }

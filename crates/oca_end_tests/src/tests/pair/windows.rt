@@ -2,9 +2,8 @@
 use super::A_PORT;
 use super::rows::Row::*;
 use super::rows::{ANSWERED, EXECUTED, Each, KEPT, OLD, Row, STATE, Seen};
-use super::schedules::{Case, Network, ONE_LINK, Ran, wrong_case};
+use super::schedules::{Case, Network, ONE_LINK, Ran};
 use oca_control::ControlFault;
-use std::alloc::Global;
 
 /// A link of A with a span of 2, and a window of 3.
 const OF_3: Network = Network {
@@ -53,7 +52,7 @@ const SIXTEEN: &[Row] = &[
 ];
 
 /// The schedules.
-const CASES: &[Case] = &[
+pub const CASES: &[Case] = &[
     // Window 3 has the duplicate of command 2, where the span is 2.
     Case {
         name: "the_smallest_window",
@@ -94,8 +93,3 @@ const CASES: &[Case] = &[
         }),
     },
 ];
-
-/// The first schedule that leads to something else.
-pub fn wrong(alloc: Global) -> Option<&'static str> {
-    wrong_case(alloc, CASES)
-}

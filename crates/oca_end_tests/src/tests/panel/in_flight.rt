@@ -23,23 +23,23 @@ fn is_answered(first: Option<(u8, Outcome)>, command: u8, status: u8) -> bool {
 }
 
 /// Begins two commands, as many as the panel's span has, and a third, which is refused.
-fn begins(panel: &mut Panel<MemoryEnd>, in_flight: &mut InFlight<u8>) -> Option<bool> {
+fn begins(panel: &mut Panel<MemoryEnd>, in_flight: &mut InFlight<u8>) -> bool {
     let mute = Value::Mute(MuteState::Muted);
     let request = set_request(mute);
     let is_empty = in_flight.is_empty() && !in_flight.is_full();
     let first = in_flight.begin_behind(panel, request.of(Ono(4097)), 1);
-    let second = panel.begin_set(Ono(4098), mute).ok()?;
+    let Ok(second) = panel.begin_set(Ono(4098), mute) else {
+        return false;
+    };
     if in_flight.is_full() {
-        return None;
+        return false;
     }
     in_flight.push(second, 2);
     let third = in_flight.begin_behind(panel, request.of(Ono(4099)), 3);
-    Some(
-        is_empty
-            && first == Ok(Handle(7))
-            && third == Err(ControlFault::SpanFull)
-            && in_flight.len() == 2,
-    )
+    is_empty
+        && first == Ok(Handle(7))
+        && third == Err(ControlFault::SpanFull)
+        && in_flight.len() == 2
 }
 
 /// The first is waited for; the second comes out at the turn behind it.
@@ -58,23 +58,23 @@ fn finishes(panel: &mut Panel<MemoryEnd>, in_flight: &mut InFlight<u8>, statuses
         && in_flight.finish_first(panel).is_none()
 }
 
-/// Both commands come out with these statuses.
-fn comes_out(alloc: Global, answers: &[Answer], statuses: [u8; 2]) -> Option<bool> {
-    let end = end(alloc, answers)?;
-    let mut panel = Panel::open(DEVICE, end, Handle(7), Span::new(2)?, 10);
+/// Both commands come out of a panel with these statuses.
+fn comes_out_of(panel: &mut Panel<MemoryEnd>, statuses: [u8; 2]) -> bool {
     let mut in_flight = InFlight::new();
-    let begun = begins(&mut panel, &mut in_flight)?;
-    Some(begun && !panel.link().is_lost() && finishes(&mut panel, &mut in_flight, statuses))
+    begins(panel, &mut in_flight)
+        && !panel.link().is_lost()
+        && finishes(panel, &mut in_flight, statuses)
 }
 
-/// The first row that comes out otherwise.
-pub fn first_wrong(alloc: Global) -> Option<usize> {
-    for (at, (answers, statuses)) in ROWS.iter().enumerate() {
-        if comes_out(alloc, answers, *statuses) != Some(true) {
-            return Some(at);
+/// The same of a panel over a new end, with this span.
+fn comes_out(alloc: Global, span: Span, answers: &[Answer], statuses: [u8; 2]) -> bool {
+    match end(alloc, answers) {
+        Some(end) => {
+            let mut panel = Panel::open(DEVICE, end, Handle(7), span, 10);
+            comes_out_of(&mut panel, statuses)
         }
+        None => false,
     }
-    None
 }
 
 /// The example of the queue's doc comment: which of two mutes was refused last.
@@ -93,10 +93,30 @@ fn mutes(mut panel: Panel<MemoryEnd>) -> Result<Option<u32>, ControlFault> {
     Ok(refused)
 }
 
+/// The answers to two commands, of which the second is refused.
+const SECOND_REFUSED: &[Answer] = &[(0, 0, &[]), (5, 0, &[])];
+
 /// Whether the second mute is refused where its answer says so.
-pub fn is_as_documented(alloc: Global) -> bool {
-    match panel(alloc, &[(0, 0, &[]), (5, 0, &[])]) {
+fn is_as_documented(alloc: Global) -> bool {
+    match panel(alloc, SECOND_REFUSED) {
         Some(panel) => mutes(panel) == Ok(Some(4098)),
         None => false,
+    }
+}
+
+/// The first row that comes out otherwise; the last number where the example does.
+pub fn first_wrong(alloc: Global) -> Option<(&'static str, usize)> {
+    let Some(span) = Span::new(2) else {
+        return Some(("commands in flight", usize::MAX));
+    };
+    for (at, (answers, statuses)) in ROWS.iter().enumerate() {
+        if !comes_out(alloc, span, answers, *statuses) {
+            return Some(("commands in flight", at));
+        }
+    }
+    if is_as_documented(alloc) {
+        None
+    } else {
+        Some(("commands in flight", usize::MAX))
     }
 }

@@ -1,10 +1,11 @@
 //! What is asked of one object: the commands that are sent, the answers, and what is made of them.
 use super::{Answer, panel};
+use crate::tests::reads;
 use oca_control::ControlFault;
 use oca_model::{MuteState, Ranged, Reading, Value};
 use oca_net::MemoryEnd;
 use oca_panel::{Panel, Trouble};
-use oca_types::{Class, Ono, Text};
+use oca_types::{Class, Ono, Packet, Peer, Text};
 use std::alloc::Global;
 
 const OBJECT: Ono = Ono(4097);
@@ -167,25 +168,23 @@ fn is_text(read: Result<Text, Trouble>, expected: &str) -> bool {
 
 /// Two set commands in flight at once.
 fn sets_both(panel: &mut Panel<MemoryEnd>, first: Value, second: Value) -> bool {
-    let (Ok(one), Ok(two)) = (
-        panel.begin_set(OBJECT, first),
-        panel.begin_set(OBJECT, second),
-    ) else {
+    let Ok(one) = panel.begin_set(OBJECT, first) else {
+        return false;
+    };
+    let Ok(two) = panel.begin_set(OBJECT, second) else {
         return false;
     };
     panel.finish_set(one) == Ok(()) && panel.finish_set(two) == Ok(())
 }
 
 /// Whether the names are these.
-fn are_names(panel: &mut Panel<MemoryEnd>, expected: &[&str]) -> bool {
-    let Ok(names) = panel.position_names(OBJECT) else {
-        return false;
-    };
-    let mut same = names.len() == expected.len();
+fn are_names(names: &[Text], expected: &[&str]) -> bool {
     for (name, wanted) in names.iter().zip(expected.iter()) {
-        same = same && name.as_str() == *wanted;
+        if name.as_str() != *wanted {
+            return false;
+        }
     }
-    same
+    names.len() == expected.len()
 }
 
 /// Whether what is asked comes out so.
@@ -214,24 +213,28 @@ fn comes_out(panel: &mut Panel<MemoryEnd>, asked: &Asked) -> bool {
             Err(_) => false,
         },
         Asked::Name(position, name) => is_text(panel.position_name(OBJECT, *position), name),
-        Asked::Names(names) => are_names(panel, names),
+        Asked::Names(names) => match panel.position_names(OBJECT) {
+            Ok(read) => are_names(read.as_slice(), names),
+            Err(_) => false,
+        },
         Asked::Fails(trouble) => panel.get(OBJECT) == Err(*trouble),
     }
 }
 
-/// Whether just these commands were sent.
-fn were_sent(panel: &Panel<MemoryEnd>, sent: &[&[u8]]) -> bool {
-    let taken = panel.end().taken();
-    let mut same = taken.len() == sent.len();
-    for ((_, packet), command) in taken.iter().zip(sent.iter()) {
-        same = same && packet.as_slice().ends_with(command) && packet.len() == command.len() + 14;
+/// Whether just these commands were sent, each behind a head of 14 bytes.
+fn were_sent(taken: &[(Peer, Packet)], sent: &[&[u8]]) -> bool {
+    for (one, command) in taken.iter().zip(sent.iter()) {
+        let packet = one.1.as_slice();
+        if !packet.ends_with(command) || packet.len() != command.len().saturating_add(14) {
+            return false;
+        }
     }
-    same
+    taken.len() == sent.len()
 }
 
 /// Whether the row is as expected over a panel.
 fn is_so_over(panel: &mut Panel<MemoryEnd>, row: &Row) -> bool {
-    comes_out(panel, &row.asked) && were_sent(panel, row.sent)
+    comes_out(panel, &row.asked) && were_sent(panel.end().taken(), row.sent)
 }
 
 /// Whether the row is as expected.
@@ -243,10 +246,10 @@ fn is_so(alloc: Global, row: &Row) -> bool {
 }
 
 /// The first row that is otherwise.
-pub fn first_wrong(alloc: Global) -> Option<usize> {
+pub fn first_wrong(alloc: Global) -> Option<(&'static str, usize)> {
     for (at, row) in ROWS.iter().enumerate() {
         if !is_so(alloc, row) {
-            return Some(at);
+            return Some(("objects", at));
         }
     }
     None
@@ -267,19 +270,11 @@ const TEXTS: &[(Trouble, &str)] = &[
     (Trouble::Unanswered, "no answer"),
 ];
 
-/// Whether what is not done reads so.
-fn reads(alloc: Global, trouble: Trouble, wanted: &str) -> bool {
-    match format!(in alloc; "{trouble}") {
-        Ok(text) => text.as_str() == wanted,
-        Err(_) => false,
-    }
-}
-
 /// The first text that is another: an error names the device's status.
-pub fn first_other_text(alloc: Global) -> Option<usize> {
+pub fn first_other_text(alloc: Global) -> Option<(&'static str, usize)> {
     for (at, (trouble, text)) in TEXTS.iter().enumerate() {
-        if !reads(alloc, *trouble, text) {
-            return Some(at);
+        if !reads(alloc, trouble, text) {
+            return Some(("texts", at));
         }
     }
     None

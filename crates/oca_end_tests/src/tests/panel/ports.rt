@@ -17,12 +17,12 @@ const TURNS: &[(u64, u32, u16, u32)] = &[
 ];
 
 /// The first row that is otherwise: the ports take turns, and handles rise in each.
-pub fn first_other_turn() -> Option<usize> {
+pub fn first_other_turn() -> Option<(&'static str, usize)> {
     for (at, (seconds, microseconds, port, handle)) in TURNS.iter().enumerate() {
         let own = OwnPort::at(*seconds, *microseconds);
         let other = if *port == 65001 { 65002 } else { 65001 };
         if (own.port, own.other, own.first_handle) != (*port, other, Handle(*handle)) {
-            return Some(at);
+            return Some(("turns", at));
         }
     }
     None

@@ -107,12 +107,12 @@ fn finds(alloc: Global, answers: &[Answer], steps: &[(u8, u32, u32)]) -> bool {
 }
 
 /// The first walk that finds something else.
-pub fn first_wrong(alloc: Global) -> Option<usize> {
+pub fn first_wrong(alloc: Global) -> Option<(&'static str, usize)> {
     if !finds(alloc, ANSWERS, STEPS) {
-        return Some(0);
+        return Some(("walks", 0));
     }
     if !finds(alloc, OTHERS, OTHER_STEPS) {
-        return Some(1);
+        return Some(("walks", 1));
     }
     None
 }
