@@ -1,9 +1,11 @@
 //! Scripts of events, each with what it must answer, and how they are run.
+use super::super::{none_wrong, sizes};
 use super::serving::{Answer, Served, command, executes_with, retains, serve};
 use arrayvec::ArrayVec;
 use oca_session::{Admission, Sessions};
-use oca_types::{Command, MOST_PEERS, Peer, Peers, Sizes, Window};
+use oca_types::{Command, MOST_PEERS, Peer, Window};
 use std::alloc::Global;
+use std::process::Abort;
 
 pub const A: Peer = Peer {
     ip: 0x7f00_0001,
@@ -147,11 +149,6 @@ fn are_at(peers: &[Peer], ports: Ports) -> bool {
     port == ports.end
 }
 
-/// Whether there are so many sessions, and none exactly where they are 0.
-fn has_len(sessions: &Sessions, count: usize) -> bool {
-    sessions.len() == count && sessions.is_empty() == (count == 0)
-}
-
 /// The list that the calls of `advance_into` are handed.
 type Silence = ArrayVec<Peer, MOST_PEERS>;
 
@@ -161,14 +158,27 @@ fn agrees(sessions: &mut Sessions, silent: &mut Silence, step: Step) -> bool {
         Step::Hears(peer, moment, answer) => sessions.hear(peer, moment) == answer,
         Step::HearsEach(ports, moment, answer) => hears_each(sessions, ports, moment, answer),
         Step::Beats(peer, ms) => beat(sessions, peer, ms),
+        Step::Silent(moment, peers) => sessions.advance(moment).as_slice() == peers,
+        Step::SilentEach(moment, ports) => are_at(sessions.advance(moment).as_slice(), ports),
+        other => is_served(sessions, other) || is_silent(sessions, silent, other),
+    }
+}
+
+/// Whether the event is a command, and is answered so.
+fn is_served(sessions: &mut Sessions, step: Step) -> bool {
+    match step {
         Step::Serves(peer, handle, answer) => serve(sessions, peer, &command(handle)) == answer,
         Step::ServesEach(ports, handle, answer) => serves_each(sessions, ports, handle, answer),
         Step::ServesAll(peer, handles, answer) => serves_all(sessions, peer, handles, answer),
         Step::Asks(peer, command, answer) => serve(sessions, peer, &command) == answer,
         Step::Executes(peer, handle, answer) => executes_with(sessions, peer, handle, answer),
-        Step::Retains(peer, handle, answer) => retains(sessions, peer, handle, answer),
-        Step::Silent(moment, peers) => sessions.advance(moment).as_slice() == peers,
-        Step::SilentEach(moment, ports) => are_at(sessions.advance(moment).as_slice(), ports),
+        _ => false,
+    }
+}
+
+/// Whether the event is a call of `advance_into`, or tells how the sessions stand, and is answered so.
+fn is_silent(sessions: &mut Sessions, silent: &mut Silence, step: Step) -> bool {
+    match step {
         Step::SilentInto(moment, peers) => {
             sessions.advance_into(moment, silent);
             silent.as_slice() == peers
@@ -177,11 +187,20 @@ fn agrees(sessions: &mut Sessions, silent: &mut Silence, step: Step) -> bool {
             sessions.advance_into(moment, silent);
             are_at(silent.as_slice(), ports)
         }
-        Step::Len(count) => has_len(sessions, count),
+        other => stands(sessions, other),
+    }
+}
+
+/// Whether the sessions stand so.
+fn stands(sessions: &Sessions, step: Step) -> bool {
+    match step {
+        Step::Retains(peer, handle, answer) => retains(sessions, peer, handle, answer),
+        Step::Len(count) => { sessions.len() == count && sessions.is_empty() == (count == 0) }
         Step::Known(peer, answer) => sessions.is_known(peer) == answer,
         Step::Moment(moment) => sessions.moment() == moment,
         Step::ForgottenFrom(moment) => sessions.forgotten_from() == moment,
         Step::LapsedFrom(peer, moment) => sessions.lapsed_from(peer) == moment,
+        _ => false,
     }
 }
 
@@ -201,19 +220,12 @@ fn with_windows_of(alloc: Global, size: u8) -> Option<Sessions> {
     Sessions::new(alloc, Window::new(size)?).ok()
 }
 
-/// No session, with windows of 1 and room for so many.
-fn with_room_for(alloc: Global, count: u8) -> Option<Sessions> {
-    let window = Window::new(1)?;
-    let peers = Peers::new(count)?;
-    Sessions::with_sizes(alloc, Sizes { window, peers }).ok()
-}
-
 /// No session yet.
 fn sessions(alloc: Global, made: Made) -> Option<Sessions> {
     match made {
         Made::Plain => Sessions::new(alloc, Window::default()).ok(),
         Made::WindowsOf(size) => with_windows_of(alloc, size),
-        Made::RoomFor(count) => with_room_for(alloc, count),
+        Made::RoomFor(count) => Sessions::with_sizes(alloc, sizes(count)?).ok(),
     }
 }
 
@@ -225,12 +237,9 @@ fn wrong_step(alloc: Global, script: &Script) -> Option<usize> {
     }
 }
 
-/// The first script of which an event is answered otherwise, and that event.
-pub fn wrong_script(alloc: Global, scripts: &[Script]) -> Option<(&'static str, usize)> {
+/// Plays scripts: each event is answered as they say.
+pub fn play(rt: &impl Abort, alloc: Global, scripts: &[Script]) {
     for script in scripts {
-        if let Some(at) = wrong_step(alloc, script) {
-            return Some((script.name, at));
-        }
+        none_wrong(rt, script.name, wrong_step(alloc, script));
     }
-    None
 }
