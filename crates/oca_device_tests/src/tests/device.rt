@@ -15,17 +15,8 @@ mod sessions;
 use benches::Setup;
 use oca_device::Verdict;
 use oca_pdu::{PduFault, PduFaultKind};
-use oca_types::Peer;
 use parts::Part;
 use play::Step;
-
-/// 127.0.0.1 with this port.
-fn peer(port: u16) -> Peer {
-    Peer {
-        ip: 0x7f00_0001,
-        port,
-    }
-}
 
 /// The port of the first peer.
 const A: u16 = 9001;

@@ -128,7 +128,7 @@ const MOST: &[Step] = &[
 /// 66 actuators are too many for a datagram.
 const TOO_MANY: &[Step] = &[Answers(A, 0, ALL_OF_ROOT, EXECUTED, Response(1, 14, 0, &[]))];
 
-/// Over the bench objects.
+/// Scripts over the bench objects.
 const OF_THE_BENCH: &[Script] = &[
     Script {
         name: "tells_the_members_of_a_block",
@@ -142,7 +142,7 @@ const OF_THE_BENCH: &[Script] = &[
     },
 ];
 
-/// Over other objects.
+/// Scripts over other objects.
 const OF_OTHERS: &[Script] = &[
     Script {
         name: "tells_members_level_by_level",

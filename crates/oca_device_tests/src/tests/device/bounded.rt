@@ -1,6 +1,6 @@
 //! Outboxes with room for some packets only. What is left out of one changes nothing else: beside each device that
 //! answers into one stands a device with an outbox for all packets, which takes the same datagrams.
-use super::super::none_wrong;
+use super::super::{none_wrong, peer};
 use super::benches::{Setup, device_of};
 use super::grouping::{BEATS, TWO_GETS, TWO_STATES};
 use super::parts::{Part, bytes_of, is_of};
@@ -311,8 +311,8 @@ const EMPTIED: &[Step] = &[
     Clears,
 ];
 
-/// Where there is room for none or one.
-const FOR_NONE: &[Script] = &[
+/// Scripts for an outbox with room for none, and for one.
+const NONE_OR_ONE: &[Script] = &[
     Script {
         name: "room_for_none",
         setup: Setup::Window(32),
@@ -327,8 +327,8 @@ const FOR_NONE: &[Script] = &[
     },
 ];
 
-/// Where there is room for two or for all.
-const FOR_ALL: &[Script] = &[
+/// Scripts for an outbox with room for two, and for all.
+const TWO_OR_MORE: &[Script] = &[
     Script {
         name: "room_for_two",
         setup: Setup::Window(32),
@@ -349,8 +349,8 @@ const FOR_ALL: &[Script] = &[
     },
 ];
 
-/// Where there is room for one of what comes.
-const ONE_OF_MANY: &[Script] = &[
+/// Scripts on what commands do whose answers are left out.
+const LEFT_OUT: &[Script] = &[
     Script {
         name: "what_joins_needs_no_room",
         setup: Setup::Window(32),
@@ -371,8 +371,8 @@ const ONE_OF_MANY: &[Script] = &[
     },
 ];
 
-/// A peer that is refused, and an outbox that is emptied.
-const REFUSED: &[Script] = &[
+/// Scripts on a peer that is refused, and on an outbox that is emptied.
+const EMPTY_ONES: &[Script] = &[
     Script {
         name: "a_refused_peer_has_no_answer",
         setup: Setup::Peers(1),
@@ -387,8 +387,8 @@ const REFUSED: &[Script] = &[
     },
 ];
 
-/// A datagram full of keep-alives.
-const FULL: &[Script] = &[
+/// Scripts of a datagram full of keep-alives.
+const MANY: &[Script] = &[
     Script {
         name: "122_packets_and_room_for_1",
         setup: Setup::Window(1),
@@ -422,10 +422,10 @@ fn refuses_the_most(alloc: Global) -> bool {
 
 #[test]
 fn outboxes(rt: HostRuntime) {
-    play(&rt, rt.alloc(), FOR_NONE);
-    play(&rt, rt.alloc(), FOR_ALL);
-    play(&rt, rt.alloc(), ONE_OF_MANY);
-    play(&rt, rt.alloc(), REFUSED);
-    play(&rt, rt.alloc(), FULL);
+    play(&rt, rt.alloc(), NONE_OR_ONE);
+    play(&rt, rt.alloc(), TWO_OR_MORE);
+    play(&rt, rt.alloc(), LEFT_OUT);
+    play(&rt, rt.alloc(), EMPTY_ONES);
+    play(&rt, rt.alloc(), MANY);
     assert!(rt; refuses_the_most(rt.alloc()));
 }

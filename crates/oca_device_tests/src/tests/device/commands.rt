@@ -142,8 +142,8 @@ const CUT_OF_A_STRANGER: &[Step] = &[
     Sessions(16),
 ];
 
-/// What is executed.
-const SERVED: &[Script] = &[
+/// Scripts of commands that are executed.
+const COMMANDS: &[Script] = &[
     Script {
         name: "answers_and_repeats",
         setup: Setup::Window(32),
@@ -161,8 +161,8 @@ const SERVED: &[Script] = &[
     },
 ];
 
-/// What is malformed, and keep-alives.
-const MALFORMED_ONES: &[Script] = &[
+/// Scripts of malformed datagrams and keep-alives.
+const OTHERS: &[Script] = &[
     Script {
         name: "ignores_malformed_datagrams",
         setup: Setup::Window(32),
@@ -180,8 +180,8 @@ const MALFORMED_ONES: &[Script] = &[
     },
 ];
 
-/// What is cut short.
-const CUT: &[Script] = &[
+/// Scripts of commands that are cut short.
+const CUT_COMMANDS: &[Script] = &[
     Script {
         name: "a_wrong_count_of_parameters",
         setup: Setup::Window(32),
@@ -196,7 +196,7 @@ const CUT: &[Script] = &[
 
 #[test]
 fn scripts(rt: HostRuntime) {
-    play(&rt, rt.alloc(), SERVED);
-    play(&rt, rt.alloc(), MALFORMED_ONES);
-    play(&rt, rt.alloc(), CUT);
+    play(&rt, rt.alloc(), COMMANDS);
+    play(&rt, rt.alloc(), OTHERS);
+    play(&rt, rt.alloc(), CUT_COMMANDS);
 }

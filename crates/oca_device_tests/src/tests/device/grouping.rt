@@ -196,8 +196,8 @@ const LAWS: &[Step] = &[
     Answers(A, 0, GET, KEPT, MUTED),
 ];
 
-/// Datagrams that are full.
-const FULL_ONES: &[Script] = &[
+/// Scripts of full datagrams.
+const FULL: &[Script] = &[
     Script {
         name: "takes_a_datagram_full_of_commands",
         setup: Setup::Window(32),
@@ -220,8 +220,8 @@ const FULL_ONES: &[Script] = &[
     },
 ];
 
-/// What ends a group and what does not.
-const GROUPS: &[Script] = &[
+/// Scripts of neighbours.
+const NEIGHBOURING: &[Script] = &[
     Script {
         name: "neighbours_leave_in_one_pdu",
         setup: Setup::Window(32),
@@ -234,7 +234,7 @@ const GROUPS: &[Script] = &[
     },
 ];
 
-/// Duplicates in a group.
+/// Scripts of duplicates in a group.
 const DUPLICATES: &[Script] = &[
     Script {
         name: "other_commands_end_no_group",
@@ -248,7 +248,7 @@ const DUPLICATES: &[Script] = &[
     },
 ];
 
-/// How long a group is, and the laws.
+/// Scripts on the length of a group, and the laws.
 const LENGTHS: &[Script] = &[
     Script {
         name: "a_group_has_1472_bytes",
@@ -269,8 +269,8 @@ const LENGTHS: &[Script] = &[
 
 #[test]
 fn scripts(rt: HostRuntime) {
-    play(&rt, rt.alloc(), FULL_ONES);
-    play(&rt, rt.alloc(), GROUPS);
+    play(&rt, rt.alloc(), FULL);
+    play(&rt, rt.alloc(), NEIGHBOURING);
     play(&rt, rt.alloc(), DUPLICATES);
     play(&rt, rt.alloc(), LENGTHS);
 }

@@ -1,8 +1,8 @@
 //! The steps of a script, and the loop that plays it.
-use super::super::none_wrong;
+use super::super::{none_wrong, peer};
+use super::EXECUTED;
 use super::benches::{Setup, device_of};
 use super::parts::{Part, bytes_of, is_of};
-use super::{EXECUTED, peer};
 use oca_device::{Device, Outbox, Verdict, law_by_events, law_of_groups};
 use oca_types::Ono;
 use std::alloc::Global;

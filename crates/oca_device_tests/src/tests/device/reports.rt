@@ -1,5 +1,5 @@
 //! Reports that are added, and verdicts as text.
-use super::super::none_wrong;
+use super::super::{none_wrong, reads};
 use oca_device::{Report, Verdict};
 use std::alloc::Global;
 
@@ -127,18 +127,10 @@ const TEXTS: &[(Verdict, &str)] = &[
     (Verdict::NoRoom, "no room for a session"),
 ];
 
-/// Whether a verdict reads so.
-fn reads(alloc: Global, verdict: Verdict, wanted: &str) -> bool {
-    match format!(in alloc; "{verdict}") {
-        Ok(text) => text.as_str() == wanted,
-        Err(_) => false,
-    }
-}
-
 /// The first verdict that reads otherwise.
 fn first_other(alloc: Global, rows: &[(Verdict, &str)]) -> Option<usize> {
     for (at, (verdict, wanted)) in rows.iter().enumerate() {
-        if !reads(alloc, *verdict, wanted) {
+        if !reads(format!(in alloc; "{verdict}"), wanted) {
             return Some(at);
         }
     }

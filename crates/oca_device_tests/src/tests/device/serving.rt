@@ -1,5 +1,5 @@
 //! The loop over an end in memory.
-use super::super::none_wrong;
+use super::super::{none_wrong, peer};
 use super::benches::device_of;
 use super::parts::{bytes_of, is_of};
 use super::*;

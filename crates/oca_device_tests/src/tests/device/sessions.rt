@@ -129,7 +129,7 @@ const EARLIER: &[Step] = &[
     Sessions(0),
 ];
 
-/// Windows.
+/// Scripts of reply windows.
 const WINDOWS: &[Script] = &[
     Script {
         name: "keeps_the_last_replies",
@@ -153,7 +153,7 @@ const WINDOWS: &[Script] = &[
     },
 ];
 
-/// How many peers there may be.
+/// Scripts of as many peers as there may be.
 const PEERS: &[Script] = &[
     Script {
         name: "has_sessions_of_as_few_as_one",
@@ -167,8 +167,8 @@ const PEERS: &[Script] = &[
     },
 ];
 
-/// What is kept and what is released.
-const KEPT_ONES: &[Script] = &[
+/// Scripts on what is kept, released and forgotten.
+const RELEASES: &[Script] = &[
     Script {
         name: "ignores_another_command_under_a_kept_handle",
         setup: Setup::Window(32),
@@ -186,8 +186,8 @@ const KEPT_ONES: &[Script] = &[
     },
 ];
 
-/// Peers and moments that were seen.
-const SEEN: &[Script] = &[
+/// Scripts of 16 peers, of replies that were not sent, and of an earlier moment.
+const ADMISSIONS: &[Script] = &[
     Script {
         name: "has_room_for_16_sessions",
         setup: Setup::Window(32),
@@ -209,6 +209,6 @@ const SEEN: &[Script] = &[
 fn scripts(rt: HostRuntime) {
     play(&rt, rt.alloc(), WINDOWS);
     play(&rt, rt.alloc(), PEERS);
-    play(&rt, rt.alloc(), KEPT_ONES);
-    play(&rt, rt.alloc(), SEEN);
+    play(&rt, rt.alloc(), RELEASES);
+    play(&rt, rt.alloc(), ADMISSIONS);
 }

@@ -162,8 +162,8 @@ const USED_AGAIN: &[Step] = &[
     Asks(A, Command { count: 9, ..SIXTH }, Reused),
 ];
 
-/// What differs, and what is pushed out.
-const DIFFERING_ONES: &[Script] = &[
+/// Scripts of handles that are used again.
+const HANDLES: &[Script] = &[
     Script {
         name: "tells_a_differing_command",
         made: Plain,
@@ -176,7 +176,7 @@ const DIFFERING_ONES: &[Script] = &[
     },
 ];
 
-/// Cells that are used again.
+/// The script of cells that are used again.
 const CELLS: &[Script] = &[Script {
     name: "cells_are_used_again",
     made: WindowsOf(2),
@@ -185,6 +185,6 @@ const CELLS: &[Script] = &[Script {
 
 #[test]
 fn scripts(rt: HostRuntime) {
-    play(&rt, rt.alloc(), DIFFERING_ONES);
+    play(&rt, rt.alloc(), HANDLES);
     play(&rt, rt.alloc(), CELLS);
 }

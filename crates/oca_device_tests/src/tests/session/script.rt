@@ -1,5 +1,5 @@
 //! Scripts of events, each with what it must answer, and how they are run.
-use super::super::{none_wrong, sizes};
+use super::super::{none_wrong, peer, sizes};
 use super::serving::{Answer, Served, command, executes_with, retains, serve};
 use arrayvec::ArrayVec;
 use oca_session::{Admission, Sessions};
@@ -90,18 +90,10 @@ pub struct Script {
     pub steps: &'static [Step],
 }
 
-/// The peer at this port of 127.0.0.1.
-pub fn at(port: u16) -> Peer {
-    Peer {
-        ip: 0x7f00_0001,
-        port,
-    }
-}
-
 /// Whether each of these peers that is heard is admitted so.
 fn hears_each(sessions: &mut Sessions, ports: Ports, moment: u64, answer: Admission) -> bool {
     for port in ports.first..ports.end {
-        if sessions.hear(at(port), moment) != answer {
+        if sessions.hear(peer(port), moment) != answer {
             return false;
         }
     }
@@ -111,7 +103,7 @@ fn hears_each(sessions: &mut Sessions, ports: Ports, moment: u64, answer: Admiss
 /// Whether the command of a handle is served so for each of these peers.
 fn serves_each(sessions: &mut Sessions, ports: Ports, handle: u32, answer: Served) -> bool {
     for port in ports.first..ports.end {
-        if serve(sessions, at(port), &command(handle)) != answer {
+        if serve(sessions, peer(port), &command(handle)) != answer {
             return false;
         }
     }
@@ -140,8 +132,8 @@ fn beat(sessions: &mut Sessions, peer: Peer, ms: u64) -> bool {
 /// Whether these are the peers at the ports, in order.
 fn are_at(peers: &[Peer], ports: Ports) -> bool {
     let mut port = ports.first;
-    for peer in peers {
-        if *peer != at(port) {
+    for other in peers {
+        if *other != peer(port) {
             return false;
         }
         port = port.saturating_add(1);

@@ -123,7 +123,7 @@ const MOMENTS: &[Step] = &[
     ForgottenFrom(None),
 ];
 
-/// Lapses.
+/// Scripts of lapses.
 const LAPSING: &[Script] = &[
     Script {
         name: "lapses_after_three_heartbeats",
@@ -142,8 +142,8 @@ const LAPSING: &[Script] = &[
     },
 ];
 
-/// What is forgotten, and moments.
-const FORGOTTEN: &[Script] = &[
+/// Scripts of sessions that are forgotten, and of moments.
+const FORGETTING: &[Script] = &[
     Script {
         name: "forgets_after_two_minutes",
         made: Plain,
@@ -174,5 +174,5 @@ const FORGOTTEN: &[Script] = &[
 #[test]
 fn scripts(rt: HostRuntime) {
     play(&rt, rt.alloc(), LAPSING);
-    play(&rt, rt.alloc(), FORGOTTEN);
+    play(&rt, rt.alloc(), FORGETTING);
 }

@@ -120,14 +120,14 @@ const TOO_LONG: &[At] = &[At(
     &[Measures(GET_MEMBERS_RECURSIVE, BufferOverflow, 0, 0)],
 )];
 
-/// Over the bench device.
+/// The script over the bench device.
 const OF_THE_BENCH: &[Script] = &[Script {
     name: "methods_of_blocks",
     over: Bench,
     parts: BLOCKS,
 }];
 
-/// Over other trees.
+/// Scripts over other trees.
 const OF_OTHERS: &[Script] = &[
     Script {
         name: "members_and_descendants",

@@ -1,5 +1,5 @@
 //! What a builder refuses.
-use super::super::none_wrong;
+use super::super::{none_wrong, reads};
 use super::script::Addition::{Many, Nested, One};
 use super::script::Over::Built;
 use super::script::Row::{Holds, Len, Reads};
@@ -132,18 +132,10 @@ const WORDS: &[(AddFault, &str)] = &[
     (AddFault::NoMemory, "no memory"),
 ];
 
-/// Whether the words of a fault are these.
-fn says(alloc: Global, fault: AddFault, words: &str) -> bool {
-    match fault.to_string(alloc) {
-        Ok(printed) => printed.as_str() == words,
-        Err(_) => false,
-    }
-}
-
 /// The first fault with other words.
 fn first_wrong_words(alloc: Global, rows: &[(AddFault, &str)]) -> Option<usize> {
     for (at, (fault, words)) in rows.iter().enumerate() {
-        if !says(alloc, *fault, words) {
+        if !reads(fault.to_string(alloc), words) {
             return Some(at);
         }
     }
@@ -194,15 +186,15 @@ fn first_wrong_room(alloc: Global, rows: &[(u16, Option<usize>)]) -> Option<usiz
     None
 }
 
-/// Faults of additions.
-const FAULTS_OF_ALL: &[Script] = &[Script {
+/// The script of what is refused of any object.
+const OF_OBJECTS: &[Script] = &[Script {
     name: "a_builder_refuses",
     over: Built(FAULTS),
     parts: OF_128,
 }];
 
-/// Faults of switches.
-const FAULTS_OF_SWITCHES: &[Script] = &[Script {
+/// The script of what is refused of a switch.
+const OF_SWITCHES: &[Script] = &[Script {
     name: "a_switch_needs_its_positions",
     over: Built(SWITCHES),
     parts: SWITCH_ROWS,
@@ -210,8 +202,8 @@ const FAULTS_OF_SWITCHES: &[Script] = &[Script {
 
 #[test]
 fn scripts(rt: HostRuntime) {
-    play(&rt, rt.alloc(), FAULTS_OF_ALL);
-    play(&rt, rt.alloc(), FAULTS_OF_SWITCHES);
+    play(&rt, rt.alloc(), OF_OBJECTS);
+    play(&rt, rt.alloc(), OF_SWITCHES);
     none_wrong(&rt, "words", first_wrong_words(rt.alloc(), WORDS));
     none_wrong(&rt, "rooms", first_wrong_room(rt.alloc(), ROOMS));
     assert!(rt; Room::default().get() == 128);

@@ -117,8 +117,8 @@ const DISABLED: &[At] = &[At(
     ],
 )];
 
-/// What is set, and what is refused.
-const FIRST_ONES: &[Script] = &[
+/// Scripts of commands that are executed, and of refusals.
+const COMMANDS: &[Script] = &[
     Script {
         name: "a_mute_is_set_and_read",
         over: Bench,
@@ -136,8 +136,8 @@ const FIRST_ONES: &[Script] = &[
     },
 ];
 
-/// Statuses, labels and positions.
-const SECOND_ONES: &[Script] = &[
+/// Scripts of first statuses, labels and positions.
+const STATUSES: &[Script] = &[
     Script {
         name: "the_first_status_that_applies",
         over: Bench,
@@ -157,6 +157,6 @@ const SECOND_ONES: &[Script] = &[
 
 #[test]
 fn scripts(rt: HostRuntime) {
-    play(&rt, rt.alloc(), FIRST_ONES);
-    play(&rt, rt.alloc(), SECOND_ONES);
+    play(&rt, rt.alloc(), COMMANDS);
+    play(&rt, rt.alloc(), STATUSES);
 }

@@ -143,15 +143,15 @@ const WIDTHS: &[At] = &[
     ),
 ];
 
-/// The settings.
-const SETTINGS_OF_ALL: &[Script] = &[Script {
+/// The script of what is read.
+const READ: &[Script] = &[Script {
     name: "every_integer_type",
     over: Built(INTEGERS),
     parts: SETTINGS,
 }];
 
-/// The widths.
-const WIDTHS_OF_ALL: &[Script] = &[Script {
+/// The script of what is set.
+const SET: &[Script] = &[Script {
     name: "widths_of_integers",
     over: Built(INTEGERS),
     parts: WIDTHS,
@@ -159,6 +159,6 @@ const WIDTHS_OF_ALL: &[Script] = &[Script {
 
 #[test]
 fn scripts(rt: HostRuntime) {
-    play(&rt, rt.alloc(), SETTINGS_OF_ALL);
-    play(&rt, rt.alloc(), WIDTHS_OF_ALL);
+    play(&rt, rt.alloc(), READ);
+    play(&rt, rt.alloc(), SET);
 }

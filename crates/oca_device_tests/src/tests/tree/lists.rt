@@ -97,7 +97,7 @@ fn in_order_on_bench(alloc: Global) -> Option<usize> {
     in_order(&bench(alloc).ok()?)
 }
 
-/// The bench device.
+/// Scripts over the bench device.
 const OF_THE_BENCH: &[Script] = &[
     Script {
         name: "the_objects_of_the_bench_device",
@@ -111,7 +111,7 @@ const OF_THE_BENCH: &[Script] = &[
     },
 ];
 
-/// The bench device with channels.
+/// Scripts over the bench device with channels.
 const OF_CHANNELS: &[Script] = &[
     Script {
         name: "the_bench_device_without_channels",

@@ -180,14 +180,14 @@ const BASIC_ACTUATORS: &[At] = &[
     At(4102, DIMMER_ROWS),
 ];
 
-/// Mutes and polarities.
+/// The script of a mute and a polarity.
 const OF_STATES: &[Script] = &[Script {
     name: "methods_of_mute_and_polarity",
     over: Bench,
     parts: MUTE_AND_POLARITY,
 }];
 
-/// Basic actuators.
+/// The script of basic actuators.
 const OF_SETTINGS: &[Script] = &[Script {
     name: "methods_of_basic_actuators",
     over: Bench,

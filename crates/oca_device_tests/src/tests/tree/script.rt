@@ -253,14 +253,22 @@ fn adds(builder: &mut TreeBuilder, addition: &Addition) -> bool {
         One(container, ono, spec, want) => {
             builder.add(Ono(*container), Ono(*ono), spec) == *want
         }
+        Many(first, end, spec) => takes_many(builder, *first, *end, spec),
+        Nested(first, end) => takes_nested(builder, *first, *end),
+        other => adds_stored(builder, other),
+    }
+}
+
+/// Whether the builder answers an addition so, of which something may be stored.
+fn adds_stored(builder: &mut TreeBuilder, addition: &Addition) -> bool {
+    match addition {
         Stored(container, ono, spec, start, want) => {
             builder.add_with(Ono(*container), Ono(*ono), spec, start) == *want
         }
         Unstored(container, ono, spec, want) => {
             builder.add_with(Ono(*container), Ono(*ono), spec, &Start::default()) == *want
         }
-        Many(first, end, spec) => takes_many(builder, *first, *end, spec),
-        Nested(first, end) => takes_nested(builder, *first, *end),
+        _ => false,
     }
 }
 

@@ -1,5 +1,5 @@
 //! What was stored of an object is there when the device begins again.
-use super::super::none_wrong;
+use super::super::{none_wrong, reads};
 use super::script::Addition::{One, Stored, Unstored};
 use super::script::Over::{Built, Root};
 use super::script::Row::{Len, Reads};
@@ -138,18 +138,10 @@ const WORDS: &[(StartFault, &str)] = &[
     ),
 ];
 
-/// Whether the words of a fault are these.
-fn says(alloc: Global, fault: StartFault, words: &str) -> bool {
-    match fault.to_string(alloc) {
-        Ok(printed) => printed.as_str() == words,
-        Err(_) => false,
-    }
-}
-
 /// The first fault with other words.
 fn first_wrong_words(alloc: Global, rows: &[(StartFault, &str)]) -> Option<usize> {
     for (at, (fault, words)) in rows.iter().enumerate() {
-        if !says(alloc, *fault, words) {
+        if !reads(fault.to_string(alloc), words) {
             return Some(at);
         }
     }
@@ -282,7 +274,7 @@ fn is_compared(alloc: Global) -> bool {
     }
 }
 
-/// What is stored of a switch.
+/// Scripts of what was stored of a switch.
 const OF_A_SWITCH: &[Script] = &[
     Script {
         name: "a_switch_begins_as_stored",
@@ -296,8 +288,8 @@ const OF_A_SWITCH: &[Script] = &[
     },
 ];
 
-/// What must fit.
-const FITS_OR_NOT: &[Script] = &[
+/// Scripts of what must fit.
+const FITTING_ONES: &[Script] = &[
     Script {
         name: "what_was_stored_must_fit",
         over: Built(FITTING),
@@ -310,7 +302,7 @@ const FITS_OR_NOT: &[Script] = &[
     },
 ];
 
-/// What is stored of the root.
+/// The script of what was stored of the root.
 const OF_THE_ROOT: &[Script] = &[Script {
     name: "the_root_begins_as_stored",
     over: Root(GREETING, &[]),
@@ -320,7 +312,7 @@ const OF_THE_ROOT: &[Script] = &[Script {
 #[test]
 fn scripts(rt: HostRuntime) {
     play(&rt, rt.alloc(), OF_A_SWITCH);
-    play(&rt, rt.alloc(), FITS_OR_NOT);
+    play(&rt, rt.alloc(), FITTING_ONES);
     play(&rt, rt.alloc(), OF_THE_ROOT);
     none_wrong(&rt, "words", first_wrong_words(rt.alloc(), WORDS));
     none_wrong(&rt, "stored", first_wrong_stored(rt.alloc(), DESCRIBED));
