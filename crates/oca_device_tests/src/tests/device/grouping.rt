@@ -196,7 +196,7 @@ const LAWS: &[Step] = &[
     Answers(A, 0, GET, KEPT, MUTED),
 ];
 
-/// Scripts of full datagrams.
+/// Scripts of datagrams full of commands.
 const FULL: &[Script] = &[
     Script {
         name: "takes_a_datagram_full_of_commands",
@@ -208,6 +208,10 @@ const FULL: &[Script] = &[
         setup: Setup::Window(32),
         steps: A_BYTE_TOO_MANY,
     },
+];
+
+/// Scripts of datagrams full of responses and of keep-alives.
+const FULL_OF_OTHERS: &[Script] = &[
     Script {
         name: "ignores_a_datagram_full_of_responses",
         setup: Setup::Window(32),
@@ -270,6 +274,7 @@ const LENGTHS: &[Script] = &[
 #[test]
 fn scripts(rt: HostRuntime) {
     play(&rt, rt.alloc(), FULL);
+    play(&rt, rt.alloc(), FULL_OF_OTHERS);
     play(&rt, rt.alloc(), NEIGHBOURING);
     play(&rt, rt.alloc(), DUPLICATES);
     play(&rt, rt.alloc(), LENGTHS);

@@ -314,8 +314,11 @@ const COUNTED: Play = Play {
     turns: &[Serves(100, ALL_COUNTED), Taken(17)],
 };
 
-/// All plays.
-const PLAYS: &[Play] = &[CLOSED, SERVED, GOES_ON, LOST, COUNTED];
+/// Plays over an end with room for all answers.
+const SERVING: &[Play] = &[CLOSED, SERVED, COUNTED];
+
+/// Plays over an end of which a send fails.
+const FAILING: &[Play] = &[GOES_ON, LOST];
 
 /// Each turn of these plays tells what it must.
 fn run(rt: &impl Abort, alloc: Global, plays: &[Play]) {
@@ -326,5 +329,6 @@ fn run(rt: &impl Abort, alloc: Global, plays: &[Play]) {
 
 #[test]
 fn plays(rt: HostRuntime) {
-    run(&rt, rt.alloc(), PLAYS);
+    run(&rt, rt.alloc(), SERVING);
+    run(&rt, rt.alloc(), FAILING);
 }

@@ -210,23 +210,24 @@ const RELEASE: &[At] = &[
     At(5, &[Locked(None)]),
 ];
 
-/// The scripts.
-const SCRIPTS: &[Script] = &[
-    Script {
-        name: "locks_of_two_peers",
-        over: Bench,
-        parts: TWO_PEERS,
-    },
-    Script {
-        name: "release_takes_the_peers_locks_off",
-        over: Bench,
-        parts: RELEASE,
-    },
-];
+/// The script of what is locked.
+const LOCKED: &[Script] = &[Script {
+    name: "locks_of_two_peers",
+    over: Bench,
+    parts: TWO_PEERS,
+}];
+
+/// The script of what is released.
+const RELEASED: &[Script] = &[Script {
+    name: "release_takes_the_peers_locks_off",
+    over: Bench,
+    parts: RELEASE,
+}];
 
 #[test]
 fn scripts(rt: HostRuntime) {
-    play(&rt, rt.alloc(), SCRIPTS);
+    play(&rt, rt.alloc(), LOCKED);
+    play(&rt, rt.alloc(), RELEASED);
     none_wrong(&rt, "accesses", first_wrong(rt.alloc(), ACCESSES));
     none_wrong(&rt, "lockings", first_wrong(rt.alloc(), LOCKINGS));
     none_wrong(&rt, "unlockings", first_wrong(rt.alloc(), UNLOCKINGS));

@@ -288,19 +288,19 @@ const OF_A_SWITCH: &[Script] = &[
     },
 ];
 
-/// Scripts of what must fit.
-const FITTING_ONES: &[Script] = &[
-    Script {
-        name: "what_was_stored_must_fit",
-        over: Built(FITTING),
-        parts: OF_3,
-    },
-    Script {
-        name: "a_mute_takes_no_flags",
-        over: Built(FLAGS_OF_A_MUTE),
-        parts: &[],
-    },
-];
+/// The script of labels and flags that must fit.
+const LABELS: &[Script] = &[Script {
+    name: "what_was_stored_must_fit",
+    over: Built(FITTING),
+    parts: OF_3,
+}];
+
+/// The script of flags of a mute.
+const FLAGS: &[Script] = &[Script {
+    name: "a_mute_takes_no_flags",
+    over: Built(FLAGS_OF_A_MUTE),
+    parts: &[],
+}];
 
 /// The script of what was stored of the root.
 const OF_THE_ROOT: &[Script] = &[Script {
@@ -312,7 +312,8 @@ const OF_THE_ROOT: &[Script] = &[Script {
 #[test]
 fn scripts(rt: HostRuntime) {
     play(&rt, rt.alloc(), OF_A_SWITCH);
-    play(&rt, rt.alloc(), FITTING_ONES);
+    play(&rt, rt.alloc(), LABELS);
+    play(&rt, rt.alloc(), FLAGS);
     play(&rt, rt.alloc(), OF_THE_ROOT);
     none_wrong(&rt, "words", first_wrong_words(rt.alloc(), WORDS));
     none_wrong(&rt, "stored", first_wrong_stored(rt.alloc(), DESCRIBED));
