@@ -15,18 +15,8 @@ mod sessions;
 use benches::Setup;
 use oca_device::Verdict;
 use oca_pdu::{PduFault, PduFaultKind};
-use oca_types::Peer;
 use parts::Part;
 use play::Step;
-use std::process::Abort;
-
-/// 127.0.0.1 with this port.
-fn peer(port: u16) -> Peer {
-    Peer {
-        ip: 0x7f00_0001,
-        port,
-    }
-}
 
 /// The port of the first peer.
 const A: u16 = 9001;
@@ -108,25 +98,3 @@ const EMPTY: Verdict = Verdict::Malformed(PduFault {
     kind: PduFaultKind::Empty,
     at: 0,
 });
-
-/// Nothing is wrong.
-fn none_wrong(rt: &impl Abort, wrong: Option<(&'static str, usize)>) {
-    if let Some((name, at)) = wrong {
-        panic!(rt; "{name}: step {at}");
-    }
-}
-
-#[test]
-fn scripts(rt: HostRuntime) {
-    none_wrong(&rt, blocks::wrong(rt.alloc()));
-    none_wrong(&rt, commands::wrong(rt.alloc()));
-    none_wrong(&rt, grouping::wrong(rt.alloc()));
-    none_wrong(&rt, lapses::wrong(rt.alloc()));
-    none_wrong(&rt, sessions::wrong(rt.alloc()));
-}
-
-#[test]
-fn bounded_outboxes(rt: HostRuntime) {
-    none_wrong(&rt, bounded::wrong(rt.alloc()));
-    assert!(rt; bounded::refuses_the_most(rt.alloc()));
-}

@@ -6,20 +6,3 @@ mod script;
 mod serving;
 mod silence;
 mod window;
-
-use std::process::Abort;
-
-/// Nothing is wrong.
-fn none_wrong(rt: &impl Abort, wrong: Option<(&'static str, usize)>) {
-    if let Some((name, at)) = wrong {
-        panic!(rt; "{name}: step {at}");
-    }
-}
-
-#[test]
-fn scripts(rt: HostRuntime) {
-    none_wrong(&rt, peers::wrong(rt.alloc()));
-    none_wrong(&rt, reuse::wrong(rt.alloc()));
-    none_wrong(&rt, silence::wrong(rt.alloc()));
-    none_wrong(&rt, window::wrong(rt.alloc()));
-}

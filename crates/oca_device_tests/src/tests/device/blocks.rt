@@ -1,9 +1,11 @@
 //! The members of blocks, as whole datagrams.
-use super::play::{Script, wrong_script};
+use super::super::tree::script::Addition::{self, Many, One};
+use super::super::tree::words::{BLOCK, MUTE};
+use super::play::{Script, play};
 use super::*;
 use Part::*;
 use Step::*;
-use std::alloc::Global;
+use oca_tree::{Kind, Spec};
 
 /// GetMembers of the root under handle 5.
 const MEMBERS: Part = Bytes(&[
@@ -55,6 +57,13 @@ const BELOW_THE_BLOCK: &[u8] = &[
     0, 1, 0, 0, 0x10, 2, 0, 4, 0, 1, 0, 1, 0, 1, 0, 2, 0, 2, 0, 0, 0x10, 0,
 ];
 
+/// Block 4096 and mute 4097 in the root, and mute 4098 in the block.
+const TWO_LEVELS: &[Addition] = &[
+    One(100, 4096, BLOCK, Ok(())),
+    One(100, 4097, MUTE, Ok(())),
+    One(4096, 4098, MUTE, Ok(())),
+];
+
 /// Direct members are listed without those below them, and all below a block without what stands beside it.
 const LEVELS: &[Step] = &[
     Answers(
@@ -80,6 +89,23 @@ const LEVELS: &[Step] = &[
     ),
 ];
 
+/// An Int16 actuator.
+const TRIM: Spec<'static> = Spec {
+    role: "one",
+    lockable: true,
+    kind: Kind::Int16 {
+        setting: 0,
+        least: 0,
+        greatest: 0,
+    },
+};
+
+/// 65 actuators from 4096 on in the root.
+const OF_65: &[Addition] = &[Many(4096, 4161, TRIM)];
+
+/// 66 actuators from 4096 on in the root.
+const OF_66: &[Addition] = &[Many(4096, 4162, TRIM)];
+
 /// The response that tells 65 actuators, under handle 1.
 const SIXTY_FIVE: &[Part] = &[
     Bytes(&[
@@ -102,8 +128,8 @@ const MOST: &[Step] = &[
 /// 66 actuators are too many for a datagram.
 const TOO_MANY: &[Step] = &[Answers(A, 0, ALL_OF_ROOT, EXECUTED, Response(1, 14, 0, &[]))];
 
-/// The scripts, by their names.
-const SCRIPTS: &[Script] = &[
+/// Scripts over the bench objects.
+const OF_THE_BENCH: &[Script] = &[
     Script {
         name: "tells_the_members_of_a_block",
         setup: Setup::Window(32),
@@ -114,24 +140,29 @@ const SCRIPTS: &[Script] = &[
         setup: Setup::Window(32),
         steps: ALL,
     },
+];
+
+/// Scripts over other objects.
+const OF_OTHERS: &[Script] = &[
     Script {
         name: "tells_members_level_by_level",
-        setup: Setup::TwoLevels,
+        setup: Setup::Built(TWO_LEVELS),
         steps: LEVELS,
     },
     Script {
         name: "tells_as_many_as_fit",
-        setup: Setup::Actuators(4161),
+        setup: Setup::Built(OF_65),
         steps: MOST,
     },
     Script {
         name: "tells_no_more_than_fit",
-        setup: Setup::Actuators(4162),
+        setup: Setup::Built(OF_66),
         steps: TOO_MANY,
     },
 ];
 
-/// The first script that goes otherwise, and where.
-pub fn wrong(alloc: Global) -> Option<(&'static str, usize)> {
-    wrong_script(alloc, SCRIPTS)
+#[test]
+fn scripts(rt: HostRuntime) {
+    play(&rt, rt.alloc(), OF_THE_BENCH);
+    play(&rt, rt.alloc(), OF_OTHERS);
 }

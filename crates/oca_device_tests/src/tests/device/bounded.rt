@@ -1,14 +1,18 @@
 //! Outboxes with room for some packets only. What is left out of one changes nothing else: beside each device that
 //! answers into one stands a device with an outbox for all packets, which takes the same datagrams.
-use super::benches::{Bench, Few, Setup, bench_of, few_of};
+use super::super::{none_wrong, peer};
+use super::benches::{Setup, device_of};
 use super::grouping::{BEATS, TWO_GETS, TWO_STATES};
 use super::parts::{Part, bytes_of, is_of};
+use super::play::hears;
 use super::*;
 use Part::*;
 use Step::*;
-use oca_device::BoundedOutbox;
+use oca_device::{BoundedOutbox, Device, Outbox};
+use oca_tree::Tree;
 use oca_types::Ono;
 use std::alloc::Global;
+use std::process::Abort;
 
 /// An event, and what must come of it.
 #[derive(Clone, Copy)]
@@ -32,126 +36,166 @@ struct Script {
 }
 
 /// Whether the packet of this number is kept, and is the one of the outbox for all.
-fn is_kept(all: &Bench, few: &Few, at: usize) -> bool {
-    match (few.outbox.get(at), all.outbox.get(at)) {
-        (Some(kept), Some(sent)) => kept.as_slice() == sent.as_slice(),
+fn is_kept(sent: &Outbox, kept: &BoundedOutbox, at: usize) -> bool {
+    match (kept.get(at), sent.get(at)) {
+        (Some(one), Some(other)) => one.as_slice() == other.as_slice(),
         _ => false,
     }
 }
 
 /// Whether the first so many of the packets for all are kept, the others are left out, and the outbox tells whether
 /// there are others.
-fn keeps(all: &Bench, few: &Few, kept: usize, left_out: usize) -> bool {
-    for at in 0..kept {
-        if !is_kept(all, few, at) {
+fn keeps(sent: &Outbox, kept: &BoundedOutbox, count: usize, left_out: usize) -> bool {
+    for at in 0..count {
+        if !is_kept(sent, kept, at) {
             return false;
         }
     }
-    few.outbox.packets().len() == kept
-        && few.outbox.get(kept).is_none()
-        && few.outbox.is_cut() == (left_out > 0)
-        && all.outbox.len() == kept.saturating_add(left_out)
+    kept.packets().len() == count
+        && kept.get(count).is_none()
+        && kept.is_cut() == (left_out > 0)
+        && sent.len() == count.saturating_add(left_out)
 }
 
 /// Whether the packet of this number is of these parts.
-fn is_packet(few: &Few, at: usize, parts: &[Part]) -> bool {
-    match few.outbox.get(at) {
+fn is_packet(kept: &BoundedOutbox, at: usize, parts: &[Part]) -> bool {
+    match kept.get(at) {
         Some(packet) => is_of(packet.as_slice(), parts),
         None => false,
     }
 }
 
 /// Whether the first packets are of these parts.
-fn holds(few: &Few, packets: &[&[Part]]) -> bool {
+fn holds(kept: &BoundedOutbox, packets: &[&[Part]]) -> bool {
     for (at, parts) in packets.iter().enumerate() {
-        if !is_packet(few, at, parts) {
+        if !is_packet(kept, at, parts) {
             return false;
         }
     }
     true
 }
 
+/// Whether the objects are the same, and the lock of 4097.
+fn are_same_objects(one: &Tree, other: &Tree) -> bool {
+    one.is_but_for_locks(other) && one.lock_of(Ono(4097)) == other.lock_of(Ono(4097))
+}
+
 /// Whether both devices are in the same state, as far as they say.
-fn are_same(all: &Bench, few: &Few) -> bool {
-    few.device.sessions() == all.device.sessions()
-        && few.device.written() == all.device.written()
-        && few.device.next_lapse() == all.device.next_lapse()
-        && few.device.tree().is_but_for_locks(all.device.tree())
-        && few.device.tree().lock_of(Ono(4097)) == all.device.tree().lock_of(Ono(4097))
+fn are_same(all: &Device, few: &Device) -> bool {
+    few.sessions() == all.sessions()
+        && few.written() == all.written()
+        && few.next_lapse() == all.next_lapse()
+        && are_same_objects(few.tree(), all.tree())
 }
 
-/// What the device makes of a datagram whose answers all have room.
-fn heard_by_all(all: &mut Bench, port: u16, now: u64, bytes: &[u8]) -> Verdict {
-    let outbox = &mut all.outbox;
-    all.device.datagram(peer(port), bytes, now, outbox)
-}
-
-/// What the device makes of a datagram of whose answers some have room.
-fn heard_by_few(few: &mut Few, port: u16, now: u64, bytes: &[u8]) -> Verdict {
-    let outbox = &mut few.outbox;
-    few.device.datagram_within(peer(port), bytes, now, outbox)
-}
-
-/// Whether both devices make this of a datagram, and are in the same state after it.
-fn both_hear(
-    all: &mut Bench,
-    few: &mut Few,
+/// Whether the device makes this of a datagram of whose answers some have room.
+fn hears_within(
+    few: &mut Device,
+    kept: &mut BoundedOutbox,
     port: u16,
     now: u64,
     parts: &[Part],
     verdict: Verdict,
 ) -> bool {
-    let bytes = bytes_of(parts);
-    heard_by_all(all, port, now, bytes.as_slice()) == verdict
-        && heard_by_few(few, port, now, bytes.as_slice()) == verdict
-        && are_same(all, few)
-}
-
-/// Takes all packets out.
-fn clears(outbox: &mut BoundedOutbox) -> bool {
-    outbox.clear();
-    outbox.packets().is_empty() && !outbox.is_cut()
+    few.datagram_within(peer(port), bytes_of(parts).as_slice(), now, kept) == verdict
 }
 
 /// Whether this comes of an event.
-fn agrees(all: &mut Bench, few: &mut Few, step: Step) -> bool {
+fn agrees(
+    all: &mut Device,
+    sent: &mut Outbox,
+    few: &mut Device,
+    kept: &mut BoundedOutbox,
+    step: Step,
+) -> bool {
     match step {
         Hears(port, now, parts, verdict, packets, left_out) => {
-            both_hear(all, few, port, now, parts, verdict)
-                && keeps(all, few, packets.len(), left_out)
-                && holds(few, packets)
+            hears(all, sent, port, now, parts, verdict)
+                && hears_within(few, kept, port, now, parts, verdict)
+                && keeps(sent, kept, packets.len(), left_out)
+                && holds(kept, packets)
         }
-        Counts(port, parts, kept, left_out) => {
-            both_hear(all, few, port, 0, parts, NOTHING) && keeps(all, few, kept, left_out)
+        Counts(port, parts, count, left_out) => {
+            hears(all, sent, port, 0, parts, NOTHING)
+                && hears_within(few, kept, port, 0, parts, NOTHING)
+                && keeps(sent, kept, count, left_out)
         }
-        Wrote(count) => few.device.written().len() == count,
-        Clears => clears(&mut few.outbox),
+        Wrote(count) => few.written().len() == count,
+        Clears => {
+            kept.clear();
+            kept.packets().is_empty() && !kept.is_cut()
+        }
     }
 }
 
-/// The first step of which something else comes, or after which the outbox has room for another number of packets.
-fn first_wrong(all: &mut Bench, few: &mut Few, script: &Script) -> Option<usize> {
+/// The first step of which something else comes, after which both devices are not in the same state, or after which
+/// the outbox has room for another number of packets.
+fn first_wrong(
+    all: &mut Device,
+    sent: &mut Outbox,
+    few: &mut Device,
+    kept: &mut BoundedOutbox,
+    script: &Script,
+) -> Option<usize> {
     for (at, step) in script.steps.iter().enumerate() {
-        if !agrees(all, few, *step) || few.outbox.room() != script.room {
+        if !agrees(all, sent, few, kept, *step)
+            || !are_same(all, few)
+            || kept.room() != script.room
+        {
             return Some(at);
         }
     }
     None
 }
 
-/// The first step of which something else comes beside this device; the last number where there is no other.
-fn wrong_beside(alloc: Global, all: &mut Bench, script: &Script) -> Option<usize> {
-    match few_of(alloc, script.setup, script.room) {
-        Some(mut few) => first_wrong(all, &mut few, script),
+/// The first wrong step with these devices and this outbox; the last number where there is no outbox with room for so
+/// many.
+fn wrong_with(
+    alloc: Global,
+    all: &mut Device,
+    sent: &mut Outbox,
+    few: &mut Device,
+    script: &Script,
+) -> Option<usize> {
+    match BoundedOutbox::with_room(alloc, script.room) {
+        Ok(mut kept) => first_wrong(all, sent, few, &mut kept, script),
+        Err(_) => Some(usize::MAX),
+    }
+}
+
+/// The first wrong step beside this device with this outbox; the last number where there is no other device.
+fn wrong_beside(
+    alloc: Global,
+    all: &mut Device,
+    sent: &mut Outbox,
+    script: &Script,
+) -> Option<usize> {
+    match device_of(alloc, script.setup) {
+        Some(mut few) => wrong_with(alloc, all, sent, &mut few, script),
         None => Some(usize::MAX),
     }
 }
 
-/// The first step of the script of which something else comes; the last number where there is no device.
+/// The first wrong step beside this device; the last number where there is no outbox.
+fn wrong_of(alloc: Global, all: &mut Device, script: &Script) -> Option<usize> {
+    match Outbox::new(alloc) {
+        Ok(mut sent) => wrong_beside(alloc, all, &mut sent, script),
+        Err(_) => Some(usize::MAX),
+    }
+}
+
+/// The first wrong step of the script; the last number where there is no device.
 fn wrong_step(alloc: Global, script: &Script) -> Option<usize> {
-    match bench_of(alloc, script.setup) {
-        Some(mut all) => wrong_beside(alloc, &mut all, script),
+    match device_of(alloc, script.setup) {
+        Some(mut all) => wrong_of(alloc, &mut all, script),
         None => Some(usize::MAX),
+    }
+}
+
+/// Plays scripts: of each step comes what it says.
+fn play(rt: &impl Abort, alloc: Global, scripts: &[Script]) {
+    for script in scripts {
+        none_wrong(rt, script.name, wrong_step(alloc, script));
     }
 }
 
@@ -267,8 +311,8 @@ const EMPTIED: &[Step] = &[
     Clears,
 ];
 
-/// The scripts, by their names.
-const SCRIPTS: &[Script] = &[
+/// Scripts for an outbox with room for none, and for one.
+const NONE_OR_ONE: &[Script] = &[
     Script {
         name: "room_for_none",
         setup: Setup::Window(32),
@@ -281,6 +325,10 @@ const SCRIPTS: &[Script] = &[
         room: 1,
         steps: ONE,
     },
+];
+
+/// Scripts for an outbox with room for two, and for all.
+const TWO_OR_MORE: &[Script] = &[
     Script {
         name: "room_for_two",
         setup: Setup::Window(32),
@@ -299,6 +347,10 @@ const SCRIPTS: &[Script] = &[
         room: 4,
         steps: ALL,
     },
+];
+
+/// Scripts on what commands do whose answers are left out.
+const LEFT_OUT: &[Script] = &[
     Script {
         name: "what_joins_needs_no_room",
         setup: Setup::Window(32),
@@ -317,6 +369,10 @@ const SCRIPTS: &[Script] = &[
         room: 1,
         steps: LOCKS,
     },
+];
+
+/// Scripts on a peer that is refused, and on an outbox that is emptied.
+const EMPTY_ONES: &[Script] = &[
     Script {
         name: "a_refused_peer_has_no_answer",
         setup: Setup::Peers(1),
@@ -329,6 +385,10 @@ const SCRIPTS: &[Script] = &[
         room: 1,
         steps: EMPTIED,
     },
+];
+
+/// Scripts of a datagram full of keep-alives.
+const MANY: &[Script] = &[
     Script {
         name: "122_packets_and_room_for_1",
         setup: Setup::Window(1),
@@ -355,17 +415,17 @@ const SCRIPTS: &[Script] = &[
     },
 ];
 
-/// The first script that goes otherwise, and where.
-pub fn wrong(alloc: Global) -> Option<(&'static str, usize)> {
-    for script in SCRIPTS {
-        if let Some(at) = wrong_step(alloc, script) {
-            return Some((script.name, at));
-        }
-    }
-    None
+/// Whether an outbox is refused that no memory has room for.
+fn refuses_the_most(alloc: Global) -> bool {
+    BoundedOutbox::with_room(alloc, usize::MAX).is_err()
 }
 
-/// Whether an outbox is refused that no memory has room for.
-pub fn refuses_the_most(alloc: Global) -> bool {
-    BoundedOutbox::with_room(alloc, usize::MAX).is_err()
+#[test]
+fn outboxes(rt: HostRuntime) {
+    play(&rt, rt.alloc(), NONE_OR_ONE);
+    play(&rt, rt.alloc(), TWO_OR_MORE);
+    play(&rt, rt.alloc(), LEFT_OUT);
+    play(&rt, rt.alloc(), EMPTY_ONES);
+    play(&rt, rt.alloc(), MANY);
+    assert!(rt; refuses_the_most(rt.alloc()));
 }

@@ -1,9 +1,8 @@
 //! Commands, keep-alives and datagrams that are no datagrams.
-use super::play::{Script, wrong_script};
+use super::play::{Script, play};
 use super::*;
 use Part::*;
 use Step::*;
-use std::alloc::Global;
 
 /// SetState of 4097 to Muted under handle 2.
 const MUTE: Part = Bytes(&[
@@ -143,8 +142,8 @@ const CUT_OF_A_STRANGER: &[Step] = &[
     Sessions(16),
 ];
 
-/// The scripts, by their names.
-const SCRIPTS: &[Script] = &[
+/// Scripts of commands that are executed.
+const COMMANDS: &[Script] = &[
     Script {
         name: "answers_and_repeats",
         setup: Setup::Window(32),
@@ -160,6 +159,10 @@ const SCRIPTS: &[Script] = &[
         setup: Setup::Window(32),
         steps: OVERTAKEN,
     },
+];
+
+/// Scripts of malformed datagrams and keep-alives.
+const OTHERS: &[Script] = &[
     Script {
         name: "ignores_malformed_datagrams",
         setup: Setup::Window(32),
@@ -175,6 +178,10 @@ const SCRIPTS: &[Script] = &[
         setup: Setup::Window(32),
         steps: KEEP_ALIVES,
     },
+];
+
+/// Scripts of commands that are cut short.
+const CUT_COMMANDS: &[Script] = &[
     Script {
         name: "a_wrong_count_of_parameters",
         setup: Setup::Window(32),
@@ -187,7 +194,9 @@ const SCRIPTS: &[Script] = &[
     },
 ];
 
-/// The first script that goes otherwise, and where.
-pub fn wrong(alloc: Global) -> Option<(&'static str, usize)> {
-    wrong_script(alloc, SCRIPTS)
+#[test]
+fn scripts(rt: HostRuntime) {
+    play(&rt, rt.alloc(), COMMANDS);
+    play(&rt, rt.alloc(), OTHERS);
+    play(&rt, rt.alloc(), CUT_COMMANDS);
 }

@@ -1,5 +1,5 @@
 //! How answers are grouped into datagrams.
-use super::play::{Script, wrong_script};
+use super::play::{Script, play};
 use super::*;
 use Part::*;
 use Step::*;
@@ -23,8 +23,6 @@ const EXECUTED_86: Verdict = Verdict::Served {
     old: 0,
     reused: 0,
 };
-
-use std::alloc::Global;
 
 /// As many commands as fit are answered in one packet.
 const FULL_OF_COMMANDS: &[Step] = &[
@@ -198,8 +196,8 @@ const LAWS: &[Step] = &[
     Answers(A, 0, GET, KEPT, MUTED),
 ];
 
-/// The scripts, by their names.
-const SCRIPTS: &[Script] = &[
+/// Scripts of datagrams full of commands.
+const FULL: &[Script] = &[
     Script {
         name: "takes_a_datagram_full_of_commands",
         setup: Setup::Window(32),
@@ -210,6 +208,10 @@ const SCRIPTS: &[Script] = &[
         setup: Setup::Window(32),
         steps: A_BYTE_TOO_MANY,
     },
+];
+
+/// Scripts of datagrams full of responses and of keep-alives.
+const FULL_OF_OTHERS: &[Script] = &[
     Script {
         name: "ignores_a_datagram_full_of_responses",
         setup: Setup::Window(32),
@@ -220,6 +222,10 @@ const SCRIPTS: &[Script] = &[
         setup: Setup::Window(32),
         steps: FULL_OF_KEEP_ALIVES,
     },
+];
+
+/// Scripts of neighbours.
+const NEIGHBOURING: &[Script] = &[
     Script {
         name: "neighbours_leave_in_one_pdu",
         setup: Setup::Window(32),
@@ -230,6 +236,10 @@ const SCRIPTS: &[Script] = &[
         setup: Setup::Window(32),
         steps: ALONE,
     },
+];
+
+/// Scripts of duplicates in a group.
+const DUPLICATES: &[Script] = &[
     Script {
         name: "other_commands_end_no_group",
         setup: Setup::Window(32),
@@ -240,6 +250,10 @@ const SCRIPTS: &[Script] = &[
         setup: Setup::Window(32),
         steps: BESIDE,
     },
+];
+
+/// Scripts on the length of a group, and the laws.
+const LENGTHS: &[Script] = &[
     Script {
         name: "a_group_has_1472_bytes",
         setup: Setup::Window(32),
@@ -257,7 +271,11 @@ const SCRIPTS: &[Script] = &[
     },
 ];
 
-/// The first script that goes otherwise, and where.
-pub fn wrong(alloc: Global) -> Option<(&'static str, usize)> {
-    wrong_script(alloc, SCRIPTS)
+#[test]
+fn scripts(rt: HostRuntime) {
+    play(&rt, rt.alloc(), FULL);
+    play(&rt, rt.alloc(), FULL_OF_OTHERS);
+    play(&rt, rt.alloc(), NEIGHBOURING);
+    play(&rt, rt.alloc(), DUPLICATES);
+    play(&rt, rt.alloc(), LENGTHS);
 }

@@ -1,9 +1,8 @@
 //! When a clock reading next changes something.
-use super::play::{Script, wrong_script};
+use super::play::{Script, play};
 use super::*;
 use Part::*;
 use Step::*;
-use std::alloc::Global;
 
 /// Nobody was heard, so nothing lapses.
 const NOBODY: &[Step] = &[
@@ -103,7 +102,7 @@ const SCRIPTS: &[Script] = &[
     },
 ];
 
-/// The first script that goes otherwise, and where.
-pub fn wrong(alloc: Global) -> Option<(&'static str, usize)> {
-    wrong_script(alloc, SCRIPTS)
+#[test]
+fn scripts(rt: HostRuntime) {
+    play(&rt, rt.alloc(), SCRIPTS);
 }

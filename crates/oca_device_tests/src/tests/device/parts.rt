@@ -91,12 +91,21 @@ fn put_beat(bytes: &mut Bytes, ms: u32) {
     put(bytes, &ms.to_be_bytes());
 }
 
-/// Adds a part.
-fn put_part(bytes: &mut Bytes, part: Part) {
+/// Adds the command or the response that a short part stands for.
+fn put_short(bytes: &mut Bytes, part: Part) {
     match part {
-        Part::Bytes(more) => put(bytes, more),
-        Part::Times(count, more) => put_times(bytes, count, more),
-        Part::Each(first, after, before, behind) => put_each(bytes, first, after, before, behind),
+        Part::GetState(handle) => put_command(bytes, 1, handle, 4097, (4, 1), &[]),
+        Part::State(handle, state) => put_response(bytes, handle, 0, 1, &[state]),
+        Part::SetState(handle, state) => put_command(bytes, 1, handle, 4097, (4, 2), &[state]),
+        Part::Lock(handle) => put_command(bytes, 1, handle, 4097, (1, 3), &[]),
+        Part::Done(handle) => put_response(bytes, handle, 0, 0, &[]),
+        _ => {}
+    }
+}
+
+/// Adds a part that is no bytes.
+fn put_pdu(bytes: &mut Bytes, part: Part) {
+    match part {
         Part::Command(kind, handle, target, method, params) => {
             put_command(bytes, kind, handle, target, method, params);
         }
@@ -104,11 +113,17 @@ fn put_part(bytes: &mut Bytes, part: Part) {
             put_response(bytes, handle, status, count, params);
         }
         Part::Beat(ms) => put_beat(bytes, ms),
-        Part::GetState(handle) => put_command(bytes, 1, handle, 4097, (4, 1), &[]),
-        Part::State(handle, state) => put_response(bytes, handle, 0, 1, &[state]),
-        Part::SetState(handle, state) => put_command(bytes, 1, handle, 4097, (4, 2), &[state]),
-        Part::Lock(handle) => put_command(bytes, 1, handle, 4097, (1, 3), &[]),
-        Part::Done(handle) => put_response(bytes, handle, 0, 0, &[]),
+        other => put_short(bytes, other),
+    }
+}
+
+/// Adds a part.
+fn put_part(bytes: &mut Bytes, part: Part) {
+    match part {
+        Part::Bytes(more) => put(bytes, more),
+        Part::Times(count, more) => put_times(bytes, count, more),
+        Part::Each(first, after, before, behind) => put_each(bytes, first, after, before, behind),
+        other => put_pdu(bytes, other),
     }
 }
 

@@ -1,10 +1,12 @@
 //! The steps of a script, and the loop that plays it.
-use super::benches::{Bench, Setup, bench_of};
+use super::super::{none_wrong, peer};
+use super::EXECUTED;
+use super::benches::{Setup, device_of};
 use super::parts::{Part, bytes_of, is_of};
-use super::{EXECUTED, peer};
-use oca_device::{Outbox, Verdict, law_by_events, law_of_groups};
+use oca_device::{Device, Outbox, Verdict, law_by_events, law_of_groups};
 use oca_types::Ono;
 use std::alloc::Global;
+use std::process::Abort;
 
 /// An event, and what must come of it.
 #[derive(Clone, Copy)]
@@ -61,14 +63,6 @@ fn is_packet(outbox: &Outbox, at: usize, parts: &[Part]) -> bool {
     }
 }
 
-/// Whether the packet of this number has so many bytes.
-fn has_bytes(outbox: &Outbox, at: usize, count: usize) -> bool {
-    match outbox.get(at) {
-        Some(packet) => packet.len() == count,
-        None => false,
-    }
-}
-
 /// Whether the outbox holds these packets.
 fn holds(outbox: &Outbox, packets: &[&[Part]]) -> bool {
     for (at, parts) in packets.iter().enumerate() {
@@ -79,36 +73,44 @@ fn holds(outbox: &Outbox, packets: &[&[Part]]) -> bool {
     outbox.len() == packets.len()
 }
 
-/// What the device makes of a datagram.
-fn heard(bench: &mut Bench, port: u16, now: u64, bytes: &[u8]) -> Verdict {
-    let outbox = &mut bench.outbox;
-    bench.device.datagram(peer(port), bytes, now, outbox)
-}
-
 /// Whether the device makes this of a datagram.
-fn hears(bench: &mut Bench, port: u16, now: u64, parts: &[Part], verdict: Verdict) -> bool {
-    heard(bench, port, now, bytes_of(parts).as_slice()) == verdict
+pub fn hears(
+    device: &mut Device,
+    outbox: &mut Outbox,
+    port: u16,
+    now: u64,
+    parts: &[Part],
+    verdict: Verdict,
+) -> bool {
+    device.datagram(peer(port), bytes_of(parts).as_slice(), now, outbox) == verdict
 }
 
 /// Whether the device makes this of a datagram, and answers with this packet alone.
 fn answers(
-    bench: &mut Bench,
+    device: &mut Device,
+    outbox: &mut Outbox,
     port: u16,
     now: u64,
     part: Part,
     verdict: Verdict,
     reply: Part,
 ) -> bool {
-    hears(bench, port, now, &[part], verdict)
-        && bench.outbox.len() == 1
-        && is_packet(&bench.outbox, 0, &[reply])
+    hears(device, outbox, port, now, &[part], verdict) && holds(outbox, &[&[reply]])
 }
 
 /// Whether GetState of A under each of these handles is executed and answered as Muted.
-fn tells_muted(bench: &mut Bench, first: u32, after: u32) -> bool {
+fn tells_muted(device: &mut Device, outbox: &mut Outbox, first: u32, after: u32) -> bool {
     for handle in first..after {
         let reply = Part::State(handle, 1);
-        if !answers(bench, super::A, 0, Part::GetState(handle), EXECUTED, reply) {
+        if !answers(
+            device,
+            outbox,
+            super::A,
+            0,
+            Part::GetState(handle),
+            EXECUTED,
+            reply,
+        ) {
             return false;
         }
     }
@@ -117,7 +119,8 @@ fn tells_muted(bench: &mut Bench, first: u32, after: u32) -> bool {
 
 /// Whether each of these peers is answered so.
 fn each_answers(
-    bench: &mut Bench,
+    device: &mut Device,
+    outbox: &mut Outbox,
     ports: (u16, u16),
     now: u64,
     part: Part,
@@ -125,94 +128,107 @@ fn each_answers(
     reply: Part,
 ) -> bool {
     for port in ports.0..ports.1 {
-        if !answers(bench, port, now, part, verdict, reply) {
+        if !answers(device, outbox, port, now, part, verdict, reply) {
             return false;
         }
     }
     true
 }
 
-/// Reads the clock.
-fn tick(bench: &mut Bench, now: u64) -> bool {
-    bench.device.tick(now);
-    true
-}
-
-/// Calls the laws.
-fn call_laws() -> bool {
-    law_by_events();
-    law_of_groups();
-    true
-}
-
-/// Whether 4097 is locked.
-fn is_locked(bench: &Bench) -> bool {
-    bench.device.tree().lock_of(Ono(4097)).is_some()
-}
-
 /// Whether this comes of an event.
-fn agrees(bench: &mut Bench, step: Step) -> bool {
+fn agrees(device: &mut Device, outbox: &mut Outbox, step: Step) -> bool {
     match step {
         Step::Answers(port, now, part, verdict, reply) => {
-            answers(bench, port, now, part, verdict, reply)
+            answers(device, outbox, port, now, part, verdict, reply)
         }
         Step::Ignores(port, now, part, verdict) => {
-            hears(bench, port, now, &[part], verdict) && bench.outbox.len() == 0
+            hears(device, outbox, port, now, &[part], verdict) && outbox.len() == 0
         }
         Step::Groups(port, now, parts, verdict, packets) => {
-            hears(bench, port, now, parts, verdict) && holds(&bench.outbox, packets)
+            hears(device, outbox, port, now, parts, verdict) && holds(outbox, packets)
         }
-        Step::Hears(port, now, parts, verdict) => hears(bench, port, now, parts, verdict),
-        Step::TellsMuted(first, after) => tells_muted(bench, first, after),
-        Step::EachAnswers(first, after, now, part, verdict, reply) => {
-            each_answers(bench, (first, after), now, part, verdict, reply)
-        }
-        Step::Tick(now) => tick(bench, now),
-        Step::Laws => call_laws(),
-        other => stands(bench, other),
+        other => comes(device, outbox, other),
     }
 }
 
-/// Whether the device and its outbox stand as a step says that is no event.
-fn stands(bench: &Bench, step: Step) -> bool {
+/// Whether this comes of one of the other events.
+fn comes(device: &mut Device, outbox: &mut Outbox, step: Step) -> bool {
     match step {
-        Step::Sessions(count) => bench.device.sessions() == count,
-        Step::Objects(count) => bench.device.tree().len() == count,
-        Step::Locked(locked) => is_locked(bench) == locked,
-        Step::NextLapse(moment) => bench.device.next_lapse() == moment,
-        Step::NoPackets(empty) => bench.outbox.is_empty() == empty,
-        Step::Packets(count) => bench.outbox.len() == count,
-        Step::PacketBytes(at, count) => has_bytes(&bench.outbox, at, count),
-        Step::PacketIs(at, parts) => is_packet(&bench.outbox, at, parts),
+        Step::Hears(port, now, parts, verdict) => {
+            hears(device, outbox, port, now, parts, verdict)
+        }
+        Step::TellsMuted(first, after) => tells_muted(device, outbox, first, after),
+        Step::EachAnswers(first, after, now, part, verdict, reply) => {
+            each_answers(device, outbox, (first, after), now, part, verdict, reply)
+        }
+        Step::Tick(now) => {
+            device.tick(now);
+            true
+        }
+        other => stands(device, other) || is_sent(outbox, other),
+    }
+}
+
+/// Whether the device stands as a step says that is no event.
+fn stands(device: &Device, step: Step) -> bool {
+    match step {
+        Step::Sessions(count) => device.sessions() == count,
+        Step::Objects(count) => device.tree().len() == count,
+        Step::Locked(locked) => device.tree().lock_of(Ono(4097)).is_some() == locked,
+        Step::NextLapse(moment) => device.next_lapse() == moment,
+        _ => false,
+    }
+}
+
+/// Whether the outbox stands as a step says that is neither an event nor of the device.
+fn is_sent(outbox: &Outbox, step: Step) -> bool {
+    match step {
+        Step::Laws => {
+            law_by_events();
+            law_of_groups();
+            true
+        }
+        Step::NoPackets(empty) => outbox.is_empty() == empty,
+        Step::Packets(count) => outbox.len() == count,
+        Step::PacketBytes(at, count) => match outbox.get(at) {
+            Some(packet) => packet.len() == count,
+            None => false,
+        },
+        Step::PacketIs(at, parts) => is_packet(outbox, at, parts),
         Step::Length(parts, count) => bytes_of(parts).len() == count,
         _ => false,
     }
 }
 
 /// The first step of which something else comes.
-fn first_wrong(bench: &mut Bench, steps: &[Step]) -> Option<usize> {
+fn first_wrong(device: &mut Device, outbox: &mut Outbox, steps: &[Step]) -> Option<usize> {
     for (at, step) in steps.iter().enumerate() {
-        if !agrees(bench, *step) {
+        if !agrees(device, outbox, *step) {
             return Some(at);
         }
     }
     None
 }
 
+/// The first step of which something else comes with this device; the last number where there is no outbox.
+fn wrong_with(alloc: Global, device: &mut Device, steps: &[Step]) -> Option<usize> {
+    match Outbox::new(alloc) {
+        Ok(mut outbox) => first_wrong(device, &mut outbox, steps),
+        Err(_) => Some(usize::MAX),
+    }
+}
+
 /// The first step of the script of which something else comes; the last number where there is no device.
 fn wrong_step(alloc: Global, script: &Script) -> Option<usize> {
-    match bench_of(alloc, script.setup) {
-        Some(mut bench) => first_wrong(&mut bench, script.steps),
+    match device_of(alloc, script.setup) {
+        Some(mut device) => wrong_with(alloc, &mut device, script.steps),
         None => Some(usize::MAX),
     }
 }
 
-/// The first script with a step of which something else comes, and that step.
-pub fn wrong_script(alloc: Global, scripts: &[Script]) -> Option<(&'static str, usize)> {
+/// Plays scripts: of each step comes what it says.
+pub fn play(rt: &impl Abort, alloc: Global, scripts: &[Script]) {
     for script in scripts {
-        if let Some(at) = wrong_step(alloc, script) {
-            return Some((script.name, at));
-        }
+        none_wrong(rt, script.name, wrong_step(alloc, script));
     }
-    None
 }

@@ -1,4 +1,5 @@
 //! Reports that are added, and verdicts as text.
+use super::super::{none_wrong, reads};
 use oca_device::{Report, Verdict};
 use std::alloc::Global;
 
@@ -112,11 +113,6 @@ fn first_wrong(rows: &[(Report, Report, Report)]) -> Option<usize> {
     None
 }
 
-#[test]
-fn reports_add_up(rt: HostRuntime) {
-    assert_eq!(rt; first_wrong(SUMS), None);
-}
-
 /// Verdicts, and how they read.
 const TEXTS: &[(Verdict, &str)] = &[
     (
@@ -131,18 +127,10 @@ const TEXTS: &[(Verdict, &str)] = &[
     (Verdict::NoRoom, "no room for a session"),
 ];
 
-/// Whether a verdict reads so.
-fn reads(alloc: Global, verdict: Verdict, wanted: &str) -> bool {
-    match format!(in alloc; "{verdict}") {
-        Ok(text) => text.as_str() == wanted,
-        Err(_) => false,
-    }
-}
-
 /// The first verdict that reads otherwise.
 fn first_other(alloc: Global, rows: &[(Verdict, &str)]) -> Option<usize> {
     for (at, (verdict, wanted)) in rows.iter().enumerate() {
-        if !reads(alloc, *verdict, wanted) {
+        if !reads(format!(in alloc; "{verdict}"), wanted) {
             return Some(at);
         }
     }
@@ -150,6 +138,7 @@ fn first_other(alloc: Global, rows: &[(Verdict, &str)]) -> Option<usize> {
 }
 
 #[test]
-fn verdicts_read(rt: HostRuntime) {
-    assert_eq!(rt; first_other(rt.alloc(), TEXTS), None);
+fn tables(rt: HostRuntime) {
+    none_wrong(&rt, "sums", first_wrong(SUMS));
+    none_wrong(&rt, "texts", first_other(rt.alloc(), TEXTS));
 }

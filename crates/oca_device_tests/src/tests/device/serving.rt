@@ -1,10 +1,12 @@
 //! The loop over an end in memory.
-use super::benches::bench_of;
+use super::super::{none_wrong, peer};
+use super::benches::device_of;
 use super::parts::{bytes_of, is_of};
 use super::*;
-use oca_device::{Report, serve};
+use oca_device::{Device, Outbox, Report, serve};
 use oca_net::{MemoryEnd, Scripted};
 use std::alloc::Global;
+use std::process::Abort;
 
 /// What an end delivers.
 #[derive(Clone, Copy)]
@@ -53,16 +55,12 @@ struct Play {
 }
 
 /// Adds a datagram at the end of a script.
-fn add(
-    alloc: Global,
-    script: &mut Vec<Scripted>,
-    port: u16,
-    now: u64,
-    parts: &[Part],
-) -> Option<()> {
-    let bytes = bytes_of(parts).as_slice().to_vec(alloc).ok()?;
+fn add(alloc: Global, script: &mut Vec<Scripted>, port: u16, now: u64, parts: &[Part]) -> bool {
     let from = peer(port);
-    script.push(Scripted::Datagram { from, bytes, now }).ok()
+    match bytes_of(parts).as_slice().to_vec(alloc) {
+        Ok(bytes) => script.push(Scripted::Datagram { from, bytes, now }).is_ok(),
+        Err(_) => false,
+    }
 }
 
 /// Adds a datagram of each of these peers at 0.
@@ -72,41 +70,43 @@ fn add_peers(
     first: u16,
     after: u16,
     parts: &[Part],
-) -> Option<()> {
+) -> bool {
     for port in first..after {
-        add(alloc, script, port, 0, parts)?;
+        if !add(alloc, script, port, 0, parts) {
+            return false;
+        }
     }
-    Some(())
+    true
 }
 
 /// Adds a delivery.
-fn add_delivery(alloc: Global, script: &mut Vec<Scripted>, delivery: Delivery) -> Option<()> {
+fn add_delivery(alloc: Global, script: &mut Vec<Scripted>, delivery: Delivery) -> bool {
     match delivery {
         Datagram(port, now, parts) => add(alloc, script, port, now, parts),
         Peers(first, after, parts) => add_peers(alloc, script, first, after, parts),
-        Quiet(now) => script.push(Scripted::Quiet { now }).ok(),
-        Failed => script.push(Scripted::Failed).ok(),
+        Quiet(now) => script.push(Scripted::Quiet { now }).is_ok(),
+        Failed => script.push(Scripted::Failed).is_ok(),
     }
 }
 
-/// The script of these deliveries.
-fn script_of(alloc: Global, deliveries: &[Delivery]) -> Option<Vec<Scripted>> {
-    let mut script = Vec::new(alloc);
+/// Adds these deliveries.
+fn add_all(alloc: Global, script: &mut Vec<Scripted>, deliveries: &[Delivery]) -> bool {
     for delivery in deliveries {
-        add_delivery(alloc, &mut script, *delivery)?;
+        if !add_delivery(alloc, script, *delivery) {
+            return false;
+        }
     }
-    Some(script)
+    true
 }
 
 /// The end of a play.
 fn end_of(alloc: Global, play: &Play) -> Option<MemoryEnd> {
-    let script = script_of(alloc, play.deliveries)?;
-    MemoryEnd::new(alloc, script, play.room, play.fail_send).ok()
-}
-
-/// What the loop reports.
-fn report_of(bench: &mut benches::Bench, end: &mut MemoryEnd, turns: u32) -> Report {
-    serve(&mut bench.device, end, &mut bench.outbox, turns)
+    let mut script = Vec::new(alloc);
+    if add_all(alloc, &mut script, play.deliveries) {
+        MemoryEnd::new(alloc, script, play.room, play.fail_send).ok()
+    } else {
+        None
+    }
 }
 
 /// Whether the first datagram that was taken is this one.
@@ -118,9 +118,9 @@ fn is_first(end: &MemoryEnd, port: u16, parts: &[Part]) -> bool {
 }
 
 /// Whether a turn tells what it must.
-fn agrees(bench: &mut benches::Bench, end: &mut MemoryEnd, turn: Turn) -> bool {
+fn agrees(device: &mut Device, outbox: &mut Outbox, end: &mut MemoryEnd, turn: Turn) -> bool {
     match turn {
-        Serves(turns, report) => report_of(bench, end, turns) == report,
+        Serves(turns, report) => serve(device, end, outbox, turns) == report,
         Taken(count) => end.taken().len() == count,
         First(port, parts) => is_first(end, port, parts),
         Failures(count) => end.failures() == count,
@@ -128,39 +128,47 @@ fn agrees(bench: &mut benches::Bench, end: &mut MemoryEnd, turn: Turn) -> bool {
 }
 
 /// The first turn that tells something else.
-fn first_wrong(bench: &mut benches::Bench, end: &mut MemoryEnd, turns: &[Turn]) -> Option<usize> {
+fn first_wrong(
+    device: &mut Device,
+    outbox: &mut Outbox,
+    end: &mut MemoryEnd,
+    turns: &[Turn],
+) -> Option<usize> {
     for (at, turn) in turns.iter().enumerate() {
-        if !agrees(bench, end, *turn) {
+        if !agrees(device, outbox, end, *turn) {
             return Some(at);
         }
     }
     None
 }
 
-/// The first turn of a play with this device that tells something else; the last number where there is no end.
-fn wrong_with(alloc: Global, bench: &mut benches::Bench, play: &Play) -> Option<usize> {
+/// The first wrong turn with this device and this outbox; the last number where there is no end.
+fn wrong_with(
+    alloc: Global,
+    device: &mut Device,
+    outbox: &mut Outbox,
+    play: &Play,
+) -> Option<usize> {
     match end_of(alloc, play) {
-        Some(mut end) => first_wrong(bench, &mut end, play.turns),
+        Some(mut end) => first_wrong(device, outbox, &mut end, play.turns),
         None => Some(usize::MAX),
+    }
+}
+
+/// The first wrong turn with this device; the last number where there is no outbox.
+fn wrong_of(alloc: Global, device: &mut Device, play: &Play) -> Option<usize> {
+    match Outbox::new(alloc) {
+        Ok(mut outbox) => wrong_with(alloc, device, &mut outbox, play),
+        Err(_) => Some(usize::MAX),
     }
 }
 
 /// The first turn of a play that tells something else; the last number where there is no device.
 fn wrong_turn(alloc: Global, play: &Play) -> Option<usize> {
-    match bench_of(alloc, play.setup) {
-        Some(mut bench) => wrong_with(alloc, &mut bench, play),
+    match device_of(alloc, play.setup) {
+        Some(mut device) => wrong_of(alloc, &mut device, play),
         None => Some(usize::MAX),
     }
-}
-
-/// The first play with a turn that tells something else, and that turn.
-fn wrong_play(alloc: Global, plays: &[Play]) -> Option<(&'static str, usize)> {
-    for play in plays {
-        if let Some(at) = wrong_turn(alloc, play) {
-            return Some((play.name, at));
-        }
-    }
-    None
 }
 
 /// No turn.
@@ -306,10 +314,21 @@ const COUNTED: Play = Play {
     turns: &[Serves(100, ALL_COUNTED), Taken(17)],
 };
 
-/// All plays.
-const PLAYS: &[Play] = &[CLOSED, SERVED, GOES_ON, LOST, COUNTED];
+/// Plays over an end with room for all answers.
+const SERVING: &[Play] = &[CLOSED, SERVED, COUNTED];
+
+/// Plays over an end of which a send fails.
+const FAILING: &[Play] = &[GOES_ON, LOST];
+
+/// Each turn of these plays tells what it must.
+fn run(rt: &impl Abort, alloc: Global, plays: &[Play]) {
+    for play in plays {
+        none_wrong(rt, play.name, wrong_turn(alloc, play));
+    }
+}
 
 #[test]
 fn plays(rt: HostRuntime) {
-    assert_eq!(rt; wrong_play(rt.alloc(), PLAYS), None);
+    run(&rt, rt.alloc(), SERVING);
+    run(&rt, rt.alloc(), FAILING);
 }

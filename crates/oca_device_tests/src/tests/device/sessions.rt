@@ -1,9 +1,8 @@
 //! Sessions, reply windows, locks and silence.
-use super::play::{Script, wrong_script};
+use super::play::{Script, play};
 use super::*;
 use Part::*;
 use Step::*;
-use std::alloc::Global;
 
 /// A window of 32 after 33 commands: the first is old, the second a duplicate, and a lower one is old.
 const LAST_REPLIES: &[Step] = &[
@@ -130,8 +129,8 @@ const EARLIER: &[Step] = &[
     Sessions(0),
 ];
 
-/// The scripts, by their names.
-const SCRIPTS: &[Script] = &[
+/// Scripts of reply windows.
+const WINDOWS: &[Script] = &[
     Script {
         name: "keeps_the_last_replies",
         setup: Setup::Window(32),
@@ -152,6 +151,10 @@ const SCRIPTS: &[Script] = &[
         setup: Setup::Window(64),
         steps: WINDOW_OF_64,
     },
+];
+
+/// Scripts of as many peers as there may be.
+const PEERS: &[Script] = &[
     Script {
         name: "has_sessions_of_as_few_as_one",
         setup: Setup::Peers(1),
@@ -162,6 +165,10 @@ const SCRIPTS: &[Script] = &[
         setup: Setup::Peers(64),
         steps: PEERS_64,
     },
+];
+
+/// Scripts on what is kept, released and forgotten.
+const RELEASES: &[Script] = &[
     Script {
         name: "ignores_another_command_under_a_kept_handle",
         setup: Setup::Window(32),
@@ -177,6 +184,10 @@ const SCRIPTS: &[Script] = &[
         setup: Setup::Window(32),
         steps: FORGETS,
     },
+];
+
+/// Scripts of 16 peers, of replies that were not sent, and of an earlier moment.
+const ADMISSIONS: &[Script] = &[
     Script {
         name: "has_room_for_16_sessions",
         setup: Setup::Window(32),
@@ -194,7 +205,10 @@ const SCRIPTS: &[Script] = &[
     },
 ];
 
-/// The first script that goes otherwise, and where.
-pub fn wrong(alloc: Global) -> Option<(&'static str, usize)> {
-    wrong_script(alloc, SCRIPTS)
+#[test]
+fn scripts(rt: HostRuntime) {
+    play(&rt, rt.alloc(), WINDOWS);
+    play(&rt, rt.alloc(), PEERS);
+    play(&rt, rt.alloc(), RELEASES);
+    play(&rt, rt.alloc(), ADMISSIONS);
 }

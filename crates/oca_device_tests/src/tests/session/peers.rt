@@ -3,7 +3,7 @@ use super::script::Made::{Plain, RoomFor};
 use super::script::Step::{
     Hears, HearsEach, Known, Len, Serves, ServesEach, Silent, SilentEach, SilentEachInto,
 };
-use super::script::{A, B, Ports, Script, Step, wrong_script};
+use super::script::{A, B, Ports, Script, Step, play};
 use super::serving::Served::{Executed, Kept};
 use oca_session::Admission::{self, NoRoom, Opened};
 use oca_types::Peer;
@@ -30,8 +30,6 @@ const THIRD: Peer = Peer {
     ip: 0x7f00_0001,
     port: 9003,
 };
-
-use std::alloc::Global;
 
 /// There is room for two sessions, and for no other until one is forgotten.
 const ROOM_FOR_2: &[Step] = &[
@@ -172,7 +170,7 @@ const SCRIPTS: &[Script] = &[
     },
 ];
 
-/// The first script that goes otherwise, and where.
-pub fn wrong(alloc: Global) -> Option<(&'static str, usize)> {
-    wrong_script(alloc, SCRIPTS)
+#[test]
+fn scripts(rt: HostRuntime) {
+    play(&rt, rt.alloc(), SCRIPTS);
 }

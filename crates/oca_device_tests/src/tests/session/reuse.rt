@@ -1,7 +1,7 @@
 //! Another command under a handle that is retained.
 use super::script::Made::{Plain, WindowsOf};
 use super::script::Step::{Asks, Hears, Serves, ServesAll};
-use super::script::{A, Handles, Script, Step, wrong_script};
+use super::script::{A, Handles, Script, Step, play};
 use super::serving::Served::{Executed, Kept, Old, Reused};
 use oca_session::Admission::Opened;
 use oca_types::{Command, Handle, MethodId, Ono};
@@ -14,8 +14,6 @@ const SET: Command<'static> = Command {
     count: 1,
     params: &[0, 1, 2, 3],
 };
-
-use std::alloc::Global;
 
 /// Whatever differs of target, method, ParamCount or parameters: the handle is reused, and the retained command stays.
 const DIFFERING: &[Step] = &[
@@ -164,8 +162,8 @@ const USED_AGAIN: &[Step] = &[
     Asks(A, Command { count: 9, ..SIXTH }, Reused),
 ];
 
-/// The scripts, by their names.
-const SCRIPTS: &[Script] = &[
+/// Scripts of handles that are used again.
+const HANDLES: &[Script] = &[
     Script {
         name: "tells_a_differing_command",
         made: Plain,
@@ -176,14 +174,17 @@ const SCRIPTS: &[Script] = &[
         made: Plain,
         steps: PUSHED_OUT,
     },
-    Script {
-        name: "cells_are_used_again",
-        made: WindowsOf(2),
-        steps: USED_AGAIN,
-    },
 ];
 
-/// The first script that goes otherwise, and where.
-pub fn wrong(alloc: Global) -> Option<(&'static str, usize)> {
-    wrong_script(alloc, SCRIPTS)
+/// The script of cells that are used again.
+const CELLS: &[Script] = &[Script {
+    name: "cells_are_used_again",
+    made: WindowsOf(2),
+    steps: USED_AGAIN,
+}];
+
+#[test]
+fn scripts(rt: HostRuntime) {
+    play(&rt, rt.alloc(), HANDLES);
+    play(&rt, rt.alloc(), CELLS);
 }

@@ -1,9 +1,11 @@
 //! Scripts of events, each with what it must answer, and how they are run.
+use super::super::{none_wrong, peer, sizes};
 use super::serving::{Answer, Served, command, executes_with, retains, serve};
 use arrayvec::ArrayVec;
 use oca_session::{Admission, Sessions};
-use oca_types::{Command, MOST_PEERS, Peer, Peers, Sizes, Window};
+use oca_types::{Command, MOST_PEERS, Peer, Window};
 use std::alloc::Global;
+use std::process::Abort;
 
 pub const A: Peer = Peer {
     ip: 0x7f00_0001,
@@ -88,18 +90,10 @@ pub struct Script {
     pub steps: &'static [Step],
 }
 
-/// The peer at this port of 127.0.0.1.
-pub fn at(port: u16) -> Peer {
-    Peer {
-        ip: 0x7f00_0001,
-        port,
-    }
-}
-
 /// Whether each of these peers that is heard is admitted so.
 fn hears_each(sessions: &mut Sessions, ports: Ports, moment: u64, answer: Admission) -> bool {
     for port in ports.first..ports.end {
-        if sessions.hear(at(port), moment) != answer {
+        if sessions.hear(peer(port), moment) != answer {
             return false;
         }
     }
@@ -109,7 +103,7 @@ fn hears_each(sessions: &mut Sessions, ports: Ports, moment: u64, answer: Admiss
 /// Whether the command of a handle is served so for each of these peers.
 fn serves_each(sessions: &mut Sessions, ports: Ports, handle: u32, answer: Served) -> bool {
     for port in ports.first..ports.end {
-        if serve(sessions, at(port), &command(handle)) != answer {
+        if serve(sessions, peer(port), &command(handle)) != answer {
             return false;
         }
     }
@@ -138,18 +132,13 @@ fn beat(sessions: &mut Sessions, peer: Peer, ms: u64) -> bool {
 /// Whether these are the peers at the ports, in order.
 fn are_at(peers: &[Peer], ports: Ports) -> bool {
     let mut port = ports.first;
-    for peer in peers {
-        if *peer != at(port) {
+    for other in peers {
+        if *other != peer(port) {
             return false;
         }
         port = port.saturating_add(1);
     }
     port == ports.end
-}
-
-/// Whether there are so many sessions, and none exactly where they are 0.
-fn has_len(sessions: &Sessions, count: usize) -> bool {
-    sessions.len() == count && sessions.is_empty() == (count == 0)
 }
 
 /// The list that the calls of `advance_into` are handed.
@@ -161,14 +150,27 @@ fn agrees(sessions: &mut Sessions, silent: &mut Silence, step: Step) -> bool {
         Step::Hears(peer, moment, answer) => sessions.hear(peer, moment) == answer,
         Step::HearsEach(ports, moment, answer) => hears_each(sessions, ports, moment, answer),
         Step::Beats(peer, ms) => beat(sessions, peer, ms),
+        Step::Silent(moment, peers) => sessions.advance(moment).as_slice() == peers,
+        Step::SilentEach(moment, ports) => are_at(sessions.advance(moment).as_slice(), ports),
+        other => is_served(sessions, other) || is_silent(sessions, silent, other),
+    }
+}
+
+/// Whether the event is a command, and is answered so.
+fn is_served(sessions: &mut Sessions, step: Step) -> bool {
+    match step {
         Step::Serves(peer, handle, answer) => serve(sessions, peer, &command(handle)) == answer,
         Step::ServesEach(ports, handle, answer) => serves_each(sessions, ports, handle, answer),
         Step::ServesAll(peer, handles, answer) => serves_all(sessions, peer, handles, answer),
         Step::Asks(peer, command, answer) => serve(sessions, peer, &command) == answer,
         Step::Executes(peer, handle, answer) => executes_with(sessions, peer, handle, answer),
-        Step::Retains(peer, handle, answer) => retains(sessions, peer, handle, answer),
-        Step::Silent(moment, peers) => sessions.advance(moment).as_slice() == peers,
-        Step::SilentEach(moment, ports) => are_at(sessions.advance(moment).as_slice(), ports),
+        _ => false,
+    }
+}
+
+/// Whether the event is a call of `advance_into`, or tells how the sessions stand, and is answered so.
+fn is_silent(sessions: &mut Sessions, silent: &mut Silence, step: Step) -> bool {
+    match step {
         Step::SilentInto(moment, peers) => {
             sessions.advance_into(moment, silent);
             silent.as_slice() == peers
@@ -177,11 +179,20 @@ fn agrees(sessions: &mut Sessions, silent: &mut Silence, step: Step) -> bool {
             sessions.advance_into(moment, silent);
             are_at(silent.as_slice(), ports)
         }
-        Step::Len(count) => has_len(sessions, count),
+        other => stands(sessions, other),
+    }
+}
+
+/// Whether the sessions stand so.
+fn stands(sessions: &Sessions, step: Step) -> bool {
+    match step {
+        Step::Retains(peer, handle, answer) => retains(sessions, peer, handle, answer),
+        Step::Len(count) => { sessions.len() == count && sessions.is_empty() == (count == 0) }
         Step::Known(peer, answer) => sessions.is_known(peer) == answer,
         Step::Moment(moment) => sessions.moment() == moment,
         Step::ForgottenFrom(moment) => sessions.forgotten_from() == moment,
         Step::LapsedFrom(peer, moment) => sessions.lapsed_from(peer) == moment,
+        _ => false,
     }
 }
 
@@ -201,19 +212,12 @@ fn with_windows_of(alloc: Global, size: u8) -> Option<Sessions> {
     Sessions::new(alloc, Window::new(size)?).ok()
 }
 
-/// No session, with windows of 1 and room for so many.
-fn with_room_for(alloc: Global, count: u8) -> Option<Sessions> {
-    let window = Window::new(1)?;
-    let peers = Peers::new(count)?;
-    Sessions::with_sizes(alloc, Sizes { window, peers }).ok()
-}
-
 /// No session yet.
 fn sessions(alloc: Global, made: Made) -> Option<Sessions> {
     match made {
         Made::Plain => Sessions::new(alloc, Window::default()).ok(),
         Made::WindowsOf(size) => with_windows_of(alloc, size),
-        Made::RoomFor(count) => with_room_for(alloc, count),
+        Made::RoomFor(count) => Sessions::with_sizes(alloc, sizes(count)?).ok(),
     }
 }
 
@@ -225,12 +229,9 @@ fn wrong_step(alloc: Global, script: &Script) -> Option<usize> {
     }
 }
 
-/// The first script of which an event is answered otherwise, and that event.
-pub fn wrong_script(alloc: Global, scripts: &[Script]) -> Option<(&'static str, usize)> {
+/// Plays scripts: each event is answered as they say.
+pub fn play(rt: &impl Abort, alloc: Global, scripts: &[Script]) {
     for script in scripts {
-        if let Some(at) = wrong_step(alloc, script) {
-            return Some((script.name, at));
-        }
+        none_wrong(rt, script.name, wrong_step(alloc, script));
     }
-    None
 }

@@ -48,12 +48,6 @@ fn reply(status: Status, count: u8, bytes: &[u8]) -> Reply {
     }
 }
 
-/// A reply whose ParamCount and parameter tell its command.
-fn reply_to(command: &Command<'_>) -> Reply {
-    let mark = (command.handle.0 % 256) as u8;
-    reply(Status::Ok, mark, &[mark])
-}
-
 /// Whose reply a duplicate got.
 fn served_by(reply: &Reply) -> Served {
     if reply.params.as_slice() == [reply.count].as_slice() {
@@ -82,9 +76,10 @@ fn serve_with(sessions: &mut Sessions, peer: Peer, command: &Command<'_>, reply:
     }
 }
 
-/// Judges a command, and keeps it where it is fresh, with a reply that tells it.
+/// Judges a command, and keeps it where it is fresh, with a reply whose ParamCount and parameter tell it.
 pub fn serve(sessions: &mut Sessions, peer: Peer, command: &Command<'_>) -> Served {
-    serve_with(sessions, peer, command, &reply_to(command))
+    let mark = (command.handle.0 % 256) as u8;
+    serve_with(sessions, peer, command, &reply(Status::Ok, mark, &[mark]))
 }
 
 /// Whether the command of a handle is executed with this answer.
@@ -93,20 +88,17 @@ pub fn executes_with(sessions: &mut Sessions, peer: Peer, handle: u32, answer: A
     serve_with(sessions, peer, &command(handle), &reply) == Served::Executed
 }
 
-/// Whether these are the parts of a reply.
-fn is_of(reply: &Reply, answer: Answer) -> bool {
-    reply.status == answer.status
-        && reply.count == answer.count
-        && reply.params.as_slice() == answer.params
-}
-
 /// Whether the command of a handle is a duplicate that gets this answer.
 pub fn retains(sessions: &Sessions, peer: Peer, handle: u32, answer: Answer) -> bool {
     if !sessions.is_known(peer) {
         return false;
     }
     match sessions.judge(peer, &command(handle)) {
-        Judged::Kept(reply) => is_of(reply, answer),
+        Judged::Kept(reply) => {
+            reply.status == answer.status
+                && reply.count == answer.count
+                && reply.params.as_slice() == answer.params
+        }
         _ => false,
     }
 }

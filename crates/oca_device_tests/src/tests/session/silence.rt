@@ -3,10 +3,9 @@ use super::script::Made::Plain;
 use super::script::Step::{
     Beats, ForgottenFrom, Hears, LapsedFrom, Len, Moment, Serves, Silent, SilentInto,
 };
-use super::script::{A, B, Script, Step, wrong_script};
+use super::script::{A, B, Script, Step, play};
 use super::serving::Served::{Executed, Kept, Stranger};
 use oca_session::Admission::{Known, Opened};
-use std::alloc::Global;
 
 /// Three heartbeats of silence lapse a session and leave its window.
 const LAPSES: &[Step] = &[
@@ -124,8 +123,8 @@ const MOMENTS: &[Step] = &[
     ForgottenFrom(None),
 ];
 
-/// The scripts, by their names.
-const SCRIPTS: &[Script] = &[
+/// Scripts of lapses.
+const LAPSING: &[Script] = &[
     Script {
         name: "lapses_after_three_heartbeats",
         made: Plain,
@@ -141,6 +140,10 @@ const SCRIPTS: &[Script] = &[
         made: Plain,
         steps: LIMITS,
     },
+];
+
+/// Scripts of sessions that are forgotten, and of moments.
+const FORGETTING: &[Script] = &[
     Script {
         name: "forgets_after_two_minutes",
         made: Plain,
@@ -168,7 +171,8 @@ const SCRIPTS: &[Script] = &[
     },
 ];
 
-/// The first script that goes otherwise, and where.
-pub fn wrong(alloc: Global) -> Option<(&'static str, usize)> {
-    wrong_script(alloc, SCRIPTS)
+#[test]
+fn scripts(rt: HostRuntime) {
+    play(&rt, rt.alloc(), LAPSING);
+    play(&rt, rt.alloc(), FORGETTING);
 }

@@ -1,12 +1,11 @@
 //! What a reply window retains, and which handles it accepts.
 use super::script::Made::{Plain, WindowsOf};
 use super::script::Step::{Executes, Hears, Known, Retains, Serves, ServesAll};
-use super::script::{A, Handles, Script, Step, wrong_script};
+use super::script::{A, Handles, Script, Step, play};
 use super::serving::Answer;
 use super::serving::Served::{Executed, Kept, Old};
 use oca_session::Admission::Opened;
 use oca_types::Status;
-use std::alloc::Global;
 
 /// The window holds the last 32 commands, and what it pushed out is old.
 const OF_32: &[Step] = &[
@@ -105,7 +104,7 @@ const SCRIPTS: &[Script] = &[
     },
 ];
 
-/// The first script that goes otherwise, and where.
-pub fn wrong(alloc: Global) -> Option<(&'static str, usize)> {
-    wrong_script(alloc, SCRIPTS)
+#[test]
+fn scripts(rt: HostRuntime) {
+    play(&rt, rt.alloc(), SCRIPTS);
 }

@@ -3,12 +3,11 @@ use super::methods::{COMMON, LOCKABLE};
 use super::script::Addition::{Many, One};
 use super::script::Over::{Bench, Built};
 use super::script::Row::{Does, Measures, Reads};
-use super::script::{Addition, At, Row, Script, Wrong, wrong_script};
+use super::script::{Addition, At, Row, Script, play};
 use super::words::*;
 use oca_tree::{Kind, Spec};
 use oca_types::Status;
 use oca_types::Status::{BadMethod, BufferOverflow, NotImplemented};
-use std::alloc::Global;
 
 /// What the root is.
 const ROOT_IS: &[Row] = &[
@@ -121,13 +120,15 @@ const TOO_LONG: &[At] = &[At(
     &[Measures(GET_MEMBERS_RECURSIVE, BufferOverflow, 0, 0)],
 )];
 
-/// The scripts.
-const SCRIPTS: &[Script] = &[
-    Script {
-        name: "methods_of_blocks",
-        over: Bench,
-        parts: BLOCKS,
-    },
+/// The script over the bench device.
+const OF_THE_BENCH: &[Script] = &[Script {
+    name: "methods_of_blocks",
+    over: Bench,
+    parts: BLOCKS,
+}];
+
+/// Scripts over other trees.
+const OF_OTHERS: &[Script] = &[
     Script {
         name: "members_and_descendants",
         over: Built(TWO_MUTES),
@@ -150,7 +151,8 @@ const SCRIPTS: &[Script] = &[
     },
 ];
 
-/// The first script that goes otherwise, and where.
-pub fn wrong(alloc: Global) -> Option<(&'static str, Wrong)> {
-    wrong_script(alloc, SCRIPTS)
+#[test]
+fn scripts(rt: HostRuntime) {
+    play(&rt, rt.alloc(), OF_THE_BENCH);
+    play(&rt, rt.alloc(), OF_OTHERS);
 }

@@ -1,8 +1,9 @@
 //! What a builder refuses.
+use super::super::{none_wrong, reads};
 use super::script::Addition::{Many, Nested, One};
 use super::script::Over::Built;
 use super::script::Row::{Holds, Len, Reads};
-use super::script::{Addition, At, Script, Wrong, wrong_script};
+use super::script::{Addition, At, Script, play};
 use super::words::*;
 use oca_tree::{AddFault, Kind, Room, Setting, Spec, TreeBuilder};
 use oca_types::Ono;
@@ -131,18 +132,10 @@ const WORDS: &[(AddFault, &str)] = &[
     (AddFault::NoMemory, "no memory"),
 ];
 
-/// Whether the words of a fault are these.
-fn says(alloc: Global, fault: AddFault, words: &str) -> bool {
-    match fault.to_string(alloc) {
-        Ok(printed) => printed.as_str() == words,
-        Err(_) => false,
-    }
-}
-
 /// The first fault with other words.
-pub fn first_wrong_words(alloc: Global) -> Option<usize> {
-    for (at, (fault, words)) in WORDS.iter().enumerate() {
-        if !says(alloc, *fault, words) {
+fn first_wrong_words(alloc: Global, rows: &[(AddFault, &str)]) -> Option<usize> {
+    for (at, (fault, words)) in rows.iter().enumerate() {
+        if !reads(fault.to_string(alloc), words) {
             return Some(at);
         }
     }
@@ -181,17 +174,9 @@ const ROOMS: &[(u16, Option<usize>)] = &[
     (4097, None),
 ];
 
-/// The room where none is chosen.
-fn default_room() -> u16 {
-    Room::default().get()
-}
-
-/// The first room that is filled otherwise; the last number where another is the default.
-pub fn first_wrong_room(alloc: Global) -> Option<usize> {
-    if default_room() != 128 {
-        return Some(usize::MAX);
-    }
-    for (at, (room, objects)) in ROOMS.iter().enumerate() {
+/// The first room that is filled otherwise.
+fn first_wrong_room(alloc: Global, rows: &[(u16, Option<usize>)]) -> Option<usize> {
+    for (at, (room, objects)) in rows.iter().enumerate() {
         if most_objects(alloc, *room) != *objects
             || Room::new(*room).is_none() != objects.is_none()
         {
@@ -201,21 +186,25 @@ pub fn first_wrong_room(alloc: Global) -> Option<usize> {
     None
 }
 
-/// The scripts.
-const SCRIPTS: &[Script] = &[
-    Script {
-        name: "a_builder_refuses",
-        over: Built(FAULTS),
-        parts: OF_128,
-    },
-    Script {
-        name: "a_switch_needs_its_positions",
-        over: Built(SWITCHES),
-        parts: SWITCH_ROWS,
-    },
-];
+/// The script of what is refused of any object.
+const OF_OBJECTS: &[Script] = &[Script {
+    name: "a_builder_refuses",
+    over: Built(FAULTS),
+    parts: OF_128,
+}];
 
-/// The first script that goes otherwise, and where.
-pub fn wrong(alloc: Global) -> Option<(&'static str, Wrong)> {
-    wrong_script(alloc, SCRIPTS)
+/// The script of what is refused of a switch.
+const OF_SWITCHES: &[Script] = &[Script {
+    name: "a_switch_needs_its_positions",
+    over: Built(SWITCHES),
+    parts: SWITCH_ROWS,
+}];
+
+#[test]
+fn scripts(rt: HostRuntime) {
+    play(&rt, rt.alloc(), OF_OBJECTS);
+    play(&rt, rt.alloc(), OF_SWITCHES);
+    none_wrong(&rt, "words", first_wrong_words(rt.alloc(), WORDS));
+    none_wrong(&rt, "rooms", first_wrong_room(rt.alloc(), ROOMS));
+    assert!(rt; Room::default().get() == 128);
 }

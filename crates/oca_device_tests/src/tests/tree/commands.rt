@@ -1,14 +1,13 @@
 //! Commands of the bench device and their refusals.
 use super::script::Over::Bench;
 use super::script::Row::{Does, Holds, Reads, Sends};
-use super::script::{At, Script, Wrong, wrong_script};
+use super::script::{At, Script, play};
 use super::words::*;
 use oca_tree::Setting;
 use oca_types::Status;
 use oca_types::Status::{
     BadMethod, BadOno, InvalidRequest, NotImplemented, ParameterError, ParameterOutOfRange,
 };
-use std::alloc::Global;
 
 // A mute answers the state that it was set to.
 const MUTE_ROWS: &[At] = &[At(
@@ -118,8 +117,8 @@ const DISABLED: &[At] = &[At(
     ],
 )];
 
-/// The scripts.
-const SCRIPTS: &[Script] = &[
+/// Scripts of commands that are executed, and of refusals.
+const COMMANDS: &[Script] = &[
     Script {
         name: "a_mute_is_set_and_read",
         over: Bench,
@@ -135,6 +134,10 @@ const SCRIPTS: &[Script] = &[
         over: Bench,
         parts: REFUSALS,
     },
+];
+
+/// Scripts of first statuses, labels and positions.
+const STATUSES: &[Script] = &[
     Script {
         name: "the_first_status_that_applies",
         over: Bench,
@@ -152,7 +155,8 @@ const SCRIPTS: &[Script] = &[
     },
 ];
 
-/// The first script that goes otherwise, and where.
-pub fn wrong(alloc: Global) -> Option<(&'static str, Wrong)> {
-    wrong_script(alloc, SCRIPTS)
+#[test]
+fn scripts(rt: HostRuntime) {
+    play(&rt, rt.alloc(), COMMANDS);
+    play(&rt, rt.alloc(), STATUSES);
 }

@@ -1,11 +1,11 @@
 //! Setting objects at the local front panel.
+use super::super::none_wrong;
 use super::script::Over::Bench;
 use super::script::Row::{Calls, Holds, Locked, Puts, Sends};
-use super::script::{At, Script, Wrong, wrong_script};
+use super::script::{At, Script, play};
 use super::words::*;
 use oca_tree::{Lock, LockKind, MuteState, PolarityState, SetFault, Setting, Value};
 use oca_types::{Class, Status};
-use std::alloc::Global;
 
 const UNMUTE: Value = Value::Mute(MuteState::Unmuted);
 
@@ -166,11 +166,6 @@ const SCRIPTS: &[Script] = &[
     },
 ];
 
-/// The first script that goes otherwise, and where.
-pub fn wrong(alloc: Global) -> Option<(&'static str, Wrong)> {
-    wrong_script(alloc, SCRIPTS)
-}
-
 // The value of a class whose state has a number.
 const STATES: &[(Class, u8, Option<Value>)] = &[
     (Class::Mute, 0, None),
@@ -202,16 +197,28 @@ const INTEGERS: &[(Class, i128, Option<Value>)] = &[
 ];
 
 /// The first of these rows that comes out otherwise.
-pub fn first_wrong_number() -> Option<usize> {
-    for (at, (class, number, want)) in STATES.iter().enumerate() {
+fn first_wrong_state(rows: &[(Class, u8, Option<Value>)]) -> Option<usize> {
+    for (at, (class, number, want)) in rows.iter().enumerate() {
         if Value::of_state(*class, *number) != *want {
             return Some(at);
         }
     }
-    for (at, (class, number, want)) in INTEGERS.iter().enumerate() {
+    None
+}
+
+/// The first of these rows that comes out otherwise.
+fn first_wrong_integer(rows: &[(Class, i128, Option<Value>)]) -> Option<usize> {
+    for (at, (class, number, want)) in rows.iter().enumerate() {
         if Value::of_integer(*class, *number) != *want {
-            return Some(STATES.len() + at);
+            return Some(at);
         }
     }
     None
+}
+
+#[test]
+fn scripts(rt: HostRuntime) {
+    play(&rt, rt.alloc(), SCRIPTS);
+    none_wrong(&rt, "states", first_wrong_state(STATES));
+    none_wrong(&rt, "integers", first_wrong_integer(INTEGERS));
 }

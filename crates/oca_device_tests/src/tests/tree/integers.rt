@@ -2,7 +2,7 @@
 use super::script::Addition::One;
 use super::script::Over::Built;
 use super::script::Row::{Holds, Reads, Sends};
-use super::script::{Addition, At, Script, Wrong, wrong_script};
+use super::script::{Addition, At, Script, play};
 use super::words::*;
 use oca_tree::{Kind, Setting, Spec};
 use oca_types::Status;
@@ -34,8 +34,6 @@ const INT32: Spec<'static> = Spec {
     },
     ..INT8
 };
-
-use std::alloc::Global;
 
 const INT64: Spec<'static> = Spec {
     kind: Kind::Int64 {
@@ -145,21 +143,22 @@ const WIDTHS: &[At] = &[
     ),
 ];
 
-/// The scripts.
-const SCRIPTS: &[Script] = &[
-    Script {
-        name: "every_integer_type",
-        over: Built(INTEGERS),
-        parts: SETTINGS,
-    },
-    Script {
-        name: "widths_of_integers",
-        over: Built(INTEGERS),
-        parts: WIDTHS,
-    },
-];
+/// The script of what is read.
+const READ: &[Script] = &[Script {
+    name: "every_integer_type",
+    over: Built(INTEGERS),
+    parts: SETTINGS,
+}];
 
-/// The first script that goes otherwise, and where.
-pub fn wrong(alloc: Global) -> Option<(&'static str, Wrong)> {
-    wrong_script(alloc, SCRIPTS)
+/// The script of what is set.
+const SET: &[Script] = &[Script {
+    name: "widths_of_integers",
+    over: Built(INTEGERS),
+    parts: WIDTHS,
+}];
+
+#[test]
+fn scripts(rt: HostRuntime) {
+    play(&rt, rt.alloc(), READ);
+    play(&rt, rt.alloc(), SET);
 }

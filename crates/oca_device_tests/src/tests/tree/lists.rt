@@ -1,7 +1,7 @@
 //! What is read of each object.
 use super::script::Over::{Bench, Channels};
 use super::script::Row::{Ends, Holds, Len, Shows};
-use super::script::{At, Script, Wrong, wrong_script};
+use super::script::{At, Script, play};
 use oca_tree::{Tree, bench, bench_with_channels};
 use oca_types::Class;
 use std::alloc::Global;
@@ -75,7 +75,7 @@ const STRIPS: &[At] = &[
 ];
 
 /// Whether there is no bench device with so many channels.
-pub fn has_no_room_for(alloc: Global, channels: u16) -> bool {
+fn has_no_room_for(alloc: Global, channels: u16) -> bool {
     bench_with_channels(alloc, channels).is_err()
 }
 
@@ -93,12 +93,12 @@ fn in_order(tree: &Tree) -> Option<usize> {
 }
 
 /// How many objects of the bench device the iterator gives in order.
-pub fn in_order_on_bench(alloc: Global) -> Option<usize> {
+fn in_order_on_bench(alloc: Global) -> Option<usize> {
     in_order(&bench(alloc).ok()?)
 }
 
-/// The scripts.
-const SCRIPTS: &[Script] = &[
+/// Scripts over the bench device.
+const OF_THE_BENCH: &[Script] = &[
     Script {
         name: "the_objects_of_the_bench_device",
         over: Bench,
@@ -109,6 +109,10 @@ const SCRIPTS: &[Script] = &[
         over: Bench,
         parts: ON_THE_DESK,
     },
+];
+
+/// Scripts over the bench device with channels.
+const OF_CHANNELS: &[Script] = &[
     Script {
         name: "the_bench_device_without_channels",
         over: Channels(0),
@@ -121,7 +125,10 @@ const SCRIPTS: &[Script] = &[
     },
 ];
 
-/// The first script that goes otherwise, and where.
-pub fn wrong(alloc: Global) -> Option<(&'static str, Wrong)> {
-    wrong_script(alloc, SCRIPTS)
+#[test]
+fn scripts(rt: HostRuntime) {
+    play(&rt, rt.alloc(), OF_THE_BENCH);
+    play(&rt, rt.alloc(), OF_CHANNELS);
+    assert!(rt; has_no_room_for(rt.alloc(), 1023));
+    assert!(rt; in_order_on_bench(rt.alloc()) == Some(8));
 }

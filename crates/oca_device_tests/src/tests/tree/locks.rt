@@ -1,7 +1,8 @@
 //! Locks of two peers.
+use super::super::none_wrong;
 use super::script::Over::Bench;
 use super::script::Row::{Calls, Locked, Releases};
-use super::script::{At, Script, Wrong, call, gives, wrong_script};
+use super::script::{At, Script, call, gives, play};
 use super::words::*;
 use oca_tree::{Lock, LockKind, Tree, bench};
 use oca_types::{Ono, Status};
@@ -209,36 +210,25 @@ const RELEASE: &[At] = &[
     At(5, &[Locked(None)]),
 ];
 
-/// The scripts.
-const SCRIPTS: &[Script] = &[
-    Script {
-        name: "locks_of_two_peers",
-        over: Bench,
-        parts: TWO_PEERS,
-    },
-    Script {
-        name: "release_takes_the_peers_locks_off",
-        over: Bench,
-        parts: RELEASE,
-    },
-];
+/// The script of what is locked.
+const LOCKED: &[Script] = &[Script {
+    name: "locks_of_two_peers",
+    over: Bench,
+    parts: TWO_PEERS,
+}];
 
-/// The first script that goes otherwise, and where.
-pub fn wrong(alloc: Global) -> Option<(&'static str, Wrong)> {
-    wrong_script(alloc, SCRIPTS)
-}
+/// The script of what is released.
+const RELEASED: &[Script] = &[Script {
+    name: "release_takes_the_peers_locks_off",
+    over: Bench,
+    parts: RELEASE,
+}];
 
-/// The first access that comes out otherwise.
-pub fn wrong_access(alloc: Global) -> Option<usize> {
-    first_wrong(alloc, ACCESSES)
-}
-
-/// The first locking that comes out otherwise.
-pub fn wrong_locking(alloc: Global) -> Option<usize> {
-    first_wrong(alloc, LOCKINGS)
-}
-
-/// The first unlocking that comes out otherwise.
-pub fn wrong_unlocking(alloc: Global) -> Option<usize> {
-    first_wrong(alloc, UNLOCKINGS)
+#[test]
+fn scripts(rt: HostRuntime) {
+    play(&rt, rt.alloc(), LOCKED);
+    play(&rt, rt.alloc(), RELEASED);
+    none_wrong(&rt, "accesses", first_wrong(rt.alloc(), ACCESSES));
+    none_wrong(&rt, "lockings", first_wrong(rt.alloc(), LOCKINGS));
+    none_wrong(&rt, "unlockings", first_wrong(rt.alloc(), UNLOCKINGS));
 }

@@ -1,14 +1,13 @@
 //! The table of methods once over the bench device: what every object has, mutes and polarities, and basic actuators.
 use super::script::Over::Bench;
 use super::script::Row::{Does, Holds, Reads, Sends};
-use super::script::{At, Row, Script, Wrong, wrong_script};
+use super::script::{At, Row, Script, play};
 use super::words::*;
 use oca_tree::Setting;
 use oca_types::Status;
 use oca_types::Status::{
     BadMethod, InvalidRequest, NotImplemented, ParameterError, ParameterOutOfRange,
 };
-use std::alloc::Global;
 
 /// What every object answers as the bench device begins, and the methods that are left out.
 pub const COMMON: &[Row] = &[
@@ -181,21 +180,22 @@ const BASIC_ACTUATORS: &[At] = &[
     At(4102, DIMMER_ROWS),
 ];
 
-/// The scripts.
-const SCRIPTS: &[Script] = &[
-    Script {
-        name: "methods_of_mute_and_polarity",
-        over: Bench,
-        parts: MUTE_AND_POLARITY,
-    },
-    Script {
-        name: "methods_of_basic_actuators",
-        over: Bench,
-        parts: BASIC_ACTUATORS,
-    },
-];
+/// The script of a mute and a polarity.
+const OF_STATES: &[Script] = &[Script {
+    name: "methods_of_mute_and_polarity",
+    over: Bench,
+    parts: MUTE_AND_POLARITY,
+}];
 
-/// The first script that goes otherwise, and where.
-pub fn wrong(alloc: Global) -> Option<(&'static str, Wrong)> {
-    wrong_script(alloc, SCRIPTS)
+/// The script of basic actuators.
+const OF_SETTINGS: &[Script] = &[Script {
+    name: "methods_of_basic_actuators",
+    over: Bench,
+    parts: BASIC_ACTUATORS,
+}];
+
+#[test]
+fn scripts(rt: HostRuntime) {
+    play(&rt, rt.alloc(), OF_STATES);
+    play(&rt, rt.alloc(), OF_SETTINGS);
 }

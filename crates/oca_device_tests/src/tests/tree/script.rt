@@ -6,6 +6,7 @@ use oca_tree::{
 };
 use oca_types::{Class, Command, Handle, MethodId, Ono, Params, Peer, Status, class_fields};
 use std::alloc::Global;
+use std::process::Abort;
 
 /// What is done at an object, and what comes of it.
 #[derive(Clone, Copy)]
@@ -68,8 +69,8 @@ pub enum Over {
     Channels(u16),
     /// The tree of these additions.
     Built(&'static [Addition]),
-    /// The root alone, with this stored of it.
-    Root(Start<'static>),
+    /// The tree of these additions to a root with this stored of it.
+    Root(Start<'static>, &'static [Addition]),
 }
 
 /// A script by its name.
@@ -79,15 +80,12 @@ pub struct Script {
     pub parts: &'static [At],
 }
 
-/// What went otherwise than a table says: of the script's part at an index the row at an index; behind the last part
-/// the addition at an index, or the last number of all where there was no tree.
-pub type Wrong = (usize, usize);
-
-/// What is no part of a script.
-const NO_PART: usize = usize::MAX;
+/// What went otherwise than a table says: of the script's part at an index the row at an index; the last number of all
+/// where there was no tree, or an addition was answered otherwise.
+type Wrong = (usize, usize);
 
 /// There was no tree.
-const NO_TREE: Wrong = (NO_PART, usize::MAX);
+const NO_TREE: Wrong = (usize::MAX, usize::MAX);
 
 /// Parameters with a byte that an answer takes the place of.
 fn used_parameters() -> Params {
@@ -138,12 +136,6 @@ fn measures(tree: &mut Tree, target: u32, method: Called, want: (Status, u8, usi
     status == want.0 && count == want.1 && out.len() == want.2
 }
 
-/// Takes every lock of a peer off.
-fn release(tree: &mut Tree, peer: Peer) -> bool {
-    tree.release(peer);
-    true
-}
-
 /// Whether this is read of the object at a place.
 fn shows(
     tree: &Tree,
@@ -179,18 +171,36 @@ fn agrees(tree: &mut Tree, ono: u32, row: Row) -> bool {
             gives(tree, A, ono, method, (count, params), (status, 0, &[]))
         }
         Calls(peer, method, params, want) => gives(tree, peer, ono, method, params, want),
+        other => comes(tree, ono, other),
+    }
+}
+
+/// Whether what is done at the object comes out so, where it is no call whose whole answer is known.
+fn comes(tree: &mut Tree, ono: u32, row: Row) -> bool {
+    match row {
         Measures(method, status, count, size) => {
             measures(tree, ono, method, (status, count, size))
         }
         Puts(value, want) => tree.set(Ono(ono), value) == want,
+        Releases(peer) => {
+            tree.release(peer);
+            true
+        }
+        other => stands(tree, ono, other),
+    }
+}
+
+/// Whether the objects stand so.
+fn stands(tree: &Tree, ono: u32, row: Row) -> bool {
+    match row {
         Holds(want) => tree.setting_of(Ono(ono)) == want,
         Locked(want) => tree.lock_of(Ono(ono)) == want,
-        Releases(peer) => release(tree, peer),
         Len(count) => tree.len() == count,
         Shows(place, class, fields, container, role) => {
             shows(tree, place, ono, (class, fields), container, role)
         }
         Ends(place) => tree.object_at(place).is_none(),
+        _ => false,
     }
 }
 
@@ -243,75 +253,71 @@ fn adds(builder: &mut TreeBuilder, addition: &Addition) -> bool {
         One(container, ono, spec, want) => {
             builder.add(Ono(*container), Ono(*ono), spec) == *want
         }
+        Many(first, end, spec) => takes_many(builder, *first, *end, spec),
+        Nested(first, end) => takes_nested(builder, *first, *end),
+        other => adds_stored(builder, other),
+    }
+}
+
+/// Whether the builder answers an addition so, of which something may be stored.
+fn adds_stored(builder: &mut TreeBuilder, addition: &Addition) -> bool {
+    match addition {
         Stored(container, ono, spec, start, want) => {
             builder.add_with(Ono(*container), Ono(*ono), spec, start) == *want
         }
         Unstored(container, ono, spec, want) => {
             builder.add_with(Ono(*container), Ono(*ono), spec, &Start::default()) == *want
         }
-        Many(first, end, spec) => takes_many(builder, *first, *end, spec),
-        Nested(first, end) => takes_nested(builder, *first, *end),
+        _ => false,
     }
 }
 
-/// The first addition that is answered otherwise.
-pub fn first_wrong_addition(builder: &mut TreeBuilder, additions: &[Addition]) -> Option<usize> {
-    for (at, addition) in additions.iter().enumerate() {
+/// Whether the builder answers all additions so.
+fn adds_all(builder: &mut TreeBuilder, additions: &[Addition]) -> bool {
+    for addition in additions {
         if !adds(builder, addition) {
-            return Some(at);
+            return false;
         }
     }
-    None
+    true
 }
 
-/// What goes wrong in a script over a tree.
-fn wrong_over(tree: Result<Tree, AddFault>, parts: &[At]) -> Option<Wrong> {
-    match tree {
-        Ok(mut tree) => first_wrong(&mut tree, parts),
-        Err(_) => Some(NO_TREE),
+/// The tree of a builder with these additions to it, where all are answered so.
+fn built(builder: Option<TreeBuilder>, additions: &[Addition]) -> Option<Tree> {
+    let mut builder = builder?;
+    if adds_all(&mut builder, additions) {
+        Some(builder.finish())
+    } else {
+        None
     }
 }
 
-/// What goes wrong in the additions to a builder and in a script over its tree.
-fn wrong_with(mut builder: TreeBuilder, additions: &[Addition], parts: &[At]) -> Option<Wrong> {
-    match first_wrong_addition(&mut builder, additions) {
-        Some(at) => Some((NO_PART, at)),
-        None => first_wrong(&mut builder.finish(), parts),
-    }
-}
-
-/// What goes wrong in the additions and in a script over their tree.
-fn wrong_of_built(alloc: Global, additions: &[Addition], parts: &[At]) -> Option<Wrong> {
-    match TreeBuilder::new(alloc) {
-        Ok(builder) => wrong_with(builder, additions, parts),
-        Err(_) => Some(NO_TREE),
-    }
-}
-
-/// What goes wrong in a script over the root alone.
-fn wrong_of_root(alloc: Global, stored: &Start<'_>, parts: &[At]) -> Option<Wrong> {
-    match TreeBuilder::with_root(alloc, Room::default(), stored) {
-        Ok(builder) => wrong_with(builder, &[], parts),
-        Err(_) => Some(NO_TREE),
+/// The tree that a script is run over; none where it is not there, or an addition is answered otherwise.
+pub fn tree_of(alloc: Global, over: Over) -> Option<Tree> {
+    match over {
+        Over::Bench => bench(alloc).ok(),
+        Over::Channels(count) => bench_with_channels(alloc, count).ok(),
+        Over::Built(additions) => built(TreeBuilder::new(alloc).ok(), additions),
+        Over::Root(stored, additions) => {
+            let builder = TreeBuilder::with_root(alloc, Room::default(), &stored);
+            built(builder.ok(), additions)
+        }
     }
 }
 
 /// What goes wrong in a script.
 fn wrong_in(alloc: Global, script: &Script) -> Option<Wrong> {
-    match script.over {
-        Over::Bench => wrong_over(bench(alloc), script.parts),
-        Over::Channels(count) => wrong_over(bench_with_channels(alloc, count), script.parts),
-        Over::Built(additions) => wrong_of_built(alloc, additions, script.parts),
-        Over::Root(stored) => wrong_of_root(alloc, &stored, script.parts),
+    match tree_of(alloc, script.over) {
+        Some(mut tree) => first_wrong(&mut tree, script.parts),
+        None => Some(NO_TREE),
     }
 }
 
-/// The first script in which something goes wrong, and what.
-pub fn wrong_script(alloc: Global, scripts: &[Script]) -> Option<(&'static str, Wrong)> {
+/// Plays scripts: each row comes out as it says.
+pub fn play(rt: &impl Abort, alloc: Global, scripts: &[Script]) {
     for script in scripts {
-        if let Some(wrong) = wrong_in(alloc, script) {
-            return Some((script.name, wrong));
+        if let Some((part, row)) = wrong_in(alloc, script) {
+            panic!(rt; "{}: part {part}, row {row}", script.name);
         }
     }
-    None
 }

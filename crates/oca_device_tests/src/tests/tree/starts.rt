@@ -1,10 +1,11 @@
 //! What was stored of an object is there when the device begins again.
+use super::super::{none_wrong, reads};
 use super::script::Addition::{One, Stored, Unstored};
 use super::script::Over::{Built, Root};
 use super::script::Row::{Len, Reads};
-use super::script::{Addition, At, Script, Wrong, first_wrong_addition, wrong_script};
+use super::script::{Addition, At, Over, Script, play, tree_of};
 use super::words::*;
-use oca_tree::{AddFault, Kind, Room, Spec, Start, StartFault, Tree, TreeBuilder, bench};
+use oca_tree::{AddFault, Kind, Spec, Start, StartFault, Tree, bench};
 use oca_types::{Class, Ono};
 use std::alloc::Global;
 
@@ -137,18 +138,10 @@ const WORDS: &[(StartFault, &str)] = &[
     ),
 ];
 
-/// Whether the words of a fault are these.
-fn says(alloc: Global, fault: StartFault, words: &str) -> bool {
-    match fault.to_string(alloc) {
-        Ok(printed) => printed.as_str() == words,
-        Err(_) => false,
-    }
-}
-
 /// The first fault with other words.
-pub fn first_wrong_words(alloc: Global) -> Option<usize> {
-    for (at, (fault, words)) in WORDS.iter().enumerate() {
-        if !says(alloc, *fault, words) {
+fn first_wrong_words(alloc: Global, rows: &[(StartFault, &str)]) -> Option<usize> {
+    for (at, (fault, words)) in rows.iter().enumerate() {
+        if !reads(fault.to_string(alloc), words) {
             return Some(at);
         }
     }
@@ -211,14 +204,7 @@ const SWITCH_AND_LAMP: &[Addition] = &[
 ];
 
 /// The root, the switch with what was stored of both, and the lamp.
-fn stored_tree(alloc: Global) -> Option<Tree> {
-    let mut builder = TreeBuilder::with_root(alloc, Room::default(), &GREETING).ok()?;
-    if first_wrong_addition(&mut builder, SWITCH_AND_LAMP).is_none() {
-        Some(builder.finish())
-    } else {
-        None
-    }
-}
+const STORED_TREE: Over = Root(GREETING, SWITCH_AND_LAMP);
 
 /// Whether these are the names of its positions.
 fn are_names(tree: &Tree, row: &Described) -> bool {
@@ -250,9 +236,9 @@ fn is_absent(tree: &Tree, ono: u32) -> bool {
         && tree.class_of(Ono(ono)).is_none()
 }
 
-/// The first row that is read otherwise; of no object is anything read.
-fn first_wrong_description(tree: &Tree) -> Option<usize> {
-    for (at, row) in DESCRIBED.iter().enumerate() {
+/// The first row that is read otherwise of this tree; of object 4098 nothing is read.
+fn first_other(tree: &Tree, rows: &[Described]) -> Option<usize> {
+    for (at, row) in rows.iter().enumerate() {
         if !is_read(tree, row) {
             return Some(at);
         }
@@ -260,35 +246,36 @@ fn first_wrong_description(tree: &Tree) -> Option<usize> {
     if is_absent(tree, 4098) {
         None
     } else {
-        Some(DESCRIBED.len())
+        Some(rows.len())
+    }
+}
+
+/// The first row that is read otherwise of what was stored; the last number where there is no tree.
+fn first_wrong_stored(alloc: Global, rows: &[Described]) -> Option<usize> {
+    match tree_of(alloc, STORED_TREE) {
+        Some(tree) => first_other(&tree, rows),
+        None => Some(usize::MAX),
     }
 }
 
 /// Whether the tree is the same but for locks as itself, and not as the bench.
-fn is_compared(alloc: Global, tree: &Tree) -> bool {
+fn is_compared_with_bench(alloc: Global, tree: &Tree) -> bool {
     match bench(alloc) {
         Ok(other) => tree.is_but_for_locks(tree) && !tree.is_but_for_locks(&other),
         Err(_) => false,
     }
 }
 
-/// The first row that is read otherwise of what was stored; the last number where trees are compared otherwise, or
-/// there is none.
-pub fn first_wrong_stored(alloc: Global) -> Option<usize> {
-    match stored_tree(alloc) {
-        Some(tree) => {
-            if is_compared(alloc, &tree) {
-                first_wrong_description(&tree)
-            } else {
-                Some(usize::MAX)
-            }
-        }
-        None => Some(usize::MAX),
+/// Whether the tree of what was stored is the same but for locks as itself, and not as the bench.
+fn is_compared(alloc: Global) -> bool {
+    match tree_of(alloc, STORED_TREE) {
+        Some(tree) => is_compared_with_bench(alloc, &tree),
+        None => false,
     }
 }
 
-/// The scripts.
-const SCRIPTS: &[Script] = &[
+/// Scripts of what was stored of a switch.
+const OF_A_SWITCH: &[Script] = &[
     Script {
         name: "a_switch_begins_as_stored",
         over: Built(STORED),
@@ -299,24 +286,36 @@ const SCRIPTS: &[Script] = &[
         over: Built(UNSTORED),
         parts: UNSTORED_ROWS,
     },
-    Script {
-        name: "what_was_stored_must_fit",
-        over: Built(FITTING),
-        parts: OF_3,
-    },
-    Script {
-        name: "a_mute_takes_no_flags",
-        over: Built(FLAGS_OF_A_MUTE),
-        parts: &[],
-    },
-    Script {
-        name: "the_root_begins_as_stored",
-        over: Root(GREETING),
-        parts: ROOT_ROWS,
-    },
 ];
 
-/// The first script that goes otherwise, and where.
-pub fn wrong(alloc: Global) -> Option<(&'static str, Wrong)> {
-    wrong_script(alloc, SCRIPTS)
+/// The script of labels and flags that must fit.
+const LABELS: &[Script] = &[Script {
+    name: "what_was_stored_must_fit",
+    over: Built(FITTING),
+    parts: OF_3,
+}];
+
+/// The script of flags of a mute.
+const FLAGS: &[Script] = &[Script {
+    name: "a_mute_takes_no_flags",
+    over: Built(FLAGS_OF_A_MUTE),
+    parts: &[],
+}];
+
+/// The script of what was stored of the root.
+const OF_THE_ROOT: &[Script] = &[Script {
+    name: "the_root_begins_as_stored",
+    over: Root(GREETING, &[]),
+    parts: ROOT_ROWS,
+}];
+
+#[test]
+fn scripts(rt: HostRuntime) {
+    play(&rt, rt.alloc(), OF_A_SWITCH);
+    play(&rt, rt.alloc(), LABELS);
+    play(&rt, rt.alloc(), FLAGS);
+    play(&rt, rt.alloc(), OF_THE_ROOT);
+    none_wrong(&rt, "words", first_wrong_words(rt.alloc(), WORDS));
+    none_wrong(&rt, "stored", first_wrong_stored(rt.alloc(), DESCRIBED));
+    assert!(rt; is_compared(rt.alloc()));
 }

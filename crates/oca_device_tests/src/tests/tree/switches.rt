@@ -2,12 +2,11 @@
 use super::methods::{COMMON, DESK, LOCKABLE};
 use super::script::Over::Bench;
 use super::script::Row::{Calls, Does, Holds, Reads, Sends};
-use super::script::{At, Row, Script, Wrong, wrong_script};
+use super::script::{At, Row, Script, play};
 use super::words::*;
 use oca_tree::Setting;
 use oca_types::Status;
 use oca_types::Status::{BadMethod, ParameterError, ParameterOutOfRange};
-use std::alloc::Global;
 
 /// What the switch is.
 const INPUT_IS: &[Row] = &[
@@ -104,7 +103,7 @@ const SCRIPTS: &[Script] = &[Script {
     parts: SWITCH,
 }];
 
-/// The first script that goes otherwise, and where.
-pub fn wrong(alloc: Global) -> Option<(&'static str, Wrong)> {
-    wrong_script(alloc, SCRIPTS)
+#[test]
+fn scripts(rt: HostRuntime) {
+    play(&rt, rt.alloc(), SCRIPTS);
 }
