@@ -1,10 +1,10 @@
 //! Damaged datagrams: what a device refuses leaves it as it was, and what it accepts is what the writer writes.
+use crate::devices::{bench_device, both};
 use crate::readings::readings;
 use crate::vectors::{COUNT, vector};
 use oca_device::{Device, Outbox, Verdict};
 use oca_pdu::{Message, Messages, PduFault, check, write_command, write_keepalive};
-use oca_tree::bench;
-use oca_types::{LOOPBACK, NoMemory, Packet, Peer, Window};
+use oca_types::{LOOPBACK, NoMemory, Packet, Peer};
 use std::alloc::Global;
 
 /// Who sends.
@@ -51,29 +51,24 @@ struct Bench {
     tally: Tally,
 }
 
+/// Two bench devices that heard nothing.
+fn new_bench(alloc: Global) -> Result<Bench, NoMemory> {
+    let devices = both(bench_device(alloc), bench_device(alloc));
+    let outboxes = both(Outbox::new(alloc), Outbox::new(alloc));
+    match both(devices, outboxes) {
+        Ok(((tried, untouched), (outbox, expected))) => Ok(Bench {
+            tried,
+            untouched,
+            outbox,
+            expected,
+            next_handle: 1,
+            tally: Tally::default(),
+        }),
+        Err(NoMemory) => Err(NoMemory),
+    }
+}
+
 impl Bench {
-    /// Two bench devices with retained replies.
-    fn new(alloc: Global) -> Result<Bench, NoMemory> {
-        let mut bench = Bench::empty(alloc)?;
-        bench.fill();
-        Ok(bench)
-    }
-
-    /// Two bench devices that heard nothing.
-    fn empty(alloc: Global) -> Result<Bench, NoMemory> {
-        match (devices(alloc), outboxes(alloc)) {
-            (Ok((tried, untouched)), Ok((outbox, expected))) => Ok(Bench {
-                tried,
-                untouched,
-                outbox,
-                expected,
-                next_handle: 1,
-                tally: Tally::default(),
-            }),
-            _ => Err(NoMemory),
-        }
-    }
-
     /// Has both devices retain replies.
     fn fill(&mut self) {
         for number in [2, 4, 10, 12] {
@@ -117,65 +112,50 @@ impl Bench {
 
     /// The bytes have the fault of this number in this place.
     fn expect(&mut self, bytes: &[u8], fault: (u8, u16)) {
-        let found = match check(bytes) {
-            Err(found) => (found.kind.number(), found.at),
-            Ok(_) => (0, 0),
+        let is_that = match check(bytes) {
+            Err(found) => found.kind.number() == fault.0 && found.at == fault.1,
+            Ok(_) => false,
         };
-        if found != fault {
-            self.tally.wrong = self.tally.wrong.saturating_add(1);
+        if !is_that {
+            count(&mut self.tally.wrong);
         }
     }
 
     /// Tries one datagram.
     fn attempt(&mut self, bytes: &[u8]) {
-        self.tally.tried = self.tally.tried.saturating_add(1);
+        count(&mut self.tally.tried);
         match check(bytes) {
-            Err(fault) => {
-                if self.is_refused(SENDER, bytes, fault)
-                    && self.is_refused(STRANGER, bytes, fault)
-                    && self.is_untouched()
-                {
-                    self.tally.refused = self.tally.refused.saturating_add(1);
-                } else {
-                    self.tally.wrong = self.tally.wrong.saturating_add(1);
-                }
-            }
-            Ok(datagram) => {
-                self.tally.accepted = self.tally.accepted.saturating_add(1);
-                match written_again(datagram.messages()) {
-                    Rewritten::Again(packet) if packet.as_slice() == bytes => {
-                        self.tally.written_back = self.tally.written_back.saturating_add(1);
-                    }
-                    Rewritten::Other => {}
-                    _ => self.tally.wrong = self.tally.wrong.saturating_add(1),
-                }
-            }
+            Err(fault) => self.refuse(bytes, fault),
+            Ok(datagram) => self.accept(bytes, datagram.messages()),
+        }
+    }
+
+    /// Tries a datagram that has this fault.
+    fn refuse(&mut self, bytes: &[u8], fault: PduFault) {
+        let is_good = self.is_refused(SENDER, bytes, fault)
+            && self.is_refused(STRANGER, bytes, fault)
+            && self.is_untouched();
+        if is_good {
+            count(&mut self.tally.refused);
+        } else {
+            count(&mut self.tally.wrong);
+        }
+    }
+
+    /// Tries a datagram of these messages.
+    fn accept(&mut self, bytes: &[u8], messages: Messages<'_>) {
+        count(&mut self.tally.accepted);
+        match written_again(bytes, messages) {
+            Some(true) => count(&mut self.tally.written_back),
+            Some(false) => count(&mut self.tally.wrong),
+            None => {}
         }
     }
 }
 
-/// A bench device.
-fn device(alloc: Global) -> Result<Device, NoMemory> {
-    let Ok(tree) = bench(alloc) else {
-        return Err(NoMemory);
-    };
-    Device::new(alloc, tree, Window::default())
-}
-
-/// Two bench devices.
-fn devices(alloc: Global) -> Result<(Device, Device), NoMemory> {
-    match (device(alloc), device(alloc)) {
-        (Ok(one), Ok(other)) => Ok((one, other)),
-        _ => Err(NoMemory),
-    }
-}
-
-/// Two outboxes.
-fn outboxes(alloc: Global) -> Result<(Outbox, Outbox), NoMemory> {
-    match (Outbox::new(alloc), Outbox::new(alloc)) {
-        (Ok(one), Ok(other)) => Ok((one, other)),
-        _ => Err(NoMemory),
-    }
+/// One more.
+fn count(number: &mut u64) {
+    *number = number.saturating_add(1);
 }
 
 /// Whether the verdict is this fault.
@@ -224,41 +204,31 @@ pub fn same_objects(a: &Device, b: &Device) -> bool {
     true
 }
 
-/// What the writers make of the messages of a datagram.
-#[derive(Drop)]
-enum Rewritten {
-    /// Its only message, a command or a keep-alive, written again.
-    Again(Packet),
-    /// It has responses or several messages.
-    Other,
-    /// The writer refused it.
-    Refused,
-}
-
-/// The only message of a datagram once more, where it is a command or a keep-alive.
-fn written_again(messages: Messages<'_>) -> Rewritten {
+/// Whether the only message of a datagram, where that is a command or a keep-alive, is written as these bytes.
+fn written_again(bytes: &[u8], messages: Messages<'_>) -> Option<bool> {
     let mut packet = Packet::new();
-    let mut count = 0u32;
+    let mut is_first = true;
     for message in messages {
-        if count == 1 {
-            return Rewritten::Other;
+        if !is_first {
+            return None;
         }
-        count = 1;
+        is_first = false;
         let written = match message {
             Message::Command { respond, command } => write_command(&mut packet, respond, &command),
             Message::KeepAlive { form } => write_keepalive(&mut packet, form),
-            Message::Response { .. } => return Rewritten::Other,
+            Message::Response { .. } => return None,
         };
         if written.is_err() {
-            return Rewritten::Refused;
+            return Some(false);
         }
     }
-    Rewritten::Again(packet)
+    Some(packet.as_slice() == bytes)
 }
 
 /// Each byte of each vector replaced by each other value, each prefix of each, and each followed by each.
 pub fn hostile(alloc: Global) -> Result<Tally, NoMemory> {
-    let mut bench = Bench::new(alloc)?;
+    let mut bench = new_bench(alloc)?;
+    bench.fill();
     for number in 0..COUNT {
         changed_bytes(&mut bench, vector(number));
         prefixes(&mut bench, vector(number));
@@ -266,7 +236,9 @@ pub fn hostile(alloc: Global) -> Result<Tally, NoMemory> {
             followed(&mut bench, vector(number), vector(next));
         }
     }
-    Ok(bench.tally)
+    let tally = bench.tally;
+    drop(bench);
+    Ok(tally)
 }
 
 /// Each byte replaced by each other value.

@@ -36,12 +36,20 @@ pub fn put(out: &mut String, text: &str) -> Result<(), Full> {
 
 /// A number behind a text.
 pub fn put_number(out: &mut String, text: &str, number: u64) -> Result<(), Full> {
-    Ok(write!(out, "{text}{number}")?)
+    put_integer(out, text, i128::from(number))
 }
 
-/// An integer.
-pub fn put_integer(out: &mut String, integer: i128) -> Result<(), Full> {
-    Ok(write!(out, "{integer}")?)
+/// An integer behind a text.
+pub fn put_integer(out: &mut String, text: &str, integer: i128) -> Result<(), Full> {
+    Ok(write!(out, "{text}{integer}")?)
+}
+
+/// Prints a text.
+pub fn print_text<R: Print>(rt: &R, text: &str) -> Result<(), RunFault> {
+    match print!(rt; "{text}") {
+        Ok(()) => Ok(()),
+        Err(_) => Err(RunFault::Write),
+    }
 }
 
 /// The line of what a device made of a datagram.
