@@ -3,7 +3,7 @@
 use crate::devices::{bench_device, both};
 use crate::hostile::{same_objects, same_packets};
 use crate::vectors::vector;
-use oca_control::{DriveReport, Link, drive};
+use oca_control::{Answer, DriveReport, Link, drive};
 use oca_device::{Device, Outbox, Report, serve};
 use oca_net::{MemoryEnd, Scripted};
 use oca_types::{Handle, LOOPBACK, MethodId, NoMemory, Ono, Peer, Span};
@@ -46,7 +46,7 @@ pub const NOWHERE: usize = 1000;
 const COMMANDS: u32 = 9;
 
 /// What the trial found.
-#[derive(Clone, Copy, Default)]
+#[derive(Clone, Copy)]
 pub struct Tally {
     /// Runs with a failed receive in one place.
     pub receives: u64,
@@ -55,6 +55,13 @@ pub struct Tally {
     /// Runs that left another device, or were counted otherwise.
     pub wrong: u64,
 }
+
+/// Nothing was tried yet.
+const NOTHING: Tally = Tally {
+    receives: 0,
+    sends: 0,
+    wrong: 0,
+};
 
 impl Tally {
     /// Counts a run that was wrong.
@@ -127,7 +134,10 @@ fn memory_end(
     failed: usize,
     fail_send: Option<u64>,
 ) -> Result<MemoryEnd, NoMemory> {
-    MemoryEnd::new(alloc, script(alloc, entries, failed)?, 100, fail_send)
+    match script(alloc, entries, failed) {
+        Ok(script) => MemoryEnd::new(alloc, script, 100, fail_send),
+        Err(NoMemory) => Err(NoMemory),
+    }
 }
 
 /// Serves that end, and answers the report and how many packets were taken.
@@ -157,18 +167,23 @@ fn are_alike(alloc: Global, a: &mut Device, b: &mut Device) -> Result<bool, NoMe
 
 /// Whether two devices answer duplicates of all commands alike, into these outboxes.
 fn hear_alike(a: &mut Device, b: &mut Device, first: &mut Outbox, second: &mut Outbox) -> bool {
-    for (port, number, _) in TO_DEVICE {
+    for place in 0..TO_DEVICE.len() {
+        let (port, number, _) = TO_DEVICE[place];
         if let Some(number) = number {
-            first.clear();
-            second.clear();
-            let _ = a.datagram(peer(port), vector(number), 100, first);
-            let _ = b.datagram(peer(port), vector(number), 100, second);
+            hear(a, port, number, first);
+            hear(b, port, number, second);
             if !same_packets(first, second) {
                 return false;
             }
         }
     }
     true
+}
+
+/// Hands a device the vector of this number from this port.
+fn hear(device: &mut Device, port: u16, number: usize, outbox: &mut Outbox) {
+    outbox.clear();
+    let _ = device.datagram(peer(port), vector(number), 100, outbox);
 }
 
 /// Whether a device that serves the script with a failed receive in this place, or with this send failing, has this
@@ -210,7 +225,7 @@ fn counts(alloc: Global) -> Result<(Report, u64), NoMemory> {
 
 /// A failed receive in each place of the script, and each send failing in turn.
 pub fn failing_ends(alloc: Global) -> Result<Tally, NoMemory> {
-    let mut tally = Tally::default();
+    let mut tally = NOTHING;
     let (whole, taken) = counts(alloc)?;
     let with_turn = Report {
         failed_receives: 1,
@@ -258,20 +273,24 @@ fn driven(
 
 /// Whether two links have the same answers.
 fn answer_alike(a: &mut Link, b: &mut Link) -> bool {
-    let mut alike = true;
     for handle in 1..COMMANDS + 1 {
-        let same = match (a.take(Handle(handle)), b.take(Handle(handle))) {
-            (Some(x), Some(y)) => {
-                x.status == y.status
-                    && x.count == y.count
-                    && x.params.as_slice() == y.params.as_slice()
-            }
-            (None, None) => true,
-            _ => false,
-        };
-        alike = alike && same;
+        let (one, other) = (a.take(Handle(handle)), b.take(Handle(handle)));
+        if !are_same(&one, &other) {
+            return false;
+        }
     }
-    alike
+    true
+}
+
+/// Whether two answers are the same, or there is none.
+fn are_same(one: &Option<Answer>, other: &Option<Answer>) -> bool {
+    match (one, other) {
+        (Some(x), Some(y)) => {
+            x.status == y.status && x.count == y.count && x.params.as_slice() == y.params.as_slice()
+        }
+        (None, None) => true,
+        _ => false,
+    }
 }
 
 /// Whether a link with a failed receive in this place of its script, or with this send failing, has this report and the
@@ -313,7 +332,7 @@ fn link_counts(alloc: Global) -> Result<DriveReport, NoMemory> {
 
 /// The same for a link: a failed receive in each place of its script, and each send failing in turn.
 pub fn failing_ends_of_a_link(alloc: Global) -> Result<Tally, NoMemory> {
-    let mut tally = Tally::default();
+    let mut tally = NOTHING;
     let whole = link_counts(alloc)?;
     tally.note(whole.answered == 4 && whole.sent == COMMANDS as u64);
     let with_turn = DriveReport {

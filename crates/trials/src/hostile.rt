@@ -4,6 +4,7 @@ use crate::readings::readings;
 use crate::vectors::{COUNT, vector};
 use oca_device::{Device, Outbox, Verdict};
 use oca_pdu::{Message, Messages, PduFault, check, write_command, write_keepalive};
+use oca_tree::Tree;
 use oca_types::{LOOPBACK, NoMemory, Packet, Peer};
 use std::alloc::Global;
 
@@ -26,7 +27,7 @@ const READER: Peer = Peer {
 };
 
 /// What the trial found.
-#[derive(Clone, Copy, Default)]
+#[derive(Clone, Copy)]
 pub struct Tally {
     /// Datagrams that were tried.
     pub tried: u64,
@@ -39,6 +40,15 @@ pub struct Tally {
     /// Datagrams for which something else came out.
     pub wrong: u64,
 }
+
+/// Nothing was tried yet.
+const NOTHING: Tally = Tally {
+    tried: 0,
+    refused: 0,
+    accepted: 0,
+    written_back: 0,
+    wrong: 0,
+};
 
 /// Two devices with the same history: one hears the damaged datagrams, the other does not.
 #[derive(Drop)]
@@ -62,7 +72,7 @@ fn new_bench(alloc: Global) -> Result<Bench, NoMemory> {
             outbox,
             expected,
             next_handle: 1,
-            tally: Tally::default(),
+            tally: NOTHING,
         }),
         Err(NoMemory) => Err(NoMemory),
     }
@@ -172,12 +182,9 @@ pub fn same_packets(a: &Outbox, b: &Outbox) -> bool {
         return false;
     }
     for i in 0..a.len() {
-        let alike = match (a.get(i), b.get(i)) {
-            (Some(x), Some(y)) => x.as_slice() == y.as_slice(),
-            _ => false,
-        };
-        if !alike {
-            return false;
+        match (a.get(i), b.get(i)) {
+            (Some(x), Some(y)) if x.as_slice() == y.as_slice() => {}
+            _ => return false,
         }
     }
     true
@@ -185,44 +192,54 @@ pub fn same_packets(a: &Outbox, b: &Outbox) -> bool {
 
 /// Whether both devices have the same objects, with the same locks and settings.
 pub fn same_objects(a: &Device, b: &Device) -> bool {
-    if a.tree().len() != b.tree().len() {
-        return false;
-    }
-    for i in 0..a.tree().len() {
-        let alike = match (a.tree().object_at(i), b.tree().object_at(i)) {
-            (Some(x), Some(y)) => {
-                x.ono == y.ono
-                    && a.tree().lock_of(x.ono) == b.tree().lock_of(x.ono)
-                    && a.tree().setting_of(x.ono) == b.tree().setting_of(x.ono)
-            }
-            _ => false,
-        };
-        if !alike {
+    same_trees(a.tree(), b.tree())
+}
+
+/// Whether both trees have the same objects, with the same locks and settings.
+fn same_trees(a: &Tree, b: &Tree) -> bool {
+    for index in 0..a.len() {
+        if !same_object(a, b, index) {
             return false;
         }
     }
-    true
+    a.len() == b.len()
+}
+
+/// Whether both trees have the same object in this place, with the same lock and setting.
+fn same_object(a: &Tree, b: &Tree, index: usize) -> bool {
+    match (a.object_at(index), b.object_at(index)) {
+        (Some(x), Some(y)) => {
+            x.ono == y.ono
+                && a.lock_of(x.ono) == b.lock_of(x.ono)
+                && a.setting_of(x.ono) == b.setting_of(x.ono)
+        }
+        _ => false,
+    }
 }
 
 /// Whether the only message of a datagram, where that is a command or a keep-alive, is written as these bytes.
 fn written_again(bytes: &[u8], messages: Messages<'_>) -> Option<bool> {
     let mut packet = Packet::new();
-    let mut is_first = true;
     for message in messages {
-        if !is_first {
+        if !packet.is_empty() {
             return None;
         }
-        is_first = false;
-        let written = match message {
-            Message::Command { respond, command } => write_command(&mut packet, respond, &command),
-            Message::KeepAlive { form } => write_keepalive(&mut packet, form),
-            Message::Response { .. } => return None,
-        };
-        if written.is_err() {
+        if !write(&mut packet, message)? {
             return Some(false);
         }
     }
     Some(packet.as_slice() == bytes)
+}
+
+/// Writes a message that is a command or a keep-alive. Whether it was written.
+fn write(packet: &mut Packet, message: Message<'_>) -> Option<bool> {
+    match message {
+        Message::Command { respond, command } => {
+            Some(write_command(packet, respond, &command).is_ok())
+        }
+        Message::KeepAlive { form } => Some(write_keepalive(packet, form).is_ok()),
+        Message::Response { .. } => None,
+    }
 }
 
 /// Each byte of each vector replaced by each other value, each prefix of each, and each followed by each.

@@ -107,9 +107,18 @@ pub fn put_bytes(alloc: Global, out: &mut String, bytes: &[u8]) -> Result<(), Fu
     if bytes.is_empty() {
         return put(out, "-\n");
     }
-    let Ok(text) = hex::encode(alloc, bytes) else {
-        return Err(Full);
-    };
-    put(out, text.as_str())?;
+    match hex::encode(alloc, bytes) {
+        Ok(text) => {
+            let done = put_line(out, text.as_str());
+            drop(text);
+            done
+        }
+        Err(_) => Err(Full),
+    }
+}
+
+/// A text and the end of the line.
+fn put_line(out: &mut String, text: &str) -> Result<(), Full> {
+    put(out, text)?;
     put(out, "\n")
 }

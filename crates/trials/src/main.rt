@@ -149,7 +149,8 @@ fn wrong_ends<R: Runtime>(
 /// The line of numbers behind their texts, of which the last is how many were wrong.
 fn tell<R: Runtime>(rt: &R, parts: &[(&str, u64)]) {
     for (text, number) in parts {
-        let _ = print!(rt; "{text}{number}");
+        let _ = print!(rt; "{text}");
+        let _ = print!(rt; "{number}");
     }
     let _ = println!(rt; " wrong");
 }
