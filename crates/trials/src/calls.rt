@@ -1,27 +1,21 @@
 //! Calls that take memory, one at a time, for a run in which memory is refused.
-use oca_device::{Device, Outbox};
-use oca_net::{BindFault, MemoryEnd, Scripted, UdpEnd};
-use oca_pair::{PairFault, Start, Step, run_pair};
+use crate::core_bench::{Size, device_of};
+use crate::devices::bench_device;
+use crate::ends::{NOWHERE, script};
+use oca_device::Outbox;
+use oca_net::{BindFault, MemoryEnd, UdpEnd};
+use oca_pair::{PairFault, Start, Step, Transcript, run_pair};
 use oca_session::Sessions;
 use oca_tree::{Room, TreeBuilder, bench};
-use oca_types::{Handle, LOOPBACK, MethodId, Ono, Peer, Peers, Sizes, Span, Window};
+use oca_types::{Handle, LOOPBACK, MethodId, NoMemory, Ono, Peer, Span, Window};
 use std::alloc::Global;
 use std::net::Net;
 use std::rt::Clock;
 
-/// The names of the calls.
-pub const NAMES: [&str; 10] = [
-    "tree-builder-new",
-    "tree-builder-with-room",
-    "bench",
-    "sessions-new",
-    "device-new",
-    "device-with-sizes",
-    "outbox-new",
-    "memory-end-new",
-    "udp-end-bind",
-    "run-pair",
-];
+/// The names of the calls, a line each.
+pub const NAMES: &str =
+    "tree-builder-new\ntree-builder-with-room\nbench\nsessions-new\ndevice-new\ndevice-with-sizes\noutbox-new\n\
+     memory-end-new\nudp-end-bind\nrun-pair";
 
 /// What a call answered.
 #[derive(Clone, Copy)]
@@ -38,75 +32,52 @@ pub enum Answered {
 pub fn call<R: Net + Clock>(alloc: Global, rt: &R, name: &str) -> Answered {
     match name {
         "nothing" => Answered::Done,
-        "tree-builder-new" => done_or_no_memory(TreeBuilder::new(alloc).is_ok()),
+        "tree-builder-new" => made(TreeBuilder::new(alloc)),
         "tree-builder-with-room" => with_room(alloc),
-        "bench" => done_or_no_memory(bench(alloc).is_ok()),
-        "sessions-new" => done_or_no_memory(Sessions::new(alloc, Window::default()).is_ok()),
-        "device-new" => device_new(alloc),
+        "bench" => made(bench(alloc)),
+        "sessions-new" => made(Sessions::new(alloc, Window::default())),
+        "device-new" => made(bench_device(alloc)),
         "device-with-sizes" => device_with_sizes(alloc),
-        "outbox-new" => done_or_no_memory(Outbox::new(alloc).is_ok()),
-        "memory-end-new" => memory_end_new(alloc),
+        "outbox-new" => made(Outbox::new(alloc)),
+        "memory-end-new" => made(memory_end(alloc)),
         "udp-end-bind" => udp_end_bind(alloc, rt),
         "run-pair" => paired(alloc),
         _ => Answered::Unknown,
     }
 }
 
-/// Whether it was done, or memory was refused.
-fn done_or_no_memory(done: bool) -> Answered {
-    if done {
-        Answered::Done
-    } else {
-        Answered::NoMemory
+/// Whether it was made, or memory was refused.
+fn made<T: Drop, E: Drop>(what: Result<T, E>) -> Answered {
+    match what {
+        Ok(_) => Answered::Done,
+        Err(_) => Answered::NoMemory,
     }
 }
 
 /// Room for as many objects as there can be.
 fn with_room(alloc: Global) -> Answered {
     match Room::new(4096) {
-        Some(room) => done_or_no_memory(TreeBuilder::with_room(alloc, room).is_ok()),
+        Some(room) => made(TreeBuilder::with_room(alloc, room)),
         None => Answered::Wrong,
     }
 }
 
-/// A device over the bench objects.
-fn device_new(alloc: Global) -> Answered {
-    let Ok(tree) = bench(alloc) else {
-        return Answered::NoMemory;
-    };
-    done_or_no_memory(Device::new(alloc, tree, Window::default()).is_ok())
-}
-
 /// A device over the bench objects, for 64 peers.
 fn device_with_sizes(alloc: Global) -> Answered {
-    let Ok(tree) = bench(alloc) else {
-        return Answered::NoMemory;
-    };
-    let Some(peers) = Peers::new(64) else {
-        return Answered::Wrong;
-    };
-    let window = Window::default();
-    done_or_no_memory(Device::with_sizes(alloc, tree, Sizes { window, peers }).is_ok())
+    match Size::new(8, 64) {
+        Some(size) => made(device_of(alloc, size)),
+        None => Answered::Wrong,
+    }
 }
 
 /// An end with one scripted datagram.
-fn memory_end_new(alloc: Global) -> Answered {
-    let mut script = Vec::new(alloc);
-    let Ok(bytes) = vec![in alloc; 0x3b, 0] else {
-        return Answered::NoMemory;
-    };
-    let from = Peer {
-        ip: LOOPBACK,
-        port: 9001,
-    };
-    let Ok(()) = script.push(Scripted::Datagram {
-        from,
-        bytes,
-        now: 0,
-    }) else {
-        return Answered::NoMemory;
-    };
-    done_or_no_memory(MemoryEnd::new(alloc, script, 4, None).is_ok())
+fn memory_end(alloc: Global) -> Result<MemoryEnd, NoMemory> {
+    MemoryEnd::new(
+        alloc,
+        script(alloc, &[(9001, Some(12), 0)], NOWHERE)?,
+        4,
+        None,
+    )
 }
 
 /// An end at 127.0.0.1 and a port of the system's choice.
@@ -160,25 +131,38 @@ const STARTS: [Start; 2] = [
     },
 ];
 
-/// The schedule over the bench device.
-fn paired(alloc: Global) -> Answered {
-    let Ok(tree) = bench(alloc) else {
-        return Answered::NoMemory;
-    };
+/// The steps of the schedule.
+fn paired_steps() -> [Step<'static>; STEPS] {
     let mut steps = [Step::Tick { now: 0 }; STEPS];
     for number in 0..STEPS {
         steps[number] = paired_step(number);
     }
-    match run_pair(
-        alloc,
-        tree,
-        Window::default(),
-        Span::default(),
-        &STARTS,
-        &steps,
-    ) {
+    steps
+}
+
+/// The schedule over the bench device.
+fn paired(alloc: Global) -> Answered {
+    let steps = paired_steps();
+    match bench(alloc) {
+        Ok(tree) => ran(run_pair(
+            alloc,
+            tree,
+            Window::default(),
+            Span::default(),
+            &STARTS,
+            &steps,
+        )),
+        Err(_) => Answered::NoMemory,
+    }
+}
+
+/// Whether a schedule ran with all that it asks for, or memory was refused.
+fn ran(what: Result<Transcript, PairFault>) -> Answered {
+    match what {
         Ok(transcript) => {
-            if transcript.log.len() == STEPS && transcript.to_links.len() == STEPS / 4 {
+            let is_whole = transcript.log.len() == STEPS && transcript.to_links.len() == STEPS / 4;
+            drop(transcript);
+            if is_whole {
                 Answered::Done
             } else {
                 Answered::Wrong

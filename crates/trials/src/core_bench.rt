@@ -1,4 +1,5 @@
 //! The device core without its scripts: datagrams made in memory, for counting instructions a command.
+use crate::devices::both;
 use crate::hostile::set;
 use crate::vectors::vector;
 use oca_device::{Device, Outbox};
@@ -32,8 +33,28 @@ pub enum Kind {
     Members,
 }
 
+/// The words for the kinds.
+const KINDS: &[(&str, Kind)] = &[
+    ("single", Kind::Single),
+    ("packed", Kind::Packed),
+    ("copies", Kind::Copies),
+    ("setting", Kind::Setting),
+    ("others", Kind::Others),
+    ("members", Kind::Members),
+];
+
+/// The kind with this word.
+pub fn kind_of(word: &str) -> Option<Kind> {
+    for (its, kind) in KINDS {
+        if *its == word {
+            return Some(*kind);
+        }
+    }
+    None
+}
+
 /// How many commands a datagram of this kind has.
-pub fn commands_in(kind: Kind) -> u32 {
+fn commands_in(kind: Kind) -> u32 {
     match kind {
         Kind::Packed => 86,
         Kind::Single | Kind::Copies | Kind::Setting | Kind::Others | Kind::Members => 1,
@@ -70,11 +91,8 @@ fn command_of(kind: Kind) -> Packet {
 fn datagram(kind: Kind) -> Packet {
     let commands = commands_in(kind);
     let one = command_of(kind);
-    let mut packet = Packet::new();
-    if let Some(header) = one.as_slice().get(..10) {
-        let _ = packet.try_extend_from_slice(header);
-    }
-    for _ in 0..commands {
+    let mut packet = command_of(kind);
+    for _ in 1..commands {
         if let Some(message) = one.as_slice().get(10..) {
             let _ = packet.try_extend_from_slice(message);
         }
@@ -165,28 +183,32 @@ fn tree_of(alloc: Global, size: Size) -> Result<Tree, NoMemory> {
             Err(_) => Err(NoMemory),
         };
     }
-    let Ok(mut builder) = TreeBuilder::with_room(alloc, size.room()) else {
-        return Err(NoMemory);
-    };
+    match TreeBuilder::with_room(alloc, size.room()) {
+        Ok(builder) => Ok(mutes(builder, size.objects)),
+        Err(_) => Err(NoMemory),
+    }
+}
+
+/// The tree with so many objects, mutes but for the root.
+fn mutes(mut builder: TreeBuilder, objects: u16) -> Tree {
     let spec = Spec {
         role: "mute",
         lockable: true,
         kind: ObjectKind::Mute(MuteState::Muted),
     };
-    for number in 1..size.objects {
+    for number in 1..objects {
         let ono = Ono(4096u32.saturating_add(u32::from(number)));
         let _ = builder.add(Ono(100), ono, &spec);
     }
-    Ok(builder.finish())
+    builder.finish()
 }
 
-/// The device of this size with its sessions, and an outbox.
-fn opened(alloc: Global, size: Size) -> Result<(Device, Outbox), NoMemory> {
-    let tree = tree_of(alloc, size)?;
-    let mut device = Device::with_sizes(alloc, tree, size.sizes())?;
-    let mut outbox = Outbox::new(alloc)?;
-    open_sessions(&mut device, &mut outbox, size.sessions);
-    Ok((device, outbox))
+/// The device of this size.
+pub fn device_of(alloc: Global, size: Size) -> Result<Device, NoMemory> {
+    match tree_of(alloc, size) {
+        Ok(tree) => Device::with_sizes(alloc, tree, size.sizes()),
+        Err(NoMemory) => Err(NoMemory),
+    }
 }
 
 /// Other peers say a keep-alive each, so that there are that many sessions with the one that is measured.
@@ -210,7 +232,8 @@ pub fn run(
     datagrams: u32,
     served: bool,
 ) -> Result<u64, NoMemory> {
-    let (mut device, mut outbox) = opened(alloc, size)?;
+    let (mut device, mut outbox) = both(device_of(alloc, size), Outbox::new(alloc))?;
+    open_sessions(&mut device, &mut outbox, size.sessions);
     let mut packet = datagram(kind);
     let mut handle = 0u32;
     let mut packets = 0u64;
@@ -222,5 +245,6 @@ pub fn run(
         }
         packets = packets.saturating_add(outbox.len() as u64);
     }
+    drop((device, outbox));
     Ok(packets)
 }

@@ -10,6 +10,13 @@ const RESPONSE: &[u8] =
 /// Binds 127.0.0.1 at a port of the system's choice, prints where on standard error, and answers so many datagrams.
 pub fn echo<R: Net + Eprint>(rt: &R, datagrams: u32) -> io::Result<()> {
     let socket = UdpSocket::bind(rt, SocketAddrV4::new(Ipv4Addr::new(127, 0, 0, 1), 0))?;
+    let answered = answer(rt, &socket, datagrams);
+    drop(socket);
+    answered
+}
+
+/// Prints where the socket is on standard error, and answers so many datagrams.
+fn answer<R: Net + Eprint>(rt: &R, socket: &UdpSocket, datagrams: u32) -> io::Result<()> {
     let local = socket.local_addr()?;
     eprintln!(rt; "listening 127.0.0.1:{}", local.port())?;
     let mut buffer = [0u8; 1473];

@@ -1,7 +1,8 @@
 //! The fields of the lines of schedules and of histories.
+use crate::lines::Full;
 use oca_script::field::{first_field, number, peer};
 use oca_tree::Value;
-use oca_types::{Class, Ono, Peer};
+use oca_types::{Class, MethodId, Ono, Peer};
 use std::alloc::Global;
 
 /// Why a line is refused.
@@ -86,6 +87,15 @@ impl<'a> Fields<'a> {
         }
     }
 
+    /// A method: its level and its index.
+    pub fn method(&mut self) -> Result<MethodId, LineFault> {
+        let level = self.short_number()?;
+        match self.short_number() {
+            Ok(index) => Ok(MethodId { level, index }),
+            Err(fault) => Err(fault),
+        }
+    }
+
     /// The number of a link or a datagram.
     pub fn place(&mut self) -> Result<usize, LineFault> {
         Ok(self.number()? as usize)
@@ -99,19 +109,13 @@ impl<'a> Fields<'a> {
         }
     }
 
-    /// Bytes.
-    pub fn bytes(&mut self, alloc: Global) -> Result<Vec<u8>, LineFault> {
+    /// Bytes, as their text.
+    pub fn hex(&mut self) -> Result<&'a [u8], LineFault> {
         let text = self.next()?;
-        if text == b"-".as_slice() {
-            return Ok(Vec::new(alloc));
-        }
-        if text.is_empty() {
-            return Err(LineFault::Hex);
-        }
-        match hex::decode(alloc, text) {
-            Ok(bytes) => Ok(bytes),
-            Err(hex::FromHexError::OutOfMemory) => Err(LineFault::NoMemory),
-            Err(_) => Err(LineFault::Hex),
+        if text == b"-".as_slice() || is_hex(text) {
+            Ok(text)
+        } else {
+            Err(LineFault::Hex)
         }
     }
 
@@ -156,6 +160,28 @@ impl<'a> Fields<'a> {
             Ok(digits) if text.first() != Some(&b'+') => parsed(digits),
             _ => Err(LineFault::Number),
         }
+    }
+}
+
+/// Whether a text is of bytes: two digits each, and not none.
+fn is_hex(text: &[u8]) -> bool {
+    for byte in text {
+        match *byte {
+            b'0'..=b'9' | b'a'..=b'f' | b'A'..=b'F' => {}
+            _ => return false,
+        }
+    }
+    !text.is_empty() && text.len() % 2 == 0
+}
+
+/// The bytes of a text that was found to be of bytes.
+pub fn bytes_of(alloc: Global, text: &[u8]) -> Result<Vec<u8>, Full> {
+    if text == b"-".as_slice() {
+        return Ok(Vec::new(alloc));
+    }
+    match hex::decode(alloc, text) {
+        Ok(bytes) => Ok(bytes),
+        Err(_) => Err(Full),
     }
 }
 

@@ -9,30 +9,30 @@
 //! and the objects that a datagram wrote to, where there are any; `sessions` and how many it has; and `objects` with
 //! each object that has a setting or a lock: its number, `=`, its setting or `-`, and behind `/t` or `/r` the holder of
 //! its total or its read-only lock.
-use crate::fields::{Fields, LineFault};
+use crate::fields::{Fields, LineFault, bytes_of};
 use crate::lines::{
-    Full, RunFault, put, put_bytes, put_integer, put_number, put_peer, put_set_fault, put_verdict,
+    Full, RunFault, print_text, put, put_bytes, put_integer, put_number, put_peer, put_set_fault,
+    put_verdict,
 };
-use crate::world::print_text;
 use oca_device::{Device, Outbox};
 use oca_script::field::{moment, peer};
 use oca_tree::{AddFault, Lock, LockKind, Setting, Tree, Value, bench_with_channels};
-use oca_types::{Ono, Peer, Peers, Sizes, Window};
+use oca_types::{NoMemory, Ono, Peer, Peers, Sizes, Window};
 use std::alloc::Global;
 
-/// A device in the middle of its history, and what is to be printed of it.
+/// The device of the present history, where one has begun, and what is to be printed of it.
 #[derive(Drop)]
-struct History {
-    device: Device,
+struct Present {
+    device: Option<Device>,
     outbox: Outbox,
     out: String,
 }
 
 /// What happens to a device.
-#[derive(Drop)]
-enum Happens {
+#[derive(Clone, Copy)]
+enum Happens<'a> {
     /// A datagram comes.
-    Datagram(Peer, Vec<u8>, u64),
+    Datagram(Peer, &'a [u8], u64),
     /// The clock is read.
     Quiet(u64),
     /// An object is set at the front.
@@ -40,25 +40,34 @@ enum Happens {
 }
 
 /// A line.
-#[derive(Drop)]
-enum Line {
-    /// A history begins.
-    Begins(History),
+#[derive(Clone, Copy)]
+enum Line<'a> {
+    /// A history begins, of a device of these sizes with so many channel strips.
+    Begins(Sizes, u16),
     /// An event of the history that began last.
-    Happens(Happens),
+    Happens(Happens<'a>),
 }
 
 /// Runs the histories that the text has, and prints what each device is after each event.
 pub fn histories<R: Print + AllocGlobal>(rt: &R, text: &str) -> Result<(), RunFault> {
-    let mut present = None;
-    run_lines(rt, text, &mut present)
+    let Ok(outbox) = Outbox::new(rt.alloc()) else {
+        return Err(RunFault::NoMemory);
+    };
+    let mut present = Present {
+        device: None,
+        outbox,
+        out: String::new(rt.alloc()),
+    };
+    let run = run_lines(rt, text, &mut present);
+    drop(present);
+    run
 }
 
-/// Runs the lines of the text; the history that began last is `present`.
+/// Runs the lines of the text.
 fn run_lines<R: Print + AllocGlobal>(
     rt: &R,
     text: &str,
-    present: &mut Option<History>,
+    present: &mut Present,
 ) -> Result<(), RunFault> {
     let mut count = 0u64;
     for line in text.lines() {
@@ -68,7 +77,7 @@ fn run_lines<R: Print + AllocGlobal>(
         }
         run_line(rt, line.as_bytes(), count, present)?;
     }
-    print_history(rt, present)
+    print_text(rt, present.out.as_str())
 }
 
 /// Runs the line of this number.
@@ -76,48 +85,63 @@ fn run_line<R: Print + AllocGlobal>(
     rt: &R,
     text: &[u8],
     number: u64,
-    present: &mut Option<History>,
+    present: &mut Present,
 ) -> Result<(), RunFault> {
-    match read_line(rt.alloc(), text) {
-        Ok(line) => take_line(rt, line, number, present),
-        Err(LineFault::NoMemory) => Err(RunFault::NoMemory),
+    match read_line(text) {
+        Ok(Line::Begins(sizes, channels)) => begin(rt, sizes, channels, number, present),
+        Ok(Line::Happens(happens)) => go_on(rt.alloc(), happens, number, present),
         Err(fault) => Err(RunFault::Line(number, fault)),
     }
 }
 
-/// Begins a history, or lets an event of the present one happen.
-fn take_line<R: Print + AllocGlobal>(
+/// Begins a history, once what is known of the present one was printed.
+fn begin<R: Print + AllocGlobal>(
     rt: &R,
-    line: Line,
+    sizes: Sizes,
+    channels: u16,
     number: u64,
-    present: &mut Option<History>,
+    present: &mut Present,
 ) -> Result<(), RunFault> {
-    match line {
-        Line::Begins(history) => begin(rt, history, present),
-        Line::Happens(happens) => go_on(rt.alloc(), &happens, number, present),
+    let device = match new_device(rt.alloc(), sizes, channels) {
+        Ok(device) => device,
+        Err(LineFault::NoMemory) => return Err(RunFault::NoMemory),
+        Err(fault) => return Err(RunFault::Line(number, fault)),
+    };
+    drop(present.device.replace(device));
+    let printed = print_text(rt, present.out.as_str());
+    present.out.clear();
+    match put(&mut present.out, "history\n") {
+        Ok(()) => printed,
+        Err(Full) => Err(RunFault::NoMemory),
     }
 }
 
-/// Prints what is known of the present history, and begins another one.
-fn begin<R: Print>(
-    rt: &R,
-    history: History,
-    present: &mut Option<History>,
-) -> Result<(), RunFault> {
-    let printed = print_history(rt, present);
-    *present = Some(history);
-    printed
+/// A device to which nothing happened.
+fn new_device(alloc: Global, sizes: Sizes, channels: u16) -> Result<Device, LineFault> {
+    match bench_with_channels(alloc, channels) {
+        Ok(tree) => match Device::with_sizes(alloc, tree, sizes) {
+            Ok(device) => Ok(device),
+            Err(NoMemory) => Err(LineFault::NoMemory),
+        },
+        Err(AddFault::NoMemory) => Err(LineFault::NoMemory),
+        Err(_) => Err(LineFault::Number),
+    }
 }
 
 /// Lets an event of the present history happen.
 fn go_on(
     alloc: Global,
-    happens: &Happens,
+    happens: Happens<'_>,
     number: u64,
-    present: &mut Option<History>,
+    present: &mut Present,
 ) -> Result<(), RunFault> {
-    match present {
-        Some(history) => match history.take(alloc, happens) {
+    let Present {
+        device,
+        outbox,
+        out,
+    } = present;
+    match device {
+        Some(device) => match take(alloc, happens, device, outbox, out) {
             Ok(()) => Ok(()),
             Err(Full) => Err(RunFault::NoMemory),
         },
@@ -125,114 +149,109 @@ fn go_on(
     }
 }
 
-/// Prints what is known of a history, where there is one.
-fn print_history<R: Print>(rt: &R, history: &Option<History>) -> Result<(), RunFault> {
-    match history {
-        Some(history) => print_text(rt, history.out.as_str()),
-        None => Ok(()),
-    }
-}
-
 /// What a line says.
-fn read_line(alloc: Global, text: &[u8]) -> Result<Line, LineFault> {
+fn read_line(text: &[u8]) -> Result<Line<'_>, LineFault> {
     let mut fields = Fields::new(text);
     let first = fields.next()?;
     if first == b"history".as_slice() {
-        return Ok(Line::Begins(begun(alloc, &mut fields)?));
+        return begun(&mut fields);
     }
+    let happens = read_event(first, &mut fields)?;
+    fields.end()?;
+    Ok(Line::Happens(happens))
+}
+
+/// The event of a line of which the first field was read.
+fn read_event<'a>(first: &[u8], fields: &mut Fields<'a>) -> Result<Happens<'a>, LineFault> {
     if first == b"set".as_slice() {
-        let (ono, value) = fields.local()?;
-        return Ok(Line::Happens(Happens::Set(ono, value)));
+        return set_at_front(fields);
     }
-    let Some(now) = moment(first) else {
-        return Err(LineFault::Moment);
-    };
+    match moment(first) {
+        Some(now) => timed(now, fields),
+        None => Err(LineFault::Moment),
+    }
+}
+
+/// A change at the front.
+fn set_at_front<'a>(fields: &mut Fields<'_>) -> Result<Happens<'a>, LineFault> {
+    match fields.local() {
+        Ok((ono, value)) => Ok(Happens::Set(ono, value)),
+        Err(fault) => Err(fault),
+    }
+}
+
+/// An event of which the moment was read.
+fn timed<'a>(now: u64, fields: &mut Fields<'a>) -> Result<Happens<'a>, LineFault> {
     let second = fields.next()?;
     if second == b"quiet".as_slice() {
-        fields.end()?;
-        return Ok(Line::Happens(Happens::Quiet(now)));
+        return Ok(Happens::Quiet(now));
     }
     let Some(from) = peer(second) else {
         return Err(LineFault::Peer);
     };
-    let bytes = fields.bytes(alloc)?;
-    fields.end()?;
-    Ok(Line::Happens(Happens::Datagram(from, bytes, now)))
+    match fields.hex() {
+        Ok(text) => Ok(Happens::Datagram(from, text, now)),
+        Err(fault) => Err(fault),
+    }
 }
 
-/// A device to which nothing happened.
-fn begun(alloc: Global, fields: &mut Fields<'_>) -> Result<History, LineFault> {
+/// What begins a history.
+fn begun<'a>(fields: &mut Fields<'_>) -> Result<Line<'a>, LineFault> {
     let window = fields.byte()?;
     let peers = fields.byte()?;
     let channels = fields.short_number()?;
     fields.end()?;
-    let (Some(window), Some(peers)) = (Window::new(window), Peers::new(peers)) else {
-        return Err(LineFault::Number);
-    };
-    let tree = match bench_with_channels(alloc, channels) {
-        Ok(tree) => tree,
-        Err(AddFault::NoMemory) => return Err(LineFault::NoMemory),
-        Err(_) => return Err(LineFault::Number),
-    };
-    match new_history(alloc, tree, Sizes { window, peers }) {
-        Ok(history) => Ok(history),
-        Err(_) => Err(LineFault::NoMemory),
+    match (Window::new(window), Peers::new(peers)) {
+        (Some(window), Some(peers)) => Ok(Line::Begins(Sizes { window, peers }, channels)),
+        _ => Err(LineFault::Number),
     }
 }
 
-/// A device of these objects and sizes.
-fn new_history(alloc: Global, tree: Tree, sizes: Sizes) -> Result<History, Full> {
-    let (Ok(device), Ok(outbox)) = (Device::with_sizes(alloc, tree, sizes), Outbox::new(alloc))
-    else {
-        return Err(Full);
-    };
-    let mut out = String::new(alloc);
-    put(&mut out, "history\n")?;
-    Ok(History {
-        device,
-        outbox,
-        out,
-    })
+/// Lets an event happen, and notes what the device is then.
+fn take(
+    alloc: Global,
+    happens: Happens<'_>,
+    device: &mut Device,
+    outbox: &mut Outbox,
+    out: &mut String,
+) -> Result<(), Full> {
+    match happens {
+        Happens::Datagram(from, text, now) => {
+            hear(alloc, device, outbox, out, (from, text, now))?;
+        }
+        Happens::Quiet(now) => {
+            device.tick(now);
+            put(out, "quiet\n")?;
+        }
+        Happens::Set(ono, value) => set(device, out, ono, value)?,
+    }
+    put_number(out, "sessions ", device.sessions() as u64)?;
+    put_objects(out, device.tree())
 }
 
-impl History {
-    /// Lets an event happen, and notes what the device is then.
-    fn take(&mut self, alloc: Global, happens: &Happens) -> Result<(), Full> {
-        self.outbox.clear();
-        match happens {
-            Happens::Datagram(from, bytes, now) => {
-                self.hear(alloc, *from, bytes.as_slice(), *now)?;
-            }
-            Happens::Quiet(now) => {
-                self.device.tick(*now);
-                put(&mut self.out, "quiet\n")?;
-            }
-            Happens::Set(ono, value) => self.set(*ono, *value)?,
-        }
-        self.put_state()
-    }
+/// Hands the device a datagram, and notes the verdict, its packets and what it wrote to.
+fn hear(
+    alloc: Global,
+    device: &mut Device,
+    outbox: &mut Outbox,
+    out: &mut String,
+    datagram: (Peer, &[u8], u64),
+) -> Result<(), Full> {
+    let (from, text, now) = datagram;
+    outbox.clear();
+    let bytes = bytes_of(alloc, text)?;
+    let verdict = device.datagram(from, bytes.as_slice(), now, outbox);
+    drop(bytes);
+    put_verdict(out, verdict)?;
+    put_packets(alloc, out, outbox)?;
+    put_written(out, device.written())
+}
 
-    /// Hands the device a datagram, and notes the verdict, its packets and what it wrote to.
-    fn hear(&mut self, alloc: Global, from: Peer, bytes: &[u8], now: u64) -> Result<(), Full> {
-        let verdict = self.device.datagram(from, bytes, now, &mut self.outbox);
-        put_verdict(&mut self.out, verdict)?;
-        put_packets(alloc, &mut self.out, &self.outbox)?;
-        put_written(&mut self.out, self.device.written())
-    }
-
-    /// Sets an object at the front, and notes what came of it.
-    fn set(&mut self, ono: Ono, value: Value) -> Result<(), Full> {
-        match self.device.set(ono, value) {
-            Ok(()) => put(&mut self.out, "set\n"),
-            Err(fault) => put_set_fault(&mut self.out, fault),
-        }
-    }
-
-    /// Notes how many sessions the device has, and its objects.
-    fn put_state(&mut self) -> Result<(), Full> {
-        put_number(&mut self.out, "sessions ", self.device.sessions() as u64)?;
-        put(&mut self.out, "\n")?;
-        put_objects(&mut self.out, self.device.tree())
+/// Sets an object at the front, and notes what came of it.
+fn set(device: &mut Device, out: &mut String, ono: Ono, value: Value) -> Result<(), Full> {
+    match device.set(ono, value) {
+        Ok(()) => put(out, "set\n"),
+        Err(fault) => put_set_fault(out, fault),
     }
 }
 
@@ -257,9 +276,9 @@ fn put_written(out: &mut String, written: &[Ono]) -> Result<(), Full> {
     put(out, "\n")
 }
 
-/// The line of the objects that have a setting or a lock.
+/// The line of the objects that have a setting or a lock, behind another line.
 fn put_objects(out: &mut String, tree: &Tree) -> Result<(), Full> {
-    put(out, "objects")?;
+    put(out, "\nobjects")?;
     for index in 0..tree.len() {
         if let Some(object) = tree.object_at(index) {
             let ono = object.ono;
@@ -280,7 +299,6 @@ fn put_object(
         return Ok(());
     }
     put_number(out, " ", u64::from(ono.0))?;
-    put(out, "=")?;
     put_setting(out, setting)?;
     match lock {
         None => Ok(()),
@@ -288,15 +306,16 @@ fn put_object(
     }
 }
 
-/// A setting, or `-`.
+/// A setting, or `-`, behind `=`.
 fn put_setting(out: &mut String, setting: Option<Setting>) -> Result<(), Full> {
-    match setting {
-        None => put(out, "-"),
-        Some(Setting::State(state)) => put_number(out, "", u64::from(state)),
-        Some(Setting::Position(position)) => put_number(out, "", u64::from(position)),
-        Some(Setting::Truth(truth)) => put_number(out, "", u64::from(truth)),
-        Some(Setting::Number { setting, .. }) => put_integer(out, setting),
-    }
+    let setting = match setting {
+        None => return put(out, "=-"),
+        Some(Setting::State(state)) => i128::from(state),
+        Some(Setting::Position(position)) => i128::from(position),
+        Some(Setting::Truth(truth)) => i128::from(truth),
+        Some(Setting::Number { setting, .. }) => setting,
+    };
+    put_integer(out, "=", setting)
 }
 
 /// A lock: its kind and its holder.

@@ -1,10 +1,11 @@
 //! Damaged datagrams: what a device refuses leaves it as it was, and what it accepts is what the writer writes.
+use crate::devices::{bench_device, both};
 use crate::readings::readings;
 use crate::vectors::{COUNT, vector};
 use oca_device::{Device, Outbox, Verdict};
 use oca_pdu::{Message, Messages, PduFault, check, write_command, write_keepalive};
-use oca_tree::bench;
-use oca_types::{LOOPBACK, NoMemory, Packet, Peer, Window};
+use oca_tree::Tree;
+use oca_types::{LOOPBACK, NoMemory, Packet, Peer};
 use std::alloc::Global;
 
 /// Who sends.
@@ -26,7 +27,7 @@ const READER: Peer = Peer {
 };
 
 /// What the trial found.
-#[derive(Clone, Copy, Default)]
+#[derive(Clone, Copy)]
 pub struct Tally {
     /// Datagrams that were tried.
     pub tried: u64,
@@ -40,6 +41,15 @@ pub struct Tally {
     pub wrong: u64,
 }
 
+/// Nothing was tried yet.
+const NOTHING: Tally = Tally {
+    tried: 0,
+    refused: 0,
+    accepted: 0,
+    written_back: 0,
+    wrong: 0,
+};
+
 /// Two devices with the same history: one hears the damaged datagrams, the other does not.
 #[derive(Drop)]
 struct Bench {
@@ -51,29 +61,24 @@ struct Bench {
     tally: Tally,
 }
 
+/// Two bench devices that heard nothing.
+fn new_bench(alloc: Global) -> Result<Bench, NoMemory> {
+    let devices = both(bench_device(alloc), bench_device(alloc));
+    let outboxes = both(Outbox::new(alloc), Outbox::new(alloc));
+    match both(devices, outboxes) {
+        Ok(((tried, untouched), (outbox, expected))) => Ok(Bench {
+            tried,
+            untouched,
+            outbox,
+            expected,
+            next_handle: 1,
+            tally: NOTHING,
+        }),
+        Err(NoMemory) => Err(NoMemory),
+    }
+}
+
 impl Bench {
-    /// Two bench devices with retained replies.
-    fn new(alloc: Global) -> Result<Bench, NoMemory> {
-        let mut bench = Bench::empty(alloc)?;
-        bench.fill();
-        Ok(bench)
-    }
-
-    /// Two bench devices that heard nothing.
-    fn empty(alloc: Global) -> Result<Bench, NoMemory> {
-        match (devices(alloc), outboxes(alloc)) {
-            (Ok((tried, untouched)), Ok((outbox, expected))) => Ok(Bench {
-                tried,
-                untouched,
-                outbox,
-                expected,
-                next_handle: 1,
-                tally: Tally::default(),
-            }),
-            _ => Err(NoMemory),
-        }
-    }
-
     /// Has both devices retain replies.
     fn fill(&mut self) {
         for number in [2, 4, 10, 12] {
@@ -117,65 +122,50 @@ impl Bench {
 
     /// The bytes have the fault of this number in this place.
     fn expect(&mut self, bytes: &[u8], fault: (u8, u16)) {
-        let found = match check(bytes) {
-            Err(found) => (found.kind.number(), found.at),
-            Ok(_) => (0, 0),
+        let is_that = match check(bytes) {
+            Err(found) => found.kind.number() == fault.0 && found.at == fault.1,
+            Ok(_) => false,
         };
-        if found != fault {
-            self.tally.wrong = self.tally.wrong.saturating_add(1);
+        if !is_that {
+            count(&mut self.tally.wrong);
         }
     }
 
     /// Tries one datagram.
     fn attempt(&mut self, bytes: &[u8]) {
-        self.tally.tried = self.tally.tried.saturating_add(1);
+        count(&mut self.tally.tried);
         match check(bytes) {
-            Err(fault) => {
-                if self.is_refused(SENDER, bytes, fault)
-                    && self.is_refused(STRANGER, bytes, fault)
-                    && self.is_untouched()
-                {
-                    self.tally.refused = self.tally.refused.saturating_add(1);
-                } else {
-                    self.tally.wrong = self.tally.wrong.saturating_add(1);
-                }
-            }
-            Ok(datagram) => {
-                self.tally.accepted = self.tally.accepted.saturating_add(1);
-                match written_again(datagram.messages()) {
-                    Rewritten::Again(packet) if packet.as_slice() == bytes => {
-                        self.tally.written_back = self.tally.written_back.saturating_add(1);
-                    }
-                    Rewritten::Other => {}
-                    _ => self.tally.wrong = self.tally.wrong.saturating_add(1),
-                }
-            }
+            Err(fault) => self.refuse(bytes, fault),
+            Ok(datagram) => self.accept(bytes, datagram.messages()),
+        }
+    }
+
+    /// Tries a datagram that has this fault.
+    fn refuse(&mut self, bytes: &[u8], fault: PduFault) {
+        let is_good = self.is_refused(SENDER, bytes, fault)
+            && self.is_refused(STRANGER, bytes, fault)
+            && self.is_untouched();
+        if is_good {
+            count(&mut self.tally.refused);
+        } else {
+            count(&mut self.tally.wrong);
+        }
+    }
+
+    /// Tries a datagram of these messages.
+    fn accept(&mut self, bytes: &[u8], messages: Messages<'_>) {
+        count(&mut self.tally.accepted);
+        match written_again(bytes, messages) {
+            Some(true) => count(&mut self.tally.written_back),
+            Some(false) => count(&mut self.tally.wrong),
+            None => {}
         }
     }
 }
 
-/// A bench device.
-fn device(alloc: Global) -> Result<Device, NoMemory> {
-    let Ok(tree) = bench(alloc) else {
-        return Err(NoMemory);
-    };
-    Device::new(alloc, tree, Window::default())
-}
-
-/// Two bench devices.
-fn devices(alloc: Global) -> Result<(Device, Device), NoMemory> {
-    match (device(alloc), device(alloc)) {
-        (Ok(one), Ok(other)) => Ok((one, other)),
-        _ => Err(NoMemory),
-    }
-}
-
-/// Two outboxes.
-fn outboxes(alloc: Global) -> Result<(Outbox, Outbox), NoMemory> {
-    match (Outbox::new(alloc), Outbox::new(alloc)) {
-        (Ok(one), Ok(other)) => Ok((one, other)),
-        _ => Err(NoMemory),
-    }
+/// One more.
+fn count(number: &mut u64) {
+    *number = number.saturating_add(1);
 }
 
 /// Whether the verdict is this fault.
@@ -192,12 +182,9 @@ pub fn same_packets(a: &Outbox, b: &Outbox) -> bool {
         return false;
     }
     for i in 0..a.len() {
-        let alike = match (a.get(i), b.get(i)) {
-            (Some(x), Some(y)) => x.as_slice() == y.as_slice(),
-            _ => false,
-        };
-        if !alike {
-            return false;
+        match (a.get(i), b.get(i)) {
+            (Some(x), Some(y)) if x.as_slice() == y.as_slice() => {}
+            _ => return false,
         }
     }
     true
@@ -205,60 +192,60 @@ pub fn same_packets(a: &Outbox, b: &Outbox) -> bool {
 
 /// Whether both devices have the same objects, with the same locks and settings.
 pub fn same_objects(a: &Device, b: &Device) -> bool {
-    if a.tree().len() != b.tree().len() {
-        return false;
-    }
-    for i in 0..a.tree().len() {
-        let alike = match (a.tree().object_at(i), b.tree().object_at(i)) {
-            (Some(x), Some(y)) => {
-                x.ono == y.ono
-                    && a.tree().lock_of(x.ono) == b.tree().lock_of(x.ono)
-                    && a.tree().setting_of(x.ono) == b.tree().setting_of(x.ono)
-            }
-            _ => false,
-        };
-        if !alike {
+    same_trees(a.tree(), b.tree())
+}
+
+/// Whether both trees have the same objects, with the same locks and settings.
+fn same_trees(a: &Tree, b: &Tree) -> bool {
+    for index in 0..a.len() {
+        if !same_object(a, b, index) {
             return false;
         }
     }
-    true
+    a.len() == b.len()
 }
 
-/// What the writers make of the messages of a datagram.
-#[derive(Drop)]
-enum Rewritten {
-    /// Its only message, a command or a keep-alive, written again.
-    Again(Packet),
-    /// It has responses or several messages.
-    Other,
-    /// The writer refused it.
-    Refused,
-}
-
-/// The only message of a datagram once more, where it is a command or a keep-alive.
-fn written_again(messages: Messages<'_>) -> Rewritten {
-    let mut packet = Packet::new();
-    let mut count = 0u32;
-    for message in messages {
-        if count == 1 {
-            return Rewritten::Other;
+/// Whether both trees have the same object in this place, with the same lock and setting.
+fn same_object(a: &Tree, b: &Tree, index: usize) -> bool {
+    match (a.object_at(index), b.object_at(index)) {
+        (Some(x), Some(y)) => {
+            x.ono == y.ono
+                && a.lock_of(x.ono) == b.lock_of(x.ono)
+                && a.setting_of(x.ono) == b.setting_of(x.ono)
         }
-        count = 1;
-        let written = match message {
-            Message::Command { respond, command } => write_command(&mut packet, respond, &command),
-            Message::KeepAlive { form } => write_keepalive(&mut packet, form),
-            Message::Response { .. } => return Rewritten::Other,
-        };
-        if written.is_err() {
-            return Rewritten::Refused;
+        _ => false,
+    }
+}
+
+/// Whether the only message of a datagram, where that is a command or a keep-alive, is written as these bytes.
+fn written_again(bytes: &[u8], messages: Messages<'_>) -> Option<bool> {
+    let mut packet = Packet::new();
+    for message in messages {
+        if !packet.is_empty() {
+            return None;
+        }
+        if !write(&mut packet, message)? {
+            return Some(false);
         }
     }
-    Rewritten::Again(packet)
+    Some(packet.as_slice() == bytes)
+}
+
+/// Writes a message that is a command or a keep-alive. Whether it was written.
+fn write(packet: &mut Packet, message: Message<'_>) -> Option<bool> {
+    match message {
+        Message::Command { respond, command } => {
+            Some(write_command(packet, respond, &command).is_ok())
+        }
+        Message::KeepAlive { form } => Some(write_keepalive(packet, form).is_ok()),
+        Message::Response { .. } => None,
+    }
 }
 
 /// Each byte of each vector replaced by each other value, each prefix of each, and each followed by each.
 pub fn hostile(alloc: Global) -> Result<Tally, NoMemory> {
-    let mut bench = Bench::new(alloc)?;
+    let mut bench = new_bench(alloc)?;
+    bench.fill();
     for number in 0..COUNT {
         changed_bytes(&mut bench, vector(number));
         prefixes(&mut bench, vector(number));
@@ -266,7 +253,9 @@ pub fn hostile(alloc: Global) -> Result<Tally, NoMemory> {
             followed(&mut bench, vector(number), vector(next));
         }
     }
-    Ok(bench.tally)
+    let tally = bench.tally;
+    drop(bench);
+    Ok(tally)
 }
 
 /// Each byte replaced by each other value.

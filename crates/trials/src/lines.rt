@@ -36,12 +36,20 @@ pub fn put(out: &mut String, text: &str) -> Result<(), Full> {
 
 /// A number behind a text.
 pub fn put_number(out: &mut String, text: &str, number: u64) -> Result<(), Full> {
-    Ok(write!(out, "{text}{number}")?)
+    put_integer(out, text, i128::from(number))
 }
 
-/// An integer.
-pub fn put_integer(out: &mut String, integer: i128) -> Result<(), Full> {
-    Ok(write!(out, "{integer}")?)
+/// An integer behind a text.
+pub fn put_integer(out: &mut String, text: &str, integer: i128) -> Result<(), Full> {
+    Ok(write!(out, "{text}{integer}")?)
+}
+
+/// Prints a text.
+pub fn print_text<R: Print>(rt: &R, text: &str) -> Result<(), RunFault> {
+    match print!(rt; "{text}") {
+        Ok(()) => Ok(()),
+        Err(_) => Err(RunFault::Write),
+    }
 }
 
 /// The line of what a device made of a datagram.
@@ -99,9 +107,18 @@ pub fn put_bytes(alloc: Global, out: &mut String, bytes: &[u8]) -> Result<(), Fu
     if bytes.is_empty() {
         return put(out, "-\n");
     }
-    let Ok(text) = hex::encode(alloc, bytes) else {
-        return Err(Full);
-    };
-    put(out, text.as_str())?;
+    match hex::encode(alloc, bytes) {
+        Ok(text) => {
+            let done = put_line(out, text.as_str());
+            drop(text);
+            done
+        }
+        Err(_) => Err(Full),
+    }
+}
+
+/// A text and the end of the line.
+fn put_line(out: &mut String, text: &str) -> Result<(), Full> {
+    put(out, text)?;
     put(out, "\n")
 }

@@ -10,6 +10,7 @@
 
 mod calls;
 mod core_bench;
+mod devices;
 mod echo;
 mod ends;
 mod fields;
@@ -22,7 +23,7 @@ mod vectors;
 mod world;
 
 use calls::{Answered, NAMES, call};
-use core_bench::{Kind, Size};
+use core_bench::{Size, kind_of};
 use history::histories;
 use lines::RunFault;
 use oca_types::NoMemory;
@@ -37,29 +38,38 @@ fn main(rt: HostRuntime) -> ExitCode {
     let Ok(args) = env::args(&rt) else {
         return exit_with(&rt, "no memory", 1);
     };
-    let Ok(words) = args.collect::<Vec<String>>(rt.alloc()) else {
-        return exit_with(&rt, "no memory", 1);
-    };
-    match words.as_slice() {
-        [_] => damaged(&rt),
-        [_, verb] => of_one_word(&rt, verb.as_str()),
-        [_, verb, word] => of_two_words(&rt, verb.as_str(), word.as_str()),
+    match args.collect::<Vec<String>>(rt.alloc()) {
+        Ok(words) => {
+            let status = of_words(&rt, words.as_slice());
+            drop(words);
+            status
+        }
+        Err(_) => exit_with(&rt, "no memory", 1),
+    }
+}
+
+/// Runs the trial that the words name, behind the program's own.
+fn of_words<R: Runtime + AllocGlobal + Net>(rt: &R, words: &[String]) -> ExitCode {
+    match words {
+        [_] => damaged(rt),
+        [_, verb] => of_one_word(rt, verb.as_str()),
+        [_, verb, word] => of_two_words(rt, verb.as_str(), word.as_str()),
         [_, verb, kind, objects, sessions, count, way] if verb.as_str() == "bench" => {
             match size_of(objects.as_str(), sessions.as_str()) {
-                Some(size) => measured(&rt, kind.as_str(), size, count.as_str(), way.as_str()),
-                None => exit_with(&rt, "bad words", 2),
+                Some(size) => measured(rt, kind.as_str(), size, count.as_str(), way.as_str()),
+                None => exit_with(rt, "bad words", 2),
             }
         }
-        _ => exit_with(&rt, "bad words", 2),
+        _ => exit_with(rt, "bad words", 2),
     }
 }
 
 /// Runs the trial that one word names.
 fn of_one_word<R: Runtime + AllocGlobal>(rt: &R, verb: &str) -> ExitCode {
     match verb {
-        "calls" => names(rt),
-        "world" => schedules(rt),
-        "events" => events(rt),
+        "calls" => exit_with(rt, NAMES, 0),
+        "world" => of_lines(rt, true),
+        "events" => of_lines(rt, false),
         _ => exit_with(rt, "bad words", 2),
     }
 }
@@ -94,35 +104,55 @@ fn damaged<R: Runtime + AllocGlobal>(rt: &R) -> ExitCode {
 
 /// How many of the damaged datagrams and of the runs with failing ends are wrong. A line is printed of each trial.
 fn wrong<R: Runtime + AllocGlobal>(rt: &R) -> Result<u64, NoMemory> {
-    let datagrams = hostile::hostile(rt.alloc())?;
-    tell_datagrams(rt, &datagrams);
-    let devices = ends::failing_ends(rt.alloc())?;
-    tell_ends(rt, "failing ends", &devices);
-    let links = ends::failing_ends_of_a_link(rt.alloc())?;
-    tell_ends(rt, "failing ends of a link", &links);
-    Ok(
-        datagrams
-            .wrong
-            .saturating_add(devices.wrong)
-            .saturating_add(links.wrong),
-    )
+    let datagrams = wrong_datagrams(rt, hostile::hostile(rt.alloc()))?;
+    let devices = wrong_ends(rt, "failing ends: ", ends::failing_ends(rt.alloc()))?;
+    let links = ends::failing_ends_of_a_link(rt.alloc());
+    match wrong_ends(rt, "failing ends of a link: ", links) {
+        Ok(links) => Ok(datagrams.saturating_add(devices).saturating_add(links)),
+        Err(NoMemory) => Err(NoMemory),
+    }
 }
 
-/// The line of the damaged datagrams.
-fn tell_datagrams<R: Runtime>(rt: &R, tally: &hostile::Tally) {
-    let _ = println!(rt;
-        "damaged datagrams: {} tried, {} refused with nothing changed, {} accepted, {} of them written back alike, \
-         {} wrong",
-        tally.tried, tally.refused, tally.accepted, tally.written_back, tally.wrong
-    );
+/// Prints the line of the damaged datagrams. How many are wrong.
+fn wrong_datagrams<R: Runtime>(
+    rt: &R,
+    tally: Result<hostile::Tally, NoMemory>,
+) -> Result<u64, NoMemory> {
+    let tally = tally?;
+    let parts = [
+        ("damaged datagrams: ", tally.tried),
+        (" tried, ", tally.refused),
+        (" refused with nothing changed, ", tally.accepted),
+        (" accepted, ", tally.written_back),
+        (" of them written back alike, ", tally.wrong),
+    ];
+    tell(rt, &parts);
+    Ok(tally.wrong)
 }
 
-/// The line of runs with failing ends.
-fn tell_ends<R: Runtime>(rt: &R, name: &str, tally: &ends::Tally) {
-    let _ = println!(rt;
-        "{name}: {} runs with a failed receive, {} with a failed send, {} wrong",
-        tally.receives, tally.sends, tally.wrong
-    );
+/// Prints the line of runs with failing ends. How many are wrong.
+fn wrong_ends<R: Runtime>(
+    rt: &R,
+    name: &str,
+    tally: Result<ends::Tally, NoMemory>,
+) -> Result<u64, NoMemory> {
+    let tally = tally?;
+    let parts = [
+        (name, tally.receives),
+        (" runs with a failed receive, ", tally.sends),
+        (" with a failed send, ", tally.wrong),
+    ];
+    tell(rt, &parts);
+    Ok(tally.wrong)
+}
+
+/// The line of numbers behind their texts, of which the last is how many were wrong.
+fn tell<R: Runtime>(rt: &R, parts: &[(&str, u64)]) {
+    for (text, number) in parts {
+        let _ = print!(rt; "{text}");
+        let _ = print!(rt; "{number}");
+    }
+    let _ = println!(rt; " wrong");
 }
 
 /// A bare loop at a socket.
@@ -136,18 +166,18 @@ fn echoed<R: Runtime + Net>(rt: &R, count: &str) -> ExitCode {
     }
 }
 
-/// The schedules on standard input.
-fn schedules<R: Runtime + AllocGlobal>(rt: &R) -> ExitCode {
+/// The schedules on standard input, or the histories.
+fn of_lines<R: Runtime + AllocGlobal>(rt: &R, are_schedules: bool) -> ExitCode {
     match io::read_to_string(rt.alloc(), rt.reader()) {
-        Ok(text) => ended(rt, worlds(rt, text.as_str())),
-        Err(_) => exit_with(rt, "read failed", 1),
-    }
-}
-
-/// The histories on standard input.
-fn events<R: Runtime + AllocGlobal>(rt: &R) -> ExitCode {
-    match io::read_to_string(rt.alloc(), rt.reader()) {
-        Ok(text) => ended(rt, histories(rt, text.as_str())),
+        Ok(text) => {
+            let run = if are_schedules {
+                worlds(rt, text.as_str())
+            } else {
+                histories(rt, text.as_str())
+            };
+            drop(text);
+            ended(rt, run)
+        }
         Err(_) => exit_with(rt, "read failed", 1),
     }
 }
@@ -164,14 +194,6 @@ fn ended<R: Runtime>(rt: &R, run: Result<(), RunFault>) -> ExitCode {
             ExitCode::from(2)
         }
     }
-}
-
-/// The names of the calls that take memory.
-fn names<R: Runtime + AllocGlobal>(rt: &R) -> ExitCode {
-    for name in NAMES {
-        let _ = println!(rt; "{name}");
-    }
-    ExitCode::SUCCESS
 }
 
 /// One call that takes memory.
@@ -200,23 +222,22 @@ fn measured<R: Runtime + AllocGlobal>(
     count: &str,
     way: &str,
 ) -> ExitCode {
-    let kind = match kind {
-        "single" => Kind::Single,
-        "packed" => Kind::Packed,
-        "copies" => Kind::Copies,
-        "setting" => Kind::Setting,
-        "others" => Kind::Others,
-        "members" => Kind::Members,
-        _ => return exit_with(rt, "bad words", 2),
-    };
-    let (Ok(count), true) = (count.parse::<u32>(), way == "served" || way == "made") else {
-        return exit_with(rt, "bad words", 2);
-    };
-    match core_bench::run(rt.alloc(), kind, size, count, way == "served") {
+    let served = way == "served";
+    match (kind_of(kind), count.parse::<u32>()) {
+        (Some(kind), Ok(count)) if served || way == "made" => {
+            tell_packets(rt, core_bench::run(rt.alloc(), kind, size, count, served))
+        }
+        _ => exit_with(rt, "bad words", 2),
+    }
+}
+
+/// The line of how many packets came back.
+fn tell_packets<R: Runtime>(rt: &R, packets: Result<u64, NoMemory>) -> ExitCode {
+    match packets {
         Ok(packets) => {
             let _ = println!(rt; "{packets} packets");
             ExitCode::SUCCESS
         }
-        Err(_) => exit_with(rt, "no memory", 1),
+        Err(NoMemory) => exit_with(rt, "no memory", 1),
     }
 }

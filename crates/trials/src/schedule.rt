@@ -14,117 +14,65 @@
 //! to `uint64`, and VALUE the number of a state, a position, 0 or 1, or an integer of the type.
 use crate::fields::{Fields, LineFault, number_32};
 use oca_pair::{Start, Step};
-use oca_script::field::{moment, number, peer};
+use oca_script::field::{moment, number, peer, split_at_byte};
 use oca_types::{Handle, MethodId, Ono, Peers, Sizes, Span, Window};
-use std::alloc::Global;
 
-/// A step with its own bytes.
-#[derive(Drop)]
-pub struct HeldStep {
-    step: Step<'static>,
-    bytes: Vec<u8>,
-}
-
-impl HeldStep {
-    /// The step.
-    pub fn step(&self) -> Step<'_> {
-        match self.step {
-            Step::Submit {
-                link,
-                target,
-                method,
-                count,
-                params: _,
-                now,
-            } => Step::Submit {
-                link,
-                target,
-                method,
-                count,
-                params: self.bytes.as_slice(),
-                now,
-            },
-            Step::Other {
-                from,
-                bytes: _,
-                now,
-            } => Step::Other {
-                from,
-                bytes: self.bytes.as_slice(),
-                now,
-            },
-            other => other,
-        }
-    }
-}
-
-/// A schedule.
-#[derive(Drop)]
-pub struct Schedule {
-    /// The sizes of the device.
-    pub sizes: Sizes,
-    /// The span of the links.
-    pub span: Span,
-    /// The links.
-    pub starts: Vec<Start>,
-    /// The steps.
-    pub steps: Vec<HeldStep>,
-}
+/// The text of no bytes.
+const NO_BYTES: &[u8] = b"-";
 
 /// A line.
-#[derive(Drop)]
-pub enum Line {
-    /// A schedule begins.
-    Begins(Schedule),
-    /// A step of the schedule that began last.
-    Step(HeldStep),
+#[derive(Clone, Copy)]
+pub enum Line<'a> {
+    /// A schedule begins, of a device of these sizes and links of this span.
+    Begins(Sizes, Span),
+    /// A step of the schedule that began last, and the text of its bytes.
+    Step(Step<'static>, &'a [u8]),
 }
 
-/// What a line says.
-pub fn read_line(alloc: Global, text: &[u8]) -> Result<Line, LineFault> {
+/// What a line says. The links of a schedule that begins are put behind `starts`.
+pub fn read_line<'a>(text: &'a [u8], starts: &mut Vec<Start>) -> Result<Line<'a>, LineFault> {
     let mut fields = Fields::new(text);
     let first = fields.next()?;
     if first == b"schedule".as_slice() {
-        return Ok(Line::Begins(begun(alloc, &mut fields)?));
+        return begun(&mut fields, starts);
     }
-    Ok(Line::Step(step(alloc, first, &mut fields)?))
+    let (step, bytes) = step(first, &mut fields)?;
+    fields.end()?;
+    Ok(Line::Step(step, bytes))
 }
 
-/// A schedule without steps yet.
-fn begun(alloc: Global, fields: &mut Fields<'_>) -> Result<Schedule, LineFault> {
+/// What begins a schedule.
+fn begun<'a>(fields: &mut Fields<'_>, starts: &mut Vec<Start>) -> Result<Line<'a>, LineFault> {
     let window = fields.byte()?;
     let span = fields.byte()?;
     let (Some(window), Some(span)) = (Window::new(window), Span::new(span)) else {
         return Err(LineFault::Number);
     };
-    let mut schedule = Schedule {
-        sizes: Sizes {
-            window,
-            peers: Peers::default(),
-        },
-        span,
-        starts: Vec::new(alloc),
-        steps: Vec::new(alloc),
-    };
+    match peers_and_starts(fields, starts) {
+        Ok(peers) => Ok(Line::Begins(Sizes { window, peers }, span)),
+        Err(fault) => Err(fault),
+    }
+}
+
+/// How many peers have room, where that is said, and the links, which are put behind `starts`.
+fn peers_and_starts(fields: &mut Fields<'_>, starts: &mut Vec<Start>) -> Result<Peers, LineFault> {
+    let mut peers = Peers::default();
     for place in 0..66 {
         if fields.end().is_ok() {
-            return Ok(schedule);
+            return Ok(peers);
         }
         let text = fields.next()?;
         if place == 0 && !text.is_empty() && !text.contains(&b'/') && !text.contains(&b':') {
-            schedule.sizes = Sizes {
-                window,
-                peers: peers(text)?,
-            };
-        } else if schedule.starts.push(start(text)?).is_err() {
-            return Err(LineFault::NoMemory);
+            peers = peers_of(text)?;
+        } else {
+            add_start(starts, text)?;
         }
     }
     Err(LineFault::Form)
 }
 
 /// How many peers have room.
-fn peers(text: &[u8]) -> Result<Peers, LineFault> {
+fn peers_of(text: &[u8]) -> Result<Peers, LineFault> {
     let Some(count) = number(text, 3, 255) else {
         return Err(LineFault::Number);
     };
@@ -134,103 +82,139 @@ fn peers(text: &[u8]) -> Result<Peers, LineFault> {
     }
 }
 
-/// A link: `P/H`.
-fn start(text: &[u8]) -> Result<Start, LineFault> {
-    let Some((from, first)) = oca_script::field::split_at_byte(text, b'/') else {
+/// Adds a link: `P/H`.
+fn add_start(starts: &mut Vec<Start>, text: &[u8]) -> Result<(), LineFault> {
+    let Some((from, first)) = split_at_byte(text, b'/') else {
         return Err(LineFault::Form);
     };
-    match peer(from) {
-        Some(peer) => Ok(Start {
-            peer,
-            first_handle: Handle(number_32(first)?),
-        }),
-        None => Err(LineFault::Peer),
+    let Some(peer) = peer(from) else {
+        return Err(LineFault::Peer);
+    };
+    let first_handle = Handle(number_32(first)?);
+    match starts.push(Start { peer, first_handle }) {
+        Ok(()) => Ok(()),
+        Err(_) => Err(LineFault::NoMemory),
     }
 }
 
-/// A step of which the first field was read.
-fn step(alloc: Global, first: &[u8], fields: &mut Fields<'_>) -> Result<HeldStep, LineFault> {
+/// A step of which the first field was read, and the text of its bytes.
+fn step<'a>(first: &[u8], fields: &mut Fields<'a>) -> Result<(Step<'static>, &'a [u8]), LineFault> {
     if first == b"take".as_slice() {
-        let step = Step::Take {
-            link: fields.place()?,
-            handle: Handle(fields.number()?),
-        };
-        fields.end()?;
-        return Ok(HeldStep {
-            step,
-            bytes: Vec::new(alloc),
-        });
+        return with_no_bytes(taken(fields));
     }
     if first == b"set".as_slice() {
-        let (ono, value) = fields.local()?;
-        return Ok(HeldStep {
-            step: Step::Local { ono, value },
-            bytes: Vec::new(alloc),
-        });
+        return with_no_bytes(set_at_front(fields));
     }
     let word = fields.next()?;
-    let Some(now) = moment(first) else {
-        return Err(LineFault::Moment);
-    };
-    let (step, bytes) = timed(alloc, now, word, fields)?;
-    fields.end()?;
-    Ok(HeldStep { step, bytes })
+    match moment(first) {
+        Some(now) => timed(now, word, fields),
+        None => Err(LineFault::Moment),
+    }
 }
 
-/// A step with a moment and its bytes, of which the word was read.
-fn timed(
-    alloc: Global,
+/// A step without bytes.
+fn with_no_bytes<'a>(
+    step: Result<Step<'static>, LineFault>,
+) -> Result<(Step<'static>, &'a [u8]), LineFault> {
+    match step {
+        Ok(step) => Ok((step, NO_BYTES)),
+        Err(fault) => Err(fault),
+    }
+}
+
+/// An answer that is taken.
+fn taken(fields: &mut Fields<'_>) -> Result<Step<'static>, LineFault> {
+    let link = fields.place()?;
+    match fields.number() {
+        Ok(handle) => Ok(Step::Take {
+            link,
+            handle: Handle(handle),
+        }),
+        Err(fault) => Err(fault),
+    }
+}
+
+/// A change at the front.
+fn set_at_front(fields: &mut Fields<'_>) -> Result<Step<'static>, LineFault> {
+    match fields.local() {
+        Ok((ono, value)) => Ok(Step::Local { ono, value }),
+        Err(fault) => Err(fault),
+    }
+}
+
+/// A step with a moment, of which the word was read, and the text of its bytes.
+fn timed<'a>(
     now: u64,
     word: &[u8],
-    fields: &mut Fields<'_>,
-) -> Result<(Step<'static>, Vec<u8>), LineFault> {
-    let none = Vec::new(alloc);
+    fields: &mut Fields<'a>,
+) -> Result<(Step<'static>, &'a [u8]), LineFault> {
     if word == b"submit".as_slice() {
-        return submitted(alloc, now, fields);
+        return submitted(now, fields);
     }
+    if word == b"other".as_slice() {
+        return other(now, fields);
+    }
+    if word == b"tick".as_slice() {
+        return Ok((Step::Tick { now }, NO_BYTES));
+    }
+    with_no_bytes(placed(now, word, fields))
+}
+
+/// A step that names a link or a datagram, of which the word was read.
+fn placed(now: u64, word: &[u8], fields: &mut Fields<'_>) -> Result<Step<'static>, LineFault> {
     if word == b"due".as_slice() {
         let link = fields.place()?;
-        return Ok((Step::Due { link, now }, none));
+        return Ok(Step::Due { link, now });
     }
     if word == b"to-device".as_slice() {
         let k = fields.place()?;
-        return Ok((Step::ToDevice { k, now }, none));
+        return Ok(Step::ToDevice { k, now });
     }
     if word == b"to-link".as_slice() {
         let k = fields.place()?;
-        return Ok((Step::ToLink { k, now }, none));
-    }
-    if word == b"tick".as_slice() {
-        return Ok((Step::Tick { now }, none));
-    }
-    if word == b"other".as_slice() {
-        let from = fields.peer()?;
-        let step = Step::Other {
-            from,
-            bytes: &[],
-            now,
-        };
-        return Ok((step, fields.bytes(alloc)?));
+        return Ok(Step::ToLink { k, now });
     }
     Err(LineFault::Form)
 }
 
-/// A command that is submitted, and the bytes of its parameters.
-fn submitted(
-    alloc: Global,
+/// A datagram of another peer.
+fn other<'a>(now: u64, fields: &mut Fields<'a>) -> Result<(Step<'static>, &'a [u8]), LineFault> {
+    let from = fields.peer()?;
+    let text = fields.hex()?;
+    let bytes = &[];
+    Ok((Step::Other { from, bytes, now }, text))
+}
+
+/// A command that is submitted, and the text of its parameters.
+fn submitted<'a>(
     now: u64,
-    fields: &mut Fields<'_>,
-) -> Result<(Step<'static>, Vec<u8>), LineFault> {
+    fields: &mut Fields<'a>,
+) -> Result<(Step<'static>, &'a [u8]), LineFault> {
+    let link = fields.place()?;
+    let target = Ono(fields.number()?);
+    match fields.method() {
+        Ok(method) => submitted_to(now, link, target, method, fields),
+        Err(fault) => Err(fault),
+    }
+}
+
+/// A command for an object that is submitted to a link, and the text of its parameters.
+fn submitted_to<'a>(
+    now: u64,
+    link: usize,
+    target: Ono,
+    method: MethodId,
+    fields: &mut Fields<'a>,
+) -> Result<(Step<'static>, &'a [u8]), LineFault> {
+    let count = fields.byte()?;
+    let text = fields.hex()?;
     let step = Step::Submit {
-        link: fields.place()?,
-        target: Ono(fields.number()?),
-        method: MethodId {
-            level: fields.short_number()?,
-            index: fields.short_number()?,
-        },
-        count: fields.byte()?,
+        link,
+        target,
+        method,
+        count,
         params: &[],
         now,
     };
-    Ok((step, fields.bytes(alloc)?))
+    Ok((step, text))
 }

@@ -1,27 +1,84 @@
 //! Schedules over a device and links, read as lines and run one after another.
-use crate::fields::LineFault;
+use crate::fields::{LineFault, bytes_of};
 use crate::lines::{
-    Full, RunFault, put, put_bytes, put_number, put_peer, put_set_fault, put_verdict,
+    Full, RunFault, print_text, put, put_bytes, put_number, put_peer, put_set_fault, put_verdict,
 };
-use crate::schedule::{Line, Schedule, read_line};
+use crate::schedule::{Line, read_line};
 use oca_control::{Answer, ControlFault, Reception};
-use oca_pair::{Outcome, PairFault, Sent, Transcript, run_pair_with_sizes};
+use oca_pair::{Outcome, PairFault, Sent, Start, Step, Transcript, run_pair_with_sizes};
 use oca_tree::bench;
+use oca_types::{Sizes, Span};
 use std::alloc::Global;
+
+/// A step with its own bytes.
+#[derive(Drop)]
+struct HeldStep {
+    step: Step<'static>,
+    bytes: Vec<u8>,
+}
+
+impl HeldStep {
+    /// The step.
+    fn step(&self) -> Step<'_> {
+        match self.step {
+            Step::Submit {
+                link,
+                target,
+                method,
+                count,
+                params: _,
+                now,
+            } => Step::Submit {
+                link,
+                target,
+                method,
+                count,
+                params: self.bytes.as_slice(),
+                now,
+            },
+            Step::Other {
+                from,
+                bytes: _,
+                now,
+            } => Step::Other {
+                from,
+                bytes: self.bytes.as_slice(),
+                now,
+            },
+            other => other,
+        }
+    }
+}
+
+/// The schedule that began last, where one has: its sizes, its links and its steps; and the links of the next one.
+#[derive(Drop)]
+struct Pending {
+    begun: Option<(Sizes, Span)>,
+    starts: Vec<Start>,
+    steps: Vec<HeldStep>,
+    next_starts: Vec<Start>,
+}
 
 /// Runs the schedules that the text has, and prints what each led to: `schedule`, a line for each step, the datagrams
 /// that were sent to the device and to links in order, and how many sessions the device has at the end; or, behind
 /// `schedule`, why it does not run.
 pub fn worlds<R: Print + AllocGlobal>(rt: &R, text: &str) -> Result<(), RunFault> {
-    let mut pending = None;
-    run_lines(rt, text, &mut pending)
+    let mut pending = Pending {
+        begun: None,
+        starts: Vec::new(rt.alloc()),
+        steps: Vec::new(rt.alloc()),
+        next_starts: Vec::new(rt.alloc()),
+    };
+    let run = run_lines(rt, text, &mut pending);
+    drop(pending);
+    run
 }
 
-/// Runs the lines of the text; the schedule that began last is `pending`.
+/// Runs the lines of the text.
 fn run_lines<R: Print + AllocGlobal>(
     rt: &R,
     text: &str,
-    pending: &mut Option<Schedule>,
+    pending: &mut Pending,
 ) -> Result<(), RunFault> {
     let mut count = 0u64;
     for line in text.lines() {
@@ -29,7 +86,7 @@ fn run_lines<R: Print + AllocGlobal>(
         if line.is_empty() || line.as_bytes().first() == Some(&b'#') {
             continue;
         }
-        match read_line(rt.alloc(), line.as_bytes()) {
+        match read_line(line.as_bytes(), &mut pending.next_starts) {
             Ok(line) => take_line(rt, line, count, pending)?,
             Err(fault) => return Err(RunFault::Line(count, fault)),
         }
@@ -40,78 +97,102 @@ fn run_lines<R: Print + AllocGlobal>(
 /// Begins a schedule, once the pending one was run, or adds a step to that.
 fn take_line<R: Print + AllocGlobal>(
     rt: &R,
-    line: Line,
+    line: Line<'_>,
     number: u64,
-    pending: &mut Option<Schedule>,
+    pending: &mut Pending,
 ) -> Result<(), RunFault> {
     match line {
-        Line::Begins(schedule) => begin(rt, schedule, pending),
-        Line::Step(step) => match pending {
-            Some(schedule) => match schedule.steps.push(step) {
+        Line::Begins(sizes, span) => begin(rt, sizes, span, pending),
+        Line::Step(step, text) if pending.begun.is_some() => {
+            match add_step(rt.alloc(), &mut pending.steps, step, text) {
                 Ok(()) => Ok(()),
-                Err(_) => Err(RunFault::NoMemory),
-            },
-            None => Err(RunFault::Line(number, LineFault::Form)),
-        },
+                Err(Full) => Err(RunFault::NoMemory),
+            }
+        }
+        Line::Step(..) => Err(RunFault::Line(number, LineFault::Form)),
+    }
+}
+
+/// Adds a step whose bytes have this text.
+fn add_step(
+    alloc: Global,
+    steps: &mut Vec<HeldStep>,
+    step: Step<'static>,
+    text: &[u8],
+) -> Result<(), Full> {
+    let bytes = bytes_of(alloc, text)?;
+    match steps.push(HeldStep { step, bytes }) {
+        Ok(()) => Ok(()),
+        Err(_) => Err(Full),
     }
 }
 
 /// Runs the pending schedule, and begins another one.
 fn begin<R: Print + AllocGlobal>(
     rt: &R,
-    schedule: Schedule,
-    pending: &mut Option<Schedule>,
+    sizes: Sizes,
+    span: Span,
+    pending: &mut Pending,
 ) -> Result<(), RunFault> {
     let finished = finish(rt, pending);
-    *pending = Some(schedule);
+    pending.begun = Some((sizes, span));
+    pending.steps.clear();
+    std::mem::swap(&mut pending.starts, &mut pending.next_starts);
+    pending.next_starts.clear();
     finished
 }
 
-/// Runs a schedule, where there is one, and prints what it led to.
-fn finish<R: Print + AllocGlobal>(rt: &R, pending: &Option<Schedule>) -> Result<(), RunFault> {
-    let mut out = String::new(rt.alloc());
-    let put = match pending {
-        Some(schedule) => put_schedule(rt.alloc(), &mut out, schedule),
-        None => Ok(()),
+/// Runs the pending schedule, where there is one, and prints what it led to.
+fn finish<R: Print + AllocGlobal>(rt: &R, pending: &Pending) -> Result<(), RunFault> {
+    let Some((sizes, span)) = pending.begun else {
+        return Ok(());
     };
-    match put {
+    let mut out = String::new(rt.alloc());
+    let ran = run(rt.alloc(), sizes, span, pending);
+    let printed = match put_run(rt.alloc(), &mut out, &ran) {
         Ok(()) => print_text(rt, out.as_str()),
         Err(Full) => Err(RunFault::NoMemory),
-    }
-}
-
-/// Runs a schedule, and puts what it led to.
-fn put_schedule(alloc: Global, out: &mut String, schedule: &Schedule) -> Result<(), Full> {
-    put_run(alloc, out, &run(alloc, schedule))
-}
-
-/// Prints a text.
-pub fn print_text<R: Print>(rt: &R, text: &str) -> Result<(), RunFault> {
-    match print!(rt; "{text}") {
-        Ok(()) => Ok(()),
-        Err(_) => Err(RunFault::Write),
-    }
-}
-
-/// Runs a schedule over the bench device.
-fn run(alloc: Global, schedule: &Schedule) -> Result<Transcript, PairFault> {
-    let Ok(tree) = bench(alloc) else {
-        return Err(PairFault::NoMemory);
     };
+    drop((ran, out));
+    printed
+}
+
+/// Runs the pending schedule over the bench device.
+fn run(
+    alloc: Global,
+    sizes: Sizes,
+    span: Span,
+    pending: &Pending,
+) -> Result<Transcript, PairFault> {
     let mut steps = Vec::new(alloc);
-    for held in schedule.steps.as_slice() {
+    for held in pending.steps.as_slice() {
         if steps.push(held.step()).is_err() {
             return Err(PairFault::NoMemory);
         }
     }
-    run_pair_with_sizes(
+    let ran = run_steps(
         alloc,
-        tree,
-        schedule.sizes,
-        schedule.span,
-        schedule.starts.as_slice(),
+        sizes,
+        span,
+        pending.starts.as_slice(),
         steps.as_slice(),
-    )
+    );
+    drop(steps);
+    ran
+}
+
+/// Runs these steps over the bench device.
+fn run_steps(
+    alloc: Global,
+    sizes: Sizes,
+    span: Span,
+    starts: &[Start],
+    steps: &[Step<'_>],
+) -> Result<Transcript, PairFault> {
+    match bench(alloc) {
+        Ok(tree) => run_pair_with_sizes(alloc, tree, sizes, span, starts, steps),
+        Err(_) => Err(PairFault::NoMemory),
+    }
 }
 
 /// The line of a text and a number.
