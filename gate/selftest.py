@@ -750,7 +750,8 @@ def main():
               ("the steps name enough", names_enough()),
               ("make library stands on its sources", stands_on_its_sources())]
     tried += [("all that is tried counts", counts_all()), ("the lanes of rt ci", knows_the_lanes()), ("edits.py counts all", counts_edits()),
-              ("edits.py copies functions", copies_edits()), ("edits.py empties functions", empties_functions()), ("edits.py narrows contracts", narrows_contracts()),
+              ("edits.py copies functions", copies_edits()), ("edits.py empties functions", empties_functions()),
+              ("edits.py narrows contracts", narrows_contracts()),
               ("network.py forgives no lateness", forgives_no_lateness()),
               ("lossy.py judges runs", judges_lossy_runs()), ("lossy.py carries badly", carries_badly()),
               ("tools count what differs", counts_what_differs())]
