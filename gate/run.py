@@ -6,7 +6,9 @@ Usage: run.py                    all of it
 
 The steps of a paragraph run three at a time, since most of them wait, begun in their order. What a step prints is shown
 when it ends, with its minutes: as a whole where it failed, else its last lines; a paragraph begins when the one before
-it is over. A step has failed where one of its checks failed, it ended with another status than 0, it passed fewer
+it is over. A step whose line begins with '&' is begun with its paragraph beside those three, and awaited at the end: so
+proofs go on while other steps wait. One whose line begins with '&&' is begun as soon as `rt ci` has proved a crate; it
+finds the names of those that are proved, a line each, in the file GATE_PROVED, behind all of them '(ended)'. A step has failed where one of its checks failed, it ended with another status than 0, it passed fewer
 checks than its line names, or it did not end in the minutes that its line allows. The gate has failed too where a line
 of the steps can't be read, and where a tool of the gate stands in no step. The last lines are a table of the minutes,
 some of the lines that say what failed, and 'N passed, M failed' over all of it; the exit status is 1 where anything
@@ -17,6 +19,7 @@ import resource
 import signal
 import subprocess
 import sys
+import tempfile
 import time
 from concurrent.futures import ThreadPoolExecutor, as_completed
 from pathlib import Path
@@ -32,18 +35,22 @@ LAST_LINES = 12  # so many are shown of a step that passed
 RUNNING = []
 TABLE = []  # a line for each command that has ended
 WRONG = []  # lines that say what failed
+PROVED = re.compile(r"rt: (\S+) (?:proved$|is kept: )")  # what `rt ci` says of a crate that it has proved
+ENDED = "(ended)"
 SAYS_WRONG = re.compile(r"FAILED|NOT (PROVED|REFUSED|TRIED|BUILT)|is not what its file")
 MOST_WRONG = 12  # so many of these lines are shown at the end
 
 
 class Step:
-    """A line of the steps: a command, the fewest checks that it passes, and the most minutes that it takes."""
+    """A line of the steps: a command, the fewest checks that it passes, the most minutes that it takes, and whether it
+    runs beside all that follows, and beside `rt ci` too."""
 
     def __init__(self, line):
-        read = re.fullmatch(r"\s*(\d+)\s+([\d.]+)\s+(\S.*)", line)
-        self.is_read = bool(read) and int(read[1]) > 0
-        self.least, self.minutes = (int(read[1]), float(read[2])) if read else (1, 0)
-        self.command = read[3] if read else line
+        read = re.fullmatch(r"\s*(&{0,2})\s*(\d+)\s+([\d.]+)\s+(\S.*)", line)
+        self.is_read = bool(read) and int(read[2]) > 0
+        self.is_beside, self.is_early = bool(read and read[1]), bool(read and read[1] == "&&")
+        self.least, self.minutes = (int(read[2]), float(read[3])) if read else (1, 0)
+        self.command = read[4] if read else line
 
 
 def started(command):
@@ -95,8 +102,9 @@ def took(command, begun, passed, failed, why=""):
     return f"gate: FAILED: {why}: {command[:60]}\n{told}" if why else told
 
 
-def watched(command, least):
-    """Runs a command, shows what it prints as it prints it, and answers how many checks passed and failed."""
+def watched(command, least, note=lambda _: None):
+    """Runs a command, shows what it prints as it prints it, and answers how many checks passed and failed. Each line is
+    handed on."""
     print(f"gate: {command}", flush=True)
     begun, last, said = time.monotonic(), "", []
     with started(command) as process:
@@ -104,6 +112,7 @@ def watched(command, least):
             print(line, end="", flush=True)
             last = line.strip() or last
             said.append(line)
+            note(line)
     passed, failed, why = counted(last, process.returncode, least)
     if failed:
         note_wrong(said)
@@ -166,19 +175,59 @@ def processor_minutes():
     return (used.ru_utime + used.ru_stime) / 60
 
 
-def run_steps(parts):
-    """Runs the steps of each paragraph, and answers their counts."""
+def show_each(runs):
+    """Shows what steps printed, each when it ends, and answers their counts."""
     counts = []
+    for ended in as_completed(runs):
+        count, text = ended.result()
+        print(text, flush=True)
+        counts.append(count)
+    return counts
+
+
+class Early:
+    """The steps that run beside `rt ci`, and the file that tells them which crates it has proved."""
+
+    def __init__(self, steps, pool, room):
+        self.left, self.pool, self.begun, self.file = [step for step in steps if step.is_early], pool, {}, Path(room, "proved")
+        self.file.touch()
+        os.environ["GATE_PROVED"] = str(self.file)
+
+    def add(self, name):
+        with self.file.open("a") as file:
+            print(name, file=file)
+
+    def note(self, line):
+        """Takes a line of `rt ci`, and begins the steps at the first crate that is proved."""
+        proved = PROVED.match(line)
+        if proved:
+            self.add(proved[1])
+            self.begun |= {step: self.pool.submit(kept, step) for step in self.left}
+            self.left = []
+
+
+def of_ci(steps, others, room):
+    """Runs `rt ci`, and beside it, in this pool, the steps that begin early. Answers its counts, and the steps that have begun."""
+    early = Early(steps, others, room)
+    count = watched(f"RT_JOBS={lanes()} rt ci", least_of_ci(), early.note)
+    early.add(ENDED)
+    print(f"gate: {processor_minutes():.1f} processor minutes for rt ci", flush=True)
+    return count, early.begun
+
+
+def run_steps(parts, others, early):
+    """Runs the steps of each paragraph, and answers their counts. Those that run beside all that follows, in another pool,
+    are awaited last; some have begun early."""
+    counts, beside = [], []
     with ThreadPoolExecutor(BESIDE) as pool:
         for steps in parts:
             begun, used = time.monotonic(), processor_minutes()
-            for ended in as_completed([pool.submit(kept, step) for step in steps]):
-                count, text = ended.result()
-                print(text, flush=True)
-                counts.append(count)
+            beside += [early.get(step) or others.submit(kept, step) for step in steps if step.is_beside]
+            here = [step for step in steps if not step.is_beside]
+            counts += show_each([pool.submit(kept, step) for step in here])
             minutes = (time.monotonic() - begun) / 60
-            print(f"gate: {minutes:.1f} minutes, {processor_minutes() - used:.1f} processor minutes for {len(steps)} steps", flush=True)
-    return counts
+            print(f"gate: {minutes:.1f} minutes, {processor_minutes() - used:.1f} processor minutes for {len(here)} steps", flush=True)
+    return counts + show_each(beside)
 
 
 def refused(steps):
@@ -198,12 +247,15 @@ def main(words):
         wrong += [f"no step runs tools/{name}" for name in left_out(steps, TOP / "tools")]
     for line in wrong:
         print(f"gate: FAILED: {line}", flush=True)
-    if not words:
-        print(f"gate: every proof from nothing, then {len(steps)} steps: an hour or two on four processors. "
-              "Each crate and each step is shown as it ends.", flush=True)
-        counts.append(watched(f"RT_JOBS={lanes()} rt ci", least_of_ci()))
-        print(f"gate: {processor_minutes():.1f} processor minutes for rt ci", flush=True)
-    counts += [(0, len(wrong))] + run_steps([[step for step in part if step.is_read] for part in parts])
+    parts = [[step for step in part if step.is_read] for part in parts]
+    with tempfile.TemporaryDirectory() as room, ThreadPoolExecutor() as others:
+        early = {}
+        if not words:
+            print(f"gate: every proof from nothing, then {len(steps)} steps: an hour or two on four processors. "
+                  "Each crate and each step is shown as it ends.", flush=True)
+            count, early = of_ci([step for part in parts for step in part], others, room)
+            counts.append(count)
+        counts += [(0, len(wrong))] + run_steps(parts, others, early)
     passed, failed = (sum(of) for of in zip(*counts))
     print("\n".join(TABLE))
     for line in WRONG[:MOST_WRONG]:

@@ -28,6 +28,7 @@ import time
 from pathlib import Path
 
 from embedded import bound_at
+from own_ports import free_port
 
 HERE = Path(__file__).resolve().parent
 TOP = HERE.parent
@@ -105,7 +106,7 @@ def against_the_programs(checks, made, folder):
     """`ocactl` mutes the amplifier, and the panel opens the mute and sets the trim of the bench device."""
     run, port = serving([made / "device-c11", 0, 6])
     for handle, (target, level, params) in enumerate(((4097, 4, "02"), (4113, 4, "02"), (4113, 4, "01"), (4114, 5, "0007"), (4098, 5, "fff6")), 1):
-        words = ["send", "--device", f"127.0.0.1:{port}", "--first-handle", handle, "--target", target, "--level", level, "--index", 2, "--count", 1,
+        words = ["send", "--device", f"127.0.0.1:{port}", "--port", free_port(), "--first-handle", handle, "--target", target, "--level", level, "--index", 2, "--count", 1,
                  "--params", params]
         checks.same(f"`ocactl` sets {target}", said_by([f"{folder}/ocactl", *words]), ("answer 0 0 -\n", 0))
     checks.same("the device that `ocactl` set", run.communicate(timeout=120)[0],
@@ -131,7 +132,7 @@ def panels(checks, made, prefix, folder):
             print(out, end="") if status else None
     for words in ([], ["--tree", TOP / "examples/stagebox.tree"]):
         run, port = serving([f"{folder}/ocadev", "serve", "--port", 0, "--turns", 100000, *words])
-        told = said_by([f"{folder}/ocactl", "tree", "--device", f"127.0.0.1:{port}"])
+        told = said_by([f"{folder}/ocactl", "tree", "--device", f"127.0.0.1:{port}", "--port", free_port()])
         checks.same(f"`ocactl` finds objects {words}", (told[0].startswith("100 1.1.3 0 root\n"), told[0].count("\n") > 5, told[1]), (True, True, 0))
         for language in LANGUAGES:
             checks.same(f"the walk ({language}) at `ocadev` {words}", said_by([made / f"network-{language}-sanitized", port]), told)

@@ -24,7 +24,9 @@ break, and only that one and the lemmas that it cites are checked.
 The edits of tools/edits_selftest/CRATE/ must not be refused, and for what their line 'says: ' has: they try this tool.
 
 Crates run side by side, as many as there are processors and memory for, or as many as RT_JOBS says. The libraries below
-a crate are taken from out/rlib as `rt ci` left them, and are built where they are not there. With EDITS_KEPT=1 a check
+a crate are taken from out/rlib as `rt ci` left them, and are built where they are not there. Beside the gate's `rt ci`,
+which notes the crates that it has proved in the file GATE_PROVED, each crate waits for the libraries below it, and only
+half as many run side by side until that has ended, since it takes memory too. With EDITS_KEPT=1 a check
 begins with what earlier checks of the crate kept in out/incremental, which is faster while edits are written.
 The last line is 'N passed, M failed', and the exit status 1 where anything failed."""
 import copy
@@ -39,6 +41,7 @@ import tempfile
 import threading
 import time
 from collections import Counter
+from concurrent.futures import FIRST_COMPLETED, ThreadPoolExecutor, wait
 from pathlib import Path
 
 ROOT = Path(__file__).resolve().parent.parent
@@ -53,7 +56,9 @@ BLOCK = re.compile(r"( *)(?:unsafe )?(?:pub(?:\([a-z: ]+\))? )?(impl|trait)\b(.*
 GONE = re.compile(r"has no field|is not in scope|has no `|was not admitted|is no name")
 # What is counted: whether an edit must not be refused, and whether all is well with it.
 KINDS = [(False, True), (False, False), (True, True), (True, False)]
+NEEDS = 4_000_000_000  # bytes for a check, beside others of which only some take so much
 PRINTING = threading.Lock()
+ENDED = "(ended)"  # the last line of GATE_PROVED
 
 
 def loaded(name):
@@ -571,6 +576,7 @@ def tried(crate, part, parts):
     begun = time.monotonic()
     with tempfile.TemporaryDirectory(prefix="edits-") as room:
         trial = Trial(crate, room, part, parts)
+        trial.why = None if all(map(stands, crate.below())) else "a library below it is not proved"
         trial.run()
     counts = trial.told()
     minutes = (time.monotonic() - begun) / 60
@@ -586,6 +592,36 @@ def stands(library):
     made = os.path.getmtime(library.rlib) if os.path.isdir(library.rlib) else 0
     files = [file for it in [library, *library.below()] for file in rtlib.files_of(it.folder)]
     return all(os.path.getmtime(file) < made for file in files)
+
+
+def proved_beside():
+    """The crates that the gate's `rt ci` has proved so far, where it runs beside this; None where none runs."""
+    file = Path(os.environ.get("GATE_PROVED") or os.devnull)
+    names = file.read_text().splitlines() if file.is_file() else [ENDED]
+    return None if ENDED in names else {*names}
+
+
+def lanes():
+    """How many checks run at once at most: as many as there are processors, and as memory holds, or as RT_JOBS says."""
+    return int(os.environ.get("RT_JOBS") or max(1, min(rt.processors(), rt.free() // NEEDS)))
+
+
+def beside_proofs(tasks, crates, most):
+    """Runs the tasks, so many at most, each once the libraries below its crate are proved, of these the longest first,
+    and returns what each gave. Until the proofs have ended only half as many run."""
+    left, running, given = sorted(tasks, key=lambda it: -tasks[it][1]), {}, {}
+    with ThreadPoolExecutor(most) as pool:
+        while left or running:
+            proved = proved_beside()
+            ready = [it for it in left if proved is None or {below.name for below in crates[it[0]].below()} <= proved]
+            if ready and len(running) < (most if proved is None else max(1, most // 2)):
+                left.remove(ready[0])
+                running[pool.submit(tasks[ready[0]][3], given, 1)] = ready[0]
+            elif running:
+                given |= {running.pop(it): it.result() for it in wait(running, 1, FIRST_COMPLETED).done}
+            else:
+                time.sleep(0.5)
+    return given
 
 
 def verdict(counts):
@@ -604,7 +640,8 @@ def main(names):
         sys.exit(f"edits: crates.txt has no {', '.join(sorted(unknown))}")
     crates = [it for it in listed_crates if not names or it.name in names]
     crates = [it for it in crates if listed(Path(it.folder, "wrong")) or listed(SELFTEST / it.name)]
-    for crate in crates:
+    is_beside = proved_beside() is not None
+    for crate in [] if is_beside else crates:
         libraries = crate.below()
         if not all(map(stands, libraries)) and any(it.build_rlib(FLAGS, anew=False) for it in libraries):
             sys.exit(f"edits: a library below {crate.name} is not proved")
@@ -618,7 +655,8 @@ def main(names):
         memory = rt.need(crate) // 2
         for part in range(parts):
             tasks[crate.name, "edits", part] = ([], work, memory, lambda given, jobs, of=(crate, part, parts): tried(*of))
-    passed, failed = verdict(rt.in_lanes(tasks).values())
+    given = beside_proofs(tasks, {it.name: it for it in crates}, lanes()) if is_beside else rt.in_lanes(tasks)
+    passed, failed = verdict(given.values())
     print(f"{passed} passed, {failed} failed")
     return 1 if failed else 0
 
