@@ -6,13 +6,14 @@ Usage: run.py                    all of it
 
 The steps of a paragraph run three at a time, since most of them wait, begun in their order. What a step prints is shown
 when it ends, with its minutes: as a whole where it failed, else its last lines; a paragraph begins when the one before
-it is over. A step whose line begins with '&' is begun with its paragraph beside those three, and awaited at the end: so
-proofs go on while other steps wait. One whose line begins with '&&' is begun as soon as `rt ci` has proved a crate; it
+it is over. A step whose line begins with '&' is begun with its paragraph beside those three, gives way to them, and is
+awaited at the end: so proofs go on while other steps wait. One whose line begins with '&&' is begun as soon as `rt ci` has proved a crate; it
 finds the names of those that are proved, a line each, in the file GATE_PROVED, behind all of them '(ended)'. A step has failed where one of its checks failed, it ended with another status than 0, it passed fewer
 checks than its line names, or it did not end in the minutes that its line allows. The gate has failed too where a line
 of the steps can't be read, and where a tool of the gate stands in no step. The last lines are a table of the minutes,
 some of the lines that say what failed, and 'N passed, M failed' over all of it; the exit status is 1 where anything
 failed."""
+import contextlib
 import os
 import re
 import resource
@@ -53,11 +54,19 @@ class Step:
         self.command = read[4] if read else line
 
 
-def started(command):
+def give_way():
+    """Lets this process, and what it starts, run where nothing else would. Linux compares a session as a whole with others,
+    by a number of its own, where it groups them (`autogroup`), and processes only within one."""
+    os.nice(19)
+    with contextlib.suppress(OSError), open("/proc/self/autogroup", "w", encoding="ascii") as file:
+        file.write("19")
+
+
+def started(command, gives_way=False):
     """Starts a command, with a group of processes of its own, so that all that it starts can be ended with it."""
     RUNNING.append(subprocess.Popen(
-        command, shell=True, cwd=TOP, stdin=subprocess.DEVNULL, stdout=subprocess.PIPE,
-        stderr=subprocess.STDOUT, text=True, errors="replace", start_new_session=True))
+        command, shell=True, cwd=TOP, stdin=subprocess.DEVNULL, stdout=subprocess.PIPE, stderr=subprocess.STDOUT,
+        text=True, errors="replace", start_new_session=True, preexec_fn=give_way if gives_way else None))
     return RUNNING[-1]
 
 
@@ -123,7 +132,7 @@ def watched(command, least, note=lambda _: None):
 def kept(step):
     """Runs a step, and answers how many checks passed and failed, and what it printed."""
     begun = time.monotonic()
-    with started(step.command) as process:
+    with started(step.command, step.is_beside) as process:
         try:
             text = process.communicate(timeout=60 * step.minutes)[0]
             status = process.returncode

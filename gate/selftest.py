@@ -51,6 +51,7 @@ CASES = [
     ("a step beside others that fails", f"&1 1 false\n{GOOD}\n\n{GOOD}", False, "6 passed, 1 failed"),
     ("a step beside others that tries too little", f"& 4 1 echo '3 passed, 0 failed'\n\n{GOOD}", False, "6 passed, 1 failed"),
     ("a step beside others that hangs", f"&1 0.01 sleep 600\n{GOOD}", False, "3 passed, 1 failed"),
+    ("a step beside others gives way", f"&1 1 test $(nice) -eq 19\n1 1 test $(nice) -eq {os.nice(0)}\n{GOOD}", True, "5 passed, 0 failed"),
 ]
 
 
@@ -628,15 +629,15 @@ def told_of_clause(edits, crate, clause, narrow, whole, wanted):
 # word takes some of them away unseen.
 PROGRAMS = "ocadev ocactl ocapanel trials amplifier panel"
 FEWEST = {
-    "python3 gate/selftest.py": 99,
+    "python3 gate/selftest.py": 100,
     f"mkdir -p bin && for name in {PROGRAMS}; do cp crates/$name/out/$name bin/ || exit 1; done": 1,
-    "nice -n 10 python3 tools/c_library.py bin": 26600, "python3 examples/run.py bin/ocadev": 4, "python3 tools/runs.py bin": 100,
+    "python3 tools/c_library.py bin": 26600, "python3 examples/run.py bin/ocadev": 4, "python3 tools/runs.py bin": 100,
     "python3 tools/ctl_runs.py bin": 100, "python3 tools/unreliable.py bin": 3690, "python3 tools/fuzz.py bin 20": 200,
     "python3 tools/words.py bin": 812, "python3 tools/hands.py bin": 279, "python3 tools/panel.py bin": 311,
     "python3 tools/network.py bin": 298, "python3 tools/keep.py bin": 90, "python3 tools/neighbours.py bin": 1,
     "python3 tools/lossy.py bin 30": 2, "python3 tools/lossy.py bin directed": 2, "python3 tools/world.py bin 8000": 13,
     "python3 tools/embedded.py bin": 126, "python3 tools/header.py": 1180, "python3 tools/law.py bin": 3,
-    "python3 tools/manual.py bin": 259, "python3 tools/snippets.py bin": 19, "nice -n 19 python3 tools/edits.py": 710}
+    "python3 tools/manual.py bin": 259, "python3 tools/snippets.py bin": 19, "python3 tools/edits.py": 710}
 
 
 def names_enough():
