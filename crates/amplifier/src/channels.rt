@@ -12,7 +12,7 @@ use std::alloc::Global;
 const ROOT: Ono = Ono(100);
 
 /// One of the two channels.
-#[derive(Clone, Copy, Debug, PartialEq, Eq)]
+#[derive(Clone, Copy)]
 pub enum Channel {
     One,
     Two,
@@ -45,14 +45,14 @@ impl Channel {
 }
 
 /// How a channel is set. The gain is in tenths of a decibel.
-#[derive(Clone, Copy, Debug, PartialEq, Eq)]
+#[derive(Clone, Copy, PartialEq, Eq)]
 pub struct Levels {
     pub muted: bool,
     pub gain: i128,
 }
 
 /// Both channels, as the objects say.
-#[derive(Clone, Copy, Debug, PartialEq, Eq)]
+#[derive(Clone, Copy, PartialEq, Eq)]
 pub struct Channels {
     pub one: Levels,
     pub two: Levels,

@@ -12,7 +12,7 @@ use oca_tree::{MuteState, SetFault, Value};
 use oca_types::Ono;
 
 /// What a line turns: the object, and what it is set to.
-#[derive(Clone, Copy, Debug, PartialEq, Eq)]
+#[derive(Clone, Copy)]
 pub struct Knob {
     pub ono: Ono,
     pub value: Value,

@@ -1,7 +1,6 @@
 //! The lines of an input, as they come.
 use arrayvec::ArrayVec;
 use oca_wait::wait_for;
-use std::io;
 use std::io::Read;
 use std::os::fd::{AsRawFd, RawFd};
 
@@ -30,13 +29,16 @@ impl<I: Read + AsRawFd + Drop> Lines<I> {
     }
 
     /// The next line, where all of it is there, an empty one left out.
-    pub fn next(&mut self) -> io::Result<Option<Line>> {
+    pub fn next(&mut self) -> Result<Option<Line>, &'static str> {
         for _ in 0..=LONGEST {
             if self.is_ended || !is_ready(self.input.as_raw_fd()) {
                 return Ok(None);
             }
             let mut byte = [0u8];
-            self.is_ended = self.input.read(&mut byte)? == 0;
+            match self.input.read(&mut byte) {
+                Ok(count) => self.is_ended = count == 0,
+                Err(_) => return Err("read failed"),
+            }
             if self.is_ended || byte[0] == b'\n' {
                 return Ok(self.take());
             }

@@ -9,18 +9,18 @@ mod channels;
 mod knob;
 mod lines;
 
-use channels::{Channels, build};
+use channels::{Channels, Levels, build};
 use knob::Knob;
 use lines::Lines;
 use oca_device::{Device, Outbox, serve_with};
-use oca_net::{UdpEnd, fill_standard_descriptors};
+use oca_net::{End, UdpEnd, fill_standard_descriptors};
 use oca_types::{LOOPBACK, Window};
+use std::env;
 use std::io::Read;
 use std::net::Net;
 use std::os::fd::AsRawFd;
 use std::process::ExitCode;
 use std::rt::Runtime;
-use std::{env, io};
 
 /// Serves the channels at the port and for the turns that the words say, and ends with 1 where that fails.
 fn main(rt: HostRuntime) -> ExitCode {
@@ -40,10 +40,15 @@ fn words<R: Runtime + AllocGlobal>(rt: &R) -> (u16, u32) {
     let Ok(args) = env::args(rt) else {
         return (0, 2);
     };
-    let Ok(words) = args.collect::<Vec<String>>(rt.alloc()) else {
-        return (0, 2);
-    };
-    match words.as_slice() {
+    match args.collect::<Vec<String>>(rt.alloc()) {
+        Ok(words) => port_and_turns(words.as_slice()),
+        Err(_) => (0, 2),
+    }
+}
+
+/// The port and the number of turns behind the program's name.
+fn port_and_turns(words: &[String]) -> (u16, u32) {
+    match words {
         [_, port, turns] => (
             port.parse::<u16>().unwrap_or(0),
             turns.parse::<u32>().unwrap_or(2),
@@ -52,7 +57,7 @@ fn words<R: Runtime + AllocGlobal>(rt: &R) -> (u16, u32) {
     }
 }
 
-/// Makes the device and serves it. Before each turn a knob is turned, where a line says one.
+/// Makes the device and serves it.
 fn serve<R: Runtime + AllocGlobal + Net, I: Read + AsRawFd + Drop>(
     rt: &R,
     port: u16,
@@ -61,43 +66,71 @@ fn serve<R: Runtime + AllocGlobal + Net, I: Read + AsRawFd + Drop>(
 ) -> Result<(), &'static str> {
     let tree = build(rt.alloc()).map_err(|_| "no memory")?;
     let mut device = Device::new(rt.alloc(), tree, Window::default()).map_err(|_| "no memory")?;
+    serve_at(rt, port, turns, lines, &mut device)
+}
+
+/// Serves the device at the port.
+fn serve_at<R: Runtime + AllocGlobal + Net, I: Read + AsRawFd + Drop>(
+    rt: &R,
+    port: u16,
+    turns: u32,
+    lines: &mut Lines<I>,
+    device: &mut Device,
+) -> Result<(), &'static str> {
     let mut outbox = Outbox::new(rt.alloc()).map_err(|_| "no memory")?;
     let mut end = UdpEnd::bind(rt.alloc(), rt, LOOPBACK, port).map_err(|_| "socket failed")?;
     let _ = eprintln!(rt; "listening 127.0.0.1:{}", end.local().port);
+    take_turns(rt, turns, lines, device, &mut end, &mut outbox)
+}
+
+/// Serves the device for so many turns. Before each a knob is turned, where a line says one.
+fn take_turns<R: Runtime, E: End, I: Read + AsRawFd + Drop>(
+    rt: &R,
+    turns: u32,
+    lines: &mut Lines<I>,
+    device: &mut Device,
+    end: &mut E,
+    outbox: &mut Outbox,
+) -> Result<(), &'static str> {
     let mut channels = Channels::new(device.tree());
     for _turn in 0..turns {
+        turn_next(rt, lines, device, &mut channels)?;
         let before = channels;
-        turn_next(rt, lines, &mut device, &mut channels)?;
-        show_changed(rt, before, channels)?;
-        let before = channels;
-        let _ = serve_with(&mut device, &mut end, &mut outbox, &mut channels, 1);
+        let _ = serve_with(device, end, outbox, &mut channels, 1);
         show_changed(rt, before, channels)?;
     }
     Ok(())
 }
 
-/// Turns the knob of the next line, where one is there. A line that turns none and a value out of range are noted on
-/// standard error.
+/// Turns the knob of the next line, where one is there.
 fn turn_next<R: Runtime, I: Read + AsRawFd + Drop>(
     rt: &R,
     lines: &mut Lines<I>,
     device: &mut Device,
     channels: &mut Channels,
 ) -> Result<(), &'static str> {
-    let Some(line) = lines.next().map_err(|_| "read failed")? else {
-        return Ok(());
-    };
-    let Some(knob) = Knob::read(line.as_slice()) else {
-        let _ = eprintln!(rt; "note: a line turns no knob");
-        return Ok(());
-    };
-    if let Err(fault) = knob.turn(device, channels) {
-        let _ = eprintln!(rt; "note: {fault}");
+    let before = *channels;
+    if let Some(line) = lines.next()? {
+        turn(rt, line.as_slice(), device, channels);
     }
-    Ok(())
+    show_changed(rt, before, *channels)
 }
 
-/// Prints what the channels do, where that is not as before.
+/// Turns the knob that a line says. A line that turns none and a value out of range are noted on standard error.
+fn turn<R: Runtime>(rt: &R, line: &[u8], device: &mut Device, channels: &mut Channels) {
+    match Knob::read(line) {
+        Some(knob) => {
+            if let Err(fault) = knob.turn(device, channels) {
+                let _ = eprintln!(rt; "note: {fault}");
+            }
+        }
+        None => {
+            let _ = eprintln!(rt; "note: a line turns no knob");
+        }
+    }
+}
+
+/// Prints the mutes and the gains, in tenths of a decibel, where they are not as before.
 fn show_changed<R: Runtime>(
     rt: &R,
     before: Channels,
@@ -106,17 +139,20 @@ fn show_changed<R: Runtime>(
     if channels == before {
         return Ok(());
     }
-    show(rt, channels).map_err(|_| "write failed")
+    let (one, two) = (channels.one, channels.two);
+    match println!(rt;
+        "1: {} {} dB/10, 2: {} {} dB/10",
+        word(one),
+        one.gain,
+        word(two),
+        two.gain
+    ) {
+        Ok(()) => Ok(()),
+        Err(_) => Err("write failed"),
+    }
 }
 
-/// Prints the mutes and the gains, in tenths of a decibel.
-fn show<R: Runtime>(rt: &R, channels: Channels) -> io::Result<()> {
-    let (one, two) = (channels.one, channels.two);
-    println!(rt;
-        "1: {} {} dB/10, 2: {} {} dB/10",
-        if one.muted { "muted" } else { "open" },
-        one.gain,
-        if two.muted { "muted" } else { "open" },
-        two.gain
-    )
+/// The word for how a channel is muted.
+fn word(levels: Levels) -> &'static str {
+    if levels.muted { "muted" } else { "open" }
 }

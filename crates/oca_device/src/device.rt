@@ -45,12 +45,16 @@ const MOST_WRITTEN: usize = 86;
 /// ```
 /// let tree = build(rt.alloc()).map_err(|_| "no memory")?;
 /// let mut device = Device::new(rt.alloc(), tree, Window::default()).map_err(|_| "no memory")?;
+/// serve_at(rt, port, turns, lines, &mut device)
+/// // ...
 /// let mut outbox = Outbox::new(rt.alloc()).map_err(|_| "no memory")?;
 /// let mut end = UdpEnd::bind(rt.alloc(), rt, LOOPBACK, port).map_err(|_| "socket failed")?;
 /// // ...
+/// take_turns(rt, turns, lines, device, &mut end, &mut outbox)
+/// // ...
 /// for _turn in 0..turns {
 ///     // ...
-///     let _ = serve_with(&mut device, &mut end, &mut outbox, &mut channels, 1);
+///     let _ = serve_with(device, end, outbox, &mut channels, 1);
 ///     // ...
 /// }
 /// ```

@@ -40,7 +40,7 @@ struct Client {
 }
 
 /// What became of a connection.
-#[derive(Clone, Copy, PartialEq, Eq, Debug)]
+#[derive(Clone, Copy, PartialEq)]
 enum Stands {
     /// It waits for the browser.
     Waits,
@@ -201,12 +201,12 @@ impl Clients {
     }
 
     /// Keeps a connection, where the system takes it.
-    fn keep(&mut self, mut stream: TcpStream, poll: &Poll, keys: RandomState, now: u64) {
+    fn keep(&mut self, stream: TcpStream, poll: &Poll, keys: RandomState, now: u64) {
         let token = self.next_token();
-        if is_waited_for(&mut stream, poll, token) {
-            let client = client_of(self.alloc, stream, token, keys, now);
-            let _ = self.clients.push(client);
+        let mut client = client_of(self.alloc, stream, token, keys, now);
+        if is_waited_for(&mut client.stream, poll, token) {
             self.more = true;
+            drop(self.clients.push(client));
         }
     }
 
@@ -231,7 +231,7 @@ impl Clients {
     /// Closes the connection at this place.
     fn close(&mut self, place: usize) {
         if place < self.clients.len() {
-            let _ = self.clients.remove(place);
+            drop(self.clients.remove(place));
         }
     }
 

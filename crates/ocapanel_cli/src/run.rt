@@ -35,12 +35,15 @@ fn served<R: Net + RandomSource, N: Net + Clock, S: AsStr, W: Sink, F: Sink>(
     printer: &mut Printer<W>,
     faults: &mut Printer<F>,
 ) -> Result<(), Failure> {
-    match asked_for(alloc, words)? {
-        Asked::Serve(serving) => serve(alloc, rt, system, serving, faults),
-        Asked::Help(text) => {
-            printer.print(text.as_str().as_bytes())?;
-            printer.flush()?;
-            Ok(())
-        }
+    match asked_for(alloc, words) {
+        Ok(Asked::Serve(serving)) => serve(alloc, rt, system, serving, faults),
+        Ok(Asked::Help(text)) => print_help(text.as_str(), printer),
+        Err(failure) => Err(failure),
     }
+}
+
+/// Prints a help text.
+fn print_help<W: Sink>(text: &str, printer: &mut Printer<W>) -> Result<(), Failure> {
+    printer.print(text.as_bytes())?;
+    Ok(printer.flush()?)
 }

@@ -296,11 +296,6 @@ fn failed(alloc: Global, reason: io::Error) -> Failure {
     }
 }
 
-/// Memory was refused.
-fn no_memory(_refused: NoMemory) -> Failure {
-    Failure::from(RunFault::NoMemory)
-}
-
 /// Goes round: what came from the device, what is to be sent to it, the browsers, and a wait.
 fn go_round<E: End, R: Net + RandomSource, F: Sink>(
     alloc: Global,
@@ -331,20 +326,35 @@ fn go_once<E: End, R: Net + RandomSource, F: Sink>(
     site: &mut Site,
     faults: &mut Printer<F>,
 ) -> Result<(), Failure> {
-    let drained = turn(panel, site.view()).map_err(no_memory)?;
+    let Ok(drained) = turn(panel, site.view()) else {
+        return Err(Failure::from(RunFault::NoMemory));
+    };
     note_link(alloc, rounds, site.view(), faults);
     if site.view().is_spent() {
         return Err(Failure::told(alloc, RunFault::Socket, "no handle is left"));
     }
+    match answer(rt, rounds, panel, site, drained) {
+        Ok(wait) => wait_in(alloc, rounds, events, wait),
+        Err(NoMemory) => Err(Failure::from(RunFault::NoMemory)),
+    }
+}
+
+/// Answers the browsers, and sends what they ordered. Returns how long may be waited then, in milliseconds.
+fn answer<E: End, R: RandomSource>(
+    rt: &R,
+    rounds: &mut Rounds,
+    panel: &mut Panel<Ready<E>>,
+    site: &mut Site,
+    drained: bool,
+) -> Result<u64, NoMemory> {
     let now = panel.end().end().now();
     serve_browsers(rt, rounds, site, now);
-    site.view().go_on(panel).map_err(no_memory)?;
-    let wait = if drained {
-        wait_for(rounds, panel, site.view(), now)
+    site.view().go_on(panel)?;
+    if drained {
+        Ok(wait_for(rounds, panel, site.view(), now))
     } else {
-        0
-    };
-    wait_in(alloc, rounds, events, wait)
+        Ok(0)
+    }
 }
 
 /// Waits until something can be read or written, at most so many milliseconds.
@@ -354,8 +364,10 @@ fn wait_in(
     events: &mut Events,
     wait: u64,
 ) -> Result<(), Failure> {
-    let waited = rounds.poll.poll(events, Some(Duration::from_millis(wait)));
-    waited.map_err(|reason| failed(alloc, reason))?;
+    let longest = Some(Duration::from_millis(wait));
+    if let Err(reason) = rounds.poll.poll(events, longest) {
+        return Err(failed(alloc, reason));
+    }
     for event in events.iter() {
         rounds.clients.note_ready(event.token());
     }
@@ -436,13 +448,21 @@ fn note_link<F: Sink>(alloc: Global, rounds: &mut Rounds, view: &View, faults: &
         return;
     }
     rounds.was_lost = is_lost;
-    let lost = view.news().lost;
-    let line = if is_lost {
-        format!(in alloc; "the device is lost: a command got no answer for 5 s")
+    if is_lost {
+        print_note(
+            "the device is lost: a command got no answer for 5 s",
+            faults,
+        );
     } else {
-        format!(in alloc; "the device is heard again; {lost} sessions were lost so far")
-    };
-    if let Ok(line) = line {
+        note_heard(alloc, view.news().lost, faults);
+    }
+}
+
+/// Prints that the device is heard again, after so many lost sessions.
+fn note_heard<F: Sink>(alloc: Global, lost: u64, faults: &mut Printer<F>) {
+    if let Ok(line) = format!(in alloc;
+        "the device is heard again; {lost} sessions were lost so far"
+    ) {
         print_note(line.as_str(), faults);
     }
 }

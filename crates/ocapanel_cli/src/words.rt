@@ -5,9 +5,11 @@ ghost use Rattle.oca_types.specs.Sizes.{span_size};
 ghost use Rattle.ocapanel_cli.specs.Words.{device_in, is_own_machine, listen_in, local_port_in, panel_fields, panel_in};
 ghost use Rattle.ocapanel_cli.specs.Words.{panel_span_in, panel_span_of as span_in_text};
 
-use clap::{Arg, ArgAction, ArgMatches, Command, Error};
+use clap::{ArgMatches, Command, Error};
 use oca_program::form::bad_option;
-use oca_program::options::{help_or_failure, host_in, number_or, option, text_of};
+use oca_program::options::{
+    help_or_failure, host_in, number_or, text_of, with_flag, with_option, with_required,
+};
 use oca_program::{Failure, Form, Rule, VERSION};
 use oca_script::field::{number, peer};
 use oca_types::{LOOPBACK, Peer, Span};
@@ -51,27 +53,39 @@ const EXAMPLE: &str =
 
 Example: ocapanel --device 127.0.0.1:65000, and open http://127.0.0.1:8080/";
 
-/// The flag for a line at each change of the link.
-fn verbose_option<'a>(alloc: Global) -> Arg<'a> {
-    Arg::new(alloc, "verbose")
-        .long("verbose")
-        .help("Prints a line on standard error when the device is lost and when it is heard again")
-        .action(ArgAction::SetTrue)
-}
+/// An option with a value that need not be given: its name, what the value is called, and what it does.
+type OptionRow = (&'static str, &'static str, &'static str);
+
+/// The options with a value that need not be given.
+const OPTIONS: [OptionRow; 3] = [
+    (
+        "listen",
+        "A.B.C.D:PORT",
+        "The address and port for browsers; the address is one of 127.0.0.0/8, and at port 0 the system chooses one \
+        [default: 127.0.0.1:8080]",
+    ),
+    (
+        "span",
+        "S",
+        "The span, 2 to 32: the handles of the commands in flight are within S consecutive numbers; half of it is kept \
+        for orders from browsers [default: 16]",
+    ),
+    (
+        "port",
+        "PORT",
+        "The local port of the socket for the device [default: the system chooses one]",
+    ),
+];
+
+/// What the flag `verbose` does.
+const VERBOSE: &str =
+    "Prints a line on standard error when the device is lost and when it is heard again";
 
 /// The whole program.
 fn command<'a>(alloc: Global) -> Result<Command<'a>, AllocError> {
-    let device = option(
-        alloc,
-        "device",
-        "A.B.C.D:PORT",
-        "The device's address and port",
-    )
-    .required(true);
-    match named(alloc).arg(device) {
-        Ok(command) => with_listen(alloc, command),
-        Err(refused) => Err(refused),
-    }
+    let device = "The device's address and port";
+    let named = with_required(alloc, named(alloc), "device", "A.B.C.D:PORT", device)?;
+    with_flag(alloc, with_options(alloc, named)?, "verbose", VERBOSE)
 }
 
 /// The program's name and what it is for.
@@ -82,48 +96,13 @@ fn named<'a>(alloc: Global) -> Command<'a> {
         .after_help(EXAMPLE)
 }
 
-/// The same with where browsers are listened to, and what follows.
-fn with_listen<'a>(alloc: Global, command: Command<'a>) -> Result<Command<'a>, AllocError> {
-    let listen = option(
-        alloc,
-        "listen",
-        "A.B.C.D:PORT",
-        "The address and port for browsers; the address is one of 127.0.0.0/8, and at port 0 the system chooses one \
-        [default: 127.0.0.1:8080]",
-    );
-    match command.arg(listen) {
-        Ok(command) => with_span(alloc, command),
-        Err(refused) => Err(refused),
+/// The same with the options that need not be given.
+fn with_options<'a>(alloc: Global, command: Command<'a>) -> Result<Command<'a>, AllocError> {
+    let mut so_far = command;
+    for (name, value, help) in OPTIONS {
+        so_far = with_option(alloc, so_far, name, value, help)?;
     }
-}
-
-/// The same with the span, and what follows.
-fn with_span<'a>(alloc: Global, command: Command<'a>) -> Result<Command<'a>, AllocError> {
-    let span = option(
-        alloc,
-        "span",
-        "S",
-        "The span, 2 to 32: the handles of the commands in flight are within S consecutive numbers; half of it is kept \
-        for orders from browsers [default: 16]",
-    );
-    match command.arg(span) {
-        Ok(command) => with_port(alloc, command),
-        Err(refused) => Err(refused),
-    }
-}
-
-/// The same with the local port, and what follows.
-fn with_port<'a>(alloc: Global, command: Command<'a>) -> Result<Command<'a>, AllocError> {
-    let port = option(
-        alloc,
-        "port",
-        "PORT",
-        "The local port of the socket for the device [default: the system chooses one]",
-    );
-    match command.arg(port) {
-        Ok(command) => command.arg(verbose_option(alloc)),
-        Err(refused) => Err(refused),
-    }
+    Ok(so_far)
 }
 
 /// The words, matched with what the program takes.
