@@ -17,6 +17,7 @@ sys.path.insert(0, str(TOP / "gate"))
 import reference
 
 CALLS = TOP / "crates/oca_c/src"
+STRUCTURES = TOP / "crates/oca_calls/src"
 NUMBERS = {"bool": "bool", "usize": "size_t", **{f"{sign}{bits}": f"{'u' if sign == 'u' else ''}int{bits}_t" for sign in "iu" for bits in (8, 16, 32, 64)}}
 HANDLES = {"DeviceHandle": ("struct oca_device", "device"), "LinkHandle": ("struct oca_link", "link")}
 STRUCTS = {"Name": "struct oca_name", "Reading": "struct oca_setting", "ValueWords": "struct oca_value", "ReadingWords": "struct oca_reading",
@@ -89,7 +90,7 @@ def upper(name):
 
 
 def text(file):
-    return (CALLS / file).read_text()
+    return (STRUCTURES / file).read_text()
 
 
 def source(name):
@@ -175,7 +176,7 @@ def expected():
         "most": {"OCA_MOST_BYTES": constant("crates/oca_types/src/words.rt", "MOST_BYTES"),
                  "OCA_MOST_ANSWER": constant("crates/oca_types/src/words.rt", "MOST_PARAMETER_BYTES"),
                  "OCA_MOST_WRITTEN": constant("crates/oca_device/src/device.rt", "MOST_WRITTEN")},
-        "version": int(re.search(r"^    (0x[\d_]+)$", text("version.rt"), re.M)[1].replace("_", ""), 16),
+        "version": int(re.search(r"^    (0x[\d_]+)$", source("oca_c/src/version.rt"), re.M)[1].replace("_", ""), 16),
     }
 
 

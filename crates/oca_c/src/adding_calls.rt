@@ -1,37 +1,15 @@
 //! What C calls to add the objects of a device.
 ghost use Rattle.oca_tree.specs.declared.builder.Kind.TheVariants as kinds;
 ghost use Rattle.oca_tree.specs.Objects.{Store};
-ghost use Rattle.oca_c.specs.Calls.{HandleAdds, HandleAddsSwitch, HandleBuilds, RefusesClosed, RefusesRunning};
-ghost use Rattle.oca_c.specs.Calls.{muted_state, inverted_state};
+ghost use Rattle.oca_calls.specs.Calls.{HandleAdds, HandleAddsSwitch, HandleBuilds, RefusesClosed, RefusesRunning};
+ghost use Rattle.oca_calls.specs.Calls.{muted_state, inverted_state};
 
-use crate::answer::Answer;
-use crate::device_handle::DeviceHandle;
-use crate::name::Name;
+use oca_calls::adding::add;
+use oca_calls::answer::Answer;
+use oca_calls::device_handle::DeviceHandle;
+use oca_calls::name::Name;
 use oca_tree::{Kind, MuteState, PolarityState};
 use std::alloc::Global;
-
-/// Adds an object.
-fn add(
-    alloc: Global,
-    handle: &mut DeviceHandle,
-    container: u32,
-    ono: u32,
-    role: &[u8],
-    lockable: bool,
-    kind: Kind<'_>,
-) -> u32
-    ensures closed { RefusesClosed handle.old.slot.inner handle.new.slot.inner result }
-    ensures started { RefusesRunning handle.old.slot.inner handle.new.slot.inner result }
-    ensures adds { (B : Store) → HandleBuilds handle.old.slot.inner B →
-        HandleAdds result handle.new.slot.inner B container ono role.now lockable kind.entry }
-{
-    let Some(mut behind) = handle.take(alloc) else {
-        return Answer::Closed.number();
-    };
-    let answer = behind.add(container, ono, role, lockable, kind);
-    handle.put(behind);
-    answer.number()
-}
 
 /// Adds an OcaBlock.
 #[unsafe(no_mangle)]

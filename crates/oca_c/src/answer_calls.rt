@@ -4,13 +4,13 @@ ghost use Rattle.oca_types.specs.Reading.{text_at};
 ghost use Rattle.oca_model.specs.Answers.{switch_names_in};
 ghost use Rattle.oca_model.specs.Members.{class_id_in, class_with, members_in};
 ghost use Rattle.oca_model.specs.Parameters.{whole};
-ghost use Rattle.oca_c.specs.AnswerCalls.{WritesClass, WritesEncoding, WritesMembers, WritesNames, WritesText};
-ghost use Rattle.oca_c.specs.AnswerCalls.{number_of_class};
+ghost use Rattle.oca_calls.specs.AnswerCalls.{WritesClass, WritesEncoding, WritesMembers, WritesNames, WritesText};
+ghost use Rattle.oca_calls.specs.AnswerCalls.{number_of_class};
 
-use crate::answer::Answer;
-use crate::answer_words::{ClassId, Members, Names, number_with};
-use crate::name::{Name, text_of};
-use crate::words::put_bytes;
+use oca_calls::answer::Answer;
+use oca_calls::answer_words::{ClassId, Members, Names, number_with};
+use oca_calls::name::{Name, text_of};
+use oca_calls::words::put_bytes;
 use oca_model::{read_class_fields, read_members, read_names, read_text};
 use oca_types::{Params, Text, put_text};
 

@@ -9,14 +9,15 @@ ghost use Rattle.oca_device.specs.States.{state_after};
 ghost use Rattle.oca_device.specs.Answers.{packets, verdict};
 ghost use Rattle.oca_device.specs.Outboxes.{KeptPackets};
 ghost use Rattle.oca_device.specs.Written.{written};
-ghost use Rattle.oca_c.specs.Calls.{HandleBuilds, HandleRuns, HandleStarts, AnsweredWith, KeepsFirst, KeepsPackets};
-ghost use Rattle.oca_c.specs.Calls.{Opens, RefusesBuilding, RefusesClosed, RefusesRunning};
-ghost use Rattle.oca_c.specs.Outputs.{WritesNextLapse, WritesWords, put_words, verdict_words};
+ghost use Rattle.oca_calls.specs.Calls.{HandleBuilds, HandleRuns, HandleStarts, AnsweredWith, KeepsFirst, KeepsPackets};
+ghost use Rattle.oca_calls.specs.Calls.{Opens, RefusesBuilding, RefusesClosed, RefusesRunning};
+ghost use Rattle.oca_calls.specs.Outputs.{WritesNextLapse, WritesWords, put_words, verdict_words};
 
-use crate::answer::Answer;
-use crate::device::{DeviceBehind, MOST_PACKETS};
-use crate::device_handle::DeviceHandle;
-use oca_tree::Room;
+use oca_calls::answer::Answer;
+use oca_calls::device::MOST_PACKETS;
+use oca_calls::device_handle::DeviceHandle;
+use oca_calls::opening::open_over;
+use oca_tree::{Room, TreeBuilder};
 use oca_types::Peer;
 use std::alloc::Global;
 
@@ -32,14 +33,8 @@ pub extern "C" fn oca_device_open(alloc: Global, handle: &mut DeviceHandle, room
     let Some(room) = Room::new(room) else {
         return Answer::BadSize.number();
     };
-    let Some(behind) = DeviceBehind::new(alloc, room) else {
-        return Answer::NoMemory.number();
-    };
-    match Box::new(alloc, behind) {
-        Ok(behind) => {
-            handle.put(behind);
-            Answer::Done.number()
-        }
+    match TreeBuilder::with_room(alloc, room) {
+        Ok(builder) => open_over(alloc, handle, builder),
         Err(_) => Answer::NoMemory.number(),
     }
 }
@@ -49,7 +44,7 @@ pub extern "C" fn oca_device_open(alloc: Global, handle: &mut DeviceHandle, room
 pub extern "C" fn oca_device_close(alloc: Global, handle: &mut DeviceHandle)
     ensures { handle.new.slot.inner ≡ None }
 {
-    drop(handle.take(alloc));
+    handle.close(alloc);
 }
 
 /// Starts the device, with reply windows of this size and sessions of so many peers.

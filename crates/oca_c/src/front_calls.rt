@@ -1,44 +1,15 @@
 //! What C calls to set the objects of a device at its local front panel.
 ghost use Rattle.std.specs.Prelude.{pos};
 ghost use Rattle.oca_model.specs.declared.value.Value.TheVariants as values;
-ghost use Rattle.oca_c.specs.Calls.{HandleSets, KeepsPackets, RefusesBuilding, RefusesClosed};
-ghost use Rattle.oca_c.specs.FrontCalls.{HandleSetsEntry, HandleSetsWords, State, Integer};
+ghost use Rattle.oca_calls.specs.Calls.{HandleSets, KeepsPackets, RefusesBuilding, RefusesClosed};
+ghost use Rattle.oca_calls.specs.FrontCalls.{HandleSetsEntry, HandleSetsWords, State, Integer};
 
-use crate::answer::Answer;
-use crate::device_handle::DeviceHandle;
-use crate::value_words::ValueWords;
+use oca_calls::answer::Answer;
+use oca_calls::device_handle::DeviceHandle;
+use oca_calls::front::{set, set_integer};
+use oca_calls::value_words::ValueWords;
 use oca_tree::Value;
 use std::alloc::Global;
-
-/// Sets an object at the local front panel.
-fn set(alloc: Global, handle: &mut DeviceHandle, ono: u32, value: Value) -> u32
-    ensures closed { RefusesClosed handle.old.slot.inner handle.new.slot.inner result }
-    ensures building { RefusesBuilding handle.old.slot.inner handle.new.slot.inner result }
-    ensures packets { KeepsPackets handle.old.slot.inner handle.new.slot.inner }
-    ensures sets { HandleSets result handle.old.slot.inner handle.new.slot.inner ono value }
-{
-    let Some(mut behind) = handle.take(alloc) else {
-        return Answer::Closed.number();
-    };
-    let answer = behind.set(ono, value);
-    handle.put(behind);
-    answer.number()
-}
-
-/// Sets an actuator of integers.
-fn set_integer(alloc: Global, handle: &mut DeviceHandle, ono: u32, number: i128) -> u32
-    ensures closed { RefusesClosed handle.old.slot.inner handle.new.slot.inner result }
-    ensures building { RefusesBuilding handle.old.slot.inner handle.new.slot.inner result }
-    ensures packets { KeepsPackets handle.old.slot.inner handle.new.slot.inner }
-    ensures sets { HandleSetsEntry result handle.old.slot.inner handle.new.slot.inner ono (Integer number) }
-{
-    let Some(mut behind) = handle.take(alloc) else {
-        return Answer::Closed.number();
-    };
-    let answer = behind.set_integer(ono, number);
-    handle.put(behind);
-    answer.number()
-}
 
 /// Sets a mute or a polarity at the local front panel.
 #[unsafe(no_mangle)]

@@ -7,13 +7,13 @@ ghost use Rattle.oca_control.specs.Contents.{IsContent};
 ghost use Rattle.oca_control.specs.Links.{decision, due_answer, due_bytes, gone_on, late_at, new_link, received};
 ghost use Rattle.oca_control.specs.Links.{reception, submission, submitted, taken};
 ghost use Rattle.oca_control.specs.Untaken.{answer_under, first_answered};
-ghost use Rattle.oca_c.specs.Calls.{RefusesClosed};
-ghost use Rattle.oca_c.specs.LinkCalls.{HoldsLink, LiesIn, OpensLink, WritesNextDue, WritesNumber, WritesAnswer};
-ghost use Rattle.oca_c.specs.LinkCalls.{WritesSubmission, answered_count, due_handle, due_kind, reception_kind};
+ghost use Rattle.oca_calls.specs.Calls.{RefusesClosed};
+ghost use Rattle.oca_calls.specs.LinkCalls.{HoldsLink, LiesIn, OpensLink, WritesNextDue, WritesNumber, WritesAnswer};
+ghost use Rattle.oca_calls.specs.LinkCalls.{WritesSubmission, answered_count, due_handle, due_kind, reception_kind};
 
-use crate::answer::Answer;
-use crate::link::LinkBehind;
-use crate::link_handle::LinkHandle;
+use oca_calls::answer::Answer;
+use oca_calls::link::LinkBehind;
+use oca_calls::link_handle::LinkHandle;
 use oca_control::Link;
 use oca_types::{Handle, MethodId, Ono, Peer, Span};
 use std::alloc::Global;
@@ -54,7 +54,7 @@ pub extern "C" fn oca_link_open(
 pub extern "C" fn oca_link_close(alloc: Global, handle: &mut LinkHandle)
     ensures { handle.new.slot.inner ≡ None }
 {
-    drop(handle.take(alloc));
+    handle.close(alloc);
 }
 
 /// Submits a command.

@@ -5,12 +5,12 @@ ghost use Rattle.oca_tree.specs.declared.object.Object.{Object};
 ghost use Rattle.oca_tree.specs.Readers.{info_at, lock_at, setting_at};
 ghost use Rattle.oca_device.specs.States.{state_after};
 ghost use Rattle.oca_device.specs.Events.{Event};
-ghost use Rattle.oca_c.specs.Calls.{HandleRuns, RefusesBuilding, RefusesClosed};
-ghost use Rattle.oca_c.specs.Outputs.{WritesLock, WritesObject, WritesSetting};
+ghost use Rattle.oca_calls.specs.Calls.{HandleRuns, RefusesBuilding, RefusesClosed};
+ghost use Rattle.oca_calls.specs.Outputs.{WritesLock, WritesObject, WritesSetting};
 
-use crate::answer::Answer;
-use crate::device_handle::DeviceHandle;
-use crate::reading::Reading;
+use oca_calls::answer::Answer;
+use oca_calls::device_handle::DeviceHandle;
+use oca_calls::reading::Reading;
 use std::alloc::Global;
 
 /// Tells how many objects there are, the root counted.

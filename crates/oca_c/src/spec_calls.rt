@@ -6,16 +6,16 @@ ghost use Rattle.oca_tree.specs.Objects.{Store};
 ghost use Rattle.oca_tree.specs.Readers.{info_at};
 ghost use Rattle.oca_device.specs.States.{state_after};
 ghost use Rattle.oca_device.specs.Events.{Event};
-ghost use Rattle.oca_c.specs.Calls.{HandleBuilds, HandleRuns, RefusesBuilding, RefusesClosed, RefusesRunning};
-ghost use Rattle.oca_c.specs.CSpecs.{HandleAddsSpec, OpensOver, OpensWith, WritesSpec, WrittenMakesAgain};
+ghost use Rattle.oca_calls.specs.Calls.{HandleBuilds, HandleRuns, RefusesBuilding, RefusesClosed, RefusesRunning};
+ghost use Rattle.oca_calls.specs.CSpecs.{HandleAddsSpec, OpensWith, WritesSpec, WrittenMakesAgain};
 
-use crate::answer::Answer;
-use crate::device::DeviceBehind;
-use crate::device_handle::DeviceHandle;
-use crate::laws::law_of_specs;
-use crate::name::text_of;
-use crate::spec_adding::start_with;
-use crate::spec_words::{SPEC_SIZE, SpecWords};
+use oca_calls::answer::Answer;
+use oca_calls::device_handle::DeviceHandle;
+use oca_calls::laws::law_of_specs;
+use oca_calls::name::text_of;
+use oca_calls::opening::open_over;
+use oca_calls::spec_adding::start_with;
+use oca_calls::spec_words::{SPEC_SIZE, SpecWords};
 use oca_tree::{Room, TreeBuilder};
 use std::alloc::Global;
 
@@ -46,23 +46,6 @@ pub extern "C" fn oca_device_open_with(
     match TreeBuilder::with_root(alloc, room, &start) {
         Ok(builder) => open_over(alloc, handle, builder),
         Err(fault) => Answer::of_start(fault).number(),
-    }
-}
-
-/// Opens a closed device over what was built.
-fn open_over(alloc: Global, handle: &mut DeviceHandle, builder: TreeBuilder) -> u32
-    requires { handle.old.slot.inner ≡ None }
-    ensures { OpensOver result handle.new.slot.inner builder }
-{
-    let Some(behind) = DeviceBehind::over(alloc, builder) else {
-        return Answer::NoMemory.number();
-    };
-    match Box::new(alloc, behind) {
-        Ok(behind) => {
-            handle.put(behind);
-            Answer::Done.number()
-        }
-        Err(_) => Answer::NoMemory.number(),
     }
 }
 

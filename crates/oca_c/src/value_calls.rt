@@ -1,10 +1,10 @@
 //! What C calls to encode a value, to ask for one and to read what came back. Nothing here has a handle.
 ghost use Rattle.std.specs.Prelude.{◌≡◌, ◌⊎◌};
-ghost use Rattle.oca_c.specs.CValues.{PutsWords, ReadsAnswer, WritesGetOf, WritesSetOf};
+ghost use Rattle.oca_calls.specs.CValues.{PutsWords, ReadsAnswer, WritesGetOf, WritesSetOf};
 
-use crate::answer::Answer;
-use crate::value_words::{ReadingWords, RequestWords, ValueWords, class_with};
-use crate::words::put_bytes;
+use oca_calls::answer::Answer;
+use oca_calls::value_words::{ReadingWords, RequestWords, ValueWords, class_with};
+use oca_calls::words::put_bytes;
 use oca_model::{Reading, get_request, set_request};
 
 /// Puts what a set method has of a value for its parameter: 1 to 8 bytes.

@@ -1,6 +1,6 @@
 use Rattle.std.proofs.Common.{rules}
-use Rattle.oca_c.specs.Calls.{SwitchAddedBy}
-use Rattle.oca_c.proofs.Behind.{adds_behind}
+use Rattle.oca_calls.specs.Calls.{SwitchAddedBy}
+use Rattle.oca_calls.proofs.Behind.{adds_behind}
 use Rattle.oca_c.proofs.adding_calls.oca_device_add_switch.Goals as goal
 
 pub returns-clause-adds : goal.returns-clause-adds

@@ -1,5 +1,5 @@
 use Rattle.std.proofs.Common.{rules}
-use Rattle.oca_c.proofs.Behind.{starts_behind}
+use Rattle.oca_calls.proofs.Behind.{starts_behind}
 use Rattle.oca_c.proofs.device_calls.oca_device_start_within.Goals as goal
 
 pub returns-clause-starts : goal.returns-clause-starts

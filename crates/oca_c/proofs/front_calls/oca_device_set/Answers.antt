@@ -1,5 +1,5 @@
 use Rattle.std.proofs.Common.{rules}
-use Rattle.oca_c.proofs.Behind.{sets_behind}
+use Rattle.oca_calls.proofs.Behind.{sets_behind}
 use Rattle.oca_c.proofs.front_calls.oca_device_set.Goals as goal
 
 pub returns-clause-sets : goal.returns-clause-sets

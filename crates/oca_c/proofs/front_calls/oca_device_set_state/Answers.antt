@@ -1,6 +1,6 @@
 use Rattle.std.proofs.Common.{rules}
-use Rattle.oca_c.specs.FrontCalls.{State}
-use Rattle.oca_c.proofs.Behind.{entry_behind}
+use Rattle.oca_calls.specs.FrontCalls.{State}
+use Rattle.oca_calls.proofs.Behind.{entry_behind}
 use Rattle.oca_c.proofs.front_calls.oca_device_set_state.Goals as goal
 
 pub returns-clause-sets : goal.returns-clause-sets

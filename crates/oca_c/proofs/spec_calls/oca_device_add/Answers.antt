@@ -1,6 +1,6 @@
 use Rattle.std.proofs.Common.{rules}
-use Rattle.oca_c.specs.CSpecs.{SpecAddedBy}
-use Rattle.oca_c.proofs.Behind.{adds_behind}
+use Rattle.oca_calls.specs.CSpecs.{SpecAddedBy}
+use Rattle.oca_calls.proofs.Behind.{adds_behind}
 use Rattle.oca_c.proofs.spec_calls.oca_device_add.Goals as goal
 
 pub returns-clause-adds : goal.returns-clause-adds

@@ -1,4 +1,0 @@
-mod Behind
-mod DeviceAsBox
-mod LinkAsBox
-pub mod SpecsAgain

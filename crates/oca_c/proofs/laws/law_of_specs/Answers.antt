@@ -1,5 +1,0 @@
-use Rattle.oca_c.proofs.SpecsAgain.{written_again}
-use Rattle.oca_c.proofs.laws.law_of_specs.Goals as goal
-
-pub returns : goal.returns
-returns c = written_again c.law_of_copies.ensures

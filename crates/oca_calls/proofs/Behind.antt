@@ -1,0 +1,72 @@
+-- What a call makes of what is behind a handle holds of the handle.
+use Rattle.std.proofs.Common.{◌≡◌, ℕ, ◌≤◌, Bool, List, length, map, Option, Some, None, inl, inr, refl}
+use Rattle.std.specs.Prelude.{Result, Ok, Err}
+use Rattle.oca_tree.specs.declared.setting.SetFault.{SetFault}
+use Rattle.std.specs.List.{AllByRecursion}
+use Rattle.oca_tree.specs.declared.builder.Kind.{Kind}
+use Rattle.oca_tree.specs.Objects.{Store}
+use Rattle.oca_calls.specs.declared.answer.Answer.{Answer}
+use Rattle.oca_calls.specs.declared.device.DeviceBehind.{DeviceBehind}
+use Rattle.oca_calls.specs.declared.name.Name.{Name}
+use Rattle.oca_types.specs.Sizes.{DeviceSizes}
+use Rattle.oca_tree.specs.declared.object.Object.{Object}
+use Rattle.oca_device.specs.Events.{Event}
+use Rattle.oca_model.specs.declared.value.Value.{Value}
+use Rattle.oca_calls.specs.declared.value_words.ValueWords.{ValueWords}
+use Rattle.oca_calls.specs.CValues.{AreWordsOf}
+use Rattle.oca_calls.specs.FrontCalls.{FrontNumber, HandleSetsEntry, HandleSetsFound, HandleSetsValue, HandleSetsWords, SetsEntry, SetsFrontFound, SetsWords}
+use Rattle.oca_calls.specs.Numbers.{answer_number}
+use Rattle.oca_calls.specs.Calls.{AddedBy, Builds, HandleBuilds, HandleStarts, RunsBehind, IsName, IsSwitch, Starts, SwitchAddedBy, name_bytes}
+
+-- an addition
+pub adds_behind : (old new : Option DeviceBehind) (u u' : DeviceBehind) (number : ℕ) (answer : Answer) (By : Answer → Store → Store → Type 0)
+    → old ≡ Some u → new ≡ Some u' → number ≡ answer_number answer
+    → ((B : Store) → Builds u B → (B' : Store) × Builds u' B' × By answer B B')
+    → (B : Store) → HandleBuilds old B → (B' : Store) × HandleBuilds new B' × (a : Answer) × (number ≡ answer_number a) × By a B B'
+adds_behind old new u u' number answer By o n e k B h =
+    let r = k B (rw o at h) in (r.0, rw n r.1, answer, e, r.2)
+
+-- a start
+pub starts_behind : (old new : Option DeviceBehind) (u u' : DeviceBehind) (number : ℕ) (answer : Answer) (window peers packets : ℕ)
+    → old ≡ Some u → new ≡ Some u' → number ≡ answer_number answer
+    → ((B : Store) → Builds u B → Starts answer u u' window peers packets B.list)
+    → (B : Store) → HandleBuilds old B → HandleStarts number old new window peers packets B.list
+starts_behind old new u u' number answer window peers packets o n e k B h = rw (o, n, e) (here (k B (rw o at h)))
+  where
+    here : Starts answer u u' window peers packets B.list → HandleStarts (answer_number answer) (Some u) (Some u') window peers packets B.list
+    here (inl (is, w, p, r, runs, none)) = inl (rw is refl, w, p, r, runs, none)
+    here (inr (inl (is, w, p, r, spent))) = inr (inl (rw is refl, w, p, r, spent))
+    here (inr (inr (is, bad, same))) = inr (inr (rw is refl, bad, rw same refl))
+
+-- an addition of a switch, once its names were read
+pub added_switch : (u : DeviceBehind) (answer : Answer) (B : Store) (container ono : ℕ) (role : List ℕ) (lockable : Bool) (names : List Name) (position : ℕ) (kind : Kind)
+    → length names ≤ 16 → AllByRecursion IsName names → IsSwitch kind (map name_bytes names) position
+    → (B' : Store) × Builds u B' × AddedBy answer B B' container ono role lockable kind
+    → (B' : Store) × Builds u B' × SwitchAddedBy answer B B' container ono role lockable names position
+added_switch u answer B container ono role lockable names position kind few all is r =
+    (r.0, r.1, inr (inr (few, all, kind, is, r.2)))
+
+-- a change at the front
+found_behind : (w : DeviceSizes) (u' : DeviceBehind) (answer : Answer) (ono : ℕ) (T : List Object) (E : List Event) (found : Result Value SetFault)
+    → SetsFrontFound w answer u' T E ono found → HandleSetsFound w (answer_number answer) (Some u') T E ono found
+found_behind w u' answer ono T E (Err fault) (is, runs) = (rw is refl, runs)
+found_behind w u' answer ono T E (Ok value) (is, runs) = (rw is refl, runs)
+
+pub entry_behind : (old new : Option DeviceBehind) (u u' : DeviceBehind) (number : ℕ) (answer : Answer) (ono : ℕ) (entry : FrontNumber)
+    → old ≡ Some u → new ≡ Some u' → number ≡ answer_number answer
+    → ((w : DeviceSizes) (T : List Object) (E : List Event) → RunsBehind w u T E → SetsEntry w answer u' T E ono entry)
+    → HandleSetsEntry number old new ono entry
+entry_behind old new u u' number answer ono entry o n e k w T E h =
+    let r = k w T E (rw o at h) in (r.0, r.1, rw (n, e) (found_behind w u' answer ono T E r.0 r.2))
+
+-- a change at the front by words
+pub sets_behind : (old new : Option DeviceBehind) (u u' : DeviceBehind) (number : ℕ) (answer : Answer) (ono : ℕ) (words : ValueWords)
+    → old ≡ Some u → new ≡ Some u' → number ≡ answer_number answer
+    → ((w : DeviceSizes) (T : List Object) (E : List Event) → RunsBehind w u T E → (value : Option Value) × AreWordsOf words value × SetsWords w answer u' T E ono value)
+    → HandleSetsWords number old new ono words
+sets_behind old new u u' number answer ono words o n e k w T E h =
+    let r = k w T E (rw o at h) in (r.0, r.1, rw (n, e) (by r.0 r.2))
+  where
+    by : (value : Option Value) → SetsWords w answer u' T E ono value → HandleSetsValue w (answer_number answer) (Some u') T E ono value
+    by None (is, runs) = (rw is refl, runs)
+    by (Some value) r = (r.0, r.1, found_behind w u' answer ono T E r.0 r.2)

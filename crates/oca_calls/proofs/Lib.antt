@@ -1,0 +1,4 @@
+pub mod Behind
+mod DeviceAsBox
+mod LinkAsBox
+pub mod SpecsAgain

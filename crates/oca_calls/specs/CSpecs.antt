@@ -1,0 +1,318 @@
+-- What an object is to be, and what it is, as C has it: one struct.
+use Rattle.std.specs.Prelude.{◌≡◌, ◌⊎◌, ℕ, ◌-◌, ◌==◌, ◌<◌, ◌≤◌, not, ℤ, pos, Bool, List, map, take, length, Option}
+use Rattle.std.specs.Prelude.{Some, None, IfSome, IsSome, Result, Ok, Err, FitsSigned}
+use Rattle.std.specs.Int.{w64, FitsUnsigned, cast_unsigned, from_bool}
+use Rattle.std.specs.List.{AllByRecursion}
+use Rattle.std.specs.Option.{option_map}
+use Rattle.oca_tree.specs.declared.object.Object.{Object}
+use Rattle.oca_tree.specs.declared.builder.Kind.{Kind}
+use Rattle.oca_tree.specs.declared.builder.Kind.TheVariants as kinds
+use Rattle.oca_tree.specs.declared.builder.Spec.{Spec}
+use Rattle.oca_tree.specs.declared.start.Start.{Start}
+use Rattle.oca_tree.specs.declared.start.StartFault.{StartFault}
+use Rattle.oca_tree.specs.declared.tree.ObjectInfo.{ObjectInfo}
+use Rattle.oca_tree.specs.declared.tree.Setting.{Setting}
+use Rattle.oca_tree.specs.declared.tree.Setting.TheVariants as settings
+use Rattle.oca_tree.specs.Objects.{Store, object_of}
+use Rattle.oca_tree.specs.Building.{object_of_spec}
+use Rattle.oca_tree.specs.Trees.{IsSoundValue}
+use Rattle.oca_tree.specs.Starts.{AddsWith, BeginsWith, flags_of, restored}
+use Rattle.oca_tree.specs.Copies.{Stored, stored_at, names_of_ono, lockable_at, unlocked}
+use Rattle.oca_tree.specs.Readers.{info_of, setting_at}
+use Rattle.oca_model.specs.declared.value.Value.{Value}
+use Rattle.oca_model.specs.declared.value.Value.TheVariants as values
+use Rattle.oca_model.specs.declared.reading.Ranged.{Ranged}
+use Rattle.oca_model.specs.declared.reading.Reading.{Reading}
+use Rattle.oca_model.specs.declared.reading.Reading.TheVariants as readings
+use Rattle.oca_calls.specs.declared.answer.Answer.{Answer}
+use Rattle.oca_calls.specs.declared.answer.Answer.TheVariants as answers
+use Rattle.oca_calls.specs.declared.device.DeviceBehind.{DeviceBehind}
+use Rattle.oca_calls.specs.declared.name.Name.{Name}
+use Rattle.oca_calls.specs.declared.value_words.ReadingWords.{ReadingWords}
+use Rattle.oca_calls.specs.declared.value_words.ValueWords.{ValueWords}
+use Rattle.oca_calls.specs.declared.spec_words.SpecWords.{SpecWords}
+use Rattle.oca_calls.specs.Numbers.{answer_number, start_answer}
+use Rattle.oca_calls.specs.Calls.{HandleBuilds, IsName, IsRoom, IsSwitch, name_bytes}
+use Rattle.oca_calls.specs.CValues.{AreWordsOf}
+use Rattle.oca_calls.specs.Outputs.{class_number}
+
+-- how many bytes the struct has
+abbrev pub spec_size : ℕ
+spec_size = 1248
+
+-- 0 is no, and any other byte is yes
+abbrev pub is_yes : ℕ → Bool
+is_yes byte = not (byte == 0)
+
+-- the names of its positions, their texts, and which of them are enabled
+abbrev pub names_of : SpecWords → List Name
+names_of w = take w.positions w.names
+
+abbrev pub texts_of : SpecWords → List (List ℕ)
+texts_of w = map name_bytes (names_of w)
+
+abbrev pub position_flags : SpecWords → List Bool
+position_flags w = map is_yes (take w.positions w.enableds)
+
+-- ---- readings
+
+-- the number of a value of the class
+abbrev pub int8_in : Option Value → Option ℤ
+int8_in (Some (values.Int8 n)) = Some n
+int8_in _ = None
+
+abbrev pub int16_in : Option Value → Option ℤ
+int16_in (Some (values.Int16 n)) = Some n
+int16_in _ = None
+
+abbrev pub int32_in : Option Value → Option ℤ
+int32_in (Some (values.Int32 n)) = Some n
+int32_in _ = None
+
+abbrev pub int64_in : Option Value → Option ℤ
+int64_in (Some (values.Int64 n)) = Some n
+int64_in _ = None
+
+abbrev pub uint8_in : Option Value → Option ℕ
+uint8_in (Some (values.Uint8 n)) = Some n
+uint8_in _ = None
+
+abbrev pub uint16_in : Option Value → Option ℕ
+uint16_in (Some (values.Uint16 n)) = Some n
+uint16_in _ = None
+
+abbrev pub uint32_in : Option Value → Option ℕ
+uint32_in (Some (values.Uint32 n)) = Some n
+uint32_in _ = None
+
+abbrev pub uint64_in : Option Value → Option ℕ
+uint64_in (Some (values.Uint64 n)) = Some n
+uint64_in _ = None
+
+-- a setting within its limits, where both are there
+abbrev pub ranged : {X : Type 0} → X → Option X → Option X → Option (Ranged X)
+ranged setting (Some least) (Some greatest) = Some (record { setting = setting; least = least; greatest = greatest })
+ranged setting (Some least) None = None
+ranged setting None greatest = None
+
+-- the reading that three values make: the limits of an integer are of its class; those of others are not looked at
+abbrev pub reading_of_values : Option Value → Option Value → Option Value → Option Reading
+reading_of_values None l g = None
+reading_of_values (Some (values.Mute state)) l g = Some (readings.Mute state)
+reading_of_values (Some (values.Polarity state)) l g = Some (readings.Polarity state)
+reading_of_values (Some (values.Switch n)) l g =
+    Some (readings.Switch (record { setting = n; least = n; greatest = n }))
+reading_of_values (Some (values.Boolean truth)) l g = Some (readings.Boolean truth)
+reading_of_values (Some (values.Int8 n)) l g = option_map readings.Int8 (ranged n (int8_in l) (int8_in g))
+reading_of_values (Some (values.Int16 n)) l g = option_map readings.Int16 (ranged n (int16_in l) (int16_in g))
+reading_of_values (Some (values.Int32 n)) l g = option_map readings.Int32 (ranged n (int32_in l) (int32_in g))
+reading_of_values (Some (values.Int64 n)) l g = option_map readings.Int64 (ranged n (int64_in l) (int64_in g))
+reading_of_values (Some (values.Uint8 n)) l g = option_map readings.Uint8 (ranged n (uint8_in l) (uint8_in g))
+reading_of_values (Some (values.Uint16 n)) l g = option_map readings.Uint16 (ranged n (uint16_in l) (uint16_in g))
+reading_of_values (Some (values.Uint32 n)) l g = option_map readings.Uint32 (ranged n (uint32_in l) (uint32_in g))
+reading_of_values (Some (values.Uint64 n)) l g = option_map readings.Uint64 (ranged n (uint64_in l) (uint64_in g))
+
+-- THE READING whose words these are, or none.
+abbrev pub AreReadingOf : ReadingWords → Option Reading → Type 0
+AreReadingOf w reading =
+    (v : Option Value) × AreWordsOf w.value v × (l : Option Value) × AreWordsOf w.least l × (g : Option Value)
+    × AreWordsOf w.greatest g × (reading ≡ reading_of_values v l g)
+
+-- the kind of object that is read so, a switch with these names; a position's own limits are those of the names
+abbrev pub IsKindOf : Kind → Reading → List (List ℕ) → Type 0
+IsKindOf kind (readings.Mute state) texts = kind ≡ kinds.Mute state
+IsKindOf kind (readings.Polarity state) texts = kind ≡ kinds.Polarity state
+IsKindOf kind (readings.Switch r) texts = IsSwitch kind texts r.setting
+IsKindOf kind (readings.Boolean truth) texts = kind ≡ kinds.Boolean truth
+IsKindOf kind (readings.Int8 r) texts = kind ≡ kinds.Int8 r.setting r.least r.greatest
+IsKindOf kind (readings.Int16 r) texts = kind ≡ kinds.Int16 r.setting r.least r.greatest
+IsKindOf kind (readings.Int32 r) texts = kind ≡ kinds.Int32 r.setting r.least r.greatest
+IsKindOf kind (readings.Int64 r) texts = kind ≡ kinds.Int64 r.setting r.least r.greatest
+IsKindOf kind (readings.Uint8 r) texts = kind ≡ kinds.Uint8 r.setting r.least r.greatest
+IsKindOf kind (readings.Uint16 r) texts = kind ≡ kinds.Uint16 r.setting r.least r.greatest
+IsKindOf kind (readings.Uint32 r) texts = kind ≡ kinds.Uint32 r.setting r.least r.greatest
+IsKindOf kind (readings.Uint64 r) texts = kind ≡ kinds.Uint64 r.setting r.least r.greatest
+
+-- THE KIND that the words of a reading and the texts of positions give: a block by its class alone; or none.
+abbrev pub GivesKind : ReadingWords → List (List ℕ) → Option Kind → Type 0
+GivesKind w texts (Some kind) =
+    ((w.value.class_number ≡ 1) × (kind ≡ kinds.Block))
+    ⊎ ((w.value.class_number ≡ 1 → ⊥) × (reading : Reading) × AreReadingOf w (Some reading)
+    × IsKindOf kind reading texts)
+GivesKind w texts None = (w.value.class_number ≡ 1 → ⊥) × AreReadingOf w None
+
+-- ---- additions
+
+-- the flags of a switch's positions; no other kind has any
+abbrev pub flags_for : Kind → List Bool → Option (List Bool)
+flags_for (kinds.Switch names position) flags = Some flags
+flags_for _ flags = None
+
+-- what the struct says of the object that is added, and what was stored of it
+pub record GivesSpec (w : SpecWords) (spec : Spec) : Type 0 where
+  pub role : spec.role.now ≡ name_bytes w.role
+  pub lockable : spec.lockable ≡ is_yes w.lockable
+  pub kind : GivesKind w.reading (texts_of w) (Some spec.kind)
+
+pub record GivesStart (w : SpecWords) (kind : Kind) (start : Start) : Type 0 where
+  pub label : start.label.now ≡ name_bytes w.label
+  pub enabled : start.enabled ≡ is_yes w.enabled
+  pub flags : flags_of start ≡ flags_for kind (position_flags w)
+
+-- the struct is of this version's size, and has at most 16 positions
+pub record IsSized (w : SpecWords) : Type 0 where
+  pub size : w.size ≡ spec_size
+  pub positions : w.positions ≤ 16
+
+-- its role and its label are of at most 64 bytes, in UTF-8
+abbrev pub HasOwnTexts : SpecWords → Type 0
+HasOwnTexts w = IsName w.role × IsName w.label
+
+-- what an addition with what was stored is answered with
+abbrev pub start_answers : {X : Type 0} → Result X StartFault → Answer
+start_answers (Ok _) = answers.Done
+start_answers (Err fault) = start_answer fault
+
+-- AN ADDITION BY A STRUCT answered this, the first that applies: bad size, where the struct is of another size; bad
+-- range, where it has more than 16 positions; bad text, where a text is none; no value, where the reading is none; none
+-- of which changes anything; else as the builder's own addition of what the struct says.
+abbrev pub GivenAddedBy : Answer → Store → Store → ℕ → ℕ → SpecWords → Type 0
+GivenAddedBy answer old new container ono w =
+    (spec : Spec) × GivesSpec w spec × (start : Start) × GivesStart w spec.kind start
+    × (r : Result (Unit {0}) StartFault) × (answer ≡ start_answers r) × AddsWith r old new container ono spec start
+
+abbrev pub KindAddedBy : Answer → Store → Store → ℕ → ℕ → SpecWords → Type 0
+KindAddedBy answer old new container ono w =
+    (GivesKind w.reading (texts_of w) None × (answer ≡ answers.NoValue) × (new ≡ old))
+    ⊎ GivenAddedBy answer old new container ono w
+
+abbrev pub NamedAddedBy : Answer → Store → Store → ℕ → ℕ → SpecWords → Type 0
+NamedAddedBy answer old new container ono w =
+    ((HasOwnTexts w → ⊥) × (answer ≡ answers.BadText) × (new ≡ old))
+    ⊎ (HasOwnTexts w × KindAddedBy answer old new container ono w)
+
+abbrev pub SizedAddedBy : Answer → Store → Store → ℕ → ℕ → SpecWords → Type 0
+SizedAddedBy answer old new container ono w =
+    ((AllByRecursion IsName (names_of w) → ⊥) × (answer ≡ answers.BadText) × (new ≡ old))
+    ⊎ (AllByRecursion IsName (names_of w) × NamedAddedBy answer old new container ono w)
+
+abbrev pub SpecAddedBy : Answer → Store → Store → ℕ → ℕ → SpecWords → Type 0
+SpecAddedBy answer old new container ono w =
+    ((w.size ≡ spec_size → ⊥) × (answer ≡ answers.BadSize) × (new ≡ old))
+    ⊎ (((w.size ≡ spec_size) × (16 < w.positions) × (answer ≡ answers.BadRange) × (new ≡ old))
+    ⊎ (IsSized w × SizedAddedBy answer old new container ono w))
+
+-- the same behind an open handle
+abbrev pub HandleAddsSpec : ℕ → Option DeviceBehind → Store → ℕ → ℕ → SpecWords → Type 0
+HandleAddsSpec number behind built container ono w =
+    (built' : Store) × HandleBuilds behind built' × (answer : Answer) × (number ≡ answer_number answer)
+    × SpecAddedBy answer built built' container ono w
+
+-- ---- a root
+
+-- what was stored of a root; all that the struct says else is not looked at
+pub record GivesRoot (w : SpecWords) (start : Start) : Type 0 where
+  pub label : start.label.now ≡ name_bytes w.label
+  pub enabled : start.enabled ≡ is_yes w.enabled
+  pub flags : flags_of start ≡ None
+
+-- A struct is opened with what was built, unless memory for its packets is refused.
+abbrev pub OpensOver : ℕ → Option DeviceBehind → Store → Type 0
+OpensOver number new built = ((number ≡ 0) × HandleBuilds new built) ⊎ ((number ≡ 8) × (new ≡ None))
+
+abbrev pub OpensBy : ℕ → Option DeviceBehind → Result Store StartFault → Type 0
+OpensBy number new (Ok built) = OpensOver number new built
+OpensBy number new (Err fault) = (number ≡ answer_number (start_answer fault)) × (new ≡ None)
+
+-- A closed struct is opened with the root that was stored, the first that applies: not, where that is no room or the
+-- struct is of another size; nor where the label is none; else as the builder's own beginning with it.
+abbrev pub OpensWith : ℕ → Option DeviceBehind → ℕ → SpecWords → Type 0
+OpensWith number new room w =
+    ((number ≡ 15) × (IsRoom room → w.size ≡ spec_size → ⊥) × (new ≡ None))
+    ⊎ (((number ≡ 6) × IsRoom room × (w.size ≡ spec_size) × (IsName w.label → ⊥) × (new ≡ None))
+    ⊎ (IsRoom room × (w.size ≡ spec_size) × IsName w.label × (start : Start) × GivesRoot w start
+    × (r : Result Store StartFault) × BeginsWith r room start × OpensBy number new r))
+
+-- ---- what is written
+
+-- a number in 64 bits, one below 0 in two's complement
+abbrev pub HasBits : ℤ → ℕ → Type 0
+HasBits z bits = (FitsSigned w64 z × (bits ≡ cast_unsigned w64 z)) ⊎ (z ≡ pos bits)
+
+pub record IsNumberWords (class : ℕ) (z : ℤ) (w : ValueWords) : Type 0 where
+  pub class_number : w.class_number ≡ class
+  pub zero : w.zero ≡ 0
+  pub bits : HasBits z w.bits
+
+-- the same words three times
+abbrev pub alone : ℕ → ℕ → ReadingWords
+alone class bits =
+    let words : ValueWords = record { class_number = class; zero = 0; bits = bits } in
+    record { value = words; least = words; greatest = words }
+
+-- the words of a position, from the first to the last of so many
+abbrev pub position_words : ℕ → ℕ → ℕ → ReadingWords
+position_words class positions position = record {
+  value = record { class_number = class; zero = 0; bits = position };
+  least = record { class_number = class; zero = 0; bits = 0 };
+  greatest = record { class_number = class; zero = 0; bits = positions - 1 };
+}
+
+-- the words of how an object of a class with so many positions is set; of a block its class alone
+abbrev pub AreSettingWords : ℕ → ℕ → Option Setting → ReadingWords → Type 0
+AreSettingWords class positions None w = w ≡ alone class 0
+AreSettingWords class positions (Some (settings.State state)) w = w ≡ alone class state
+AreSettingWords class positions (Some (settings.Position position)) w = w ≡ position_words class positions position
+AreSettingWords class positions (Some (settings.Truth truth)) w = w ≡ alone class (from_bool truth)
+AreSettingWords class positions (Some (settings.Number setting least greatest)) w =
+    IsNumberWords class setting w.value × IsNumberWords class least w.least × IsNumberWords class greatest w.greatest
+
+-- WHAT IS WRITTEN of the object that this is: all that an addition of the struct makes of it.
+pub record IsSpecOf (tree : List Object) (info : ObjectInfo) (w : SpecWords) : Type 0 where
+  pub sized : IsSized w
+  pub role : name_bytes w.role ≡ info.role
+  pub lockable : lockable_at tree info.ono.0 ≡ Some (is_yes w.lockable)
+  pub reading : AreSettingWords (class_number info.class) (length (names_of_ono tree info.ono.0))
+      (setting_at tree info.ono.0) w.reading
+  pub names : texts_of w ≡ names_of_ono tree info.ono.0
+  pub stored : (flags : Option (List Bool))
+      × (stored_at tree info.ono.0
+      ≡ Some (record { label = name_bytes w.label; enabled = is_yes w.enabled; flags = flags }))
+      × IfSome flags (λ them. them ≡ position_flags w)
+
+-- a number of 64 bits, as each object has
+abbrev pub FitsBits : ℤ → Type 0
+FitsBits z = FitsSigned w64 z ⊎ FitsUnsigned w64 z
+
+abbrev pub FitsSetting : Option Setting → Type 0
+FitsSetting (Some (settings.Number setting least greatest)) = FitsBits setting × FitsBits least × FitsBits greatest
+FitsSetting _ = Unit {0}
+
+-- what was stored has room: a label of at most 64 bytes, and as many flags as positions
+abbrev pub FitsStored : ℕ → Option Stored → Type 0
+FitsStored positions None = ⊥
+FitsStored positions (Some s) = (length s.label ≤ 64) × IfSome s.flags (λ flags. length flags ≡ positions)
+
+-- what an object with this number has, has room in the struct: so it is of every tree
+pub record FitsSpec (tree : List Object) (ono : ℕ) : Type 0 where
+  pub setting : FitsSetting (setting_at tree ono)
+  pub positions : length (names_of_ono tree ono) ≤ 16
+  pub lockable : IsSome (lockable_at tree ono)
+  pub stored : FitsStored (length (names_of_ono tree ono)) (stored_at tree ono)
+
+-- An object is written; or that it has no room in the struct, or that there is none at this index, and then nothing is
+-- written.
+abbrev pub WritesSpec : List Object → Option ObjectInfo → SpecWords → SpecWords → ℕ → Type 0
+WritesSpec tree None old new number = (number ≡ 13) × (new ≡ old)
+WritesSpec tree (Some info) old new number =
+    ((number ≡ 0) × IsSpecOf tree info new) ⊎ ((number ≡ 14) × (new ≡ old) × (FitsSpec tree info.ono.0 → ⊥))
+
+-- ---- an addition of what was written
+
+-- AN ADDITION OF WHAT WAS WRITTEN of an object of a tree makes the same object again, but for its lock: so say the
+-- Spec and the Start that the struct gives, into the same container and under the same number.
+abbrev pub WrittenMakesAgain : Type 0
+WrittenMakesAgain = (tree : List Object) (o : Object) (w : SpecWords) (spec : Spec) (start : Start) →
+    object_of tree o.ono.0 ≡ Some o → IsSoundValue o.value → IsSpecOf tree (info_of o) w →
+    GivesSpec w spec → GivesStart w spec.kind start →
+    restored start (object_of_spec o.container.0 o.ono.0 spec) ≡ unlocked o

@@ -1,0 +1,133 @@
+-- What C sets at the local front panel of a device: a state, a position, a truth or an integer, without its class.
+use Rattle.std.specs.Prelude.{◌≡◌, ℕ, ℤ, pos, Bool, true, false, List, ◌∷◌, Option, Some, None, Result, Ok, Err}
+use Rattle.oca_types.specs.declared.class.Class.{Class}
+use Rattle.oca_types.specs.declared.class.Class.TheVariants as classes
+use Rattle.oca_types.specs.Sizes.{DeviceSizes}
+use Rattle.oca_model.specs.declared.value.Value.{Value}
+use Rattle.oca_model.specs.declared.value.Value.TheVariants as values
+use Rattle.oca_model.specs.Values.{mute_number, polarity_number}
+use Rattle.oca_model.specs.ValueNumbers.{integer_in, state_in, IsValueWith}
+use Rattle.oca_tree.specs.declared.object.Object.{Object}
+use Rattle.oca_tree.specs.declared.setting.SetFault.{SetFault}
+use Rattle.oca_tree.specs.declared.setting.SetFault.TheVariants as faults
+use Rattle.oca_tree.specs.Readers.{class_of_ono}
+use Rattle.oca_tree.specs.Settings.{set_fault}
+use Rattle.oca_device.specs.Events.{Event, Local}
+use Rattle.oca_device.specs.States.{state_after}
+use Rattle.oca_calls.specs.declared.answer.Answer.{Answer}
+use Rattle.oca_calls.specs.declared.answer.Answer.TheVariants as answers
+use Rattle.oca_calls.specs.declared.device.DeviceBehind.{DeviceBehind}
+use Rattle.oca_calls.specs.declared.value_words.ValueWords.{ValueWords}
+use Rattle.oca_calls.specs.Numbers.{answer_number, set_answer}
+use Rattle.oca_calls.specs.Calls.{HandleRuns, RunsBehind, set_answers}
+use Rattle.oca_calls.specs.CValues.{AreWordsOf}
+
+-- the number of a state, a position, a truth or an integer
+pub data FrontNumber : Type 0 where
+  State : (number : ℕ) → FrontNumber
+  Position : (position : ℕ) → FrontNumber
+  Truth : (truth : Bool) → FrontNumber
+  Integer : (number : ℤ) → FrontNumber
+
+-- a value without its class
+abbrev pub entry_of : Value → FrontNumber
+entry_of (values.Mute state) = State (mute_number state)
+entry_of (values.Polarity state) = State (polarity_number state)
+entry_of (values.Switch position) = Position position
+entry_of (values.Boolean truth) = Truth truth
+entry_of (values.Int8 setting) = Integer setting
+entry_of (values.Int16 setting) = Integer setting
+entry_of (values.Int32 setting) = Integer setting
+entry_of (values.Int64 setting) = Integer setting
+entry_of (values.Uint8 setting) = Integer (pos setting)
+entry_of (values.Uint16 setting) = Integer (pos setting)
+entry_of (values.Uint32 setting) = Integer (pos setting)
+entry_of (values.Uint64 setting) = Integer (pos setting)
+
+-- whether objects of the class are set to a state, and whether to an integer
+abbrev pub has_states : Class → Bool
+has_states classes.Mute = true
+has_states classes.Polarity = true
+has_states _ = false
+
+abbrev pub has_integers : Class → Bool
+has_integers classes.Block = false
+has_integers classes.Mute = false
+has_integers classes.Polarity = false
+has_integers classes.Switch = false
+has_integers classes.Boolean = false
+has_integers _ = true
+
+-- why an object of a class has no such value: it is a block; or it is set to others; or no value of its class is that
+abbrev pub fault_of_class : Class → Bool → SetFault
+fault_of_class classes.Block has = faults.NoSetting
+fault_of_class _ true = faults.OutOfRange
+fault_of_class _ false = faults.OtherKind
+
+-- The value of the object's class that has this number was found; or why there is none.
+abbrev pub FindsWith :
+    {X : Type 0} → (Value → Option X) → (Class → Bool) → Option Class → X → Result Value SetFault → Type 0
+FindsWith part has None number (Ok value) = ⊥
+FindsWith part has None number (Err fault) = fault ≡ faults.NoObject
+FindsWith part has (Some of) number (Ok value) = IsValueWith part of number (Some value)
+FindsWith part has (Some of) number (Err fault) =
+    IsValueWith part of number None × (fault ≡ fault_of_class of (has of))
+
+-- THE VALUE that an entry is at an object of the class; or why it is none. A position and a truth are values of one
+-- class alone.
+abbrev pub FindsFrontValue : FrontNumber → Option Class → Result Value SetFault → Type 0
+FindsFrontValue (State number) of found = FindsWith state_in has_states of number found
+FindsFrontValue (Position position) of found = found ≡ Ok (values.Switch position)
+FindsFrontValue (Truth truth) of found = found ≡ Ok (values.Boolean truth)
+FindsFrontValue (Integer number) of found = FindsWith integer_in has_integers of number found
+
+-- A device is set to the value that was found, with this answer; where none was, it is as it was.
+abbrev pub SetsFrontFound :
+    DeviceSizes → Answer → DeviceBehind → List Object → List Event → ℕ → Result Value SetFault → Type 0
+SetsFrontFound w answer new tree events ono (Err fault) = (answer ≡ set_answer fault) × RunsBehind w new tree events
+SetsFrontFound w answer new tree events ono (Ok value) =
+    (answer ≡ set_answers (set_fault (state_after w tree events).tree ono value))
+    × RunsBehind w new tree (Local ono value ∷ events)
+
+-- A DEVICE IS SET BY AN ENTRY: to the value that it is at the object.
+abbrev pub SetsEntry : DeviceSizes → Answer → DeviceBehind → List Object → List Event → ℕ → FrontNumber → Type 0
+SetsEntry w answer new tree events ono entry =
+    (found : Result Value SetFault) × FindsFrontValue entry (class_of_ono (state_after w tree events).tree ono) found
+    × SetsFrontFound w answer new tree events ono found
+
+-- It is set by the entry that a value is; where there is none, nothing is set.
+abbrev pub SetsWords : DeviceSizes → Answer → DeviceBehind → List Object → List Event → ℕ → Option Value → Type 0
+SetsWords w answer new tree events ono None = (answer ≡ answers.NoValue) × RunsBehind w new tree events
+SetsWords w answer new tree events ono (Some value) = SetsEntry w answer new tree events ono (entry_of value)
+
+-- ---- the same behind an open handle
+
+abbrev pub HandleSetsFound :
+    DeviceSizes → ℕ → Option DeviceBehind → List Object → List Event → ℕ → Result Value SetFault → Type 0
+HandleSetsFound w number new tree events ono (Err fault) =
+    (number ≡ answer_number (set_answer fault)) × HandleRuns w new tree events
+HandleSetsFound w number new tree events ono (Ok value) =
+    (number ≡ answer_number (set_answers (set_fault (state_after w tree events).tree ono value)))
+    × HandleRuns w new tree (Local ono value ∷ events)
+
+abbrev pub HandleIsSet : DeviceSizes → ℕ → Option DeviceBehind → List Object → List Event → ℕ → FrontNumber → Type 0
+HandleIsSet w number new tree events ono entry =
+    (found : Result Value SetFault) × FindsFrontValue entry (class_of_ono (state_after w tree events).tree ono) found
+    × HandleSetsFound w number new tree events ono found
+
+-- A device that ran is set by an entry.
+abbrev pub HandleSetsEntry : ℕ → Option DeviceBehind → Option DeviceBehind → ℕ → FrontNumber → Type 0
+HandleSetsEntry number old new ono entry =
+    (w : DeviceSizes) (tree : List Object) (events : List Event) → HandleRuns w old tree events →
+    HandleIsSet w number new tree events ono entry
+
+abbrev pub HandleSetsValue :
+    DeviceSizes → ℕ → Option DeviceBehind → List Object → List Event → ℕ → Option Value → Type 0
+HandleSetsValue w number new tree events ono None = (number ≡ 24) × HandleRuns w new tree events
+HandleSetsValue w number new tree events ono (Some value) = HandleIsSet w number new tree events ono (entry_of value)
+
+-- It is set by the entry that the value is whose words these are.
+abbrev pub HandleSetsWords : ℕ → Option DeviceBehind → Option DeviceBehind → ℕ → ValueWords → Type 0
+HandleSetsWords number old new ono words =
+    (w : DeviceSizes) (tree : List Object) (events : List Event) → HandleRuns w old tree events →
+    (value : Option Value) × AreWordsOf words value × HandleSetsValue w number new tree events ono value

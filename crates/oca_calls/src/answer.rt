@@ -1,0 +1,104 @@
+//! The numbers that calls return.
+ghost use Rattle.std.specs.Prelude.{◌≡◌};
+ghost use Rattle.oca_calls.specs.Numbers.{add_answer, answer_number, set_answer, start_answer, submission_answer};
+
+use oca_control::ControlFault;
+use oca_tree::{AddFault, SetFault, StartFault};
+
+/// What a call returns. The numbers are promised; 1 to 8 are those of `AddFault`.
+#[derive(Clone, Copy)]
+pub enum Answer {
+    Done = 0,
+    Full = 1,
+    Reserved = 2,
+    Taken = 3,
+    NoSuchBlock = 4,
+    TooDeep = 5,
+    BadText = 6,
+    BadRange = 7,
+    NoMemory = 8,
+    /// The handle is closed.
+    Closed = 9,
+    /// The handle is open.
+    Open = 10,
+    /// The device is not started.
+    NotStarted = 11,
+    /// The device is started, so its tree is fixed.
+    Started = 12,
+    /// There is no such packet, object, setting, lock, moment or answer.
+    Nothing = 13,
+    /// The bytes do not fit where they were to go.
+    TooSmall = 14,
+    /// A size is outside its range.
+    BadSize = 15,
+    NoObject = 16,
+    NoSetting = 17,
+    OtherKind = 18,
+    OutOfRange = 19,
+    Lost = 20,
+    HandlesSpent = 21,
+    SpanFull = 22,
+    TooLong = 23,
+    /// The words are those of no value, or no answer gives one of the class.
+    NoValue = 24,
+}
+
+impl Answer {
+    /// Its number.
+    pub fn number(self) -> u32
+        ensures { result ≡ answer_number self }
+    {
+        self as u32
+    }
+
+    /// The answer to an addition that was refused.
+    pub fn of_add(fault: AddFault) -> Answer
+        ensures { result ≡ add_answer fault }
+    {
+        match fault {
+            AddFault::Full => Answer::Full,
+            AddFault::Reserved => Answer::Reserved,
+            AddFault::Taken => Answer::Taken,
+            AddFault::NoSuchBlock => Answer::NoSuchBlock,
+            AddFault::TooDeep => Answer::TooDeep,
+            AddFault::BadText => Answer::BadText,
+            AddFault::BadRange => Answer::BadRange,
+            AddFault::NoMemory => Answer::NoMemory,
+        }
+    }
+
+    /// The answer to an addition with what was stored, or to a root with it, that was refused.
+    pub fn of_start(fault: StartFault) -> Answer
+        ensures { result ≡ start_answer fault }
+    {
+        match fault {
+            StartFault::Add(fault) => Answer::of_add(fault),
+            StartFault::BadLabel => Answer::BadText,
+            StartFault::BadFlags => Answer::BadRange,
+        }
+    }
+
+    /// The answer to a setting that was refused.
+    pub fn of_set(fault: SetFault) -> Answer
+        ensures { result ≡ set_answer fault }
+    {
+        match fault {
+            SetFault::NoObject => Answer::NoObject,
+            SetFault::NoSetting => Answer::NoSetting,
+            SetFault::OtherKind => Answer::OtherKind,
+            SetFault::OutOfRange => Answer::OutOfRange,
+        }
+    }
+
+    /// The answer to a command that was not submitted.
+    pub fn of_submission(fault: ControlFault) -> Answer
+        ensures { result ≡ submission_answer fault }
+    {
+        match fault {
+            ControlFault::Lost => Answer::Lost,
+            ControlFault::HandlesSpent => Answer::HandlesSpent,
+            ControlFault::SpanFull => Answer::SpanFull,
+            ControlFault::TooLong => Answer::TooLong,
+        }
+    }
+}

@@ -1,0 +1,94 @@
+//! What answers give, as C has it.
+ghost use Rattle.std.specs.Prelude.{◌≡◌, ◌≤◌, length, map, take};
+ghost use Rattle.oca_model.specs.Members.{class_with};
+ghost use Rattle.oca_calls.specs.AnswerCalls.{number_of_class};
+ghost use Rattle.oca_calls.specs.Calls.{name_bytes};
+
+use crate::name::{Name, names_with};
+use crate::words::{class_number, put_words};
+use oca_model::{MOST_FIELDS, MOST_MEMBERS, class_with};
+use oca_types::Text;
+
+/// The names of a switch's positions: how many there are, at most 16, and they at the front.
+#[repr(C)]
+#[derive(Clone, Copy)]
+pub struct Names {
+    pub count: u32,
+    pub names: [Name; 16],
+}
+
+/// The numbers of a block's members: how many there are, at most 181, and they at the front.
+#[repr(C)]
+#[derive(Clone, Copy)]
+pub struct Members {
+    pub count: u32,
+    pub onos: [u32; 181],
+}
+
+/// The identifier of a class (OcaClassID): how many fields it has, at most 16, and they at the front; and the number of
+/// the class, 0 for one that is not of this profile.
+#[repr(C)]
+#[derive(Clone, Copy)]
+pub struct ClassId {
+    pub count: u16,
+    pub fields: [u16; 16],
+    pub class_number: u32,
+}
+
+impl Names {
+    /// These names.
+    pub fn of(texts: &[Text]) -> Names
+        requires { length texts.now ≤ 16 }
+        ensures count { result.count ≡ length texts.now }
+        ensures names { map name_bytes (take (length texts.now) result.names) ≡ texts.now }
+    {
+        Names {
+            count: texts.len() as u32,
+            names: names_with(texts),
+        }
+    }
+}
+
+impl Members {
+    /// These members.
+    pub fn of(onos: &[u32]) -> Members
+        requires { length onos.now ≤ 181 }
+        ensures count { result.count ≡ length onos.now }
+        ensures onos { take (length onos.now) result.onos ≡ onos.now }
+    {
+        let mut place = [0; MOST_MEMBERS];
+        put_words(onos, &mut place);
+        Members {
+            count: onos.len() as u32,
+            onos: place,
+        }
+    }
+}
+
+impl ClassId {
+    /// The identifier with these fields.
+    pub fn of(fields: &[u16]) -> ClassId
+        requires { length fields.now ≤ 16 }
+        ensures count { result.count ≡ length fields.now }
+        ensures fields { take (length fields.now) result.fields ≡ fields.now }
+        ensures class { result.class_number ≡ number_of_class (class_with fields.now) }
+    {
+        let mut place = [0; MOST_FIELDS];
+        put_words(fields, &mut place);
+        ClassId {
+            count: fields.len() as u16,
+            fields: place,
+            class_number: number_with(fields),
+        }
+    }
+}
+
+/// The number of the class whose identifier has these fields; 0 for one that is not of this profile.
+pub fn number_with(fields: &[u16]) -> u32
+    ensures { result ≡ number_of_class (class_with fields.now) }
+{
+    match class_with(fields) {
+        Some(class) => class_number(class),
+        None => 0,
+    }
+}

@@ -1,0 +1,54 @@
+//! What C holds of a device.
+ghost use Rattle.std.specs.Prelude.{◌≡◌, None, Some, is_some, MatchOption};
+
+use crate::device::DeviceBehind;
+use crate::device_slot::DeviceSlot;
+use crate::parts::Parts;
+use std::alloc::Global;
+
+/// A handle, in storage that C gives. Zeroed, it is closed.
+#[repr(C)]
+#[derive(Drop)]
+pub struct DeviceHandle {
+    pub slot: DeviceSlot,
+    pub is_open: bool,
+    ghost known: { is_open ≡ is_some slot.inner },
+}
+
+const _: () = prove!(std::mem::size_of::<DeviceHandle>() == 16);
+
+impl DeviceHandle {
+    /// Takes out what is behind the handle, which is then closed.
+    pub fn take(&mut self, alloc: Global) -> Option<Box<DeviceBehind>>
+        ensures closed { self.new.slot.inner ≡ None }
+        ensures was { MatchOption result (self.old.slot.inner ≡ None) (λ b. self.old.slot.inner ≡ Some b.value) }
+    {
+        let closed = DeviceHandle {
+            slot: DeviceSlot::empty(alloc),
+            is_open: false,
+        };
+        let DeviceHandle { slot, is_open } = std::mem::replace(self, closed);
+        if is_open {
+            Some(slot.into_parts().into_box())
+        } else {
+            None
+        }
+    }
+
+    /// Closes it, and gives the memory of what is behind it back.
+    pub fn close(&mut self, alloc: Global)
+        ensures { self.new.slot.inner ≡ None }
+    {
+        drop(self.take(alloc));
+    }
+
+    /// Puts it back.
+    pub fn put(&mut self, behind: Box<DeviceBehind>)
+        ensures { self.new.slot.inner ≡ Some behind.value }
+    {
+        *self = DeviceHandle {
+            slot: DeviceSlot::of_parts(Parts::of(behind)),
+            is_open: true,
+        };
+    }
+}

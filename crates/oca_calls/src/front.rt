@@ -1,0 +1,38 @@
+//! Setting an object behind a handle at the local front panel.
+ghost use Rattle.oca_calls.specs.Calls.{HandleSets, KeepsPackets, RefusesBuilding, RefusesClosed};
+ghost use Rattle.oca_calls.specs.FrontCalls.{HandleSetsEntry, Integer};
+
+use crate::answer::Answer;
+use crate::device_handle::DeviceHandle;
+use oca_tree::Value;
+use std::alloc::Global;
+
+/// Sets an object at the local front panel.
+pub fn set(alloc: Global, handle: &mut DeviceHandle, ono: u32, value: Value) -> u32
+    ensures closed { RefusesClosed handle.old.slot.inner handle.new.slot.inner result }
+    ensures building { RefusesBuilding handle.old.slot.inner handle.new.slot.inner result }
+    ensures packets { KeepsPackets handle.old.slot.inner handle.new.slot.inner }
+    ensures sets { HandleSets result handle.old.slot.inner handle.new.slot.inner ono value }
+{
+    let Some(mut behind) = handle.take(alloc) else {
+        return Answer::Closed.number();
+    };
+    let answer = behind.set(ono, value);
+    handle.put(behind);
+    answer.number()
+}
+
+/// Sets an actuator of integers.
+pub fn set_integer(alloc: Global, handle: &mut DeviceHandle, ono: u32, number: i128) -> u32
+    ensures closed { RefusesClosed handle.old.slot.inner handle.new.slot.inner result }
+    ensures building { RefusesBuilding handle.old.slot.inner handle.new.slot.inner result }
+    ensures packets { KeepsPackets handle.old.slot.inner handle.new.slot.inner }
+    ensures sets { HandleSetsEntry result handle.old.slot.inner handle.new.slot.inner ono (Integer number) }
+{
+    let Some(mut behind) = handle.take(alloc) else {
+        return Answer::Closed.number();
+    };
+    let answer = behind.set_integer(ono, number);
+    handle.put(behind);
+    answer.number()
+}

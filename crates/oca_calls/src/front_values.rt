@@ -1,0 +1,81 @@
+//! What a number without a class sets at the local front panel: the value that it is at the object.
+ghost use Rattle.std.specs.Prelude.{◌≡◌};
+ghost use Rattle.oca_model.specs.ValueNumbers.{integer_in, state_in};
+ghost use Rattle.oca_calls.specs.FrontCalls.{FindsFrontValue, FindsWith, entry_of, fault_of_class, has_integers};
+ghost use Rattle.oca_calls.specs.FrontCalls.{has_states};
+
+use oca_tree::{SetFault, Value};
+use oca_types::Class;
+
+/// Why an object of the class has no such value; `has` says whether its class has values of the kind.
+fn fault_of_class(class: Class, has: bool) -> SetFault
+    ensures { result ≡ fault_of_class class has }
+{
+    match class {
+        Class::Block => SetFault::NoSetting,
+        _ if has => SetFault::OutOfRange,
+        _ => SetFault::OtherKind,
+    }
+}
+
+/// Whether objects of the class are set to a state.
+fn has_states(class: Class) -> bool
+    ensures { result ≡ has_states class }
+{
+    matches!(class, Class::Mute | Class::Polarity)
+}
+
+/// Whether objects of the class are set to an integer.
+fn has_integers(class: Class) -> bool
+    ensures { result ≡ has_integers class }
+{
+    match class {
+        Class::Block | Class::Mute | Class::Polarity | Class::Switch | Class::Boolean => false,
+        _ => true,
+    }
+}
+
+/// The value of the object's class whose state has this number; or why there is none.
+pub fn state_at(class: Option<Class>, state: u8) -> Result<Value, SetFault>
+    ensures { FindsWith state_in has_states class state result }
+{
+    let Some(class) = class else {
+        return Err(SetFault::NoObject);
+    };
+    match Value::of_state(class, state) {
+        Some(value) => Ok(value),
+        None => Err(fault_of_class(class, has_states(class))),
+    }
+}
+
+/// The value of the object's class that is this integer; or why there is none.
+pub fn integer_at(class: Option<Class>, number: i128) -> Result<Value, SetFault>
+    ensures { FindsWith integer_in has_integers class number result }
+{
+    let Some(class) = class else {
+        return Err(SetFault::NoObject);
+    };
+    match Value::of_integer(class, number) {
+        Some(value) => Ok(value),
+        None => Err(fault_of_class(class, has_integers(class))),
+    }
+}
+
+/// The value of the object's class that is this value without its own class; or why there is none.
+pub fn value_at(class: Option<Class>, value: Value) -> Result<Value, SetFault>
+    ensures { FindsFrontValue (entry_of value) class result }
+{
+    match value {
+        Value::Mute(state) => state_at(class, state as u8),
+        Value::Polarity(state) => state_at(class, state as u8),
+        Value::Switch(_) | Value::Boolean(_) => Ok(value),
+        Value::Int8(setting) => integer_at(class, i128::from(setting)),
+        Value::Int16(setting) => integer_at(class, i128::from(setting)),
+        Value::Int32(setting) => integer_at(class, i128::from(setting)),
+        Value::Int64(setting) => integer_at(class, i128::from(setting)),
+        Value::Uint8(setting) => integer_at(class, i128::from(setting)),
+        Value::Uint16(setting) => integer_at(class, i128::from(setting)),
+        Value::Uint32(setting) => integer_at(class, i128::from(setting)),
+        Value::Uint64(setting) => integer_at(class, i128::from(setting)),
+    }
+}

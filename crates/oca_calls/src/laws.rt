@@ -1,0 +1,11 @@
+//! What the definitions of this crate say of one another.
+ghost use Rattle.oca_calls.specs.CSpecs.{WrittenMakesAgain};
+
+use oca_tree::law_of_copies;
+
+/// Law: an object that is added by the struct that was written of it is the same object, but for its lock.
+pub fn law_of_specs()
+    ensures { WrittenMakesAgain }
+{
+    law_of_copies();
+}

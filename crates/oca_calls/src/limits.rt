@@ -1,0 +1,139 @@
+//! Reading the words of a reading: a value, and limits of its class.
+ghost use Rattle.std.specs.Prelude.{◌≡◌};
+ghost use Rattle.oca_calls.specs.CSpecs.{AreReadingOf, int8_in, int16_in, int32_in, int64_in, ranged, uint8_in, uint16_in};
+ghost use Rattle.oca_calls.specs.CSpecs.{uint32_in, uint64_in};
+
+use crate::value_words::ReadingWords;
+use oca_model::{Ranged, Reading, Value};
+
+/// A setting within its limits, where both are there.
+fn ranged<N: Copy>(setting: N, least: Option<N>, greatest: Option<N>) -> Option<Ranged<N>>
+    ensures { result ≡ ranged setting least greatest }
+{
+    Some(Ranged {
+        setting,
+        least: least?,
+        greatest: greatest?,
+    })
+}
+
+/// The number of a value of this class.
+fn int8_in(value: Option<Value>) -> Option<i8>
+    ensures { result ≡ int8_in value }
+{
+    match value {
+        Some(Value::Int8(number)) => Some(number),
+        _ => None,
+    }
+}
+
+/// The number of a value of this class.
+fn int16_in(value: Option<Value>) -> Option<i16>
+    ensures { result ≡ int16_in value }
+{
+    match value {
+        Some(Value::Int16(number)) => Some(number),
+        _ => None,
+    }
+}
+
+/// The number of a value of this class.
+fn int32_in(value: Option<Value>) -> Option<i32>
+    ensures { result ≡ int32_in value }
+{
+    match value {
+        Some(Value::Int32(number)) => Some(number),
+        _ => None,
+    }
+}
+
+/// The number of a value of this class.
+fn int64_in(value: Option<Value>) -> Option<i64>
+    ensures { result ≡ int64_in value }
+{
+    match value {
+        Some(Value::Int64(number)) => Some(number),
+        _ => None,
+    }
+}
+
+/// The number of a value of this class.
+fn uint8_in(value: Option<Value>) -> Option<u8>
+    ensures { result ≡ uint8_in value }
+{
+    match value {
+        Some(Value::Uint8(number)) => Some(number),
+        _ => None,
+    }
+}
+
+/// The number of a value of this class.
+fn uint16_in(value: Option<Value>) -> Option<u16>
+    ensures { result ≡ uint16_in value }
+{
+    match value {
+        Some(Value::Uint16(number)) => Some(number),
+        _ => None,
+    }
+}
+
+/// The number of a value of this class.
+fn uint32_in(value: Option<Value>) -> Option<u32>
+    ensures { result ≡ uint32_in value }
+{
+    match value {
+        Some(Value::Uint32(number)) => Some(number),
+        _ => None,
+    }
+}
+
+/// The number of a value of this class.
+fn uint64_in(value: Option<Value>) -> Option<u64>
+    ensures { result ≡ uint64_in value }
+{
+    match value {
+        Some(Value::Uint64(number)) => Some(number),
+        _ => None,
+    }
+}
+
+/// The reading whose words these are; nothing where there is none. The limits of an integer are of its class; those of
+/// other values are not looked at.
+pub fn reading_of(words: &ReadingWords) -> Option<Reading>
+    ensures { AreReadingOf words.now result }
+{
+    let least = words.least.value();
+    let greatest = words.greatest.value();
+    match words.value.value()? {
+        Value::Mute(state) => Some(Reading::Mute(state)),
+        Value::Polarity(state) => Some(Reading::Polarity(state)),
+        Value::Switch(number) => Some(Reading::Switch(Ranged {
+            setting: number,
+            least: number,
+            greatest: number,
+        })),
+        Value::Boolean(truth) => Some(Reading::Boolean(truth)),
+        Value::Int8(number) => ranged(number, int8_in(least), int8_in(greatest)).map(Reading::Int8),
+        Value::Int16(number) => ranged(number, int16_in(least), int16_in(greatest)).map(
+            Reading::Int16,
+        ),
+        Value::Int32(number) => ranged(number, int32_in(least), int32_in(greatest)).map(
+            Reading::Int32,
+        ),
+        Value::Int64(number) => ranged(number, int64_in(least), int64_in(greatest)).map(
+            Reading::Int64,
+        ),
+        Value::Uint8(number) => ranged(number, uint8_in(least), uint8_in(greatest)).map(
+            Reading::Uint8,
+        ),
+        Value::Uint16(number) => ranged(number, uint16_in(least), uint16_in(greatest)).map(
+            Reading::Uint16,
+        ),
+        Value::Uint32(number) => ranged(number, uint32_in(least), uint32_in(greatest)).map(
+            Reading::Uint32,
+        ),
+        Value::Uint64(number) => ranged(number, uint64_in(least), uint64_in(greatest)).map(
+            Reading::Uint64,
+        ),
+    }
+}

@@ -1,0 +1,235 @@
+//! What is behind an open handle of a link.
+ghost use Rattle.std.specs.Prelude.{◌≡◌, ◌⊎◌, ◌≤◌, ◌<◌, List, Option, length};
+ghost use Rattle.std.specs.Option.{option_map};
+ghost use Rattle.oca_types.specs.Peers.{RequestFields};
+ghost use Rattle.oca_types.specs.Sizes.{largest_datagram, most_parameter_bytes};
+ghost use Rattle.oca_pdu.specs.Messages.{Msg};
+ghost use Rattle.oca_control.specs.Answers.{answer_fields};
+ghost use Rattle.oca_control.specs.Contents.{IsContent};
+ghost use Rattle.oca_control.specs.Links.{decision, due_answer, due_bytes, gone_on, late_at, received, reception};
+ghost use Rattle.oca_control.specs.Links.{submission, submitted, taken};
+ghost use Rattle.oca_control.specs.Untaken.{answer_under, first_answered};
+ghost use Rattle.oca_calls.specs.LinkCalls.{LiesIn, WritesNextDue, WritesNumber, WritesAnswer, WritesSubmission};
+ghost use Rattle.oca_calls.specs.LinkCalls.{answered_count, due_handle, due_kind, reception_kind};
+
+use crate::answer::Answer;
+use crate::words::put_front;
+use oca_control::{Due, Link, Reception, is_late};
+use oca_types::{Handle, MOST_BYTES, MOST_PARAMETER_BYTES, MethodId, Ono, Packet, Peer};
+
+/// A link.
+#[derive(Drop)]
+pub struct LinkBehind {
+    pub link: Link,
+}
+
+impl LinkBehind {
+    /// Submits a command, and tells its handle.
+    pub fn submit(
+        &mut self,
+        target: Ono,
+        method: MethodId,
+        count: u8,
+        params: &[u8],
+        now: u64,
+        handle: &mut u32,
+    ) -> u32
+        ensures link { let request : RequestFields = record {
+          target = target.0;
+          level = method.level;
+          index = method.index;
+          count = count;
+          params = params.now;
+        } in
+            self.new.link ≡ submitted request now self.old.link }
+        ensures writes { let request : RequestFields = record {
+          target = target.0;
+          level = method.level;
+          index = method.index;
+          count = count;
+          params = params.now;
+        } in
+            WritesSubmission result handle.new (submission request self.old.link) }
+        ensures unwritten { (result ≡ 0) ⊎ (handle.new ≡ handle.old) }
+    {
+        match self.link.submit(target, method, count, params, now) {
+            Ok(given) => {
+                *handle = given.0;
+                Answer::Done.number()
+            }
+            Err(fault) => Answer::of_submission(fault).number(),
+        }
+    }
+
+    /// Gives out what is due, where there is room for any datagram.
+    pub fn due(
+        &mut self,
+        now: u64,
+        out: &mut [u8],
+        len: &mut usize,
+        kind: &mut u32,
+        handle: &mut u32,
+    ) -> u32
+        ensures small { length out.old < largest_datagram → (result ≡ 14) × (self.new ≡ self.old) }
+        ensures link { largest_datagram ≤ length out.old → (result ≡ 0) × (self.new.link ≡ gone_on now self.old.link) }
+        ensures writes { largest_datagram ≤ length out.old →
+            (kind.new ≡ due_kind (due_answer (decision now self.old.link)))
+            × (handle.new ≡ due_handle (due_answer (decision now self.old.link))) }
+        ensures bytes { largest_datagram ≤ length out.old →
+            LiesIn (due_bytes (decision now self.old.link)) out.new len.new }
+        ensures unwritten { (result ≡ 0) ⊎ ((out.new ≡ out.old) × (len.new ≡ len.old)
+            × (kind.new ≡ kind.old) × (handle.new ≡ handle.old)) }
+    {
+        if out.len() < MOST_BYTES {
+            return Answer::TooSmall.number();
+        }
+        let mut packet = Packet::new();
+        let due = self.link.due(now, &mut packet);
+        *len = put_front(packet.as_slice(), out);
+        (*kind, *handle) = due_words(due);
+        Answer::Done.number()
+    }
+
+    /// Takes a datagram, and tells what became of it.
+    pub fn datagram(
+        &mut self,
+        from: Peer,
+        bytes: &[u8],
+        now: u64,
+        kind: &mut u32,
+        answered: &mut u32,
+    ) -> u32
+        ensures done { result ≡ 0 }
+        ensures link { (content : Option (List Msg)) → IsContent content bytes.now →
+            self.new.link ≡ received from content now self.old.link }
+        ensures writes { (content : Option (List Msg)) → IsContent content bytes.now →
+            (kind.new ≡ reception_kind (reception from content self.old.link))
+            × (answered.new ≡ answered_count (reception from content self.old.link)) }
+    {
+        let reception = self.link.datagram(from, bytes, now);
+        (*kind, *answered) = reception_words(reception);
+        Answer::Done.number()
+    }
+
+    /// Takes an answer, where there is room for any.
+    pub fn take(
+        &mut self,
+        handle: u32,
+        status: &mut u32,
+        count: &mut u32,
+        out: &mut [u8],
+        len: &mut usize,
+    ) -> u32
+        ensures small { length out.old < most_parameter_bytes → (result ≡ 14) × (self.new ≡ self.old) }
+        ensures link { most_parameter_bytes ≤ length out.old → self.new.link ≡ taken handle self.old.link }
+        ensures writes { most_parameter_bytes ≤ length out.old →
+            WritesAnswer result status.new count.new out.new len.new (answer_under handle self.old.link.untaken) }
+        ensures unwritten { (result ≡ 0) ⊎ ((status.new ≡ status.old) × (count.new ≡ count.old)
+            × (out.new ≡ out.old) × (len.new ≡ len.old)) }
+    {
+        if out.len() < MOST_PARAMETER_BYTES {
+            return Answer::TooSmall.number();
+        }
+        match self.link.take(Handle(handle)) {
+            Some(answer) => {
+                *status = u32::from(answer.status);
+                *count = u32::from(answer.count);
+                *len = put_front(answer.params.as_slice(), out);
+                Answer::Done.number()
+            }
+            None => Answer::Nothing.number(),
+        }
+    }
+
+    /// Tells when something is due next.
+    pub fn next_due(&self, moment: &mut u64) -> u32
+        ensures writes { WritesNextDue result moment.new self.now.link }
+        ensures unwritten { (result ≡ 0) ⊎ (moment.new ≡ moment.old) }
+    {
+        match self.link.next_due() {
+            Some(due) => {
+                *moment = due;
+                Answer::Done.number()
+            }
+            None => Answer::Nothing.number(),
+        }
+    }
+
+    /// Tells the lowest handle that has its answer.
+    pub fn answered(&self, handle: &mut u32) -> u32
+        ensures writes { WritesNumber result handle.new (first_answered self.now.link.untaken) }
+        ensures unwritten { (result ≡ 0) ⊎ (handle.new ≡ handle.old) }
+    {
+        match self.link.answered() {
+            Some(answered) => {
+                *handle = answered.0;
+                Answer::Done.number()
+            }
+            None => Answer::Nothing.number(),
+        }
+    }
+
+    /// Tells the handle that the next command gets.
+    pub fn next_handle(&self, handle: &mut u32) -> u32
+        ensures writes { WritesNumber result handle.new self.now.link.next }
+        ensures unwritten { (result ≡ 0) ⊎ (handle.new ≡ handle.old) }
+    {
+        match self.link.next_handle() {
+            Some(next) => {
+                *handle = next.0;
+                Answer::Done.number()
+            }
+            None => Answer::Nothing.number(),
+        }
+    }
+
+    /// Tells when the device was heard last.
+    pub fn last_heard(&self, moment: &mut u64) -> u32
+        ensures { (result ≡ 0) × (moment.new ≡ self.now.link.heard) }
+    {
+        *moment = self.link.last_heard();
+        Answer::Done.number()
+    }
+
+    /// Tells whether the link is lost.
+    pub fn is_lost(&self, lost: &mut bool) -> u32
+        ensures { (result ≡ 0) × (lost.new ≡ self.now.link.lost) }
+    {
+        *lost = self.link.is_lost();
+        Answer::Done.number()
+    }
+
+    /// Tells whether a command was given out so long before this moment that it may not be given out again.
+    pub fn is_late(&self, now: u64, late: &mut bool) -> u32
+        ensures { (result ≡ 0) × (late.new ≡ late_at now self.now.link) }
+    {
+        *late = is_late(&self.link, now);
+        Answer::Done.number()
+    }
+}
+
+/// The number of what is due.
+fn due_words(due: Due) -> (u32, u32)
+    ensures kind { result.0 ≡ due_kind due }
+    ensures handle { result.1 ≡ due_handle due }
+{
+    match due {
+        Due::Nothing => (0, 0),
+        Due::Send(handle) => (1, handle.0),
+        Due::KeepAlive => (2, 0),
+        Due::Lost => (3, 0),
+    }
+}
+
+/// The number of what a datagram was.
+fn reception_words(reception: Reception) -> (u32, u32)
+    ensures kind { result.0 ≡ reception_kind reception }
+    ensures answered { result.1 ≡ answered_count reception }
+{
+    match reception {
+        Reception::NothingNew => (0, 0),
+        Reception::Answered(count) => (1, count),
+        Reception::Stranger => (2, 0),
+        Reception::Malformed => (3, 0),
+    }
+}

@@ -1,0 +1,54 @@
+//! What C holds of a link.
+ghost use Rattle.std.specs.Prelude.{◌≡◌, None, Some, is_some, MatchOption};
+
+use crate::link::LinkBehind;
+use crate::link_slot::LinkSlot;
+use crate::parts::Parts;
+use std::alloc::Global;
+
+/// A handle, in storage that C gives. Zeroed, it is closed.
+#[repr(C)]
+#[derive(Drop)]
+pub struct LinkHandle {
+    pub slot: LinkSlot,
+    pub is_open: bool,
+    ghost known: { is_open ≡ is_some slot.inner },
+}
+
+const _: () = prove!(std::mem::size_of::<LinkHandle>() == 16);
+
+impl LinkHandle {
+    /// Takes out what is behind the handle, which is then closed.
+    pub fn take(&mut self, alloc: Global) -> Option<Box<LinkBehind>>
+        ensures closed { self.new.slot.inner ≡ None }
+        ensures was { MatchOption result (self.old.slot.inner ≡ None) (λ b. self.old.slot.inner ≡ Some b.value) }
+    {
+        let closed = LinkHandle {
+            slot: LinkSlot::empty(alloc),
+            is_open: false,
+        };
+        let LinkHandle { slot, is_open } = std::mem::replace(self, closed);
+        if is_open {
+            Some(slot.into_parts().into_box())
+        } else {
+            None
+        }
+    }
+
+    /// Closes it, and gives the memory of what is behind it back.
+    pub fn close(&mut self, alloc: Global)
+        ensures { self.new.slot.inner ≡ None }
+    {
+        drop(self.take(alloc));
+    }
+
+    /// Puts it back.
+    pub fn put(&mut self, behind: Box<LinkBehind>)
+        ensures { self.new.slot.inner ≡ Some behind.value }
+    {
+        *self = LinkHandle {
+            slot: LinkSlot::of_parts(Parts::of(behind)),
+            is_open: true,
+        };
+    }
+}

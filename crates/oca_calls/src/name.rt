@@ -1,0 +1,86 @@
+//! The names of a switch's positions, as C hands them over.
+ghost use Rattle.std.specs.Prelude.{◌≡◌, ◌≤◌, [], length, map, take, IfNone, IfSome};
+ghost use Rattle.std.specs.List.{AllByRecursion};
+ghost use Rattle.oca_calls.specs.Calls.{IsName, name_bytes};
+
+use crate::words::{put_front, put_words};
+use arrayvec::ArrayVec;
+use oca_types::Text;
+use std::str;
+
+/// How many positions a switch has at most.
+pub const MOST_POSITIONS: usize = 16;
+
+/// A name: how many bytes it has, at most 64, and they at the front of `text`.
+#[repr(C)]
+#[derive(Clone, Copy)]
+pub struct Name {
+    pub size: u8,
+    pub text: [u8; 64],
+}
+
+const _: () = prove!(std::mem::size_of::<Name>() == 65);
+
+impl Default for Name {
+    ghost is_default = { λ name. name_bytes name ≡ [] };
+
+    /// The empty name.
+    fn default() -> Self {
+        Name {
+            size: 0,
+            text: [0; 64],
+        }
+    }
+}
+
+impl Name {
+    /// The name with this text, which has room in it.
+    pub fn of(text: &str) -> Name
+        requires { length text.now ≤ 64 }
+        ensures text { name_bytes result ≡ text.now }
+    {
+        let mut place = [0; 64];
+        let size = put_front(text.as_bytes(), &mut place);
+        Name {
+            size: size as u8,
+            text: place,
+        }
+    }
+}
+
+/// The names with these texts, in a place of their own.
+pub fn names_with(texts: &[Text]) -> [Name; MOST_POSITIONS]
+    requires { length texts.now ≤ 16 }
+    ensures { map name_bytes (take (length texts.now) result) ≡ texts.now }
+{
+    let mut names: ArrayVec<Name, MOST_POSITIONS> = ArrayVec::new();
+    for text in texts {
+        names.push(Name::of(text.as_str()));
+    }
+    let mut place = [Name::default(); MOST_POSITIONS];
+    put_words(names.as_slice(), &mut place);
+    place
+}
+
+/// The text of a name; nothing where it is longer than its room or no UTF-8.
+pub fn text_of(name: &Name) -> Option<&str>
+    ensures text { IfSome result (λ text. IsName name.now × (text.now ≡ name_bytes name.now)) }
+    ensures none { IfNone result (IsName name.now → ⊥) }
+{
+    let bytes = name.text.get(..usize::from(name.size))?;
+    str::from_utf8(bytes).ok()
+}
+
+/// The texts of these names; nothing where one is longer than its room or no UTF-8.
+pub fn texts_of(names: &[Name]) -> Option<ArrayVec<&str, MOST_POSITIONS>>
+    requires { length names.now ≤ 16 }
+    ensures texts { IfSome result (λ texts. AllByRecursion IsName names.now
+        × (map (λ text. text.now) texts.items ≡ map name_bytes names.now)) }
+    ensures none { IfNone result (AllByRecursion IsName names.now → ⊥) }
+{
+    let mut texts = ArrayVec::new();
+    for name in names {
+        texts.push(text_of(name)?);
+    }
+    Some(texts)
+}

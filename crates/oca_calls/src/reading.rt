@@ -1,0 +1,48 @@
+//! What C reads of a setting.
+ghost use Rattle.std.specs.Prelude.{◌≡◌, IfSome, IsSome};
+ghost use Rattle.oca_calls.specs.Outputs.{FitsReading, reading_of};
+
+use oca_tree::Setting;
+
+/// A setting: `kind` is 1 for a state, 2 for a position, 3 for a truth and 4 for a number; `negative` is 0 or 1.
+#[repr(C)]
+#[derive(Clone, Copy)]
+pub struct Reading {
+    pub kind: u32,
+    pub negative: u32,
+    pub magnitude: u64,
+}
+
+impl Reading {
+    /// The words of a setting; nothing of a number beyond 64 bits, which no object has.
+    pub fn of(setting: Setting) -> Option<Reading>
+        ensures writes { IfSome result (λ reading. reading ≡ reading_of setting) }
+        ensures fits { FitsReading setting → IsSome result }
+    {
+        match setting {
+            Setting::State(state) => Some(Reading {
+                kind: 1,
+                negative: 0,
+                magnitude: u64::from(state),
+            }),
+            Setting::Position(position) => Some(Reading {
+                kind: 2,
+                negative: 0,
+                magnitude: u64::from(position),
+            }),
+            Setting::Truth(truth) => Some(Reading {
+                kind: 3,
+                negative: 0,
+                magnitude: u64::from(truth),
+            }),
+            Setting::Number { setting, .. } => match u64::try_from(setting.unsigned_abs()) {
+                Ok(magnitude) => Some(Reading {
+                    kind: 4,
+                    negative: u32::from(setting < 0),
+                    magnitude,
+                }),
+                Err(_) => None,
+            },
+        }
+    }
+}

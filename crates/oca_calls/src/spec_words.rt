@@ -1,0 +1,137 @@
+//! What an object is to be, and what it is, as C has it: one struct.
+ghost use Rattle.std.specs.Prelude.{◌≡◌, ◌≤◌, length, map, take};
+ghost use Rattle.std.specs.Option.{option_copied};
+ghost use Rattle.oca_calls.specs.CSpecs.{GivesKind, IsKindOf, flags_for, is_yes};
+
+use crate::limits::reading_of;
+use crate::name::{MOST_POSITIONS, Name};
+use crate::value_words::ReadingWords;
+use crate::words::put_words;
+use arrayvec::ArrayVec;
+use oca_model::Reading;
+use oca_tree::Kind;
+
+/// How many bytes the struct has.
+pub const SPEC_SIZE: u32 = 1248;
+
+/// An object: whether it can be locked, its class with its setting and limits, its role, and what was stored of it: its
+/// label, whether it is enabled, and of a switch the names of its positions and which of them are. A byte that is 0
+/// says no, any other yes.
+#[repr(C)]
+#[derive(Clone, Copy)]
+pub struct SpecWords {
+    pub size: u32,
+    pub lockable: u8,
+    pub enabled: u8,
+    pub positions: u16,
+    pub reading: ReadingWords,
+    pub role: Name,
+    pub label: Name,
+    pub names: [Name; 16],
+    pub enableds: [u8; 16],
+    pub zeros: [u8; 6],
+}
+
+const _: () = prove!(std::mem::size_of::<SpecWords>() == 1248);
+
+/// What each of these bytes says.
+pub fn flags_of(bytes: &[u8]) -> ArrayVec<bool, MOST_POSITIONS>
+    requires { length bytes.now ≤ 16 }
+    ensures { result.items ≡ map is_yes bytes.now }
+{
+    let mut flags = ArrayVec::new();
+    for byte in bytes {
+        flags.push(*byte != 0);
+    }
+    flags
+}
+
+/// The bytes that say these flags, in a place of their own.
+pub fn bytes_of(flags: &[bool]) -> [u8; MOST_POSITIONS]
+    requires { length flags.now ≤ 16 }
+    ensures { map is_yes (take (length flags.now) result) ≡ flags.now }
+{
+    let mut bytes: ArrayVec<u8, MOST_POSITIONS> = ArrayVec::new();
+    for flag in flags {
+        bytes.push(u8::from(*flag));
+    }
+    let mut place = [0; MOST_POSITIONS];
+    put_words(bytes.as_slice(), &mut place);
+    place
+}
+
+/// The kind of object that is read so, a switch with these names.
+fn kind_with<'a>(reading: Reading, names: &'a [&'a str]) -> Kind<'a>
+    ensures { IsKindOf result reading (map (λ name. name.now) names.now) }
+{
+    match reading {
+        Reading::Mute(state) => Kind::Mute(state),
+        Reading::Polarity(state) => Kind::Polarity(state),
+        Reading::Switch(r) => Kind::Switch {
+            names,
+            position: r.setting,
+        },
+        Reading::Boolean(truth) => Kind::Boolean(truth),
+        Reading::Int8(r) => Kind::Int8 {
+            setting: r.setting,
+            least: r.least,
+            greatest: r.greatest,
+        },
+        Reading::Int16(r) => Kind::Int16 {
+            setting: r.setting,
+            least: r.least,
+            greatest: r.greatest,
+        },
+        Reading::Int32(r) => Kind::Int32 {
+            setting: r.setting,
+            least: r.least,
+            greatest: r.greatest,
+        },
+        Reading::Int64(r) => Kind::Int64 {
+            setting: r.setting,
+            least: r.least,
+            greatest: r.greatest,
+        },
+        Reading::Uint8(r) => Kind::Uint8 {
+            setting: r.setting,
+            least: r.least,
+            greatest: r.greatest,
+        },
+        Reading::Uint16(r) => Kind::Uint16 {
+            setting: r.setting,
+            least: r.least,
+            greatest: r.greatest,
+        },
+        Reading::Uint32(r) => Kind::Uint32 {
+            setting: r.setting,
+            least: r.least,
+            greatest: r.greatest,
+        },
+        Reading::Uint64(r) => Kind::Uint64 {
+            setting: r.setting,
+            least: r.least,
+            greatest: r.greatest,
+        },
+    }
+}
+
+/// The kind of object that these words give, a switch with these names; nothing where they are those of none.
+pub fn kind_of<'a>(words: &ReadingWords, names: &'a [&'a str]) -> Option<Kind<'a>>
+    ensures { GivesKind words.now (map (λ name. name.now) names.now) result }
+{
+    if words.value.class_number == 1 {
+        return Some(Kind::Block);
+    }
+    let reading = reading_of(words)?;
+    Some(kind_with(reading, names))
+}
+
+/// The flags, of a switch.
+pub fn flags_for<'a>(kind: &Kind<'_>, flags: &'a [bool]) -> Option<&'a [bool]>
+    ensures { option_copied result ≡ flags_for kind.now flags.now }
+{
+    match kind {
+        Kind::Switch { .. } => Some(flags),
+        _ => None,
+    }
+}

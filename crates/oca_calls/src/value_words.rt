@@ -1,0 +1,212 @@
+//! A value in words of fixed size, as C has it.
+ghost use Rattle.std.specs.Prelude.{◌≡◌};
+ghost use Rattle.oca_calls.specs.CValues.{AreWordsOf, HasClass, HasRequestWords};
+
+use crate::words::put_front;
+use oca_model::{MuteState, PolarityState, Reading, Value, ValueRequest};
+use oca_types::Class;
+
+/// A value: the number of its class, 2 for a mute to 13 for a Uint64, and its number in 64 bits: of a state, a
+/// position, a truth (0 or 1) or a setting, a signed one in two's complement. `zero` is not looked at.
+#[repr(C)]
+#[derive(Clone, Copy)]
+pub struct ValueWords {
+    pub class_number: u32,
+    pub zero: u32,
+    pub bits: u64,
+}
+
+/// A value with the least and the greatest that the object can be set to. Where its class has no limits both are the
+/// value.
+#[repr(C)]
+#[derive(Clone, Copy)]
+pub struct ReadingWords {
+    pub value: ValueWords,
+    pub least: ValueWords,
+    pub greatest: ValueWords,
+}
+
+/// A signed setting.
+fn signed(class_number: u32, setting: i64) -> ValueWords
+    ensures { result ≡ Rattle.oca_calls.specs.CValues.signed_words class_number setting }
+{
+    ValueWords {
+        class_number,
+        zero: 0,
+        bits: setting.cast_unsigned(),
+    }
+}
+
+/// An unsigned number.
+fn unsigned(class_number: u32, number: u64) -> ValueWords
+    ensures { result ≡ Rattle.oca_calls.specs.CValues.unsigned_words class_number number }
+{
+    ValueWords {
+        class_number,
+        zero: 0,
+        bits: number,
+    }
+}
+
+impl ValueWords {
+    /// The words of the value.
+    pub fn of(value: Value) -> ValueWords
+        ensures { result ≡ Rattle.oca_calls.specs.CValues.words_of value }
+    {
+        match value {
+            Value::Mute(state) => unsigned(2, state as u64),
+            Value::Polarity(state) => unsigned(3, state as u64),
+            Value::Switch(position) => unsigned(4, u64::from(position)),
+            Value::Boolean(truth) => unsigned(5, u64::from(truth)),
+            Value::Int8(setting) => signed(6, i64::from(setting)),
+            Value::Int16(setting) => signed(7, i64::from(setting)),
+            Value::Int32(setting) => signed(8, i64::from(setting)),
+            Value::Int64(setting) => signed(9, setting),
+            Value::Uint8(setting) => unsigned(10, u64::from(setting)),
+            Value::Uint16(setting) => unsigned(11, u64::from(setting)),
+            Value::Uint32(setting) => unsigned(12, u64::from(setting)),
+            Value::Uint64(setting) => unsigned(13, setting),
+        }
+    }
+
+    /// The value whose words these are; nothing where there is none.
+    pub fn value(self) -> Option<Value>
+        ensures { AreWordsOf self result }
+    {
+        let number = self.bits.cast_signed();
+        match self.class_number {
+            2 => match self.bits {
+                1 => Some(Value::Mute(MuteState::Muted)),
+                2 => Some(Value::Mute(MuteState::Unmuted)),
+                _ => None,
+            },
+            3 => match self.bits {
+                1 => Some(Value::Polarity(PolarityState::NonInverted)),
+                2 => Some(Value::Polarity(PolarityState::Inverted)),
+                _ => None,
+            },
+            4 => match u16::try_from(self.bits) {
+                Ok(position) => Some(Value::Switch(position)),
+                Err(_) => None,
+            },
+            5 => match self.bits {
+                0 => Some(Value::Boolean(false)),
+                1 => Some(Value::Boolean(true)),
+                _ => None,
+            },
+            6 => match i8::try_from(number) {
+                Ok(setting) => Some(Value::Int8(setting)),
+                Err(_) => None,
+            },
+            7 => match i16::try_from(number) {
+                Ok(setting) => Some(Value::Int16(setting)),
+                Err(_) => None,
+            },
+            8 => match i32::try_from(number) {
+                Ok(setting) => Some(Value::Int32(setting)),
+                Err(_) => None,
+            },
+            9 => Some(Value::Int64(number)),
+            10 => match u8::try_from(self.bits) {
+                Ok(setting) => Some(Value::Uint8(setting)),
+                Err(_) => None,
+            },
+            11 => match u16::try_from(self.bits) {
+                Ok(setting) => Some(Value::Uint16(setting)),
+                Err(_) => None,
+            },
+            12 => match u32::try_from(self.bits) {
+                Ok(setting) => Some(Value::Uint32(setting)),
+                Err(_) => None,
+            },
+            13 => Some(Value::Uint64(self.bits)),
+            _ => None,
+        }
+    }
+}
+
+/// Three values of a class with limits.
+fn within(value: Value, least: Value, greatest: Value) -> ReadingWords
+    ensures { result ≡ Rattle.oca_calls.specs.CValues.three value least greatest }
+{
+    ReadingWords {
+        value: ValueWords::of(value),
+        least: ValueWords::of(least),
+        greatest: ValueWords::of(greatest),
+    }
+}
+
+impl ReadingWords {
+    /// The words of what reading an object gives.
+    pub fn of(reading: Reading) -> ReadingWords
+        ensures { result ≡ Rattle.oca_calls.specs.CValues.reading_words reading }
+    {
+        let value = reading.value();
+        match reading {
+            Reading::Mute(_) | Reading::Polarity(_) | Reading::Boolean(_) => {
+                within(value, value, value)
+            }
+            Reading::Switch(r) => within(value, Value::Switch(r.least), Value::Switch(r.greatest)),
+            Reading::Int8(r) => within(value, Value::Int8(r.least), Value::Int8(r.greatest)),
+            Reading::Int16(r) => within(value, Value::Int16(r.least), Value::Int16(r.greatest)),
+            Reading::Int32(r) => within(value, Value::Int32(r.least), Value::Int32(r.greatest)),
+            Reading::Int64(r) => within(value, Value::Int64(r.least), Value::Int64(r.greatest)),
+            Reading::Uint8(r) => within(value, Value::Uint8(r.least), Value::Uint8(r.greatest)),
+            Reading::Uint16(r) => within(value, Value::Uint16(r.least), Value::Uint16(r.greatest)),
+            Reading::Uint32(r) => within(value, Value::Uint32(r.least), Value::Uint32(r.greatest)),
+            Reading::Uint64(r) => within(value, Value::Uint64(r.least), Value::Uint64(r.greatest)),
+        }
+    }
+}
+
+/// What is asked of an object: a method by its level and index, ParamCount, and how many bytes of parameters there are,
+/// which stand at the front of `params`.
+#[repr(C)]
+#[derive(Clone, Copy)]
+pub struct RequestWords {
+    pub level: u16,
+    pub index: u16,
+    pub count: u8,
+    pub size: u8,
+    pub params: [u8; 8],
+}
+
+impl RequestWords {
+    /// The words of a request.
+    pub fn of(request: &ValueRequest) -> RequestWords
+        ensures { HasRequestWords request.now result }
+    {
+        let bytes = request.params.as_slice();
+        let mut params = [0; 8];
+        let size = put_front(bytes, &mut params);
+        RequestWords {
+            level: request.method.level,
+            index: request.method.index,
+            count: request.count,
+            size: size as u8,
+            params,
+        }
+    }
+}
+
+/// The class with this number; nothing where none has it.
+pub fn class_with(number: u32) -> Option<Class>
+    ensures { HasClass number result }
+{
+    Some(match number {
+        1 => Class::Block,
+        2 => Class::Mute,
+        3 => Class::Polarity,
+        4 => Class::Switch,
+        5 => Class::Boolean,
+        6 => Class::Int8,
+        7 => Class::Int16,
+        8 => Class::Int32,
+        9 => Class::Int64,
+        10 => Class::Uint8,
+        11 => Class::Uint16,
+        12 => Class::Uint32,
+        13 => Class::Uint64,
+        _ => return None,
+    })
+}

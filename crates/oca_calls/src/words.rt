@@ -1,0 +1,128 @@
+//! What C reads of a verdict and of an object: words, so that a later version can tell more to those who ask for it.
+ghost use Rattle.std.specs.Prelude.{◌≡◌, ◌≤◌, ◌<◌, length};
+ghost use Rattle.oca_device.specs.Written.{numbers_of};
+ghost use Rattle.oca_calls.specs.LinkCalls.{LiesIn};
+ghost use Rattle.oca_calls.specs.Numbers.{answer_number};
+ghost use Rattle.oca_calls.specs.Outputs.{WritesToBuffer, class_number, lock_number, object_words, put_words};
+ghost use Rattle.oca_calls.specs.Outputs.{verdict_words};
+
+use crate::answer::Answer;
+use oca_device::Verdict;
+use oca_tree::{LockKind, ObjectInfo};
+use oca_types::{Class, Ono};
+
+/// How many words tell of a verdict.
+pub const VERDICT_WORDS: usize = 7;
+
+/// How many words tell of an object.
+pub const OBJECT_WORDS: usize = 4;
+
+/// The words of a verdict: 0, how many commands were executed, kept, old and reused; 1, 0, 0, 0, 0, the number of
+/// the fault and where it lies; or 2 for no room.
+pub fn words_of(verdict: Verdict) -> [u32; VERDICT_WORDS]
+    ensures { result ≡ verdict_words verdict }
+{
+    match verdict {
+        Verdict::Served {
+            executed,
+            kept,
+            old,
+            reused,
+        } => [0, executed, kept, old, reused, 0, 0],
+        Verdict::Malformed(fault) => [
+            1,
+            0,
+            0,
+            0,
+            0,
+            u32::from(fault.kind.number()),
+            u32::from(fault.at),
+        ],
+        Verdict::NoRoom => [2, 0, 0, 0, 0, 0, 0],
+    }
+}
+
+/// The words of an object: its number, its container's, its class and how many bytes its role has.
+pub fn object_words(object: &ObjectInfo) -> [u32; OBJECT_WORDS]
+    ensures { result ≡ object_words object.now }
+{
+    let role = object.role.as_str();
+    [
+        object.ono.0,
+        object.container.0,
+        class_number(object.class),
+        role.len() as u32,
+    ]
+}
+
+/// The number of a class.
+pub fn class_number(class: Class) -> u32
+    ensures { result ≡ class_number class }
+{
+    match class {
+        Class::Block => 1,
+        Class::Mute => 2,
+        Class::Polarity => 3,
+        Class::Switch => 4,
+        Class::Boolean => 5,
+        Class::Int8 => 6,
+        Class::Int16 => 7,
+        Class::Int32 => 8,
+        Class::Int64 => 9,
+        Class::Uint8 => 10,
+        Class::Uint16 => 11,
+        Class::Uint32 => 12,
+        Class::Uint64 => 13,
+    }
+}
+
+/// The number of a kind of lock: 1 keeps other peers from all access, 2 from all but reading.
+pub fn lock_number(kind: LockKind) -> u32
+    ensures { result ≡ lock_number kind }
+{
+    match kind {
+        LockKind::Total => 1,
+        LockKind::Readonly => 2,
+    }
+}
+
+/// Puts words at the front of a place, as many as it has room for.
+pub fn put_words<T: Copy>(words: &[T], place: &mut [T])
+    ensures { place.new ≡ put_words words.now place.old }
+{
+    let count = words.len().min(place.len());
+    let (front, _) = place.split_at_mut(count);
+    front.copy_from_slice(&words[..count]);
+}
+
+/// Puts the numbers of objects at the front of a place, as many as it has room for.
+pub fn put_numbers(onos: &[Ono], place: &mut [u32])
+    ensures { place.new ≡ put_words (numbers_of onos.now) place.old }
+{
+    let count = onos.len().min(place.len());
+    for i in 0..count {
+        place[i] = onos[i].0;
+    }
+}
+
+/// Copies bytes to the front of a place that has room for them, and returns how many.
+pub fn put_front(bytes: &[u8], place: &mut [u8]) -> usize
+    requires { length bytes.now ≤ length place.old }
+    ensures { LiesIn bytes.now place.new result }
+{
+    let (front, _) = place.split_at_mut(bytes.len());
+    front.copy_from_slice(bytes);
+    bytes.len()
+}
+
+/// Copies bytes to the front of a place, where it has room for them, and tells how many they are.
+pub fn put_bytes(bytes: &[u8], place: &mut [u8], len: &mut usize) -> Answer
+    ensures { WritesToBuffer bytes.now place.old place.new len.new (answer_number result) }
+{
+    *len = bytes.len();
+    if place.len() < bytes.len() {
+        return Answer::TooSmall;
+    }
+    put_front(bytes, place);
+    Answer::Done
+}
