@@ -102,7 +102,7 @@ fn take_turns<R: Runtime, E: End, I: Read + AsRawFd + Drop>(
     Ok(())
 }
 
-/// Turns the knob of the next line, where one is there.
+/// Turns the knob of the next line, where one is there, and prints what that changes.
 fn turn_next<R: Runtime, I: Read + AsRawFd + Drop>(
     rt: &R,
     lines: &mut Lines<I>,
