@@ -1,4 +1,4 @@
-//! The examples of the doc comments, as they stand there.
+//! The examples of the doc comments: what they take, and the status that they name.
 use crate::tests::Row;
 use oca_types::{Cursor, ReadFault, Status};
 use std::alloc::Global;
