@@ -1,4 +1,51 @@
-//! A module for each crate.
+//! A module for each crate, and what they share.
 mod model;
 mod pdu;
 mod types;
+
+use std::alloc::Global;
+use std::fmt::Display;
+use std::process::Abort;
+
+/// A row of a table: what goes in, and what must come of it.
+trait Row {
+    /// Whether it comes out as the row says.
+    fn agrees(&self, alloc: Global) -> bool;
+}
+
+/// The first row of a table that comes out otherwise.
+fn first_wrong<R: Row>(alloc: Global, rows: &[R]) -> Option<usize> {
+    for (at, row) in rows.iter().enumerate() {
+        if !row.agrees(alloc) {
+            return Some(at);
+        }
+    }
+    None
+}
+
+/// In no table of the group of this name a row comes out otherwise.
+fn none_wrong(rt: &impl Abort, group: &str, tables: &[Option<usize>]) {
+    for (table, wrong) in tables.iter().enumerate() {
+        if let Some(row) = wrong {
+            panic!(rt; "{group}: table {table}, row {row}");
+        }
+    }
+}
+
+/// Whether a value prints these words.
+fn prints<T: Display>(alloc: Global, value: &T, words: &str) -> bool {
+    match value.to_string(alloc) {
+        Ok(text) => text.as_str() == words,
+        Err(_) => false,
+    }
+}
+
+/// A value, and the words that it prints.
+struct Words<T>(T, &'static str);
+
+impl<T: Display> Row for Words<T> {
+    /// Whether it prints them.
+    fn agrees(&self, alloc: Global) -> bool {
+        prints(alloc, &self.0, self.1)
+    }
+}

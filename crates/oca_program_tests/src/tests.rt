@@ -1,4 +1,4 @@
-//! A module for each crate or program, and readers and writers in memory for them.
+//! A module for each crate or program, readers and writers in memory for them, and what they share.
 mod fakes;
 mod ocactl;
 mod ocadev;
@@ -6,3 +6,55 @@ mod program;
 mod script;
 mod textree;
 mod web;
+
+use std::alloc::Global;
+use std::fmt::Display;
+use std::process::Abort;
+
+/// A row of a table: what goes in, and what must come of it.
+trait Row {
+    /// Whether it comes out as the row says.
+    fn agrees(&self, alloc: Global) -> bool;
+}
+
+/// The first row of a table that comes out otherwise.
+fn first_wrong<R: Row>(alloc: Global, rows: &[R]) -> Option<usize> {
+    for (at, row) in rows.iter().enumerate() {
+        if !row.agrees(alloc) {
+            return Some(at);
+        }
+    }
+    None
+}
+
+/// What stands for a row that is wrong where this does not hold.
+fn wrong_unless(holds: bool) -> Option<usize> {
+    if holds { None } else { Some(0) }
+}
+
+/// In no table of the group of this name a row comes out otherwise.
+fn none_wrong(rt: &impl Abort, group: &str, tables: &[Option<usize>]) {
+    for (table, wrong) in tables.iter().enumerate() {
+        if let Some(row) = wrong {
+            panic!(rt; "{group}: table {table}, row {row}");
+        }
+    }
+}
+
+/// Whether a value displays these words.
+fn displays<T: Display>(alloc: Global, value: &T, words: &str) -> bool {
+    match format!(in alloc; "{value}") {
+        Ok(text) => text.as_str() == words,
+        Err(_) => false,
+    }
+}
+
+/// A value, and the words that it displays.
+struct Words<T>(T, &'static str);
+
+impl<T: Display> Row for Words<T> {
+    /// Whether it displays them.
+    fn agrees(&self, alloc: Global) -> bool {
+        displays(alloc, &self.0, self.1)
+    }
+}

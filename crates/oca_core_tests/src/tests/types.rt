@@ -10,56 +10,81 @@ mod sizes;
 mod takes;
 mod texts;
 
-use std::alloc::Global;
-use std::process::Abort;
+use super::{first_wrong, none_wrong};
 
-/// The table of this name has no row that is answered otherwise.
-fn none_in(rt: &impl Abort, table: &'static str, wrong: Option<usize>) {
-    if let Some(at) = wrong {
-        panic!(rt; "{table}: row {at}");
-    }
+#[test]
+fn classes_and_methods(rt: HostRuntime) {
+    let alloc = rt.alloc();
+    none_wrong(
+        &rt,
+        "classes and methods",
+        &[
+            first_wrong(alloc, classes::CLASSES),
+            first_wrong(alloc, classes::STATUSES),
+            first_wrong(alloc, classes::NO_STATUSES),
+            first_wrong(alloc, methods::METHODS),
+            first_wrong(alloc, methods::OF_NO_CLASS),
+            first_wrong(alloc, documented::STATUSES),
+            first_wrong(alloc, documented::TAKES),
+        ],
+    );
 }
 
 #[test]
-fn tables_of_rows(rt: HostRuntime) {
-    none_in(&rt, "classes", classes::first_wrong_class(rt.alloc()));
-    none_in(&rt, "statuses", classes::first_wrong_status(rt.alloc()));
-    none_in(&rt, "faults of takes", faults::first_wrong(rt.alloc()));
-    none_in(&rt, "methods", methods::first_wrong());
-    none_in(&rt, "methods of no class", methods::first_found());
-    none_in(&rt, "peers", peers::first_wrong(rt.alloc()));
-    none_in(&rt, "no peers", peers::first_read());
-    none_in(&rt, "moments", peers::first_wrong_moment());
-    none_in(&rt, "sizes", sizes::first_wrong_size());
-    none_in(&rt, "takes", takes::first_wrong_row());
-    none_in(&rt, "puts", puts::first_wrong());
-    none_in(&rt, "puts without room", puts::first_with_room());
-    none_in(&rt, "puts with room", puts::first_without_room());
-    none_in(&rt, "texts", texts::wrong_example());
-    none_in(&rt, "counts", texts::wrong_count());
-    none_in(&rt, "edges of UTF-8", texts::wrong_edge());
-    none_in(&rt, "two bytes", texts::wrong_of_two_bytes());
-}
-
-/// Whether what is no row of a table is so too.
-fn others(alloc: Global) -> [bool; 6] {
-    [
-        bytes::are_written_over(),
-        faults::are_printed(alloc),
-        peers::is_loopback(),
-        puts::are_read_back(),
-        sizes::are_by_default(),
-        texts::are_short(),
-    ]
+fn words_and_peers(rt: HostRuntime) {
+    let alloc = rt.alloc();
+    none_wrong(
+        &rt,
+        "words and peers",
+        &[
+            first_wrong(alloc, faults::OF_TAKES),
+            first_wrong(alloc, faults::OF_PUTS),
+            first_wrong(alloc, faults::OF_MEMORY),
+            first_wrong(alloc, faults::HANDLES),
+            first_wrong(alloc, faults::OBJECTS),
+            first_wrong(alloc, faults::METHODS),
+            first_wrong(alloc, peers::PEERS),
+            first_wrong(alloc, peers::NO_PEERS),
+            first_wrong(alloc, peers::LOOPBACKS),
+            first_wrong(alloc, peers::MOMENTS),
+        ],
+    );
 }
 
 #[test]
-fn what_is_no_row(rt: HostRuntime) {
-    assert_eq!(rt; others(rt.alloc()), [true; 6]);
+fn numbers(rt: HostRuntime) {
+    let alloc = rt.alloc();
+    none_wrong(
+        &rt,
+        "numbers",
+        &[
+            first_wrong(alloc, bytes::OVER),
+            first_wrong(alloc, sizes::SIZES),
+            first_wrong(alloc, sizes::BY_DEFAULT),
+            first_wrong(alloc, takes::TAKEN),
+            first_wrong(alloc, puts::PUT),
+            first_wrong(alloc, puts::WITHOUT_ROOM),
+            first_wrong(alloc, puts::WITH_ROOM),
+            first_wrong(alloc, puts::NUMBERS),
+            first_wrong(alloc, puts::SIGNED_NUMBERS),
+            first_wrong(alloc, puts::BOOLEANS),
+        ],
+    );
 }
 
 #[test]
-fn what_is_documented(rt: HostRuntime) {
-    assert!(rt; documented::take(&rt).is_ok());
-    documented::name_a_status(&rt);
+fn texts_with_counts(rt: HostRuntime) {
+    let alloc = rt.alloc();
+    none_wrong(
+        &rt,
+        "texts with counts",
+        &[
+            first_wrong(alloc, texts::WORKED_EXAMPLES),
+            first_wrong(alloc, texts::COUNTS),
+            first_wrong(alloc, texts::EDGES),
+            first_wrong(alloc, texts::TWO_BYTES),
+            first_wrong(alloc, texts::SHORT),
+            first_wrong(alloc, texts::BY_DEFAULT),
+        ],
+    );
 }

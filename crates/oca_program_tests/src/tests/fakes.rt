@@ -3,7 +3,6 @@
 ghost use Rattle.std.specs.Prelude.{◌<◌, Some, None, false};
 
 use arrayvec::ArrayVec;
-use oca_script::field::split_at_byte;
 use oca_script::{ReadFailed, Sink, Source, WriteFailed};
 use std::io;
 use std::io::{ErrorKind, Read, Write};
@@ -152,16 +151,6 @@ impl Source for PatternReader<'_> {
     }
 }
 
-impl Read for PatternReader<'_> {
-    /// The same as a source.
-    fn read(&mut self, buf: &mut [u8]) -> io::Result<usize> {
-        match Source::read(self, buf) {
-            Ok(count) => Ok(count),
-            Err(ReadFailed) => Err(io::Error::new(ErrorKind::Other, "fault")),
-        }
-    }
-}
-
 /// Takes at most `most` bytes in a call, and `room` in all. Beyond that it fails; as a writer it takes nothing where
 /// `takes_nothing` says so.
 #[derive(Drop)]
@@ -244,17 +233,13 @@ impl Sink for Discard {
     }
 }
 
-/// What stands behind the lines that begin with `note: `.
-pub fn behind_notes(text: &[u8]) -> &[u8] {
-    let mut rest = text;
-    for _ in 0..text.len() {
-        if !rest.starts_with(b"note: ") {
-            break;
+/// How many line feeds there are.
+pub fn lines_in(text: &[u8]) -> usize {
+    let mut count: usize = 0;
+    for byte in text {
+        if *byte == b'\n' {
+            count = count.saturating_add(1);
         }
-        let Some((_, after)) = split_at_byte(rest, b'\n') else {
-            break;
-        };
-        rest = after;
     }
-    rest
+    count
 }

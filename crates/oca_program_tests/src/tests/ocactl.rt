@@ -1,6 +1,6 @@
 //! What the clauses leave open: commands that are sent over an end in memory, and readers and writers that give and
 //! take a little at a time or fail. Whole runs of the program are rows of `tools/ctl_runs.py`.
-use std::process::Abort;
+use super::{first_wrong, none_wrong};
 
 mod commands;
 mod objects;
@@ -13,28 +13,62 @@ const MUTED_1: &[u8] = b"3b0001000000140300010000000b00000001000101";
 /// Whatever a reader may give or a writer may take.
 const NO_LIMIT: usize = usize::MAX;
 
-/// No row of the table is wrong.
-fn none_wrong(rt: &impl Abort, table: &'static str, wrong: Option<usize>) {
-    if let Some(at) = wrong {
-        panic!(rt; "{table}: row {at}");
-    }
+#[test]
+fn lines_over_an_end(rt: HostRuntime) {
+    let alloc = rt.alloc();
+    none_wrong(
+        &rt,
+        "lines over an end",
+        &[
+            first_wrong(alloc, commands::ONE_AT_A_TIME),
+            first_wrong(alloc, commands::AT_ONCE),
+            first_wrong(alloc, commands::ENDING),
+            first_wrong(alloc, commands::CUT_LINES),
+        ],
+    );
+}
+
+#[test]
+fn idle_and_bad_lines(rt: HostRuntime) {
+    let alloc = rt.alloc();
+    none_wrong(
+        &rt,
+        "idle and bad lines",
+        &[
+            first_wrong(alloc, commands::IDLE),
+            first_wrong(alloc, commands::IDLE_THEN_READ),
+            first_wrong(alloc, commands::BAD),
+        ],
+    );
 }
 
 #[test]
 fn commands_over_an_end(rt: HostRuntime) {
-    none_wrong(&rt, "statuses", commands::first_other_status(rt.alloc()));
-    none_wrong(&rt, "cut answers", commands::first_uncut(rt.alloc()));
-    none_wrong(&rt, "lines", commands::wrong_line(rt.alloc()));
-    none_wrong(&rt, "idle", commands::wrong_idle(rt.alloc()));
-    none_wrong(&rt, "bad lines", commands::wrong_bad(rt.alloc()));
-    none_wrong(&rt, "driven", commands::first_undriven_of(rt.alloc()));
-    none_wrong(&rt, "settings", objects::first_wrong(rt.alloc()));
-    none_wrong(&rt, "probes", probes::first_other_found(rt.alloc()));
+    let alloc = rt.alloc();
+    none_wrong(
+        &rt,
+        "commands over an end",
+        &[
+            first_wrong(alloc, commands::ASKINGS),
+            first_wrong(alloc, commands::BEHIND),
+            first_wrong(alloc, objects::SETTINGS),
+            first_wrong(alloc, probes::FOUND),
+            commands::first_uncut(alloc),
+        ],
+    );
 }
 
 #[test]
-fn replays(rt: HostRuntime) {
-    none_wrong(&rt, "pieces", replay::first_wrong());
-    none_wrong(&rt, "reads", replay::first_unread());
-    none_wrong(&rt, "writes", replay::first_unwritten());
+fn replays_of_links(rt: HostRuntime) {
+    let alloc = rt.alloc();
+    none_wrong(
+        &rt,
+        "replays of links",
+        &[
+            first_wrong(alloc, replay::PIECES),
+            first_wrong(alloc, replay::FAULTS),
+            replay::first_unread(),
+            replay::first_unwritten(),
+        ],
+    );
 }

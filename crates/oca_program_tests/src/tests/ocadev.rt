@@ -1,14 +1,14 @@
 //! What the clauses leave open: runs between ends that cut what they give and take, and what goes over sockets. Whole
 //! runs between ends that do not are rows of `tools/runs.py`.
+use super::{first_wrong, none_wrong, wrong_unless};
 use crate::tests::fakes::{PieceReader, ShortWriter};
 use oca_device::Device;
 use oca_script::Printer;
-use oca_tree::bench;
+use oca_tree::{Tree, bench};
 use oca_types::Window;
 use ocadev_cli::run::run;
 use std::alloc::Global;
 use std::net::Net;
-use std::process::Abort;
 use std::rt::{Clock, Files};
 
 mod ends;
@@ -48,57 +48,108 @@ const WHOLE: Cuts = Cuts {
     taken: usize::MAX,
 };
 
-/// What a run gave.
-#[derive(Drop)]
-struct Outcome {
+/// How a run ends: its status, how many bytes it prints where not all are known, and how what it prints of faults ends.
+#[derive(Clone, Copy)]
+struct Ending<'a> {
     status: u8,
-    printer: Printer<ShortWriter>,
-    faults: Printer<ShortWriter>,
+    output: Option<&'a [u8]>,
+    length: usize,
+    fault: &'a [u8],
 }
 
-impl Outcome {
-    /// What was printed.
-    fn output(&self) -> &[u8] {
-        self.printer.sink().taken.as_slice()
-    }
-
-    /// What was printed of faults.
-    fn faults(&self) -> &[u8] {
-        self.faults.sink().taken.as_slice()
-    }
-
-    /// Whether the run gave this status, and printed just that and this fault.
-    fn is(&self, status: u8, output: &[u8], fault: &[u8]) -> bool {
-        self.status == status && self.output() == output && self.faults() == fault
-    }
-}
-
-/// Runs the program on these words and this input, between these ends.
-fn ran<N: Net + Clock + Files>(
+/// Whether the program, run on these words and this input between these ends, ends so. Where the words are bad notes may
+/// stand before the fault.
+fn runs<N: Net + Clock + Files>(
     system: &N,
     alloc: Global,
     words: &[&str],
     input: &[u8],
     ends: Cuts,
-) -> Outcome {
+    ending: &Ending<'_>,
+) -> bool {
     let mut from = PieceReader::new(input, ends.piece.max(1), ends.given);
     let mut printer = Printer::new(ShortWriter::new(ends.most, ends.taken));
     let mut faults = Printer::new(ShortWriter::new(5000, usize::MAX));
     let status = run(alloc, system, words, &mut from, &mut printer, &mut faults);
-    Outcome {
-        status,
-        printer,
-        faults,
-    }
+    status == ending.status && is_output(printer.sink(), ending) && is_fault(faults.sink(), ending)
 }
 
-/// There is no wrong row.
-fn passes(rt: &impl Abort, wrong: Option<usize>) {
-    assert_eq!(rt; wrong, None);
+/// Whether a run prints this.
+fn is_output(writer: &ShortWriter, ending: &Ending<'_>) -> bool {
+    let output = writer.taken.as_slice();
+    let is_wanted = match ending.output {
+        Some(wanted) => output == wanted,
+        None => true,
+    };
+    is_wanted && output.len() == ending.length
+}
+
+/// Whether a run prints this of faults.
+fn is_fault(writer: &ShortWriter, ending: &Ending<'_>) -> bool {
+    let printed = writer.taken.as_slice();
+    printed == ending.fault || ending.status == 2 && printed.ends_with(ending.fault)
+}
+
+/// The device of a tree.
+fn device_of(alloc: Global, tree: Tree) -> Option<Device> {
+    Device::new(alloc, tree, Window::default()).ok()
 }
 
 /// The bench device before any event.
 fn bench_device(alloc: Global) -> Option<Device> {
-    let tree = bench(alloc).ok()?;
-    Device::new(alloc, tree, Window::default()).ok()
+    match bench(alloc) {
+        Ok(tree) => device_of(alloc, tree),
+        Err(_) => None,
+    }
+}
+
+#[test]
+fn ends_that_fail(rt: HostRuntime) {
+    let alloc = rt.alloc();
+    none_wrong(
+        &rt,
+        "ends that fail",
+        &[
+            ends::first_wrong_piece(&rt, alloc),
+            ends::first_wrong_read(alloc),
+            ends::first_wrong_write(alloc),
+            ends::first_wrong_fault(&rt, alloc, ends::FAILING),
+        ],
+    );
+}
+
+#[test]
+fn more_peers_than_sessions(rt: HostRuntime) {
+    let alloc = rt.alloc();
+    none_wrong(
+        &rt,
+        "more peers than sessions",
+        &[replay::first_wrong_script(alloc)],
+    );
+}
+
+#[test]
+fn at_sockets(rt: HostRuntime) {
+    let alloc = rt.alloc();
+    none_wrong(
+        &rt,
+        "at sockets",
+        &[
+            first_wrong(alloc, sockets::REPORTS),
+            sockets::first_wrong_step(&rt, alloc),
+        ],
+    );
+}
+
+#[test]
+fn traced_datagrams(rt: HostRuntime) {
+    let alloc = rt.alloc();
+    none_wrong(
+        &rt,
+        "traced datagrams",
+        &[
+            wrong_unless(traces::serves_to_the_close(alloc)),
+            wrong_unless(traces::prints_each_datagram(alloc, &rt)),
+        ],
+    );
 }

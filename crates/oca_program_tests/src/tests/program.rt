@@ -1,11 +1,11 @@
 //! What the clauses leave open: printed texts, and faults where memory or the writer refuses.
+use super::{Row, displays, first_wrong, none_wrong, wrong_unless};
 use crate::tests::fakes::ShortWriter;
 use oca_net::BindFault;
 use oca_program::{Failure, Form, RunFault, report};
 use oca_script::{LineFault, Printer, ReplayFault};
 use oca_textree::ObjectFault;
 use std::alloc::Global;
-use std::process::Abort;
 
 /// Where a run's failure comes from.
 #[derive(Clone, Copy)]
@@ -32,62 +32,61 @@ fn reports_as(failure: &Failure, status: u8, text: &[u8]) -> bool {
     report(failure, &mut faults) == status && faults.sink().taken.as_slice() == text
 }
 
-/// Whether a fault of a run displays this text. Of the other causes nothing is asked.
-fn displays(alloc: Global, cause: Cause, text: &str) -> bool {
-    let Run(fault) = cause else {
-        return true;
-    };
-    match format!(in alloc; "{fault}\n") {
-        Ok(displayed) => displayed.as_str() == text,
-        Err(_) => false,
+/// Whether a fault displays this text but for its line feed.
+fn displays_line(alloc: Global, fault: &RunFault, text: &str) -> bool {
+    match text.strip_suffix('\n') {
+        Some(line) => displays(alloc, fault, line),
+        None => false,
     }
 }
 
-/// The first cause that ends a run with another status, or prints or displays another text.
-fn first_wrong(alloc: Global, rows: &[(Cause, u8, &str)]) -> Option<usize> {
-    for (at, row) in rows.iter().enumerate() {
-        let (cause, status, text) = *row;
-        if !reports_as(&failure(cause), status, text.as_bytes()) || !displays(alloc, cause, text) {
-            return Some(at);
-        }
+/// A cause, and the status and the text with which it ends a run.
+struct Reported(Cause, u8, &'static str);
+
+impl Row for Reported {
+    /// Whether it ends a run so; a fault of a run also displays the text.
+    fn agrees(&self, alloc: Global) -> bool {
+        let is_displayed = match self.0 {
+            Run(fault) => displays_line(alloc, &fault, self.2),
+            Replay(_) | Bind(_) => true,
+        };
+        is_displayed && reports_as(&failure(self.0), self.1, self.2.as_bytes())
     }
-    None
 }
 
 // Each fault's status and text; the text is also what it displays.
-const FAULTS: &[(Cause, u8, &str)] = &[
-    (Run(RunFault::BadWords), 2, "bad words\n"),
-    (
+const FAULTS: &[Reported] = &[
+    Reported(Run(RunFault::BadWords), 2, "bad words\n"),
+    Reported(
         Run(RunFault::Line(18_446_744_073_709_551_615, LineFault::TooLong)),
         2,
         "line 18446744073709551615: too long\n",
     ),
-    (
+    Reported(
         Run(RunFault::Line(7, LineFault::Number)),
         2,
         "line 7: number\n",
     ),
-    (
+    Reported(
         Run(RunFault::Object(7, ObjectFault::Class)),
         2,
         "line 7: class\n",
     ),
-    (Run(RunFault::NoMemory), 1, "no memory\n"),
-    (Run(RunFault::Read), 1, "read failed\n"),
-    (Run(RunFault::Write), 1, "write failed\n"),
-    (Run(RunFault::TooMuch), 1, "too much input\n"),
-    (Run(RunFault::Socket), 1, "socket failed\n"),
+    Reported(Run(RunFault::NoMemory), 1, "no memory\n"),
+    Reported(Run(RunFault::Read), 1, "read failed\n"),
+    Reported(Run(RunFault::Write), 1, "write failed\n"),
+    Reported(Run(RunFault::TooMuch), 1, "too much input\n"),
+    Reported(Run(RunFault::Socket), 1, "socket failed\n"),
 ];
 
-/// The first text that is of its form where it must not be, or is not where it must.
-fn first_misread(rows: &[(Form, &str, bool)]) -> Option<usize> {
-    for (at, row) in rows.iter().enumerate() {
-        let (form, text, wanted) = *row;
-        if form.takes(text.as_bytes()) != wanted {
-            return Some(at);
-        }
+/// A form, a text, and whether the text is of the form.
+struct IsOf(Form, &'static str, bool);
+
+impl Row for IsOf {
+    /// Whether that is so.
+    fn agrees(&self, _alloc: Global) -> bool {
+        self.0.takes(self.1.as_bytes()) == self.2
     }
-    None
 }
 
 const SPAN: Form = Form::Number {
@@ -96,44 +95,44 @@ const SPAN: Form = Form::Number {
     largest: 32,
 };
 
-const FORMS: &[(Form, &str, bool)] = &[
-    (SPAN, "1", true),
-    (SPAN, "032", true),
-    (SPAN, "0", false),
-    (SPAN, "33", false),
-    (SPAN, "0001", false),
-    (SPAN, "", false),
-    (SPAN, "x", false),
-    (Form::Host, "1.0.0.0:1", true),
-    (Form::Host, "223.255.255.255:65535", true),
-    (Form::Host, "0.255.255.255:1", false),
-    (Form::Host, "224.0.0.0:1", false),
-    (Form::Host, "255.255.255.255:1", false),
-    (Form::Host, "127.0.0.1:0", false),
-    (Form::Host, "127.0.0.1", false),
-    (Form::Own, "0.0.0.0", true),
-    (Form::Own, "192.0.2.1", true),
-    (Form::Own, "0.0.0.1", false),
-    (Form::Own, "239.0.0.1", false),
-    (Form::AnyPeer, "0.0.0.0:0", true),
-    (Form::AnyPeer, "0.0.0.0", false),
-    (Form::Bytes, "-", true),
-    (Form::Bytes, "00fF", true),
-    (Form::Bytes, "", false),
-    (Form::Bytes, "0", false),
+const FORMS: &[IsOf] = &[
+    IsOf(SPAN, "1", true),
+    IsOf(SPAN, "032", true),
+    IsOf(SPAN, "0", false),
+    IsOf(SPAN, "33", false),
+    IsOf(SPAN, "0001", false),
+    IsOf(SPAN, "", false),
+    IsOf(SPAN, "x", false),
+    IsOf(Form::Host, "1.0.0.0:1", true),
+    IsOf(Form::Host, "223.255.255.255:65535", true),
+    IsOf(Form::Host, "0.255.255.255:1", false),
+    IsOf(Form::Host, "224.0.0.0:1", false),
+    IsOf(Form::Host, "255.255.255.255:1", false),
+    IsOf(Form::Host, "127.0.0.1:0", false),
+    IsOf(Form::Host, "127.0.0.1", false),
+    IsOf(Form::Own, "0.0.0.0", true),
+    IsOf(Form::Own, "192.0.2.1", true),
+    IsOf(Form::Own, "0.0.0.1", false),
+    IsOf(Form::Own, "239.0.0.1", false),
+    IsOf(Form::AnyPeer, "0.0.0.0:0", true),
+    IsOf(Form::AnyPeer, "0.0.0.0", false),
+    IsOf(Form::Bytes, "-", true),
+    IsOf(Form::Bytes, "00fF", true),
+    IsOf(Form::Bytes, "", false),
+    IsOf(Form::Bytes, "0", false),
 ];
 
-const LINES_AND_SOCKETS: &[(Cause, u8, &str)] = &[
-    (
+const LINES_AND_SOCKETS: &[Reported] = &[
+    Reported(
         Replay(ReplayFault::Line(7, LineFault::Hex)),
         2,
         "line 7: hex\n",
     ),
-    (Replay(ReplayFault::Read), 1, "read failed\n"),
-    (Replay(ReplayFault::Write), 1, "write failed\n"),
-    (Replay(ReplayFault::TooMuch), 1, "too much input\n"),
-    (Bind(BindFault::Io), 1, "socket failed\n"),
-    (Bind(BindFault::NoMemory), 1, "no memory\n"),
+    Reported(Replay(ReplayFault::Read), 1, "read failed\n"),
+    Reported(Replay(ReplayFault::Write), 1, "write failed\n"),
+    Reported(Replay(ReplayFault::TooMuch), 1, "too much input\n"),
+    Reported(Bind(BindFault::Io), 1, "socket failed\n"),
+    Reported(Bind(BindFault::NoMemory), 1, "no memory\n"),
 ];
 
 /// A failure with a note.
@@ -210,33 +209,18 @@ fn first_unfilled(rooms: usize) -> Option<usize> {
     None
 }
 
-/// The first fault of a run that is told otherwise.
-fn wrong_fault(alloc: Global) -> Option<usize> {
-    first_wrong(alloc, FAULTS)
-}
-
-/// The first fault of lines and sockets that is told otherwise.
-fn wrong_of_lines(alloc: Global) -> Option<usize> {
-    first_wrong(alloc, LINES_AND_SOCKETS)
-}
-
-/// The first form that is read otherwise.
-fn wrong_form() -> Option<usize> {
-    first_misread(FORMS)
-}
-
-/// The table of this name has no row that comes out otherwise.
-fn none_in(rt: &impl Abort, table: &'static str, wrong: Option<usize>) {
-    if let Some(at) = wrong {
-        panic!(rt; "{table}: row {at}");
-    }
-}
-
 #[test]
-fn faults_and_forms(rt: HostRuntime) {
-    none_in(&rt, "faults", wrong_fault(rt.alloc()));
-    none_in(&rt, "lines and sockets", wrong_of_lines(rt.alloc()));
-    none_in(&rt, "forms", wrong_form());
-    none_in(&rt, "rooms", first_unfilled(10));
-    assert!(rt; are_notes(rt.alloc()));
+fn faults_and_forms_of_runs(rt: HostRuntime) {
+    let alloc = rt.alloc();
+    none_wrong(
+        &rt,
+        "faults and forms of runs",
+        &[
+            first_wrong(alloc, FAULTS),
+            first_wrong(alloc, LINES_AND_SOCKETS),
+            first_wrong(alloc, FORMS),
+            first_unfilled(10),
+            wrong_unless(are_notes(alloc)),
+        ],
+    );
 }

@@ -5,35 +5,108 @@ mod printing;
 mod replays;
 mod waits;
 
-use std::process::Abort;
+use super::{first_wrong, none_wrong, wrong_unless};
 
-/// The table of this name has no row that comes out otherwise.
-fn none_in(rt: &impl Abort, table: &'static str, wrong: Option<usize>) {
-    if let Some(at) = wrong {
-        panic!(rt; "{table}: row {at}");
-    }
+#[test]
+fn numbers_and_moments(rt: HostRuntime) {
+    let alloc = rt.alloc();
+    none_wrong(
+        &rt,
+        "numbers and moments",
+        &[
+            first_wrong(alloc, fields::NUMBERS),
+            first_wrong(alloc, fields::MOMENTS),
+            first_wrong(alloc, fields::BEFORE),
+        ],
+    );
 }
 
 #[test]
-fn texts_and_replays(rt: HostRuntime) {
-    none_in(&rt, "texts_as_printed", escapes::texts_as_printed());
-    none_in(&rt, "numbers", fields::numbers());
-    none_in(&rt, "peers", fields::peers());
-    none_in(&rt, "addresses", fields::addresses());
-    none_in(&rt, "before_a_separator", fields::before_a_separator());
-    none_in(&rt, "hexadecimal", fields::hexadecimal());
-    none_in(&rt, "fields_of_a_line", fields::fields_of_a_line());
-    none_in(&rt, "more_than_is_held", printing::more_than_is_held());
-    none_in(&rt, "pieces_of_each_size", replays::pieces_of_each_size());
-    none_in(
+fn peers_and_fields(rt: HostRuntime) {
+    let alloc = rt.alloc();
+    none_wrong(
         &rt,
-        "read_fails_at_each_place",
-        replays::read_fails_at_each_place(),
+        "peers and fields",
+        &[
+            first_wrong(alloc, fields::PEERS),
+            first_wrong(alloc, fields::ADDRESSES),
+            first_wrong(alloc, fields::PEERS_BEFORE),
+            first_wrong(alloc, fields::HEXADECIMAL),
+            first_wrong(alloc, fields::FIELDS),
+        ],
     );
-    none_in(
+}
+
+#[test]
+fn printed_lines(rt: HostRuntime) {
+    let alloc = rt.alloc();
+    none_wrong(
         &rt,
-        "write_fails_at_each_place",
-        replays::write_fails_at_each_place(),
+        "printed lines",
+        &[
+            first_wrong(alloc, escapes::TEXTS),
+            first_wrong(alloc, printing::MORE_ROWS),
+            wrong_unless(printing::prints_a_line()),
+        ],
     );
-    none_in(&rt, "form_of_a_line", replays::form_of_a_line());
+}
+
+#[test]
+fn words_of_faults(rt: HostRuntime) {
+    let alloc = rt.alloc();
+    none_wrong(
+        &rt,
+        "words of faults",
+        &[
+            first_wrong(alloc, printing::OF_LINES),
+            first_wrong(alloc, printing::OF_REPLAYS),
+            first_wrong(alloc, printing::WORDS),
+            first_wrong(alloc, printing::OF_STOPS),
+            first_wrong(alloc, printing::OF_READS),
+            first_wrong(alloc, printing::OF_WRITES),
+        ],
+    );
+}
+
+#[test]
+fn lengths_of_lines(rt: HostRuntime) {
+    let alloc = rt.alloc();
+    none_wrong(
+        &rt,
+        "lengths of lines",
+        &[
+            first_wrong(alloc, replays::FORMS),
+            first_wrong(alloc, replays::LENGTHS),
+            first_wrong(alloc, replays::AFTER),
+            first_wrong(alloc, replays::LINES),
+            first_wrong(alloc, replays::PATTERNS),
+        ],
+    );
+}
+
+#[test]
+fn replays_in_pieces(rt: HostRuntime) {
+    none_wrong(
+        &rt,
+        "replays in pieces",
+        &[
+            replays::first_broken(),
+            replays::first_misread(),
+            replays::first_miswritten(),
+        ],
+    );
+}
+
+#[test]
+fn readers_and_writers(rt: HostRuntime) {
+    none_wrong(
+        &rt,
+        "readers and writers",
+        &[
+            replays::first_mistaken(false),
+            replays::first_mistaken(true),
+            wrong_unless(replays::ends_through_reader()),
+            wrong_unless(replays::is_written_before_a_read()),
+        ],
+    );
 }

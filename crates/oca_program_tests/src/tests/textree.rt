@@ -3,54 +3,91 @@ mod copies;
 mod faults;
 mod trees;
 
-use std::process::Abort;
+use super::{first_wrong, none_wrong, wrong_unless};
 
-/// The table of this name has no row that comes out otherwise.
-fn none_in(rt: &impl Abort, table: &'static str, wrong: Option<usize>) {
-    if let Some(at) = wrong {
-        panic!(rt; "{table}: row {at}");
-    }
+#[test]
+fn forms_of_lines(rt: HostRuntime) {
+    let alloc = rt.alloc();
+    none_wrong(
+        &rt,
+        "forms of lines",
+        &[
+            first_wrong(alloc, faults::NOTHING),
+            first_wrong(alloc, faults::FORMS),
+            first_wrong(alloc, faults::NUMBERS),
+            first_wrong(alloc, faults::FIELDS),
+        ],
+    );
 }
 
 #[test]
-fn texts(rt: HostRuntime) {
-    none_in(&rt, "texts_of_makers", copies::texts_of_makers(rt.alloc()));
-    none_in(
+fn refused_objects(rt: HostRuntime) {
+    let alloc = rt.alloc();
+    none_wrong(
         &rt,
-        "all_that_is_stored",
-        copies::all_that_is_stored(rt.alloc()),
+        "refused objects",
+        &[
+            first_wrong(alloc, faults::REFUSALS),
+            first_wrong(alloc, faults::LONG_TEXTS),
+            first_wrong(alloc, faults::DEPTHS),
+        ],
     );
-    none_in(&rt, "labels", copies::labels(rt.alloc()));
-    none_in(&rt, "local_sets", copies::local_sets(rt.alloc()));
-    none_in(&rt, "refused_lines", copies::refused_lines(rt.alloc()));
-    none_in(
+}
+
+#[test]
+fn displayed_faults(rt: HostRuntime) {
+    let alloc = rt.alloc();
+    none_wrong(
         &rt,
-        "nothing_is_listed",
-        faults::nothing_is_listed(rt.alloc()),
+        "displayed faults",
+        &[
+            first_wrong(alloc, faults::DISPLAYED),
+            wrong_unless(faults::lists_4096(alloc)),
+        ],
     );
-    none_in(
+}
+
+#[test]
+fn copies_of_trees(rt: HostRuntime) {
+    let alloc = rt.alloc();
+    none_wrong(
         &rt,
-        "lines_that_are_not_of_the_form",
-        faults::lines_that_are_not_of_the_form(rt.alloc()),
+        "copies of trees",
+        &[
+            first_wrong(alloc, copies::PLAIN),
+            first_wrong(alloc, copies::ALL),
+            first_wrong(alloc, copies::LABELS),
+            first_wrong(alloc, copies::BENCHES),
+        ],
     );
-    none_in(
+}
+
+#[test]
+fn refused_copies(rt: HostRuntime) {
+    let alloc = rt.alloc();
+    none_wrong(
         &rt,
-        "fields_with_faults",
-        faults::fields_with_faults(rt.alloc()),
+        "refused copies",
+        &[
+            first_wrong(alloc, copies::REFUSED),
+            first_wrong(alloc, copies::REFUSED_VALUES),
+            first_wrong(alloc, copies::ROOTS),
+            first_wrong(alloc, copies::SETS),
+            first_wrong(alloc, copies::NUMBERS),
+        ],
     );
-    none_in(
+}
+
+#[test]
+fn trees_of_lines(rt: HostRuntime) {
+    let alloc = rt.alloc();
+    none_wrong(
         &rt,
-        "objects_that_are_refused",
-        faults::objects_that_are_refused(rt.alloc()),
+        "trees of lines",
+        &[
+            first_wrong(alloc, trees::CLASSES),
+            first_wrong(alloc, trees::INTEGERS),
+            first_wrong(alloc, trees::PLACES),
+        ],
     );
-    none_in(&rt, "long_texts", faults::long_texts(rt.alloc()));
-    none_in(&rt, "depths", faults::depths(rt.alloc()));
-    none_in(
-        &rt,
-        "displayed_faults",
-        faults::displayed_faults(rt.alloc()),
-    );
-    none_in(&rt, "every_class", trees::every_class(rt.alloc()));
-    none_in(&rt, "integers", trees::integers(rt.alloc()));
-    none_in(&rt, "places_and_roles", trees::places_and_roles(rt.alloc()));
 }

@@ -1,4 +1,5 @@
 //! What the clauses leave open: that a device is found, that orders fare as it answers, and what is noted of them.
+use super::{none_wrong, wrong_unless};
 use http_server::{Config, Connection};
 use oca_model::{MuteState, Reading};
 use oca_net::{MemoryEnd, Scripted};
@@ -46,32 +47,31 @@ const ANSWERS: &[Answer] = &[
 /// How many turns find the objects.
 const FINDING: u32 = 10;
 
-/// The head of the response to the command of this handle.
-fn head(handle: u8, answer: &Answer) -> Option<[u8; 20]> {
-    let (status, count, params) = *answer;
-    let size = u8::try_from(params.len()).ok()?;
-    let pdu = size.checked_add(19)?;
-    let message = size.checked_add(10)?;
-    Some([
-        0x3b, 0, 1, 0, 0, 0, pdu, 3, 0, 1, 0, 0, 0, message, 0, 0, 0, handle, status, count,
-    ])
+/// The head of the response to the command of this handle, whose parameters are at most 200 bytes.
+fn head(handle: u8, answer: &Answer, size: u8) -> [u8; 20] {
+    let pdu = size.saturating_add(19);
+    let message = size.saturating_add(10);
+    [
+        0x3b, 0, 1, 0, 0, 0, pdu, 3, 0, 1, 0, 0, 0, message, 0, 0, 0, handle, answer.0, answer.1,
+    ]
+}
+
+/// Adds a response of these bytes.
+fn add_bytes(script: &mut Vec<Scripted>, bytes: Vec<u8>) -> bool {
+    let from = DEVICE;
+    let now = 10;
+    script.push(Scripted::Datagram { from, bytes, now }).is_ok()
 }
 
 /// Adds the response to the command of this handle.
 fn add(alloc: Global, script: &mut Vec<Scripted>, handle: u8, answer: &Answer) -> bool {
-    let Some(head) = head(handle, answer) else {
+    let Ok(size) = u8::try_from(answer.2.len()) else {
         return false;
     };
     let mut bytes = Vec::new(alloc);
-    bytes.extend_from_slice(&head).is_ok()
+    bytes.extend_from_slice(&head(handle, answer, size)).is_ok()
         && bytes.extend_from_slice(answer.2).is_ok()
-        && script
-            .push(Scripted::Datagram {
-                from: DEVICE,
-                bytes,
-                now: 10,
-            })
-            .is_ok()
+        && add_bytes(script, bytes)
 }
 
 /// Adds the responses to the commands from the handle 7 on.
@@ -104,24 +104,43 @@ fn panel(alloc: Global, answers: &[Answer]) -> Option<Panel<MemoryEnd>> {
     }
 }
 
+/// The name of 127.0.0.1:8080, of which this is the host.
+fn name_with(alloc: Global, host: String) -> Option<Name> {
+    match String::from_str(alloc, "http://127.0.0.1:8080") {
+        Ok(origin) => Some(Name { host, origin }),
+        Err(_) => None,
+    }
+}
+
 /// The name of 127.0.0.1:8080.
 fn name(alloc: Global) -> Option<Name> {
-    let host = String::from_str(alloc, "127.0.0.1:8080").ok()?;
-    let origin = String::from_str(alloc, "http://127.0.0.1:8080").ok()?;
-    Some(Name { host, origin })
+    match String::from_str(alloc, "127.0.0.1:8080") {
+        Ok(host) => name_with(alloc, host),
+        Err(_) => None,
+    }
 }
 
 /// Its name alone.
 fn names(alloc: Global) -> Option<Vec<Name>> {
-    Vec::from_array(alloc, [name(alloc)?]).ok()
+    match name(alloc) {
+        Some(name) => Vec::from_array(alloc, [name]).ok(),
+        None => None,
+    }
+}
+
+/// A site with these names.
+fn site_with(alloc: Global, names: Vec<Name>) -> Option<Site> {
+    match View::new(alloc, DEVICE, Span::default(), Handle(7), 0) {
+        Ok(view) => Some(Site::new(alloc, view, names)),
+        Err(_) => None,
+    }
 }
 
 /// A site at 127.0.0.1:8080.
 fn site(alloc: Global) -> Option<Site> {
-    let names = names(alloc)?;
-    match View::new(alloc, DEVICE, Span::default(), Handle(7), 0) {
-        Ok(view) => Some(Site::new(alloc, view, names)),
-        Err(_) => None,
+    match names(alloc) {
+        Some(names) => site_with(alloc, names),
+        None => None,
     }
 }
 
@@ -145,28 +164,6 @@ fn drive(site: &mut Site, panel: &mut Panel<MemoryEnd>, turns: u32) -> bool {
     let view = site.view();
     view.note(10, 1);
     view.go_on(panel).is_ok() && take_turns(view, panel, turns)
-}
-
-/// A site that has found the device over a panel.
-#[derive(Drop)]
-struct Found {
-    panel: Panel<MemoryEnd>,
-    site: Site,
-}
-
-/// The site over the panel, once it has found the device.
-fn find_over(alloc: Global, mut panel: Panel<MemoryEnd>) -> Option<Found> {
-    let mut site = site(alloc)?;
-    if drive(&mut site, &mut panel, FINDING) {
-        Some(Found { panel, site })
-    } else {
-        None
-    }
-}
-
-/// A site that has found the device.
-fn find(alloc: Global) -> Option<Found> {
-    find_over(alloc, panel(alloc, ANSWERS)?)
 }
 
 /// A request, and how its answer begins and ends.
@@ -331,14 +328,8 @@ fn is_quiet(view: &View) -> bool {
 }
 
 /// The device is found, with its mute and the mute's state.
-fn is_found(alloc: Global) -> bool {
-    match find(alloc) {
-        Some(mut found) => {
-            let view = found.site.view();
-            is_whole(view) && is_read(view, MuteState::Muted) && is_lockable(view) && is_quiet(view)
-        }
-        None => false,
-    }
+fn is_found(view: &View) -> bool {
+    is_whole(view) && is_read(view, MuteState::Muted) && is_lockable(view) && is_quiet(view)
 }
 
 /// Whether two orders were done, and no other waits or is in flight.
@@ -354,19 +345,19 @@ fn are_done(view: &View) -> bool {
 }
 
 /// Whether two orders of one object fare one after the other, as the device answers.
-fn fare_so(found: &mut Found) -> bool {
-    if !found.site.view().has_orders() {
+fn fare_so(site: &mut Site, panel: &mut Panel<MemoryEnd>) -> bool {
+    if !site.view().has_orders() {
         return false;
     }
-    if !drive(&mut found.site, &mut found.panel, 4) {
+    if !drive(site, panel, 4) {
         return false;
     }
-    let view = found.site.view();
+    let view = site.view();
     are_done(view) && is_read(view, MuteState::Unmuted) && is_own(view)
 }
 
 /// The first row that is answered otherwise.
-fn first_wrong<R: RandomSource>(
+fn first_unanswered<R: RandomSource>(
     alloc: Global,
     rt: &R,
     site: &mut Site,
@@ -380,40 +371,60 @@ fn first_wrong<R: RandomSource>(
     None
 }
 
-/// Whether the two orders are taken, and are noted.
-fn are_noted<R: RandomSource>(alloc: Global, rt: &R) -> bool {
-    match find(alloc) {
-        Some(mut found) => {
-            first_wrong(alloc, rt, &mut found.site, ORDERS).is_none() && fare_so(&mut found)
+/// What is asked of a site that has found the device.
+#[derive(Clone, Copy)]
+enum Asked {
+    /// Whether the device is found.
+    Finds,
+    /// Whether the two orders are taken, and are noted.
+    Notes,
+    /// Whether each request gets its status.
+    Answers,
+}
+
+/// The first row that is otherwise of a site that has found the device over a panel.
+fn wrong_at<R: RandomSource>(
+    alloc: Global,
+    rt: &R,
+    site: &mut Site,
+    panel: &mut Panel<MemoryEnd>,
+    asked: Asked,
+) -> Option<usize> {
+    match asked {
+        Asked::Finds => wrong_unless(is_found(site.view())),
+        Asked::Notes => {
+            let taken = first_unanswered(alloc, rt, site, ORDERS).is_none();
+            wrong_unless(taken && fare_so(site, panel))
         }
-        None => false,
+        Asked::Answers => first_unanswered(alloc, rt, site, ROWS),
     }
 }
 
-/// The first row that is answered otherwise once the device is found.
-fn first_other<R: RandomSource>(alloc: Global, rt: &R) -> Option<usize> {
-    match find(alloc) {
-        Some(mut found) => first_wrong(alloc, rt, &mut found.site, ROWS),
+/// The same once the site finds the device over a panel; the last number where it does not.
+fn wrong_over<R: RandomSource>(
+    alloc: Global,
+    rt: &R,
+    panel: &mut Panel<MemoryEnd>,
+    asked: Asked,
+) -> Option<usize> {
+    match site(alloc) {
+        Some(mut site) => {
+            if drive(&mut site, panel, FINDING) {
+                wrong_at(alloc, rt, &mut site, panel, asked)
+            } else {
+                Some(usize::MAX)
+            }
+        }
         None => Some(usize::MAX),
     }
 }
 
-/// A device is found.
-#[test]
-fn finds(rt: HostRuntime) {
-    assert!(rt; is_found(rt.alloc()));
-}
-
-/// Orders fare as the device answers.
-#[test]
-fn notes_results(rt: HostRuntime) {
-    assert!(rt; are_noted(rt.alloc(), &rt));
-}
-
-/// Each request gets its status.
-#[test]
-fn answers(rt: HostRuntime) {
-    assert_eq!(rt; first_other(rt.alloc(), &rt), None);
+/// The same over a panel of its own.
+fn wrong_of<R: RandomSource>(alloc: Global, rt: &R, asked: Asked) -> Option<usize> {
+    match panel(alloc, ANSWERS) {
+        Some(mut panel) => wrong_over(alloc, rt, &mut panel, asked),
+        None => Some(usize::MAX),
+    }
 }
 
 /// Whether the page and its policy are there, and the limits are those of the contracts.
@@ -425,6 +436,18 @@ fn is_page() -> bool {
 }
 
 #[test]
-fn page(rt: HostRuntime) {
-    assert!(rt; is_page());
+fn finds_and_notes(rt: HostRuntime) {
+    let alloc = rt.alloc();
+    let finds = wrong_of(alloc, &rt, Asked::Finds);
+    none_wrong(
+        &rt,
+        "finds and notes",
+        &[finds, wrong_of(alloc, &rt, Asked::Notes)],
+    );
+}
+
+#[test]
+fn answers_and_page(rt: HostRuntime) {
+    let answers = wrong_of(rt.alloc(), &rt, Asked::Answers);
+    none_wrong(&rt, "answers and page", &[answers, wrong_unless(is_page())]);
 }

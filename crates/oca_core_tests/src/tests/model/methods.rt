@@ -1,109 +1,95 @@
 //! Each method: parameters that are understood and asked for again, answers that are read and written again.
+use crate::tests::Row;
 use oca_model::{Answer, Request, RequestFault, Shape, Value, ValueFault, shape_of};
 use oca_types::{Class, Method, MethodId, Params};
+use std::alloc::Global;
 
 /// A method by DefLevel and MethodIndex.
 type Called = (u16, u16);
 
-/// A method of a class with the parameters of a command or of an answer.
-#[derive(Clone, Copy)]
-enum Row {
-    /// Its ParamCount and parameters are understood, and what was understood is asked so.
-    Asks(Class, Method, Called, u8, &'static [u8]),
-    /// They are refused.
-    Refuses(Class, Method, u8, &'static [u8], ValueFault),
-    /// The answer is of this kind, is read, and is written so.
-    Answers(Class, Method, Shape, u8, &'static [u8]),
-    /// They are no answer.
-    AnswersNothing(Class, Method, u8, &'static [u8]),
-    /// A class does not know the request of another.
-    IsOfAnother(Class, Value),
-}
+/// A method of a class, and its ParamCount and parameters, which are understood and asked for so.
+pub struct Asks(Class, Method, Called, u8, &'static [u8]);
 
-use Row::*;
-
-/// Whether the request, asked of the class, is this.
-fn asks(request: &Request, class: Class, called: Called, count: u8, params: &[u8]) -> bool {
+/// Whether the request, asked of the class of the row, is that of the row.
+fn is_asked(request: &Request, row: &Asks) -> bool {
     let wanted = MethodId {
-        level: called.0,
-        index: called.1,
+        level: row.2.0,
+        index: row.2.1,
     };
     let mut out = Params::new();
-    match request.call(class, &mut out) {
-        Ok(call) => call.method == wanted && call.count == count && out.as_slice() == params,
+    match request.call(row.0, &mut out) {
+        Ok(call) => call.method == wanted && call.count == row.3 && out.as_slice() == row.4,
         Err(_) => false,
     }
 }
 
-/// Whether it is understood, and asked so.
-fn understands(class: Class, method: Method, called: Called, count: u8, params: &[u8]) -> bool {
-    match Request::read(class, method, count, params) {
-        Ok(request) => asks(&request, class, called, count, params),
-        Err(_) => false,
+impl Row for Asks {
+    /// Whether it is understood, and asked so.
+    fn agrees(&self, _alloc: Global) -> bool {
+        match Request::read(self.0, self.1, self.3, self.4) {
+            Ok(request) => is_asked(&request, self),
+            Err(_) => false,
+        }
     }
 }
 
-/// Whether it is refused so.
-fn refuses(class: Class, method: Method, count: u8, params: &[u8], fault: ValueFault) -> bool {
-    match Request::read(class, method, count, params) {
-        Ok(_) => false,
-        Err(found) => found == fault,
+/// A method of a class, and a ParamCount and parameters that it refuses.
+pub struct Refuses(Class, Method, u8, &'static [u8], ValueFault);
+
+impl Row for Refuses {
+    /// Whether they are refused so.
+    fn agrees(&self, _alloc: Global) -> bool {
+        match Request::read(self.0, self.1, self.2, self.3) {
+            Ok(_) => false,
+            Err(found) => found == self.4,
+        }
     }
 }
 
-/// Whether it is an answer of this kind, and is written so.
-fn answers(class: Class, method: Method, shape: Shape, count: u8, params: &[u8]) -> bool {
-    let mut out = Params::new();
-    match Answer::read(class, method, count, params) {
-        Some(answer) => {
-            shape_of(method) == shape
-                && answer.count() == count
-                && answer.put(&mut out).is_ok()
-                && out.as_slice() == params
+/// A method of a class, and an answer of this kind, which is read, and is written so.
+pub struct Answers(Class, Method, Shape, u8, &'static [u8]);
+
+impl Row for Answers {
+    /// Whether it is an answer of this kind, and is written so.
+    fn agrees(&self, _alloc: Global) -> bool {
+        let mut out = Params::new();
+        match Answer::read(self.0, self.1, self.3, self.4) {
+            Some(answer) => {
+                shape_of(self.1) == self.2
+                    && answer.count() == self.3
+                    && answer.put(&mut out).is_ok()
+                    && out.as_slice() == self.4
+            }
+            None => false,
         }
-        None => false,
     }
 }
 
-/// Whether a class does not know that its objects are set to the value.
-fn is_of_another(class: Class, value: Value) -> bool {
-    let mut out = Params::new();
-    match Request::Set(value).call(class, &mut out) {
-        Ok(_) => false,
-        Err(fault) => fault == RequestFault::OtherClass,
+/// A method of a class, and a ParamCount and parameters that are no answer.
+pub struct AnswersNothing(Class, Method, u8, &'static [u8]);
+
+impl Row for AnswersNothing {
+    /// Whether they are no answer.
+    fn agrees(&self, _alloc: Global) -> bool {
+        Answer::read(self.0, self.1, self.2, self.3).is_none()
     }
 }
 
-/// Whether it comes out so.
-fn agrees(row: Row) -> bool {
-    match row {
-        Asks(class, method, called, count, params) => {
-            understands(class, method, called, count, params)
+/// A class, and a value of another, to which its objects are not set.
+pub struct IsOfAnother(Class, Value);
+
+impl Row for IsOfAnother {
+    /// Whether the class does not know that its objects are set to the value.
+    fn agrees(&self, _alloc: Global) -> bool {
+        let mut out = Params::new();
+        match Request::Set(self.1).call(self.0, &mut out) {
+            Ok(_) => false,
+            Err(fault) => fault == RequestFault::OtherClass,
         }
-        Refuses(class, method, count, params, fault) => {
-            refuses(class, method, count, params, fault)
-        }
-        Answers(class, method, shape, count, params) => {
-            answers(class, method, shape, count, params)
-        }
-        AnswersNothing(class, method, count, params) => {
-            Answer::read(class, method, count, params).is_none()
-        }
-        IsOfAnother(class, value) => is_of_another(class, value),
     }
 }
 
-/// The first row that comes out otherwise.
-fn first_wrong(rows: &[Row]) -> Option<usize> {
-    for (at, row) in rows.iter().enumerate() {
-        if !agrees(*row) {
-            return Some(at);
-        }
-    }
-    None
-}
-
-const REQUESTS: &[Row] = &[
+pub const REQUESTS: &[Asks] = &[
     Asks(Class::Mute, Method::GetClassIdentification, (1, 1), 0, &[]),
     Asks(Class::Mute, Method::GetLockable, (1, 2), 0, &[]),
     Asks(Class::Mute, Method::LockTotal, (1, 3), 0, &[]),
@@ -163,12 +149,7 @@ const REQUESTS: &[Row] = &[
     Asks(Class::Int16, Method::SetSetting, (5, 2), 1, &[255, 196]),
 ];
 
-/// The first row that is otherwise: requests.
-pub fn requests() -> Option<usize> {
-    first_wrong(REQUESTS)
-}
-
-const REFUSALS: &[Row] = &[
+pub const REFUSALS: &[Refuses] = &[
     Refuses(Class::Mute, Method::SetState, 1, &[3], ValueFault::Unlisted),
     Refuses(
         Class::Mute,
@@ -201,16 +182,14 @@ const REFUSALS: &[Row] = &[
         &[0, 17, 1, 1, 1, 1, 1, 1, 1, 1, 1, 1, 1, 1, 1, 1, 1, 1, 1],
         ValueFault::Malformed,
     ),
+];
+
+pub const OF_OTHERS: &[IsOfAnother] = &[
     IsOfAnother(Class::Int8, Value::Uint8(1)),
     IsOfAnother(Class::Block, Value::Boolean(true)),
 ];
 
-/// The first row that is otherwise: refusals.
-pub fn refusals() -> Option<usize> {
-    first_wrong(REFUSALS)
-}
-
-const ANSWERS: &[Row] = &[
+pub const ANSWERS: &[Answers] = &[
     Answers(Class::Mute, Method::Unlock, Shape::Done, 0, &[]),
     Answers(Class::Mute, Method::SetState, Shape::Done, 0, &[]),
     Answers(Class::Mute, Method::GetLockable, Shape::Truth, 1, &[1]),
@@ -258,13 +237,11 @@ const ANSWERS: &[Row] = &[
         1,
         &[0, 1, 0, 0, 16, 1, 0, 4, 0, 1, 0, 1, 0, 1, 0, 2, 0, 2],
     ),
+];
+
+pub const NO_ANSWERS: &[AnswersNothing] = &[
     AnswersNothing(Class::Mute, Method::GetState, 1, &[3]),
     AnswersNothing(Class::Mute, Method::GetState, 2, &[2]),
     AnswersNothing(Class::Mute, Method::SetState, 0, &[1]),
     AnswersNothing(Class::Switch, Method::GetPosition, 3, &[0, 1, 0, 0, 0]),
 ];
-
-/// The first row that is otherwise: answers of methods.
-pub fn answers_of_methods() -> Option<usize> {
-    first_wrong(ANSWERS)
-}

@@ -4,8 +4,10 @@ ghost use Rattle.oca_pdu.specs.Writing.{HoldsResponses};
 
 use super::answers::{Answer, reply};
 use super::building::messages_in;
+use crate::tests::Row;
 use oca_pdu::{WriteFault, extend_response, write_response};
 use oca_types::{Handle, Packet, Reply, Status};
+use std::alloc::Global;
 
 /// Responses of the handles from the first on, below the end, and what adding each of them answers.
 #[derive(Clone, Copy)]
@@ -17,7 +19,7 @@ struct More {
 }
 
 /// A PDU of one response, the responses that are added to it, and the packet then.
-struct Script {
+pub struct Script {
     handle: u32,
     answer: Answer,
     more: &'static [More],
@@ -76,18 +78,16 @@ fn are_added(packet: &mut Packet, more: More) -> bool
     true
 }
 
-/// The first row whose responses are answered otherwise.
-fn first_wrong_row(packet: &mut Packet, rows: &[More]) -> Option<usize>
+/// Whether the responses of each row are answered so.
+fn all_are_added(packet: &mut Packet, rows: &[More]) -> bool
     requires { HoldsResponses packet.old.items }
 {
-    let mut at: usize = 0;
     for more in rows {
         if !are_added(packet, *more) {
-            return Some(at);
+            return false;
         }
-        at = at.saturating_add(1);
     }
-    None
+    true
 }
 
 /// Whether the packet is as the script says.
@@ -97,38 +97,21 @@ fn is_of(packet: &Packet, script: &Script) -> bool {
         && messages_in(packet.as_slice()) == script.messages
 }
 
-/// The row of the script whose responses are answered otherwise; behind the last where the packet is another at the end.
-fn wrong_over(packet: &mut Packet, script: &Script) -> Option<usize>
+/// Whether the script goes so over a packet with its first response.
+fn goes_over(packet: &mut Packet, script: &Script) -> bool
     requires { HoldsResponses packet.old.items }
 {
-    match first_wrong_row(packet, script.more) {
-        Some(at) => Some(at),
-        None => {
-            if is_of(packet, script) {
-                None
-            } else {
-                Some(script.more.len())
-            }
-        }
-    }
+    all_are_added(packet, script.more) && is_of(packet, script)
 }
 
-/// The same of a packet of its own; the last number where the first response is refused.
-fn wrong_in(script: &Script) -> Option<usize> {
-    match one_response(Handle(script.handle), &reply(script.answer)) {
-        Some(mut packet) => wrong_over(&mut packet, script),
-        None => Some(usize::MAX),
-    }
-}
-
-/// The first script in which something is otherwise.
-pub fn first_wrong() -> Option<usize> {
-    for (at, script) in SCRIPTS.iter().enumerate() {
-        if wrong_in(script).is_some() {
-            return Some(at);
+impl Row for Script {
+    /// Whether the script goes so over a packet of its own.
+    fn agrees(&self, _alloc: Global) -> bool {
+        match one_response(Handle(self.handle), &reply(self.answer)) {
+            Some(mut packet) => goes_over(&mut packet, self),
+            None => false,
         }
     }
-    None
 }
 
 /// A reply of one parameter, the byte 1.
@@ -222,4 +205,4 @@ const OF_1472: Script = Script {
 };
 
 /// The scripts.
-const SCRIPTS: &[Script] = &[TWO, AS_MANY, OF_1472];
+pub const SCRIPTS: &[Script] = &[TWO, AS_MANY, OF_1472];

@@ -4,12 +4,14 @@ ghost use Rattle.oca_pdu.specs.Limits.{is_command};
 ghost use Rattle.oca_pdu.specs.Datagrams.{datagram_messages};
 
 use super::examples::*;
+use crate::tests::Row;
 use oca_pdu::{Datagram, Form, Message, check};
 use oca_types::{Command, MethodId};
+use std::alloc::Global;
 
 /// A message, in numbers.
 #[derive(Clone, Copy)]
-enum Read {
+pub enum Read {
     /// Whether a command asks for a response, its handle, its target, DefLevel and MethodIndex, ParamCount and
     /// parameters.
     Command(bool, u32, u32, (u16, u16), u8, &'static [u8]),
@@ -19,22 +21,24 @@ enum Read {
     KeepAlive(Form),
 }
 
-/// The datagrams of the worked examples, and their messages in order.
-const MESSAGES: &[(&[u8], &[Read])] = &[
-    (GET_STATE, &[Read::Command(true, 1, 4097, (4, 1), 0, &[])]),
-    (MUTED, &[Read::Response(1, 0, 1, &[1])]),
-    (SET_STATE, &[Read::Command(true, 2, 4097, (4, 2), 1, &[1])]),
-    (DONE, &[Read::Response(2, 0, 0, &[])]),
-    (
+/// The datagram of a worked example, and its messages in order.
+pub struct Messages(&'static [u8], &'static [Read]);
+
+pub const MESSAGES: &[Messages] = &[
+    Messages(GET_STATE, &[Read::Command(true, 1, 4097, (4, 1), 0, &[])]),
+    Messages(MUTED, &[Read::Response(1, 0, 1, &[1])]),
+    Messages(SET_STATE, &[Read::Command(true, 2, 4097, (4, 2), 1, &[1])]),
+    Messages(DONE, &[Read::Response(2, 0, 0, &[])]),
+    Messages(
         SET_SETTING,
         &[Read::Command(true, 7, 4100, (5, 2), 1, &[0xFD, 0xA8])],
     ),
-    (
+    Messages(
         SETTING,
         &[Read::Response(9, 0, 3, &[0xFD, 0xA8, 0xFD, 0xA8, 2, 0x58])],
     ),
-    (GET_MEMBERS, &[Read::Command(true, 5, 100, (3, 5), 0, &[])]),
-    (
+    Messages(GET_MEMBERS, &[Read::Command(true, 5, 100, (3, 5), 0, &[])]),
+    Messages(
         MEMBERS,
         &[Read::Response(
             5,
@@ -43,12 +47,12 @@ const MESSAGES: &[(&[u8], &[Read])] = &[
             &[0, 1, 0, 0, 0x10, 0, 0, 3, 0, 1, 0, 1, 0, 3, 0, 2],
         )],
     ),
-    (LOCKED, &[Read::Response(1, 3, 0, &[])]),
-    (
+    Messages(LOCKED, &[Read::Response(1, 3, 0, &[])]),
+    Messages(
         ROLE,
         &[Read::Response(2, 0, 1, &[0, 4, 0x6D, 0x75, 0x74, 0x65])],
     ),
-    (
+    Messages(
         SET_LABEL,
         &[Read::Command(
             true,
@@ -59,14 +63,14 @@ const MESSAGES: &[(&[u8], &[Read])] = &[
             &[0, 5, 0x42, 0xC3, 0xBC, 0x68, 0x6E, 0x65],
         )],
     ),
-    (
+    Messages(
         LABEL,
         &[Read::Response(2, 0, 1, &[0, 5, 0x42, 0xC3, 0xBC, 0x68, 0x6E, 0x65])],
     ),
-    (ONE_SECOND, &[Read::KeepAlive(Form::Seconds(1))]),
-    (MILLISECONDS, &[Read::KeepAlive(Form::Millis(1500))]),
-    (FIVE_SECONDS, &[Read::KeepAlive(Form::Seconds(5))]),
-    (
+    Messages(ONE_SECOND, &[Read::KeepAlive(Form::Seconds(1))]),
+    Messages(MILLISECONDS, &[Read::KeepAlive(Form::Millis(1500))]),
+    Messages(FIVE_SECONDS, &[Read::KeepAlive(Form::Seconds(5))]),
+    Messages(
         TWO_COMMANDS,
         &[
             Read::Command(true, 1, 4097, (4, 1), 0, &[]),
@@ -122,22 +126,14 @@ fn are_read(datagram: &Datagram<'_>, reads: &[Read]) -> bool {
     rest.is_empty()
 }
 
-/// Whether the bytes are a datagram of these messages.
-fn is_datagram_of(bytes: &[u8], reads: &[Read]) -> bool {
-    match check(bytes) {
-        Ok(datagram) => are_read(&datagram, reads),
-        Err(_) => false,
-    }
-}
-
-/// The first of the examples that has other messages.
-pub fn first_wrong() -> Option<usize> {
-    for (at, (bytes, reads)) in MESSAGES.iter().enumerate() {
-        if !is_datagram_of(bytes, reads) {
-            return Some(at);
+impl Row for Messages {
+    /// Whether the bytes are a datagram of these messages.
+    fn agrees(&self, _alloc: Global) -> bool {
+        match check(self.0) {
+            Ok(datagram) => are_read(&datagram, self.1),
+            Err(_) => false,
         }
     }
-    None
 }
 
 /// How many of the messages are commands: a loop over them whose invariant speaks of those that are left.
@@ -157,10 +153,17 @@ fn commands_in(datagram: &Datagram) -> usize
     count
 }
 
-/// How many commands the bytes have, or none where they are refused.
-pub fn commands_of(bytes: &[u8]) -> usize {
-    match check(bytes) {
-        Ok(datagram) => commands_in(&datagram),
-        Err(_) => 0,
+/// A datagram, and how many commands it has.
+pub struct Commands(&'static [u8], usize);
+
+pub const COMMANDS: &[Commands] = &[Commands(TWO_COMMANDS, 2)];
+
+impl Row for Commands {
+    /// Whether it has so many.
+    fn agrees(&self, _alloc: Global) -> bool {
+        match check(self.0) {
+            Ok(datagram) => commands_in(&datagram) == self.1,
+            Err(_) => false,
+        }
     }
 }

@@ -1,6 +1,5 @@
 //! Messages that are read and written again, of the worked examples and of these with one byte changed.
 use super::building::{Bytes, put_changed};
-use super::examples::SINGLE;
 use oca_pdu::{Datagram, Message, check, write_command, write_keepalive, write_response};
 use oca_types::{Packet, Params, Reply, Status};
 
@@ -44,21 +43,11 @@ fn gives_back(datagram: &Datagram<'_>, bytes: &[u8]) -> bool {
 }
 
 /// Whether the bytes are a datagram of one message, which gives them back.
-fn is_written_again(bytes: &[u8]) -> bool {
+pub fn is_written_again(bytes: &[u8]) -> bool {
     match check(bytes) {
         Ok(datagram) => datagram.messages().count() == 1 && gives_back(&datagram, bytes),
         Err(_) => false,
     }
-}
-
-/// The first example that is not given back.
-pub fn first_wrong() -> Option<usize> {
-    for (at, bytes) in SINGLE.iter().enumerate() {
-        if !is_written_again(bytes) {
-            return Some(at);
-        }
-    }
-    None
 }
 
 /// Whether the first message is a response.
@@ -90,23 +79,13 @@ fn wrong_value(bytes: &[u8], at: usize) -> Option<u8> {
     None
 }
 
-/// Whether each place and value of the bytes makes bytes that are given back.
-fn are_given_back(bytes: &[u8]) -> bool {
+/// Whether the bytes with any one of them changed are given back: what is accepted as one command or keep-alive is to
+/// be written as the same bytes.
+pub fn are_given_back(bytes: &[u8]) -> bool {
     for at in 0..bytes.len() {
         if wrong_value(bytes, at).is_some() {
             return false;
         }
     }
     true
-}
-
-/// The first example of which one byte changed makes bytes that are not given back: what is accepted as one command or
-/// keep-alive is to be written as the same bytes.
-pub fn first_wrong_variation() -> Option<usize> {
-    for (at, bytes) in SINGLE.iter().enumerate() {
-        if !are_given_back(bytes) {
-            return Some(at);
-        }
-    }
-    None
 }

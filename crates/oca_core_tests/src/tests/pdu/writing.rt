@@ -2,15 +2,17 @@
 use super::answers::{Answer, reply};
 use super::building::messages_in;
 use super::examples::{GET_STATE, MUTED, ONE_SECOND, SETTING};
+use crate::tests::Row;
 use oca_pdu::{
     Form, WriteFault, holds_responses, replace_response, write_command, write_keepalive,
     write_response,
 };
 use oca_types::{Command, Handle, MethodId, Ono, Packet, Status};
+use std::alloc::Global;
 
 /// What is done to a packet, and what that answers.
 #[derive(Clone, Copy)]
-enum Step {
+pub enum Step {
     /// Bytes are put behind the packet as they are.
     Bytes(&'static [u8]),
     /// GetState of 4097 is written so many times.
@@ -64,7 +66,7 @@ fn replace(packet: &mut Packet, handle: u32, answer: Answer) -> bool {
 }
 
 /// Whether the step is answered so.
-fn agrees(packet: &mut Packet, step: Step) -> bool {
+fn is_done(packet: &mut Packet, step: Step) -> bool {
     match step {
         Bytes(bytes) => packet.try_extend_from_slice(bytes).is_ok(),
         Commands(times, answer) => writes_commands(packet, times, answer),
@@ -78,25 +80,20 @@ fn agrees(packet: &mut Packet, step: Step) -> bool {
     }
 }
 
-/// The first step that is answered otherwise.
-fn first_wrong(script: &[Step]) -> Option<usize> {
-    let mut packet = Packet::new();
-    for (at, step) in script.iter().enumerate() {
-        if !agrees(&mut packet, *step) {
-            return Some(at);
-        }
-    }
-    None
-}
+/// What is done to a packet, step by step.
+pub struct Script(&'static [Step]);
 
-/// The first script with a step that is answered otherwise.
-pub fn first_wrong_script() -> Option<usize> {
-    for (at, script) in SCRIPTS.iter().enumerate() {
-        if first_wrong(script).is_some() {
-            return Some(at);
+impl Row for Script {
+    /// Whether each step is answered so.
+    fn agrees(&self, _alloc: Global) -> bool {
+        let mut packet = Packet::new();
+        for step in self.0 {
+            if !is_done(&mut packet, *step) {
+                return false;
+            }
         }
+        true
     }
-    None
 }
 
 /// A reply without parameters.
@@ -177,4 +174,10 @@ const OF_KEEP_ALIVE: &[Step] = &[
 ];
 
 /// The scripts.
-const SCRIPTS: &[&[Step]] = &[FULL, REPLACED, OF_COMMANDS, OF_RESPONSES, OF_KEEP_ALIVE];
+pub const SCRIPTS: &[Script] = &[
+    Script(FULL),
+    Script(REPLACED),
+    Script(OF_COMMANDS),
+    Script(OF_RESPONSES),
+    Script(OF_KEEP_ALIVE),
+];

@@ -1,76 +1,75 @@
 //! Classes and statuses by their numbers, and their names.
-use crate::tests::types::faults::prints;
+use crate::tests::{Row, prints};
 use oca_types::{Class, Status, class_fields};
 use std::alloc::Global;
 
-/// Classes, the fields of their identifiers, and their names.
-const CLASSES: &[(Class, &[u16], &str)] = &[
-    (Class::Block, &[1, 1, 3], "OcaBlock"),
-    (Class::Mute, &[1, 1, 1, 2], "OcaMute"),
-    (Class::Polarity, &[1, 1, 1, 3], "OcaPolarity"),
-    (Class::Switch, &[1, 1, 1, 4], "OcaSwitch"),
-    (Class::Boolean, &[1, 1, 1, 1, 1], "OcaBooleanActuator"),
-    (Class::Int8, &[1, 1, 1, 1, 2], "OcaInt8Actuator"),
-    (Class::Int16, &[1, 1, 1, 1, 3], "OcaInt16Actuator"),
-    (Class::Int32, &[1, 1, 1, 1, 4], "OcaInt32Actuator"),
-    (Class::Int64, &[1, 1, 1, 1, 5], "OcaInt64Actuator"),
-    (Class::Uint8, &[1, 1, 1, 1, 6], "OcaUint8Actuator"),
-    (Class::Uint16, &[1, 1, 1, 1, 7], "OcaUint16Actuator"),
-    (Class::Uint32, &[1, 1, 1, 1, 8], "OcaUint32Actuator"),
-    (Class::Uint64, &[1, 1, 1, 1, 9], "OcaUint64Actuator"),
+/// A class, the fields of its identifier, and its name.
+pub struct IsClass(Class, &'static [u16], &'static str);
+
+pub const CLASSES: &[IsClass] = &[
+    IsClass(Class::Block, &[1, 1, 3], "OcaBlock"),
+    IsClass(Class::Mute, &[1, 1, 1, 2], "OcaMute"),
+    IsClass(Class::Polarity, &[1, 1, 1, 3], "OcaPolarity"),
+    IsClass(Class::Switch, &[1, 1, 1, 4], "OcaSwitch"),
+    IsClass(Class::Boolean, &[1, 1, 1, 1, 1], "OcaBooleanActuator"),
+    IsClass(Class::Int8, &[1, 1, 1, 1, 2], "OcaInt8Actuator"),
+    IsClass(Class::Int16, &[1, 1, 1, 1, 3], "OcaInt16Actuator"),
+    IsClass(Class::Int32, &[1, 1, 1, 1, 4], "OcaInt32Actuator"),
+    IsClass(Class::Int64, &[1, 1, 1, 1, 5], "OcaInt64Actuator"),
+    IsClass(Class::Uint8, &[1, 1, 1, 1, 6], "OcaUint8Actuator"),
+    IsClass(Class::Uint16, &[1, 1, 1, 1, 7], "OcaUint16Actuator"),
+    IsClass(Class::Uint32, &[1, 1, 1, 1, 8], "OcaUint32Actuator"),
+    IsClass(Class::Uint64, &[1, 1, 1, 1, 9], "OcaUint64Actuator"),
 ];
 
-/// Whether a class has these fields and this name, and prints the name.
-fn is_class(alloc: Global, class: Class, fields: &[u16], name: &str) -> bool {
-    class_fields(class).as_slice() == fields && class.name() == name && prints(alloc, &class, name)
-}
-
-/// The first class that has other fields or another name.
-pub fn first_wrong_class(alloc: Global) -> Option<usize> {
-    for (at, (class, fields, name)) in CLASSES.iter().enumerate() {
-        if !is_class(alloc, *class, fields, name) {
-            return Some(at);
-        }
+impl Row for IsClass {
+    /// Whether the class has these fields and this name, and prints the name.
+    fn agrees(&self, alloc: Global) -> bool {
+        class_fields(self.0).as_slice() == self.1
+            && self.0.name() == self.2
+            && prints(alloc, &self.0, self.2)
     }
-    None
 }
 
-/// Statuses, their numbers and their names (AES70-2).
-const STATUSES: &[(Status, u8, &str)] = &[
-    (Status::Ok, 0, "OK"),
-    (Status::ProtocolVersionError, 1, "ProtocolVersionError"),
-    (Status::DeviceError, 2, "DeviceError"),
-    (Status::Locked, 3, "Locked"),
-    (Status::BadFormat, 4, "BadFormat"),
-    (Status::BadOno, 5, "BadONo"),
-    (Status::ParameterError, 6, "ParameterError"),
-    (Status::ParameterOutOfRange, 7, "ParameterOutOfRange"),
-    (Status::NotImplemented, 8, "NotImplemented"),
-    (Status::InvalidRequest, 9, "InvalidRequest"),
-    (Status::ProcessingFailed, 10, "ProcessingFailed"),
-    (Status::BadMethod, 11, "BadMethod"),
-    (Status::PartiallySucceeded, 12, "PartiallySucceeded"),
-    (Status::Timeout, 13, "Timeout"),
-    (Status::BufferOverflow, 14, "BufferOverflow"),
+/// A status, its number and its name (AES70-2).
+pub struct IsStatus(Status, u8, &'static str);
+
+pub const STATUSES: &[IsStatus] = &[
+    IsStatus(Status::Ok, 0, "OK"),
+    IsStatus(Status::ProtocolVersionError, 1, "ProtocolVersionError"),
+    IsStatus(Status::DeviceError, 2, "DeviceError"),
+    IsStatus(Status::Locked, 3, "Locked"),
+    IsStatus(Status::BadFormat, 4, "BadFormat"),
+    IsStatus(Status::BadOno, 5, "BadONo"),
+    IsStatus(Status::ParameterError, 6, "ParameterError"),
+    IsStatus(Status::ParameterOutOfRange, 7, "ParameterOutOfRange"),
+    IsStatus(Status::NotImplemented, 8, "NotImplemented"),
+    IsStatus(Status::InvalidRequest, 9, "InvalidRequest"),
+    IsStatus(Status::ProcessingFailed, 10, "ProcessingFailed"),
+    IsStatus(Status::BadMethod, 11, "BadMethod"),
+    IsStatus(Status::PartiallySucceeded, 12, "PartiallySucceeded"),
+    IsStatus(Status::Timeout, 13, "Timeout"),
+    IsStatus(Status::BufferOverflow, 14, "BufferOverflow"),
 ];
 
-/// Whether a status has this number and this name, and prints the name.
-fn is_status(alloc: Global, status: Status, number: u8, name: &str) -> bool {
-    status.number() == number
-        && Status::with_number(number) == Some(status)
-        && status.name() == name
-        && prints(alloc, &status, name)
+impl Row for IsStatus {
+    /// Whether the status has this number and this name, and prints the name.
+    fn agrees(&self, alloc: Global) -> bool {
+        self.0.number() == self.1
+            && Status::with_number(self.1) == Some(self.0)
+            && self.0.name() == self.2
+            && prints(alloc, &self.0, self.2)
+    }
 }
 
-/// The first status that has another number or another name; the last number where one has the number 15.
-pub fn first_wrong_status(alloc: Global) -> Option<usize> {
-    for (at, (status, number, name)) in STATUSES.iter().enumerate() {
-        if !is_status(alloc, *status, *number, name) {
-            return Some(at);
-        }
+/// A number that no status has.
+pub struct OfNone(u8);
+
+pub const NO_STATUSES: &[OfNone] = &[OfNone(15)];
+
+impl Row for OfNone {
+    /// Whether no status has the number.
+    fn agrees(&self, _alloc: Global) -> bool {
+        Status::with_number(self.0).is_none()
     }
-    if Status::with_number(15).is_some() {
-        return Some(usize::MAX);
-    }
-    None
 }

@@ -1,93 +1,87 @@
 //! Methods of the classes by their numbers.
+use crate::tests::Row;
 use oca_types::Class::{Block, Boolean, Int16, Mute, Polarity, Switch, Uint64};
 use oca_types::MethodKind::{Known, LeftOut, Unknown};
 use oca_types::{Access, Class, Method, MethodId, MethodKind, access_of, method_id, method_of};
+use std::alloc::Global;
 
 /// A class, a DefLevel and a MethodIndex, and what the class knows of them.
-type Row = (Class, u16, u16, MethodKind);
+pub struct Knows(Class, u16, u16, MethodKind);
 
-const METHODS: &[Row] = &[
-    (
+pub const METHODS: &[Knows] = &[
+    Knows(
         Mute,
         1,
         1,
         Known(Method::GetClassIdentification, Access::Read),
     ),
-    (Mute, 1, 6, Known(Method::LockReadonly, Access::Locking)),
-    (Mute, 1, 7, Unknown),
-    (Block, 2, 1, Known(Method::GetEnabled, Access::Read)),
-    (Int16, 2, 3, LeftOut),
-    (Int16, 2, 7, LeftOut),
-    (Int16, 2, 9, Known(Method::SetLabel, Access::Write)),
-    (Int16, 2, 13, LeftOut),
-    (Int16, 2, 14, Unknown),
-    (Block, 3, 0, Unknown),
-    (Block, 3, 1, LeftOut),
-    (Block, 3, 4, LeftOut),
-    (Block, 3, 5, Known(Method::GetMembers, Access::Read)),
-    (Block, 3, 7, LeftOut),
-    (Block, 3, 20, LeftOut),
-    (Block, 3, 21, Unknown),
-    (Mute, 3, 1, Unknown),
-    (Mute, 4, 2, Known(Method::SetState, Access::Write)),
-    (Polarity, 4, 1, Known(Method::GetState, Access::Read)),
-    (Mute, 4, 3, Unknown),
-    (
+    Knows(Mute, 1, 6, Known(Method::LockReadonly, Access::Locking)),
+    Knows(Mute, 1, 7, Unknown),
+    Knows(Block, 2, 1, Known(Method::GetEnabled, Access::Read)),
+    Knows(Int16, 2, 3, LeftOut),
+    Knows(Int16, 2, 7, LeftOut),
+    Knows(Int16, 2, 9, Known(Method::SetLabel, Access::Write)),
+    Knows(Int16, 2, 13, LeftOut),
+    Knows(Int16, 2, 14, Unknown),
+    Knows(Block, 3, 0, Unknown),
+    Knows(Block, 3, 1, LeftOut),
+    Knows(Block, 3, 4, LeftOut),
+    Knows(Block, 3, 5, Known(Method::GetMembers, Access::Read)),
+    Knows(Block, 3, 7, LeftOut),
+    Knows(Block, 3, 20, LeftOut),
+    Knows(Block, 3, 21, Unknown),
+    Knows(Mute, 3, 1, Unknown),
+    Knows(Mute, 4, 2, Known(Method::SetState, Access::Write)),
+    Knows(Polarity, 4, 1, Known(Method::GetState, Access::Read)),
+    Knows(Mute, 4, 3, Unknown),
+    Knows(
         Switch,
         4,
         10,
         Known(Method::SetPositionEnableds, Access::Write),
     ),
-    (Switch, 4, 11, Unknown),
-    (Switch, 5, 1, Unknown),
-    (Int16, 4, 1, Unknown),
-    (Uint64, 5, 2, Known(Method::SetSetting, Access::Write)),
-    (Int16, 5, 3, Unknown),
-    (Int16, 6, 1, Unknown),
-    (Int16, 0, 1, Unknown),
+    Knows(Switch, 4, 11, Unknown),
+    Knows(Switch, 5, 1, Unknown),
+    Knows(Int16, 4, 1, Unknown),
+    Knows(Uint64, 5, 2, Known(Method::SetSetting, Access::Write)),
+    Knows(Int16, 5, 3, Unknown),
+    Knows(Int16, 6, 1, Unknown),
+    Knows(Int16, 0, 1, Unknown),
 ];
 
-/// Whether the class knows this of the numbers.
-fn knows(class: Class, id: MethodId, kind: MethodKind) -> bool {
-    method_of(class, id) == kind
-}
-
-/// Whether a method that is known has these numbers and this access.
-fn is_found(class: Class, id: MethodId, kind: MethodKind) -> bool {
-    match kind {
-        Known(method, access) => method_id(class, method) == Some(id)
-            && access_of(method) == access,
-        LeftOut | Unknown => true,
-    }
-}
-
-/// The first row that is answered otherwise.
-pub fn first_wrong() -> Option<usize> {
-    for (at, row) in METHODS.iter().enumerate() {
-        let (class, level, index, kind) = *row;
-        let id = MethodId { level, index };
-        if !knows(class, id, kind) || !is_found(class, id, kind) {
-            return Some(at);
+impl Row for Knows {
+    /// Whether the class knows this of the numbers, and a method that is known has them and this access.
+    fn agrees(&self, _alloc: Global) -> bool {
+        let id = MethodId {
+            level: self.1,
+            index: self.2,
+        };
+        if method_of(self.0, id) != self.3 {
+            return false;
+        }
+        match self.3 {
+            Known(method, access) => {
+                method_id(self.0, method) == Some(id) && access_of(method) == access
+            }
+            LeftOut | Unknown => true,
         }
     }
-    None
 }
 
-/// Classes, and methods that they do not have.
-const OF_NO_CLASS: &[(Class, Method)] = &[
-    (Mute, Method::GetPosition),
-    (Switch, Method::GetState),
-    (Mute, Method::GetMembers),
-    (Block, Method::GetSetting),
-    (Boolean, Method::SetState),
+/// A class, and a method that it does not have.
+pub struct Lacks(Class, Method);
+
+pub const OF_NO_CLASS: &[Lacks] = &[
+    Lacks(Mute, Method::GetPosition),
+    Lacks(Switch, Method::GetState),
+    Lacks(Mute, Method::GetMembers),
+    Lacks(Block, Method::GetSetting),
+    Lacks(Boolean, Method::SetState),
 ];
 
-/// The first row whose class has the method.
-pub fn first_found() -> Option<usize> {
-    for (at, (class, method)) in OF_NO_CLASS.iter().enumerate() {
-        if method_id(*class, *method).is_some() {
-            return Some(at);
-        }
+impl Row for Lacks {
+    /// Whether the class does not have the method.
+    fn agrees(&self, _alloc: Global) -> bool {
+        method_id(self.0, self.1).is_none()
     }
-    None
 }

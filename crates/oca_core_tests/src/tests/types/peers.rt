@@ -1,12 +1,14 @@
 //! Peers as text, and moments that may be missing.
-use crate::tests::types::faults::prints;
+use crate::tests::{Row, prints};
 use oca_types::{Peer, sooner};
 use std::alloc::Global;
 use std::net::SocketAddrV4;
 
-/// Peers, their addresses as four numbers, and their texts.
-const PEERS: &[(Peer, [u8; 4], &str)] = &[
-    (
+/// A peer, its address as four numbers, and its text.
+pub struct IsPeer(Peer, [u8; 4], &'static str);
+
+pub const PEERS: &[IsPeer] = &[
+    IsPeer(
         Peer {
             ip: 0x7F00_0001,
             port: 65_000,
@@ -14,7 +16,7 @@ const PEERS: &[(Peer, [u8; 4], &str)] = &[
         [127, 0, 0, 1],
         "127.0.0.1:65000",
     ),
-    (
+    IsPeer(
         Peer {
             ip: 0xC0A8_0A02,
             port: 9,
@@ -22,8 +24,8 @@ const PEERS: &[(Peer, [u8; 4], &str)] = &[
         [192, 168, 10, 2],
         "192.168.10.2:9",
     ),
-    (Peer { ip: 0, port: 0 }, [0, 0, 0, 0], "0.0.0.0:0"),
-    (
+    IsPeer(Peer { ip: 0, port: 0 }, [0, 0, 0, 0], "0.0.0.0:0"),
+    IsPeer(
         Peer {
             ip: 0xFFFF_FFFF,
             port: 0xFFFF,
@@ -47,62 +49,65 @@ fn is_at(peer: Peer, numbers: [u8; 4]) -> bool {
     Peer::from((numbers, peer.port)) == peer && Peer::from(address) == peer
 }
 
-/// The first peer that has other numbers or another text.
-pub fn first_wrong(alloc: Global) -> Option<usize> {
-    for (at, (peer, numbers, text)) in PEERS.iter().enumerate() {
-        if !is_at(*peer, *numbers) || !prints(alloc, peer, text) || !reads(text, *peer) {
-            return Some(at);
-        }
+impl Row for IsPeer {
+    /// Whether the peer has these numbers, and this text.
+    fn agrees(&self, alloc: Global) -> bool {
+        is_at(self.0, self.1) && prints(alloc, &self.0, self.2) && reads(self.2, self.0)
     }
-    None
 }
 
-/// Texts that name no peer.
-const NO_PEERS: &[&str] = &[
-    "",
-    "127.0.0.1",
-    "127.0.0.1:",
-    "127.0.0.1:65536",
-    "127.0.0:1",
-    "127.0.0.01:1",
+/// A text that names no peer.
+pub struct NoPeer(&'static str);
+
+pub const NO_PEERS: &[NoPeer] = &[
+    NoPeer(""),
+    NoPeer("127.0.0.1"),
+    NoPeer("127.0.0.1:"),
+    NoPeer("127.0.0.1:65536"),
+    NoPeer("127.0.0:1"),
+    NoPeer("127.0.0.01:1"),
 ];
 
-/// The first of them that is read.
-pub fn first_read() -> Option<usize> {
-    for (at, text) in NO_PEERS.iter().enumerate() {
-        if text.parse::<Peer>().is_ok() {
-            return Some(at);
-        }
+impl Row for NoPeer {
+    /// Whether the text is not read.
+    fn agrees(&self, _alloc: Global) -> bool {
+        self.0.parse::<Peer>().is_err()
     }
-    None
 }
 
-/// 127.0.0.1:9001.
-const AT_9001: Peer = Peer {
-    ip: 0x7F00_0001,
-    port: 9001,
-};
+/// A port of this machine, and its peer.
+pub struct Loopback(u16, Peer);
 
-/// Whether a port of this machine is that.
-pub fn is_loopback() -> bool {
-    Peer::loopback(9001) == AT_9001
+/// 127.0.0.1:9001.
+pub const LOOPBACKS: &[Loopback] = &[Loopback(
+    9001,
+    Peer {
+        ip: 0x7F00_0001,
+        port: 9001,
+    },
+)];
+
+impl Row for Loopback {
+    /// Whether the port is that of the peer.
+    fn agrees(&self, _alloc: Global) -> bool {
+        Peer::loopback(self.0) == self.1
+    }
 }
 
 /// Two moments that may be missing, and the sooner.
-const MOMENTS: &[(Option<u64>, Option<u64>, Option<u64>)] = &[
-    (None, None, None),
-    (Some(5), None, Some(5)),
-    (None, Some(6), Some(6)),
-    (Some(5), Some(6), Some(5)),
-    (Some(7), Some(6), Some(6)),
+pub struct Sooner(Option<u64>, Option<u64>, Option<u64>);
+
+pub const MOMENTS: &[Sooner] = &[
+    Sooner(None, None, None),
+    Sooner(Some(5), None, Some(5)),
+    Sooner(None, Some(6), Some(6)),
+    Sooner(Some(5), Some(6), Some(5)),
+    Sooner(Some(7), Some(6), Some(6)),
 ];
 
-/// The first row whose sooner moment is another.
-pub fn first_wrong_moment() -> Option<usize> {
-    for (at, row) in MOMENTS.iter().enumerate() {
-        if sooner(row.0, row.1) != row.2 {
-            return Some(at);
-        }
+impl Row for Sooner {
+    /// Whether the third is the sooner of the two.
+    fn agrees(&self, _alloc: Global) -> bool {
+        sooner(self.0, self.1) == self.2
     }
-    None
 }

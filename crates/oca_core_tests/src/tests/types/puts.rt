@@ -1,12 +1,14 @@
 //! What is put, and how much room it needs.
+use crate::tests::Row;
 use oca_types::{
     Class, Cursor, Field, Params, PutFault, Text, put_bool, put_class_identification, put_i8,
     put_i16, put_i32, put_i64, put_text, put_u8, put_u16, put_u32, put_u64,
 };
+use std::alloc::Global;
 
 /// A value that is put.
 #[derive(Clone, Copy)]
-enum Value {
+pub enum Value {
     U8(u8),
     U16(u16),
     U32(u32),
@@ -55,10 +57,15 @@ fn puts_all(params: &mut Params, values: &[Value]) -> bool {
     true
 }
 
-/// Whether the values, put one after the other, are these bytes.
-fn are_put(values: &[Value], bytes: &[u8]) -> bool {
-    let mut params = Params::new();
-    puts_all(&mut params, values) && params.as_slice() == bytes
+/// Values, and their bytes.
+pub struct AllPut(&'static [Value], &'static [u8]);
+
+impl Row for AllPut {
+    /// Whether the values, put one after the other, are these bytes.
+    fn agrees(&self, _alloc: Global) -> bool {
+        let mut params = Params::new();
+        puts_all(&mut params, self.0) && params.as_slice() == self.1
+    }
 }
 
 const UNSIGNED: &[Value] = &[
@@ -94,22 +101,11 @@ const OTHER_BYTES: &[u8] = &[
     0, 1, 0, 5, 0x42, 0xC3, 0xBC, 0x68, 0x6E, 0x65, 0, 4, 0, 1, 0, 1, 0, 1, 0, 2, 0, 2,
 ];
 
-/// Values, and their bytes.
-const PUT: &[(&[Value], &[u8])] = &[
-    (UNSIGNED, UNSIGNED_BYTES),
-    (SIGNED, SIGNED_BYTES),
-    (OTHERS, OTHER_BYTES),
+pub const PUT: &[AllPut] = &[
+    AllPut(UNSIGNED, UNSIGNED_BYTES),
+    AllPut(SIGNED, SIGNED_BYTES),
+    AllPut(OTHERS, OTHER_BYTES),
 ];
-
-/// The first row that is put otherwise.
-pub fn first_wrong() -> Option<usize> {
-    for (at, (values, bytes)) in PUT.iter().enumerate() {
-        if !are_put(values, bytes) {
-            return Some(at);
-        }
-    }
-    None
-}
 
 /// Parameters of so many bytes 7.
 fn filled(length: u16) -> Params {
@@ -120,82 +116,77 @@ fn filled(length: u16) -> Params {
     params
 }
 
-/// Whether a value has no room behind so many bytes, and leaves them as they were.
-fn has_no_room(length: u16, value: Value) -> bool {
-    let mut params = filled(length);
-    put(&mut params, value) == Err(PutFault::Full) && params.as_slice() == filled(length).as_slice()
+/// A value that has no room behind so many bytes.
+pub struct NoRoom(u16, Value);
+
+impl Row for NoRoom {
+    /// Whether it has none, and the bytes are left as they were.
+    fn agrees(&self, _alloc: Global) -> bool {
+        let mut params = filled(self.0);
+        put(&mut params, self.1) == Err(PutFault::Full)
+            && params.as_slice() == filled(self.0).as_slice()
+    }
 }
 
-/// Whether a value behind so many bytes is the last that has room.
-fn fills(length: u16, value: Value) -> bool {
-    let mut params = filled(length);
-    put(&mut params, value) == Ok(()) && params.len() == 1452
+/// A value behind so many bytes that are 1,452 with it.
+pub struct LastRoom(u16, Value);
+
+impl Row for LastRoom {
+    /// Whether it has room, and is the last that does.
+    fn agrees(&self, _alloc: Global) -> bool {
+        let mut params = filled(self.0);
+        put(&mut params, self.1) == Ok(()) && params.len() == 1452
+    }
 }
 
-/// Values that have no room behind so many bytes.
-const WITHOUT_ROOM: &[(u16, Value)] = &[
-    (1452, Value::U8(1)),
-    (1451, Value::U16(1)),
-    (1449, Value::U32(1)),
-    (1445, Value::U64(1)),
-    (1452, Value::I8(1)),
-    (1451, Value::I16(1)),
-    (1449, Value::I32(1)),
-    (1445, Value::I64(1)),
-    (1452, Value::Bool(true)),
-    (1449, Value::Text("ü")),
-    (1441, Value::Identification(Class::Mute)),
+pub const WITHOUT_ROOM: &[NoRoom] = &[
+    NoRoom(1452, Value::U8(1)),
+    NoRoom(1451, Value::U16(1)),
+    NoRoom(1449, Value::U32(1)),
+    NoRoom(1445, Value::U64(1)),
+    NoRoom(1452, Value::I8(1)),
+    NoRoom(1451, Value::I16(1)),
+    NoRoom(1449, Value::I32(1)),
+    NoRoom(1445, Value::I64(1)),
+    NoRoom(1452, Value::Bool(true)),
+    NoRoom(1449, Value::Text("ü")),
+    NoRoom(1441, Value::Identification(Class::Mute)),
 ];
 
-/// The first of them that has room, or changes the bytes.
-pub fn first_with_room() -> Option<usize> {
-    for (at, (length, value)) in WITHOUT_ROOM.iter().enumerate() {
-        if !has_no_room(*length, *value) {
-            return Some(at);
-        }
-    }
-    None
-}
-
-/// Values behind so many bytes that are 1,452 with them.
-const WITH_ROOM: &[(u16, Value)] = &[
-    (1451, Value::U8(1)),
-    (1450, Value::U16(1)),
-    (1448, Value::U32(1)),
-    (1444, Value::U64(1)),
-    (1451, Value::I8(1)),
-    (1450, Value::I16(1)),
-    (1448, Value::I32(1)),
-    (1444, Value::I64(1)),
-    (1451, Value::Bool(true)),
-    (1448, Value::Text("ü")),
-    (1440, Value::Identification(Class::Mute)),
+pub const WITH_ROOM: &[LastRoom] = &[
+    LastRoom(1451, Value::U8(1)),
+    LastRoom(1450, Value::U16(1)),
+    LastRoom(1448, Value::U32(1)),
+    LastRoom(1444, Value::U64(1)),
+    LastRoom(1451, Value::I8(1)),
+    LastRoom(1450, Value::I16(1)),
+    LastRoom(1448, Value::I32(1)),
+    LastRoom(1444, Value::I64(1)),
+    LastRoom(1451, Value::Bool(true)),
+    LastRoom(1448, Value::Text("ü")),
+    LastRoom(1440, Value::Identification(Class::Mute)),
 ];
 
-/// The first of them that has no room, or is of another size.
-pub fn first_without_room() -> Option<usize> {
-    for (at, (length, value)) in WITH_ROOM.iter().enumerate() {
-        if !fills(*length, *value) {
-            return Some(at);
+/// A value of one length.
+pub struct ReadBack<F>(F);
+
+impl<F: Field + PartialEq> Row for ReadBack<F> {
+    /// Whether it is read back from what was put, of so many bytes.
+    fn agrees(&self, _alloc: Global) -> bool {
+        let mut params = Params::new();
+        if self.0.put(&mut params).is_err() || params.len() != F::SIZE {
+            return false;
+        }
+        let mut cursor = Cursor::new(params.as_slice());
+        match cursor.take::<F>() {
+            Ok(read) => read == self.0,
+            Err(_) => false,
         }
     }
-    None
 }
 
-/// Whether a value of one length is read back from what was put, of so many bytes.
-fn is_read_back<F: Field + PartialEq>(value: F) -> bool {
-    let mut params = Params::new();
-    if value.put(&mut params).is_err() || params.len() != F::SIZE {
-        return false;
-    }
-    let mut cursor = Cursor::new(params.as_slice());
-    match cursor.take::<F>() {
-        Ok(read) => read == value,
-        Err(_) => false,
-    }
-}
+pub const NUMBERS: &[ReadBack<u16>] = &[ReadBack(0xFFFE_u16)];
 
-/// Whether values of one length are read back.
-pub fn are_read_back() -> bool {
-    is_read_back(0xFFFE_u16) && is_read_back(i64::MIN) && is_read_back(true)
-}
+pub const SIGNED_NUMBERS: &[ReadBack<i64>] = &[ReadBack(i64::MIN)];
+
+pub const BOOLEANS: &[ReadBack<bool>] = &[ReadBack(true)];

@@ -1,9 +1,11 @@
 //! Sizes that a program chooses.
+use crate::tests::Row;
 use oca_types::{Peers, Sizes, Span, Window};
+use std::alloc::Global;
 
 /// Which size it is.
 #[derive(Clone, Copy)]
-enum Size {
+pub enum Size {
     Window,
     Peers,
     Span,
@@ -45,30 +47,31 @@ fn first_wrong(size: Size, most: u8) -> Option<u8> {
     None
 }
 
-/// The sizes, each with the most that it may be and what it is by default.
-const SIZES: &[(Size, u8, u8)] = &[
-    (Size::Window, 64, 32),
-    (Size::Peers, 64, 16),
-    (Size::Span, 32, 16),
+/// A size, the most that it may be, and what it is by default.
+pub struct UpTo(Size, u8, u8);
+
+pub const SIZES: &[UpTo] = &[
+    UpTo(Size::Window, 64, 32),
+    UpTo(Size::Peers, 64, 16),
+    UpTo(Size::Span, 32, 16),
 ];
 
-/// Whether a size is from 1 to the most, and by default this.
-fn is_up_to(size: Size, most: u8, default: u8) -> bool {
-    first_wrong(size, most).is_none() && default_of(size) == default
-}
-
-/// The first size that is otherwise.
-pub fn first_wrong_size() -> Option<usize> {
-    for (at, (size, most, default)) in SIZES.iter().enumerate() {
-        if !is_up_to(*size, *most, *default) {
-            return Some(at);
-        }
+impl Row for UpTo {
+    /// Whether the size is from 1 to the most, and by default this.
+    fn agrees(&self, _alloc: Global) -> bool {
+        first_wrong(self.0, self.1).is_none() && default_of(self.0) == self.2
     }
-    None
 }
 
-/// Whether a device has windows of 32 for 16 peers by default.
-pub fn are_by_default() -> bool {
-    let sizes = Sizes::default();
-    sizes.window.get() == 32 && sizes.peers.get() == 16
+/// The sizes of a device by default: a window, and for how many peers.
+pub struct ByDefault(u8, u8);
+
+pub const BY_DEFAULT: &[ByDefault] = &[ByDefault(32, 16)];
+
+impl Row for ByDefault {
+    /// Whether they are these.
+    fn agrees(&self, _alloc: Global) -> bool {
+        let sizes = Sizes::default();
+        sizes.window.get() == self.0 && sizes.peers.get() == self.1
+    }
 }

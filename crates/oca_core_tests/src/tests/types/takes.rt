@@ -1,9 +1,11 @@
 //! Numbers and Booleans that are taken.
+use crate::tests::Row;
 use oca_types::{Cursor, ReadFault};
+use std::alloc::Global;
 
 /// What is taken, and what that answers.
 #[derive(Clone, Copy)]
-enum Take {
+pub enum Take {
     U8(Result<u8, ReadFault>),
     U16(Result<u16, ReadFault>),
     U32(Result<u32, ReadFault>),
@@ -17,7 +19,7 @@ enum Take {
 }
 
 /// Whether a take answers so.
-fn agrees(cursor: &mut Cursor<'_>, take: Take) -> bool {
+fn answers(cursor: &mut Cursor<'_>, take: Take) -> bool {
     match take {
         Take::U8(answer) => cursor.take_u8() == answer,
         Take::U16(answer) => cursor.take_u16() == answer,
@@ -32,15 +34,20 @@ fn agrees(cursor: &mut Cursor<'_>, take: Take) -> bool {
     }
 }
 
-/// The first of the takes that answers otherwise.
-fn first_wrong(bytes: &[u8], takes: &[Take]) -> Option<usize> {
-    let mut cursor = Cursor::new(bytes);
-    for (at, take) in takes.iter().enumerate() {
-        if !agrees(&mut cursor, *take) {
-            return Some(at);
+/// Bytes, and what is taken of them in order.
+pub struct Taken(&'static [u8], &'static [Take]);
+
+impl Row for Taken {
+    /// Whether each of the takes answers so.
+    fn agrees(&self, _alloc: Global) -> bool {
+        let mut cursor = Cursor::new(self.0);
+        for take in self.1 {
+            if !answers(&mut cursor, *take) {
+                return false;
+            }
         }
+        true
     }
-    None
 }
 
 const UNSIGNED_BYTES: &[u8] = &[
@@ -95,21 +102,10 @@ const BOOLEANS: &[Take] = &[
     Take::Finish(Ok(())),
 ];
 
-/// Bytes, and what is taken of them in order.
-const TAKEN: &[(&[u8], &[Take])] = &[
-    (UNSIGNED_BYTES, UNSIGNED),
-    (SIGNED_BYTES, SIGNED),
-    (&[1, 2, 3], UNSIGNED_CUT),
-    (&[0x80, 0x80, 0x7F], SIGNED_CUT),
-    (&[0, 1, 2, 255], BOOLEANS),
+pub const TAKEN: &[Taken] = &[
+    Taken(UNSIGNED_BYTES, UNSIGNED),
+    Taken(SIGNED_BYTES, SIGNED),
+    Taken(&[1, 2, 3], UNSIGNED_CUT),
+    Taken(&[0x80, 0x80, 0x7F], SIGNED_CUT),
+    Taken(&[0, 1, 2, 255], BOOLEANS),
 ];
-
-/// The first row of which something else is taken.
-pub fn first_wrong_row() -> Option<usize> {
-    for (at, (bytes, takes)) in TAKEN.iter().enumerate() {
-        if first_wrong(bytes, takes).is_some() {
-            return Some(at);
-        }
-    }
-    None
-}

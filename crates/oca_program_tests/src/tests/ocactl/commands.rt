@@ -1,5 +1,6 @@
 //! Commands that are sent, over an end in memory.
 use super::{MUTED_1, NO_LIMIT};
+use crate::tests::Row;
 use crate::tests::fakes::{PausedReader, PieceReader, ShortWriter};
 use oca_control::Link;
 use oca_net::{MemoryEnd, Scripted};
@@ -45,31 +46,42 @@ fn answer(handle: u8, status: u8) -> Option<[u8; 21]> {
     Some(bytes)
 }
 
-/// Adds that answer, at a moment.
-fn put_answer(
-    alloc: Global,
-    script: &mut Vec<Scripted>,
-    handle: u8,
-    status: u8,
-    now: u64,
-) -> Option<()> {
-    let bytes = answer(handle, status)?.to_vec(alloc).ok()?;
+/// Adds a datagram of the device, at a moment.
+fn put_datagram(script: &mut Vec<Scripted>, bytes: Vec<u8>, now: u64) -> bool {
     let from = DEVICE;
-    script.push(Scripted::Datagram { from, bytes, now }).ok()
+    script.push(Scripted::Datagram { from, bytes, now }).is_ok()
+}
+
+/// Adds that answer, at a moment.
+fn put_answer(alloc: Global, script: &mut Vec<Scripted>, handle: u8, status: u8, now: u64) -> bool {
+    let Some(bytes) = answer(handle, status) else {
+        return false;
+    };
+    match bytes.to_vec(alloc) {
+        Ok(bytes) => put_datagram(script, bytes, now),
+        Err(_) => false,
+    }
+}
+
+/// Adds nothing, at a moment.
+fn put_quiet(script: &mut Vec<Scripted>, now: u64) -> bool {
+    script.push(Scripted::Quiet { now }).is_ok()
 }
 
 /// Nothing for 7,500 ms.
-fn put_silence(script: &mut Vec<Scripted>) -> Option<()> {
+fn put_silence(script: &mut Vec<Scripted>) -> bool {
     for i in 0..30u64 {
-        script.push(Scripted::Quiet { now: 250 * i }).ok()?;
+        if !put_quiet(script, 250 * i) {
+            return false;
+        }
     }
-    Some(())
+    true
 }
 
 /// One delivery.
-fn put(alloc: Global, script: &mut Vec<Scripted>, delivery: Delivery) -> Option<()> {
+fn put(alloc: Global, script: &mut Vec<Scripted>, delivery: Delivery) -> bool {
     match delivery {
-        Quiet(now) => script.push(Scripted::Quiet { now }).ok(),
+        Quiet(now) => put_quiet(script, now),
         Silence => put_silence(script),
         Answer(handle, status, now) => put_answer(alloc, script, handle, status, now),
     }
@@ -78,7 +90,7 @@ fn put(alloc: Global, script: &mut Vec<Scripted>, delivery: Delivery) -> Option<
 /// These deliveries.
 fn put_all(alloc: Global, script: &mut Vec<Scripted>, deliveries: &[Delivery]) -> bool {
     for delivery in deliveries {
-        if put(alloc, script, *delivery).is_none() {
+        if !put(alloc, script, *delivery) {
             return false;
         }
     }
@@ -101,14 +113,14 @@ fn link() -> Link {
 }
 
 /// One command: the status of the answer behind one quiet receive, the turns, the exit status, and what is printed.
-struct Asking {
+pub struct Asking {
     answer: u8,
     turns: u32,
     exit: u8,
     output: &'static [u8],
 }
 
-const ASKINGS: &[Asking] = &[
+pub const ASKINGS: &[Asking] = &[
     Asking {
         answer: 0,
         turns: 2,
@@ -151,22 +163,14 @@ fn ends_over(end: &mut MemoryEnd, asking: &Asking) -> bool {
         && !end.taken().is_empty()
 }
 
-/// Whether the command ends so.
-fn ends_so(alloc: Global, asking: &Asking) -> bool {
-    match end(alloc, &[Quiet(0), Answer(1, asking.answer, 10)]) {
-        Some(mut end) => ends_over(&mut end, asking),
-        None => false,
-    }
-}
-
-/// The first command that ends otherwise.
-pub fn first_other_status(alloc: Global) -> Option<usize> {
-    for (at, asking) in ASKINGS.iter().enumerate() {
-        if !ends_so(alloc, asking) {
-            return Some(at);
+impl Row for Asking {
+    /// Whether the command ends so.
+    fn agrees(&self, alloc: Global) -> bool {
+        match end(alloc, &[Quiet(0), Answer(1, self.answer, 10)]) {
+            Some(mut end) => ends_over(&mut end, self),
+            None => false,
         }
     }
-    None
 }
 
 /// Whether an answer over an end, for which there is only so much room, is a failed write.
@@ -200,7 +204,7 @@ pub fn first_uncut(alloc: Global) -> Option<usize> {
 /// and the writer behind `room`. How it ends, whether a read failed and whether a command got no answer, and what is
 /// printed.
 #[derive(Clone, Copy)]
-struct Lines {
+pub struct Lines {
     ahead: u8,
     deliveries: &'static [Delivery],
     lines: &'static [u8],
@@ -311,14 +315,11 @@ fn sends_so(alloc: Global, row: &Lines) -> bool {
     }
 }
 
-/// The first row that ends otherwise.
-fn first_wrong(alloc: Global, rows: &[Lines]) -> Option<usize> {
-    for (at, row) in rows.iter().enumerate() {
-        if !sends_so(alloc, row) {
-            return Some(at);
-        }
+impl Row for Lines {
+    /// Whether the lines end so.
+    fn agrees(&self, alloc: Global) -> bool {
+        sends_so(alloc, self)
     }
-    None
 }
 
 /// The answers to three commands, the last one's first.
@@ -334,7 +335,7 @@ const THREE_CLOSE: &[u8] = b"4097 4 1 0 -\n4097 4 1 0 -\n4097 4 1 0 -\n";
 /// The answers to three, in the order of their lines.
 const IN_ORDER: &[u8] = b"answer 1 1 01\nanswer 2 1 01\nanswer 3 1 01\n";
 
-const ROWS: &[Lines] = &[
+pub const ONE_AT_A_TIME: &[Lines] = &[
     // one command at a time: the second is sent behind the answer to the first, and an answer that comes twice is taken
     // once
     Lines {
@@ -359,6 +360,9 @@ const ROWS: &[Lines] = &[
         output: b"lost\nlost\n",
         ..NO_LINES
     },
+];
+
+pub const AT_ONCE: &[Lines] = &[
     // three commands in flight at once: answers that come in another order are printed in the order of the lines
     Lines {
         ahead: 3,
@@ -396,6 +400,9 @@ const ROWS: &[Lines] = &[
         output: IN_ORDER,
         ..NO_LINES
     },
+];
+
+pub const ENDING: &[Lines] = &[
     // a bad line ends it once the commands before it are answered
     Lines {
         deliveries: BACKWARDS,
@@ -410,6 +417,9 @@ const ROWS: &[Lines] = &[
         ..FIRST_OF_TWO
     },
     FIRST_OF_TWO,
+];
+
+pub const CUT_LINES: &[Lines] = &[
     // answers that can't be written end it with a failed write, wherever that is
     CUT,
     Lines {
@@ -437,29 +447,31 @@ const ROWS: &[Lines] = &[
 /// The answers to two commands, the last one's first.
 const TWO_BACKWARDS: &[Delivery] = &[Answer(2, 2, 10), Answer(1, 1, 20)];
 
+/// Lines, behind which no more is there to be read while the first answer is written, which fails.
+pub struct BeforeARead(&'static [u8]);
+
+impl Row for BeforeARead {
+    /// Whether they end so.
+    fn agrees(&self, alloc: Global) -> bool {
+        let row = Lines {
+            lines: self.0,
+            ..BEFORE_A_READ
+        };
+        sends_so(alloc, &row)
+    }
+}
+
 // While no more is there to be read what is in flight is driven, whatever stands behind the last command: nothing, a
 // comment, an empty line or a part of a line. Commands of one piece are in flight together.
-const IDLE: &[Lines] = &[
-    Lines {
-        lines: b"4097 4 2 1 01\n",
-        ..BEFORE_A_READ
-    },
-    Lines {
-        lines: b"4097 4 2 1 01\n# done\n",
-        ..BEFORE_A_READ
-    },
-    Lines {
-        lines: b"4097 4 2 1 01\n\n",
-        ..BEFORE_A_READ
-    },
-    Lines {
-        lines: b"4097 4 2 1 01\n4097 4",
-        ..BEFORE_A_READ
-    },
-    Lines {
-        lines: b"4097 4 2 1 01\n# a\n\n#",
-        ..BEFORE_A_READ
-    },
+pub const IDLE: &[BeforeARead] = &[
+    BeforeARead(b"4097 4 2 1 01\n"),
+    BeforeARead(b"4097 4 2 1 01\n# done\n"),
+    BeforeARead(b"4097 4 2 1 01\n\n"),
+    BeforeARead(b"4097 4 2 1 01\n4097 4"),
+    BeforeARead(b"4097 4 2 1 01\n# a\n\n#"),
+];
+
+pub const IDLE_THEN_READ: &[Lines] = &[
     Lines {
         deliveries: TWO_BACKWARDS,
         lines: b"4097 4 1 0 -\n# a\n4097 4 1 0 -\n# done\n",
@@ -510,108 +522,53 @@ fn is_driven(alloc: Global, behind: &[u8], piece: usize) -> bool {
     }
 }
 
-/// What stands behind a command: nothing, a comment, an empty line, or a part of one.
-const BEHIND: &[&[u8]] = &[
-    b"4097 4 1 0 -\n",
-    b"4097 4 1 0 -\n# done\n",
-    b"4097 4 1 0 -\n\n",
-    b"4097 4 1 0 -\n# a\n\n#",
+/// A command, and what stands behind it: nothing, a comment, an empty line, or a part of one.
+pub struct Behind(&'static [u8]);
+
+pub const BEHIND: &[Behind] = &[
+    Behind(b"4097 4 1 0 -\n"),
+    Behind(b"4097 4 1 0 -\n# done\n"),
+    Behind(b"4097 4 1 0 -\n\n"),
+    Behind(b"4097 4 1 0 -\n# a\n\n#"),
 ];
 
-/// The first size of pieces in which the command is not driven.
-fn first_undriven(alloc: Global, behind: &[u8]) -> Option<usize> {
-    for piece in 1..24 {
-        if !is_driven(alloc, behind, piece) {
-            return Some(piece);
+impl Row for Behind {
+    /// Whether the command is driven in pieces of each size.
+    fn agrees(&self, alloc: Global) -> bool {
+        for piece in 1..24 {
+            if !is_driven(alloc, self.0, piece) {
+                return false;
+            }
         }
+        true
     }
-    None
 }
 
-/// The first of these.
-pub fn first_undriven_of(alloc: Global) -> Option<usize> {
-    for behind in BEHIND {
-        if let Some(piece) = first_undriven(alloc, behind) {
-            return Some(piece);
-        }
+/// A line that is sent alone and is refused, and why.
+pub struct Bad(&'static [u8], LineFault);
+
+impl Row for Bad {
+    /// Whether it is refused so.
+    fn agrees(&self, alloc: Global) -> bool {
+        let row = Lines {
+            ahead: 1,
+            lines: self.0,
+            ended: Err(ReplayFault::Line(1, self.1)),
+            ..NO_LINES
+        };
+        sends_so(alloc, &row)
     }
-    None
 }
 
-const BAD: &[Lines] = &[
-    Lines {
-        ahead: 1,
-        lines: b"4097 4 1 0",
-        ended: Err(ReplayFault::Line(1, LineFault::Form)),
-        ..NO_LINES
-    },
-    Lines {
-        ahead: 1,
-        lines: b"4097 4 1 0 - -",
-        ended: Err(ReplayFault::Line(1, LineFault::Form)),
-        ..NO_LINES
-    },
-    Lines {
-        ahead: 1,
-        lines: b"x 4 1 0 z",
-        ended: Err(ReplayFault::Line(1, LineFault::Number)),
-        ..NO_LINES
-    },
-    Lines {
-        ahead: 1,
-        lines: b"4097 65536 1 0 -",
-        ended: Err(ReplayFault::Line(1, LineFault::Number)),
-        ..NO_LINES
-    },
-    Lines {
-        ahead: 1,
-        lines: b"4097 4 65536 0 -",
-        ended: Err(ReplayFault::Line(1, LineFault::Number)),
-        ..NO_LINES
-    },
-    Lines {
-        ahead: 1,
-        lines: b"4097 4 1 256 -",
-        ended: Err(ReplayFault::Line(1, LineFault::Number)),
-        ..NO_LINES
-    },
-    Lines {
-        ahead: 1,
-        lines: b"4097 4 1 0 z",
-        ended: Err(ReplayFault::Line(1, LineFault::Hex)),
-        ..NO_LINES
-    },
-    Lines {
-        ahead: 1,
-        lines: b"take 1",
-        ended: Err(ReplayFault::Line(1, LineFault::Form)),
-        ..NO_LINES
-    },
-    Lines {
-        ahead: 1,
-        lines: b"wait 1",
-        ended: Err(ReplayFault::Line(1, LineFault::Form)),
-        ..NO_LINES
-    },
-    Lines {
-        ahead: 1,
-        lines: b"Wait",
-        ended: Err(ReplayFault::Line(1, LineFault::Form)),
-        ..NO_LINES
-    },
+pub const BAD: &[Bad] = &[
+    Bad(b"4097 4 1 0", LineFault::Form),
+    Bad(b"4097 4 1 0 - -", LineFault::Form),
+    Bad(b"x 4 1 0 z", LineFault::Number),
+    Bad(b"4097 65536 1 0 -", LineFault::Number),
+    Bad(b"4097 4 65536 0 -", LineFault::Number),
+    Bad(b"4097 4 1 256 -", LineFault::Number),
+    Bad(b"4097 4 1 0 z", LineFault::Hex),
+    Bad(b"take 1", LineFault::Form),
+    Bad(b"wait 1", LineFault::Form),
+    Bad(b"Wait", LineFault::Form),
 ];
-
-/// The first row of lines that ends otherwise.
-pub fn wrong_line(alloc: Global) -> Option<usize> {
-    first_wrong(alloc, ROWS)
-}
-
-/// The first row of lines behind which no more is there that ends otherwise.
-pub fn wrong_idle(alloc: Global) -> Option<usize> {
-    first_wrong(alloc, IDLE)
-}
-
-/// The first bad line that ends otherwise.
-pub fn wrong_bad(alloc: Global) -> Option<usize> {
-    first_wrong(alloc, BAD)
-}

@@ -1,5 +1,6 @@
 //! Objects that are set, over an end in memory.
 use super::NO_LIMIT;
+use crate::tests::Row;
 use crate::tests::fakes::ShortWriter;
 use oca_control::Link;
 use oca_net::{MemoryEnd, Scripted};
@@ -22,7 +23,7 @@ const DONE: &[u8] = b"3b0001000000130300010000000a000000010000";
 
 /// Three mutes are set, so many at once: the handles of the commands that ask what they are, then the handles and the
 /// statuses of the answers, in the order in which they come; the exit status, and what is printed.
-struct Setting {
+pub struct Setting {
     classes: [u32; 3],
     statuses: &'static [(u32, u8)],
     ahead: u8,
@@ -30,7 +31,7 @@ struct Setting {
     output: &'static [u8],
 }
 
-const SETTINGS: &[Setting] = &[
+pub const SETTINGS: &[Setting] = &[
     // answers that come in another order are printed in the order of the words
     Setting {
         classes: [1, 2, 3],
@@ -64,12 +65,17 @@ const SETTINGS: &[Setting] = &[
     },
 ];
 
-/// What the device sends.
-fn sent(bytes: Vec<u8>) -> Scripted {
-    Scripted::Datagram {
-        from: DEVICE,
-        bytes,
-        now: 10,
+/// Adds bytes that the device sends.
+fn add(alloc: Global, script: &mut Vec<Scripted>, bytes: &[u8]) -> bool {
+    match bytes.to_vec(alloc) {
+        Ok(bytes) => script
+            .push(Scripted::Datagram {
+                from: DEVICE,
+                bytes,
+                now: 10,
+            })
+            .is_ok(),
+        Err(_) => false,
     }
 }
 
@@ -80,10 +86,7 @@ fn add_class(alloc: Global, script: &mut Vec<Scripted>, handle: u32) -> bool {
         return false;
     }
     bytes[14..18].copy_from_slice(&handle.to_be_bytes());
-    match Vec::from_array(alloc, bytes) {
-        Ok(bytes) => script.push(sent(bytes)).is_ok(),
-        Err(_) => false,
-    }
+    add(alloc, script, &bytes)
 }
 
 /// Adds that the command of a handle is answered by a status.
@@ -94,10 +97,7 @@ fn add_status(alloc: Global, script: &mut Vec<Scripted>, handle: u32, status: u8
     }
     bytes[14..18].copy_from_slice(&handle.to_be_bytes());
     bytes[18] = status;
-    match Vec::from_array(alloc, bytes) {
-        Ok(bytes) => script.push(sent(bytes)).is_ok(),
-        Err(_) => false,
-    }
+    add(alloc, script, &bytes)
 }
 
 /// Adds that the objects are mutes.
@@ -132,13 +132,20 @@ fn script(alloc: Global, setting: &Setting) -> Option<Vec<Scripted>> {
     }
 }
 
+/// An end that delivers these answers.
+fn end(alloc: Global, setting: &Setting) -> Option<MemoryEnd> {
+    match script(alloc, setting) {
+        Some(script) => MemoryEnd::new(alloc, script, 30, None).ok(),
+        None => None,
+    }
+}
+
 /// A panel over an end that delivers these answers.
 fn panel(alloc: Global, setting: &Setting) -> Option<Panel<MemoryEnd>> {
-    let script = script(alloc, setting)?;
     let link = Link::new(DEVICE, Handle(setting.classes[0]), 0, Span::default());
-    match MemoryEnd::new(alloc, script, 30, None) {
-        Ok(end) => Some(Panel::new(link, end, 10)),
-        Err(_) => None,
+    match end(alloc, setting) {
+        Some(end) => Some(Panel::new(link, end, 10)),
+        None => None,
     }
 }
 
@@ -177,23 +184,15 @@ fn sets_over(
         && panel.end().taken().len() == 3 + setting.statuses.len()
 }
 
-/// Whether the setting ends so.
-fn sets_so(alloc: Global, setting: &Setting) -> bool {
-    let Some(pairs) = pairs() else {
-        return false;
-    };
-    match panel(alloc, setting) {
-        Some(mut panel) => sets_over(alloc, &mut panel, &pairs, setting),
-        None => false,
-    }
-}
-
-/// The first setting that ends otherwise.
-pub fn first_wrong(alloc: Global) -> Option<usize> {
-    for (at, setting) in SETTINGS.iter().enumerate() {
-        if !sets_so(alloc, setting) {
-            return Some(at);
+impl Row for Setting {
+    /// Whether the setting ends so.
+    fn agrees(&self, alloc: Global) -> bool {
+        let Some(pairs) = pairs() else {
+            return false;
+        };
+        match panel(alloc, self) {
+            Some(mut panel) => sets_over(alloc, &mut panel, &pairs, self),
+            None => false,
         }
     }
-    None
 }

@@ -1,4 +1,5 @@
 //! Whether a device answers the commands of a port.
+use crate::tests::Row;
 use oca_net::{MemoryEnd, Scripted};
 use oca_types::{Handle, Peer};
 use ocactl_cli::probe::{Found, probe};
@@ -22,34 +23,37 @@ const ALIVE: &str = "3b00010000000b0400010005";
 const ANSWER: &str = "3b0001000000130300010000000a000000070000";
 
 /// What comes from where, and what is found by it.
-const FOUND: &[(&[(Peer, &str)], Found)] = &[
-    (&[], Found::NotHeard),
-    (&[(DEVICE, ALIVE)], Found::NotAnswering),
-    (&[(DEVICE, ALIVE), (DEVICE, ANSWER)], Found::Answering),
-    (&[(DEVICE, ANSWER)], Found::Answering),
-    (&[(STRANGER, ANSWER), (STRANGER, ALIVE)], Found::NotHeard),
+pub struct Finds(&'static [(Peer, &'static str)], Found);
+
+pub const FOUND: &[Finds] = &[
+    Finds(&[], Found::NotHeard),
+    Finds(&[(DEVICE, ALIVE)], Found::NotAnswering),
+    Finds(&[(DEVICE, ALIVE), (DEVICE, ANSWER)], Found::Answering),
+    Finds(&[(DEVICE, ANSWER)], Found::Answering),
+    Finds(&[(STRANGER, ANSWER), (STRANGER, ALIVE)], Found::NotHeard),
 ];
 
-/// The bytes that a text encodes.
-fn bytes(alloc: Global, text: &str) -> Option<Vec<u8>> {
-    let mut room = [0u8; 20];
-    let all = room.get_mut(..text.len() / 2)?;
-    hex::decode_to_slice(text, all).ok()?;
-    all.to_vec(alloc).ok()
-}
-
 /// Adds a datagram to an end's script.
-fn add(alloc: Global, script: &mut Vec<Scripted>, from: Peer, text: &str) -> bool {
-    match bytes(alloc, text) {
-        Some(bytes) => script
+fn add_bytes(alloc: Global, script: &mut Vec<Scripted>, from: Peer, bytes: &[u8]) -> bool {
+    match bytes.to_vec(alloc) {
+        Ok(bytes) => script
             .push(Scripted::Datagram {
                 from,
                 bytes,
                 now: 10,
             })
             .is_ok(),
-        None => false,
+        Err(_) => false,
     }
+}
+
+/// Adds the datagram that a text encodes.
+fn add(alloc: Global, script: &mut Vec<Scripted>, from: Peer, text: &str) -> bool {
+    let mut room = [0u8; 20];
+    let Some(bytes) = room.get_mut(..text.len() / 2) else {
+        return false;
+    };
+    hex::decode_to_slice(text, bytes).is_ok() && add_bytes(alloc, script, from, bytes)
 }
 
 /// Adds these datagrams.
@@ -72,26 +76,20 @@ fn script(alloc: Global, coming: &[(Peer, &str)]) -> Option<Vec<Scripted>> {
     }
 }
 
-/// What is found over an end.
-fn found_over(end: MemoryEnd) -> Found {
-    probe(&mut Watched::new(end, DEVICE), DEVICE, Handle(7))
-}
-
-/// What is found where this comes.
-fn found(alloc: Global, coming: &[(Peer, &str)]) -> Option<Found> {
-    let script = script(alloc, coming)?;
-    match MemoryEnd::new(alloc, script, 64, None) {
-        Ok(end) => Some(found_over(end)),
-        Err(_) => None,
+/// An end at which this comes.
+fn end(alloc: Global, coming: &[(Peer, &str)]) -> Option<MemoryEnd> {
+    match script(alloc, coming) {
+        Some(script) => MemoryEnd::new(alloc, script, 64, None).ok(),
+        None => None,
     }
 }
 
-/// The first row that is otherwise: what is found of a device, by what comes from it.
-pub fn first_other_found(alloc: Global) -> Option<usize> {
-    for (at, (coming, expected)) in FOUND.iter().enumerate() {
-        if found(alloc, coming) != Some(*expected) {
-            return Some(at);
+impl Row for Finds {
+    /// Whether this is found of a device, by what comes from it.
+    fn agrees(&self, alloc: Global) -> bool {
+        match end(alloc, self.0) {
+            Some(end) => probe(&mut Watched::new(end, DEVICE), DEVICE, Handle(7)) == self.1,
+            None => false,
         }
     }
-    None
 }

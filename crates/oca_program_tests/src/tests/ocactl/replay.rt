@@ -1,10 +1,12 @@
 //! A replay whose reader and writer give and take a little at a time, or fail.
 use super::NO_LIMIT;
-use crate::tests::fakes::{PieceReader, ShortWriter};
+use crate::tests::Row;
+use crate::tests::fakes::{PieceReader, ShortWriter, lines_in};
 use oca_control::Link;
 use oca_script::{LineFault, Printer, ReplayFault};
 use oca_types::{Handle, MethodId, Ono, Peer, Span};
 use ocactl_replay::replay::replay;
+use std::alloc::Global;
 
 const DEVICE: Peer = Peer {
     ip: 0x7f00_0001,
@@ -37,8 +39,7 @@ fn link() -> Link {
 
 /// A script that is read in pieces of at most `piece` bytes by a reader that fails behind `given`, and whose text is
 /// written in pieces of at most `most` by a writer that fails behind `room`; how it ends, and what is written.
-#[derive(Clone, Copy)]
-struct Pieces {
+pub struct Pieces {
     script: &'static [u8],
     piece: usize,
     given: usize,
@@ -48,7 +49,7 @@ struct Pieces {
     output: &'static [u8],
 }
 
-const PIECES: &[Pieces] = &[
+pub const PIECES: &[Pieces] = &[
     Pieces {
         script: EXCHANGE,
         piece: 1,
@@ -85,6 +86,9 @@ const PIECES: &[Pieces] = &[
         ended: Ok(()),
         output: EXCHANGED,
     },
+];
+
+pub const FAULTS: &[Pieces] = &[
     // the reader fails within the second line, the writer within the second text
     Pieces {
         script: EXCHANGE,
@@ -116,25 +120,17 @@ const PIECES: &[Pieces] = &[
     },
 ];
 
-/// Whether the script ends so.
-fn replays_so(row: &Pieces) -> bool {
-    if row.piece == 0 {
-        return false;
-    }
-    let mut from = PieceReader::new(row.script, row.piece, row.given);
-    let mut to = Printer::new(ShortWriter::new(row.most, row.room));
-    let ended = replay(&mut link(), &mut from, &mut to);
-    ended == row.ended && to.sink().taken.as_slice() == row.output
-}
-
-/// The first script that ends otherwise.
-pub fn first_wrong() -> Option<usize> {
-    for (at, row) in PIECES.iter().enumerate() {
-        if !replays_so(row) {
-            return Some(at);
+impl Row for Pieces {
+    /// Whether the script ends so.
+    fn agrees(&self, _alloc: Global) -> bool {
+        if self.piece == 0 {
+            return false;
         }
+        let mut from = PieceReader::new(self.script, self.piece, self.given);
+        let mut to = Printer::new(ShortWriter::new(self.most, self.room));
+        let ended = replay(&mut link(), &mut from, &mut to);
+        ended == self.ended && to.sink().taken.as_slice() == self.output
     }
-    None
 }
 
 /// Whether the next handle of the link is this, and the answer to 1 is held or not.
@@ -142,11 +138,6 @@ fn stands(link: &mut Link, next: u32, held: bool) -> bool {
     let mute = MethodId { level: 4, index: 1 };
     let submitted = link.submit(Ono(4097), mute, 0, &[], 20);
     submitted == Ok(Handle(next)) && link.take(Handle(1)).is_some() == held
-}
-
-/// How many line feeds there are.
-fn lines_in(text: &[u8]) -> usize {
-    text.iter().filter(|byte| **byte == b'\n').count()
 }
 
 // How many bytes the first lines of the exchange print.

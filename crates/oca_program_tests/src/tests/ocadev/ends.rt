@@ -1,6 +1,6 @@
 //! Ends that cut what they give and take, or fail, and how a run that fails ends.
-use super::{Cuts, UNMUTED, UNMUTES, WHOLE, bench_device, passes, ran};
-use crate::tests::fakes::{PieceReader, ShortWriter};
+use super::{Cuts, Ending, UNMUTED, UNMUTES, WHOLE, bench_device, runs};
+use crate::tests::fakes::{PieceReader, ShortWriter, lines_in};
 use oca_device::{Device, Outbox};
 use oca_script::{Printer, ReplayFault};
 use oca_tree::Setting;
@@ -20,11 +20,17 @@ fn runs_in_pieces<N: Net + Clock + Files>(system: &N, alloc: Global, piece: usiz
         most: piece,
         ..WHOLE
     };
-    ran(system, alloc, REPLAY, UNMUTES, ends).is(0, UNMUTED, b"")
+    let ending = Ending {
+        status: 0,
+        output: Some(UNMUTED),
+        length: UNMUTED.len(),
+        fault: b"",
+    };
+    runs(system, alloc, REPLAY, UNMUTES, ends, &ending)
 }
 
 /// The first size of pieces that changes what is printed.
-fn first_wrong_piece<N: Net + Clock + Files>(system: &N, alloc: Global) -> Option<usize> {
+pub fn first_wrong_piece<N: Net + Clock + Files>(system: &N, alloc: Global) -> Option<usize> {
     for piece in 1..100 {
         if !runs_in_pieces(system, alloc, piece) {
             return Some(piece);
@@ -33,27 +39,13 @@ fn first_wrong_piece<N: Net + Clock + Files>(system: &N, alloc: Global) -> Optio
     None
 }
 
-#[test]
-fn pieces_of_each_size(rt: HostRuntime) {
-    passes(&rt, first_wrong_piece(&rt, rt.alloc()));
-}
-
-/// A replay of the script on the bench device between these ends: how it ended, what it printed, and the state of 4097
-/// behind it. Muted is 1 and Unmuted is 2.
-#[derive(Drop)]
-struct ReplayOutcome {
-    ended: Result<(), ReplayFault>,
-    printer: Printer<ShortWriter>,
-    state: Option<Setting>,
-}
-
-impl ReplayOutcome {
-    /// Whether it ended with this fault, printed just that, and left that state.
-    fn is(&self, fault: ReplayFault, text: Option<&[u8]>, state: u8) -> bool {
-        self.ended == Err(fault)
-            && Some(self.printer.sink().taken.as_slice()) == text
-            && self.state == Some(Setting::State(state))
-    }
+/// How a replay of the script on the bench device ends: the fault, what is printed, and the state of 4097 behind it. Muted
+/// is 1 and Unmuted is 2.
+#[derive(Clone, Copy)]
+struct Ended<'a> {
+    fault: ReplayFault,
+    text: &'a [u8],
+    state: u8,
 }
 
 /// The state of 4097.
@@ -61,77 +53,93 @@ fn state_of(device: &Device) -> Option<Setting> {
     device.tree().setting_of(Ono(4097))
 }
 
-/// Replays the script between these ends.
-fn replayed(alloc: Global, ends: Cuts) -> Option<ReplayOutcome> {
-    let mut device = bench_device(alloc)?;
-    let mut outbox = Outbox::new(alloc).ok()?;
+/// Whether a device with this outbox replays the script between these ends so.
+fn replays_with(device: &mut Device, outbox: &mut Outbox, ends: Cuts, wanted: &Ended<'_>) -> bool {
     let mut from = PieceReader::new(UNMUTES, ends.piece.max(1), ends.given);
     let mut printer = Printer::new(ShortWriter::new(ends.most, ends.taken));
-    let ended = replay(&mut device, &mut outbox, &mut from, &mut printer);
-    Some(ReplayOutcome {
-        ended,
-        printer,
-        state: state_of(&device),
-    })
+    let ended = replay(device, outbox, &mut from, &mut printer);
+    ended == Err(wanted.fault)
+        && printer.sink().taken.as_slice() == wanted.text
+        && state_of(device) == Some(Setting::State(wanted.state))
+}
+
+/// Whether a device replays it so.
+fn replays_on(alloc: Global, device: &mut Device, ends: Cuts, wanted: &Ended<'_>) -> bool {
+    match Outbox::new(alloc) {
+        Ok(mut outbox) => replays_with(device, &mut outbox, ends, wanted),
+        Err(_) => false,
+    }
+}
+
+/// Whether the bench device replays it so.
+fn replays(alloc: Global, ends: Cuts, wanted: &Ended<'_>) -> bool {
+    match bench_device(alloc) {
+        Some(mut device) => replays_on(alloc, &mut device, ends, wanted),
+        None => false,
+    }
 }
 
 /// How many bytes of the text are printed, and in which state 4097 is, once so many line feeds of the script were read.
 const BY_LINES: [(usize, u8); 5] = [(0, 1), (58, 1), (58, 1), (114, 2), (114, 2)];
 
+/// How the replay ends where the reader fails behind this front of the script.
+fn ended_behind(front: &[u8]) -> Option<Ended<'static>> {
+    let (text, state) = *BY_LINES.get(lines_in(front))?;
+    Some(Ended {
+        fault: ReplayFault::Read,
+        text: UNMUTED.get(..text)?,
+        state,
+    })
+}
+
 /// Whether the replay ends so where the reader fails at this place.
-fn ends_where_reads_fail(alloc: Global, place: usize) -> Option<bool> {
-    let front = UNMUTES.get(..place)?;
-    let lines = front.iter().filter(|byte| **byte == b'\n').count();
-    let (text, state) = *BY_LINES.get(lines)?;
+fn ends_where_reads_fail(alloc: Global, place: usize) -> bool {
     let ends = Cuts {
         piece: 50,
         given: place,
         most: 1000,
         ..WHOLE
     };
-    Some(replayed(alloc, ends)?.is(ReplayFault::Read, UNMUTED.get(..text), state))
+    match ended_behind(UNMUTES.get(..place).unwrap_or_default()) {
+        Some(wanted) => replays(alloc, ends, &wanted),
+        None => false,
+    }
 }
 
 /// The first place at which a reader that fails ends the replay otherwise.
-fn first_wrong_read(alloc: Global) -> Option<usize> {
+pub fn first_wrong_read(alloc: Global) -> Option<usize> {
     for place in 0..UNMUTES.len() {
-        if ends_where_reads_fail(alloc, place) != Some(true) {
+        if !ends_where_reads_fail(alloc, place) {
             return Some(place);
         }
     }
     None
 }
 
-#[test]
-fn reader_fails_at_each_place(rt: HostRuntime) {
-    passes(&rt, first_wrong_read(rt.alloc()));
-}
-
 /// Whether the replay ends so where the writer fails at this place.
-fn ends_where_writes_fail(alloc: Global, place: usize) -> Option<bool> {
+fn ends_where_writes_fail(alloc: Global, place: usize) -> bool {
     let ends = Cuts {
         piece: 30,
         most: 7,
         taken: place,
         ..WHOLE
     };
-    let state = if place < 58 { 1 } else { 2 };
-    Some(replayed(alloc, ends)?.is(ReplayFault::Write, UNMUTED.get(..place), state))
+    let wanted = Ended {
+        fault: ReplayFault::Write,
+        text: UNMUTED.get(..place).unwrap_or_default(),
+        state: if place < 58 { 1 } else { 2 },
+    };
+    replays(alloc, ends, &wanted)
 }
 
 /// The first place at which a writer that fails ends the replay otherwise.
-fn first_wrong_write(alloc: Global) -> Option<usize> {
+pub fn first_wrong_write(alloc: Global) -> Option<usize> {
     for place in 0..UNMUTED.len() {
-        if ends_where_writes_fail(alloc, place) != Some(true) {
+        if !ends_where_writes_fail(alloc, place) {
             return Some(place);
         }
     }
     None
-}
-
-#[test]
-fn writer_fails_at_each_place(rt: HostRuntime) {
-    passes(&rt, first_wrong_write(rt.alloc()));
 }
 
 /// Ends of which the reader fails.
@@ -152,38 +160,38 @@ const WRITES_FAIL: Cuts = Cuts {
 
 /// Words, the ends of their run, its status, how many bytes it prints, and the fault that is printed, behind notes
 /// where the words are bad.
-const FAILING: &[(&[&str], Cuts, u8, usize, &[u8])] = &[
-    (REPLAY, READS_FAIL, 1, 0, b"read failed\n"),
-    (REPLAY, WRITES_FAIL, 1, 10, b"write failed\n"),
-    (&["ocadev", "show"], WRITES_FAIL, 1, 10, b"write failed\n"),
-    (&["ocadev", "--help"], WRITES_FAIL, 1, 10, b"write failed\n"),
+pub struct Failing(&'static [&'static str], Cuts, u8, usize, &'static [u8]);
+
+pub const FAILING: &[Failing] = &[
+    Failing(REPLAY, READS_FAIL, 1, 0, b"read failed\n"),
+    Failing(REPLAY, WRITES_FAIL, 1, 10, b"write failed\n"),
+    Failing(&["ocadev", "show"], WRITES_FAIL, 1, 10, b"write failed\n"),
+    Failing(&["ocadev", "--help"], WRITES_FAIL, 1, 10, b"write failed\n"),
     // no word at all
-    (&[], WHOLE, 2, 0, b"bad words\n"),
+    Failing(&[], WHOLE, 2, 0, b"bad words\n"),
 ];
 
 /// Whether the words fail so.
-fn fails<N: Net + Clock + Files>(
-    system: &N,
-    alloc: Global,
-    row: &(&[&str], Cuts, u8, usize, &[u8]),
-) -> bool {
-    let ran = ran(system, alloc, row.0, UNMUTES, row.1);
-    let printed = ran.faults();
-    let is_fault = printed == row.4 || row.2 == 2 && printed.ends_with(row.4);
-    ran.status == row.2 && ran.output().len() == row.3 && is_fault
+fn fails<N: Net + Clock + Files>(system: &N, alloc: Global, row: &Failing) -> bool {
+    let ending = Ending {
+        status: row.2,
+        output: None,
+        length: row.3,
+        fault: row.4,
+    };
+    runs(system, alloc, row.0, UNMUTES, row.1, &ending)
 }
 
 /// The first words that fail otherwise.
-fn first_wrong_fault<N: Net + Clock + Files>(system: &N, alloc: Global) -> Option<usize> {
-    for (at, row) in FAILING.iter().enumerate() {
+pub fn first_wrong_fault<N: Net + Clock + Files>(
+    system: &N,
+    alloc: Global,
+    rows: &[Failing],
+) -> Option<usize> {
+    for (at, row) in rows.iter().enumerate() {
         if !fails(system, alloc, row) {
             return Some(at);
         }
     }
     None
-}
-
-#[test]
-fn statuses_of_failing_ends(rt: HostRuntime) {
-    passes(&rt, first_wrong_fault(&rt, rt.alloc()));
 }

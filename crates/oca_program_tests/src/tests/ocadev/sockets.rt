@@ -1,5 +1,6 @@
 //! The device at a socket.
-use super::{bench_device, passes};
+use super::bench_device;
+use crate::tests::Row;
 use crate::tests::fakes::ShortWriter;
 use oca_device::{Device, Outbox, Report, serve};
 use oca_net::{End, Heard, UdpEnd};
@@ -29,22 +30,17 @@ const REPORTED: &[u8] =
     b"turns 18446744073709551615 executed 2 kept 3 old 4 reused 5 malformed 6 no-room 7 oversize 8 quiet 12345678909 \
     failed-receives 10 failed-sends 11\n";
 
-/// Whether the report is printed so.
-fn prints(report: &Report, text: &[u8]) -> bool {
-    let mut to = Printer::new(ShortWriter::new(1000, usize::MAX));
-    print_report(report, &mut to) == Ok(()) && to.sink().taken.as_slice() == text
-}
+/// A report, and as what it is printed.
+pub struct Reported(Report, &'static [u8]);
 
-#[test]
-fn a_report_of_different_counts(rt: HostRuntime) {
-    passes(
-        &rt,
-        if prints(&REPORT, REPORTED) {
-            None
-        } else {
-            Some(0)
-        },
-    );
+pub const REPORTS: &[Reported] = &[Reported(REPORT, REPORTED)];
+
+impl Row for Reported {
+    /// Whether the report is printed so.
+    fn agrees(&self, _alloc: Global) -> bool {
+        let mut to = Printer::new(ShortWriter::new(1000, usize::MAX));
+        print_report(&self.0, &mut to) == Ok(()) && to.sink().taken.as_slice() == self.1
+    }
 }
 
 /// GetState of 4097 under handle 1.
@@ -82,62 +78,88 @@ fn hears<E: End>(asker: &mut E, handle: u8) -> bool {
         && packet.as_slice().get(17).copied() == Some(handle)
 }
 
-/// A device at a socket, with an asker at another of the same process.
-#[derive(Drop)]
-struct TwoEnds<E> {
-    device: Device,
-    outbox: Outbox,
-    end: E,
-    asker: E,
+/// Whether a step of the device goes so at its end.
+fn serves<E: End>(device: &mut Device, outbox: &mut Outbox, end: &mut E, step: Step) -> bool {
+    match step {
+        Executes(turns, count) => serve(device, end, outbox, turns).executed == count,
+        IsQuiet(turns, count) => serve(device, end, outbox, turns).quiet == count,
+        Asks(_) | Hears(_) => false,
+    }
+}
+
+/// Whether a step of the asker goes so.
+fn asks_or_hears<E: End>(asker: &mut E, at: Peer, step: Step) -> bool {
+    match step {
+        Asks(handle) => asks(asker, at, handle),
+        Hears(handle) => hears(asker, handle),
+        Executes(..) | IsQuiet(..) => false,
+    }
+}
+
+/// The first step between a device's end, which is at this peer, and an asker's that goes otherwise.
+fn first_wrong<E: End, F: End>(
+    device: &mut Device,
+    outbox: &mut Outbox,
+    end: &mut E,
+    asker: &mut F,
     at: Peer,
-}
-
-impl<E: End> TwoEnds<E> {
-    /// Serves the device for so many turns.
-    fn serves(&mut self, turns: u32) -> Report {
-        serve(&mut self.device, &mut self.end, &mut self.outbox, turns)
-    }
-
-    /// Whether the step goes so.
-    fn agrees(&mut self, step: Step) -> bool {
-        match step {
-            Asks(handle) => asks(&mut self.asker, self.at, handle),
-            Executes(turns, count) => self.serves(turns).executed == count,
-            IsQuiet(turns, count) => self.serves(turns).quiet == count,
-            Hears(handle) => hears(&mut self.asker, handle),
+) -> Option<usize> {
+    for (turn, step) in TURNS.iter().enumerate() {
+        if !asks_or_hears(asker, at, *step) && !serves(device, outbox, end, *step) {
+            return Some(turn);
         }
     }
+    None
+}
 
-    /// The first step that goes otherwise.
-    fn first_wrong(&mut self, steps: &[Step]) -> Option<usize> {
-        for (at, step) in steps.iter().enumerate() {
-            if !self.agrees(*step) {
-                return Some(at);
-            }
-        }
-        None
+/// The same for a device whose outbox is its own; the last number where there is none.
+fn first_wrong_on<E: End, F: End>(
+    alloc: Global,
+    device: &mut Device,
+    end: &mut E,
+    asker: &mut F,
+    at: Peer,
+) -> Option<usize> {
+    match Outbox::new(alloc) {
+        Ok(mut outbox) => first_wrong(device, &mut outbox, end, asker, at),
+        Err(_) => Some(usize::MAX),
     }
 }
 
-/// A device and an asker at two sockets, of which nothing was heard.
-fn two_ends<N: Net + Clock>(system: &N, alloc: Global) -> Option<TwoEnds<UdpEnd<'_, N>>> {
-    let end = UdpEnd::bind(alloc, system, LOOPBACK, 0).ok()?;
-    let asker = UdpEnd::bind(alloc, system, LOOPBACK, 0).ok()?;
-    let at = end.local();
-    Some(TwoEnds {
-        device: bench_device(alloc)?,
-        outbox: Outbox::new(alloc).ok()?,
-        end,
-        asker,
-        at,
-    })
-}
-
-/// The first step between two sockets that goes otherwise.
-fn first_wrong_step<N: Net + Clock>(system: &N, alloc: Global, steps: &[Step]) -> Option<usize> {
-    match two_ends(system, alloc) {
-        Some(mut ends) => ends.first_wrong(steps),
+/// The same for the bench device.
+fn first_wrong_between<E: End, F: End>(
+    alloc: Global,
+    end: &mut E,
+    asker: &mut F,
+    at: Peer,
+) -> Option<usize> {
+    match bench_device(alloc) {
+        Some(mut device) => first_wrong_on(alloc, &mut device, end, asker, at),
         None => Some(usize::MAX),
+    }
+}
+
+/// The same for an asker at a socket of its own.
+fn first_wrong_at<N: Net + Clock, E: End>(
+    system: &N,
+    alloc: Global,
+    end: &mut E,
+    at: Peer,
+) -> Option<usize> {
+    match UdpEnd::bind(alloc, system, LOOPBACK, 0) {
+        Ok(mut asker) => first_wrong_between(alloc, end, &mut asker, at),
+        Err(_) => Some(usize::MAX),
+    }
+}
+
+/// The first step between two sockets that goes otherwise; the last number where there are none.
+pub fn first_wrong_step<N: Net + Clock>(system: &N, alloc: Global) -> Option<usize> {
+    match UdpEnd::bind(alloc, system, LOOPBACK, 0) {
+        Ok(mut end) => {
+            let at = end.local();
+            first_wrong_at(system, alloc, &mut end, at)
+        }
+        Err(_) => Some(usize::MAX),
     }
 }
 
@@ -178,8 +200,3 @@ const TURNS: &[Step] = &[
     Hears(15),
     Hears(16),
 ];
-
-#[test]
-fn serves_a_socket_turn_by_turn(rt: HostRuntime) {
-    passes(&rt, first_wrong_step(&rt, rt.alloc(), TURNS));
-}

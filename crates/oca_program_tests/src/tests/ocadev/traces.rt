@@ -1,5 +1,5 @@
 //! A device that is served until its end is closed, and what is printed of each datagram.
-use super::{bench_device, passes};
+use super::bench_device;
 use crate::tests::fakes::ShortWriter;
 use oca_device::{Device, Outbox, Report};
 use oca_net::{MemoryEnd, Scripted};
@@ -61,35 +61,52 @@ const SCRIPT: &[Receive] = &[
     From(9001, UNLOCK),
 ];
 
-/// The entry of a script for a receive.
-fn scripted(alloc: Global, receive: Receive) -> Option<Scripted> {
-    Some(match receive {
-        From(port, bytes) => Scripted::Datagram {
-            from: Peer {
-                ip: 0x0a00_0001,
-                port,
-            },
-            bytes: bytes.to_vec(alloc).ok()?,
-            now: 0,
-        },
-        Oversize => Scripted::Datagram {
-            from: Peer { ip: 1, port: 1 },
-            bytes: [0u8; 1473].to_vec(alloc).ok()?,
-            now: 0,
-        },
-        Fails => Scripted::Failed,
-        Silence => Scripted::Quiet { now: 1 },
-    })
+/// Adds a datagram of a peer to an end's script.
+fn add_datagram(alloc: Global, script: &mut Vec<Scripted>, from: Peer, bytes: &[u8]) -> bool {
+    match bytes.to_vec(alloc) {
+        Ok(bytes) => script
+            .push(Scripted::Datagram {
+                from,
+                bytes,
+                now: 0,
+            })
+            .is_ok(),
+        Err(_) => false,
+    }
+}
+
+/// Adds what a receive gives.
+fn add(alloc: Global, script: &mut Vec<Scripted>, receive: Receive) -> bool {
+    match receive {
+        From(port, bytes) => {
+            let ip = 0x0a00_0001;
+            add_datagram(alloc, script, Peer { ip, port }, bytes)
+        }
+        Oversize => add_datagram(alloc, script, Peer { ip: 1, port: 1 }, &[0u8; 1473]),
+        Fails => script.push(Scripted::Failed).is_ok(),
+        Silence => script.push(Scripted::Quiet { now: 1 }).is_ok(),
+    }
+}
+
+/// Adds what all receives give.
+fn add_all(alloc: Global, script: &mut Vec<Scripted>) -> bool {
+    for receive in SCRIPT {
+        if !add(alloc, script, *receive) {
+            return false;
+        }
+    }
+    true
 }
 
 /// An end that gives the script. The third send fails, which is that of the fourth datagram, since a reuse is not
 /// answered.
 fn end(alloc: Global) -> Option<MemoryEnd> {
     let mut script = Vec::new(alloc);
-    for receive in SCRIPT {
-        script.push(scripted(alloc, *receive)?).ok()?;
+    if add_all(alloc, &mut script) {
+        MemoryEnd::new(alloc, script, 9, Some(2)).ok()
+    } else {
+        None
     }
-    MemoryEnd::new(alloc, script, 9, Some(2)).ok()
 }
 
 const REPORT: Report = Report {
@@ -106,26 +123,28 @@ const REPORT: Report = Report {
     failed_sends: 1,
 };
 
-/// What a bench device reports of the script, and how many packets its end took.
-fn served(alloc: Global) -> Option<(Report, usize)> {
-    let mut device = bench_device(alloc)?;
-    let mut outbox = Outbox::new(alloc).ok()?;
-    let mut end = end(alloc)?;
-    let report = serve_on(&mut device, &mut end, &mut outbox);
-    Some((report, end.taken().len()))
+/// Whether a device with this outbox reports the script so, whose end took so many packets.
+fn serves_with(alloc: Global, device: &mut Device, outbox: &mut Outbox) -> bool {
+    match end(alloc) {
+        Some(mut end) => { serve_on(device, &mut end, outbox) == REPORT && end.taken().len() == 6 }
+        None => false,
+    }
 }
 
-#[test]
-fn serves_to_the_close(rt: HostRuntime) {
-    let served = served(rt.alloc());
-    passes(
-        &rt,
-        if served == Some((REPORT, 6)) {
-            None
-        } else {
-            Some(0)
-        },
-    );
+/// Whether a device does so.
+fn serves_on(alloc: Global, device: &mut Device) -> bool {
+    match Outbox::new(alloc) {
+        Ok(mut outbox) => serves_with(alloc, device, &mut outbox),
+        Err(_) => false,
+    }
+}
+
+/// Whether a bench device is served until the script is at its end.
+pub fn serves_to_the_close(alloc: Global) -> bool {
+    match bench_device(alloc) {
+        Some(mut device) => serves_on(alloc, &mut device),
+        None => false,
+    }
 }
 
 /// The trace of the script.
@@ -141,71 +160,58 @@ oversize
 10.0.0.1:9001 served 1 0 0 unlocked 4098
 ";
 
-/// What a bench device reports of the script, and whether it is traced by that.
-fn traced<L: Files>(alloc: Global, files: &L, trace: &[u8]) -> Option<(Report, bool)> {
-    let mut device = bench_device(alloc)?;
-    traced_of(alloc, files, &mut device, trace)
-}
-
-/// What a device reports of the script, and whether it is traced by that.
-fn traced_of<L: Files>(
-    alloc: Global,
-    files: &L,
-    device: &mut Device,
-    trace: &[u8],
-) -> Option<(Report, bool)> {
-    let mut outbox = Outbox::new(alloc).ok()?;
-    traced_in(alloc, files, device, &mut outbox, trace)
-}
-
-/// The same with an outbox.
-fn traced_in<L: Files>(
-    alloc: Global,
-    files: &L,
-    device: &mut Device,
-    outbox: &mut Outbox,
-    trace: &[u8],
-) -> Option<(Report, bool)> {
-    let mut end = Watched::new(end(alloc)?);
-    traced_at(alloc, files, device, outbox, &mut end, trace)
-}
-
-/// The same at an end that gives the script.
-fn traced_at<L: Files>(
-    alloc: Global,
-    files: &L,
-    device: &mut Device,
-    outbox: &mut Outbox,
-    end: &mut Watched<MemoryEnd>,
-    trace: &[u8],
-) -> Option<(Report, bool)> {
-    let mut keeping = Keeping::new(alloc, files, None).ok()?;
-    Some(printed_turns(device, outbox, end, &mut keeping, trace))
-}
-
-/// What a device reports of the turns of an end, and whether it is traced by that.
-fn printed_turns<L: Files>(
+/// Whether a device reports the turns of an end so, and they are traced so.
+fn prints_turns<L: Files>(
     device: &mut Device,
     outbox: &mut Outbox,
     end: &mut Watched<MemoryEnd>,
     keeping: &mut Keeping<'_, L>,
-    trace: &[u8],
-) -> (Report, bool) {
+) -> bool {
     let mut faults = Printer::new(ShortWriter::new(7, usize::MAX));
     let tracing = Tracing::new(true, None);
     let report = serve_traced(device, end, outbox, u64::MAX, tracing, keeping, &mut faults);
-    (report, faults.sink().taken.as_slice() == trace)
+    report == REPORT && faults.sink().taken.as_slice() == TRACE
 }
 
-#[test]
-fn prints_each_datagram(rt: HostRuntime) {
-    let traced = traced(rt.alloc(), &rt, TRACE);
-    passes(
-        &rt,
-        if traced == Some((REPORT, true)) {
-            None
-        } else {
-            Some(0)
-        },
-    );
+/// The same of a device that is kept nowhere.
+fn prints_unkept<L: Files>(
+    alloc: Global,
+    files: &L,
+    device: &mut Device,
+    outbox: &mut Outbox,
+    end: &mut Watched<MemoryEnd>,
+) -> bool {
+    match Keeping::new(alloc, files, None) {
+        Ok(mut keeping) => prints_turns(device, outbox, end, &mut keeping),
+        Err(_) => false,
+    }
+}
+
+/// The same at an end that gives the script.
+fn prints_script<L: Files>(
+    alloc: Global,
+    files: &L,
+    device: &mut Device,
+    outbox: &mut Outbox,
+) -> bool {
+    match end(alloc) {
+        Some(end) => prints_unkept(alloc, files, device, outbox, &mut Watched::new(end)),
+        None => false,
+    }
+}
+
+/// The same with an outbox of its own.
+fn prints_on<L: Files>(alloc: Global, files: &L, device: &mut Device) -> bool {
+    match Outbox::new(alloc) {
+        Ok(mut outbox) => prints_script(alloc, files, device, &mut outbox),
+        Err(_) => false,
+    }
+}
+
+/// Whether a bench device reports the script so, and each datagram is traced so.
+pub fn prints_each_datagram<L: Files>(alloc: Global, files: &L) -> bool {
+    match bench_device(alloc) {
+        Some(mut device) => prints_on(alloc, files, &mut device),
+        None => false,
+    }
 }

@@ -1,8 +1,10 @@
 //! The fields of a line.
+use crate::tests::Row;
 use oca_script::field::{
     address, first_field, hex_bytes, moment, number, number_before, peer, peer_before,
 };
 use oca_types::Peer;
+use std::alloc::Global;
 
 const LOCAL: Peer = Peer {
     ip: 0x7f00_0001,
@@ -14,94 +16,111 @@ const LAST: Peer = Peer {
     port: 65_535,
 };
 
-/// A text, and what it must give.
-#[derive(Clone, Copy)]
-enum Row {
-    /// A number of so many digits, at most so large.
-    Number(&'static [u8], usize, u64, Option<u64>),
-    Moment(&'static [u8], Option<u64>),
-    OfPeer(&'static [u8], Option<Peer>),
-    Address(&'static [u8], Option<u32>),
-    /// A number of so many digits, at most so large, before a byte that is no digit, and what stands behind that.
-    NumberBefore(&'static [u8], u8, usize, u64, Option<(u64, &'static [u8])>),
-    PeerBefore(&'static [u8], Option<(Peer, &'static [u8])>),
-    Hex(&'static [u8], Option<&'static [u8]>),
-    /// The fields of a line.
-    Fields(&'static [u8], &'static [&'static [u8]]),
-}
+/// A text, and the number of so many digits, at most so large, that it gives.
+pub struct Number(&'static [u8], usize, u64, Option<u64>);
 
-use Row::*;
-
-/// Whether such a number stands before the byte.
-fn is_before(
-    text: &[u8],
-    end: u8,
-    most: usize,
-    largest: u64,
-    wanted: Option<(u64, &'static [u8])>,
-) -> bool {
-    if end >= b'0' && end <= b'9' {
-        return false;
-    }
-    number_before(text, end, most, largest) == wanted
-}
-
-/// Whether the text stands for these bytes, or for none.
-fn is_hex(text: &[u8], wanted: Option<&'static [u8]>) -> bool {
-    let mut room = [0u8; 2048];
-    if text.len() > 4096 {
-        return false;
-    }
-    match (hex_bytes(text, &mut room), wanted) {
-        (Some(bytes), Some(wanted)) => *bytes == *wanted,
-        (None, None) => true,
-        _ => false,
+impl Row for Number {
+    /// Whether it gives this.
+    fn agrees(&self, _alloc: Global) -> bool {
+        number(self.0, self.1, self.2) == self.3
     }
 }
 
-/// Whether these are the fields of the line.
-fn are_fields(line: &[u8], wanted: &[&'static [u8]]) -> bool {
-    let mut rest = Some(line);
-    for field in wanted {
-        let Some(text) = rest else {
-            return false;
-        };
-        let (first, behind) = first_field(text);
-        if *first != **field {
+/// A text, and the moment that it gives.
+pub struct Moment(&'static [u8], Option<u64>);
+
+impl Row for Moment {
+    /// Whether it gives this.
+    fn agrees(&self, _alloc: Global) -> bool {
+        moment(self.0) == self.1
+    }
+}
+
+/// A text, and the peer that it gives.
+pub struct OfPeer(&'static [u8], Option<Peer>);
+
+impl Row for OfPeer {
+    /// Whether it gives this.
+    fn agrees(&self, _alloc: Global) -> bool {
+        peer(self.0) == self.1
+    }
+}
+
+/// A text, and the address that it gives.
+pub struct Address(&'static [u8], Option<u32>);
+
+impl Row for Address {
+    /// Whether it gives this.
+    fn agrees(&self, _alloc: Global) -> bool {
+        address(self.0) == self.1
+    }
+}
+
+/// A text, and the number of so many digits, at most so large, before a byte that is no digit, and what stands behind
+/// that.
+pub struct NumberBefore(&'static [u8], u8, usize, u64, Option<(u64, &'static [u8])>);
+
+impl Row for NumberBefore {
+    /// Whether such a number stands before the byte.
+    fn agrees(&self, _alloc: Global) -> bool {
+        let end = self.1;
+        if end >= b'0' && end <= b'9' {
             return false;
         }
-        rest = behind;
+        number_before(self.0, end, self.2, self.3) == self.4
     }
-    rest.is_none()
 }
 
-/// Whether the text gives this.
-fn agrees(row: Row) -> bool {
-    match row {
-        Number(text, most, largest, wanted) => number(text, most, largest) == wanted,
-        Moment(text, wanted) => moment(text) == wanted,
-        OfPeer(text, wanted) => peer(text) == wanted,
-        Address(text, wanted) => address(text) == wanted,
-        NumberBefore(text, end, most, largest, wanted) => {
-            is_before(text, end, most, largest, wanted)
+/// A text, and the peer before a space in it, and what stands behind that.
+pub struct PeerBefore(&'static [u8], Option<(Peer, &'static [u8])>);
+
+impl Row for PeerBefore {
+    /// Whether such a peer stands before the space.
+    fn agrees(&self, _alloc: Global) -> bool {
+        peer_before(self.0) == self.1
+    }
+}
+
+/// A text, and the bytes that it stands for.
+pub struct Hex(&'static [u8], Option<&'static [u8]>);
+
+impl Row for Hex {
+    /// Whether the text stands for these bytes, or for none.
+    fn agrees(&self, _alloc: Global) -> bool {
+        let mut room = [0u8; 2048];
+        if self.0.len() > 4096 {
+            return false;
         }
-        PeerBefore(text, wanted) => peer_before(text) == wanted,
-        Hex(text, wanted) => is_hex(text, wanted),
-        Fields(line, wanted) => are_fields(line, wanted),
-    }
-}
-
-/// The first text that gives something else.
-fn first_wrong(rows: &[Row]) -> Option<usize> {
-    for (at, row) in rows.iter().enumerate() {
-        if !agrees(*row) {
-            return Some(at);
+        match (hex_bytes(self.0, &mut room), self.1) {
+            (Some(bytes), Some(wanted)) => *bytes == *wanted,
+            (None, None) => true,
+            _ => false,
         }
     }
-    None
 }
 
-const NUMBERS: &[Row] = &[
+/// A line, and its fields.
+pub struct Fields(&'static [u8], &'static [&'static [u8]]);
+
+impl Row for Fields {
+    /// Whether these are the fields of the line.
+    fn agrees(&self, _alloc: Global) -> bool {
+        let mut rest = Some(self.0);
+        for field in self.1 {
+            let Some(text) = rest else {
+                return false;
+            };
+            let (first, behind) = first_field(text);
+            if *first != **field {
+                return false;
+            }
+            rest = behind;
+        }
+        rest.is_none()
+    }
+}
+
+pub const NUMBERS: &[Number] = &[
     Number(b"0", 1, 255, Some(0)),
     Number(b"007", 3, 255, Some(7)),
     Number(b"255", 3, 255, Some(255)),
@@ -112,6 +131,9 @@ const NUMBERS: &[Row] = &[
     Number(b"1 ", 3, 255, None),
     Number(b"1:", 3, 255, None),
     Number(b"1/", 3, 255, None),
+];
+
+pub const MOMENTS: &[Moment] = &[
     Moment(b"18446744073709551615", Some(u64::MAX)),
     Moment(b"18446744073709551616", None),
     Moment(b"99999999999999999999", None),
@@ -119,12 +141,7 @@ const NUMBERS: &[Row] = &[
     Moment(b"000000000000000000001", None),
 ];
 
-/// The first row that is otherwise: numbers.
-pub fn numbers() -> Option<usize> {
-    first_wrong(NUMBERS)
-}
-
-const PEERS: &[Row] = &[
+pub const PEERS: &[OfPeer] = &[
     OfPeer(b"127.0.0.1:9001", Some(LOCAL)),
     OfPeer(b"127.000.0.001:09001", Some(LOCAL)),
     OfPeer(b"255.255.255.255:65535", Some(LAST)),
@@ -141,12 +158,7 @@ const PEERS: &[Row] = &[
     OfPeer(b"", None),
 ];
 
-/// The first row that is otherwise: peers.
-pub fn peers() -> Option<usize> {
-    first_wrong(PEERS)
-}
-
-const ADDRESSES: &[Row] = &[
+pub const ADDRESSES: &[Address] = &[
     Address(b"127.0.0.1", Some(0x7f00_0001)),
     Address(b"255.1.002.3", Some(0xff01_0203)),
     Address(b"127.0.0.256", None),
@@ -157,13 +169,8 @@ const ADDRESSES: &[Row] = &[
     Address(b"", None),
 ];
 
-/// The first row that is otherwise: addresses.
-pub fn addresses() -> Option<usize> {
-    first_wrong(ADDRESSES)
-}
-
 // A number and a peer with what stands after their separator.
-const BEFORE: &[Row] = &[
+pub const BEFORE: &[NumberBefore] = &[
     NumberBefore(b"07 x y", b' ', 2, 9, Some((7, b"x y"))),
     NumberBefore(
         b"18446744073709551615 ",
@@ -178,6 +185,9 @@ const BEFORE: &[Row] = &[
     NumberBefore(b"-1 ", b' ', 20, u64::MAX, None),
     NumberBefore(b"000000000000000000001 ", b' ', 20, u64::MAX, None),
     NumberBefore(b"256.", b'.', 3, 255, None),
+];
+
+pub const PEERS_BEFORE: &[PeerBefore] = &[
     PeerBefore(b"127.0.0.1:9001 3b 00", Some((LOCAL, b"3b 00"))),
     PeerBefore(b"127.0.0.1:9001", None),
     PeerBefore(b"127.0.0.1:65536 ", None),
@@ -185,12 +195,7 @@ const BEFORE: &[Row] = &[
     PeerBefore(b"quiet ", None),
 ];
 
-/// The first row that is otherwise: before a separator.
-pub fn before_a_separator() -> Option<usize> {
-    first_wrong(BEFORE)
-}
-
-const HEXADECIMAL: &[Row] = &[
+pub const HEXADECIMAL: &[Hex] = &[
     Hex(b"-", Some(b"")),
     Hex(b"3b00", Some(b"\x3b\x00")),
     Hex(b"fFAa", Some(b"\xff\xaa")),
@@ -203,12 +208,4 @@ const HEXADECIMAL: &[Row] = &[
     Hex(b"3b-", None),
 ];
 
-/// The first row that is otherwise: hexadecimal.
-pub fn hexadecimal() -> Option<usize> {
-    first_wrong(HEXADECIMAL)
-}
-
-/// The first row that is otherwise: fields of a line.
-pub fn fields_of_a_line() -> Option<usize> {
-    first_wrong(&[Fields(b"a  b", &[b"a", b"", b"b"])])
-}
+pub const FIELDS: &[Fields] = &[Fields(b"a  b", &[b"a", b"", b"b"])];

@@ -1,11 +1,11 @@
 //! What is printed: lines, faults, and more than is held.
 use crate::tests::fakes::ShortWriter;
+use crate::tests::{Row, Words, displays};
 use oca_script::{LineFault, Printer, ReadFailed, ReplayFault, Stop, WriteFailed};
 use std::alloc::Global;
-use std::fmt::Display;
 
 /// Whether the parts of a line are taken once they are handed on.
-fn prints_a_line() -> bool {
+pub fn prints_a_line() -> bool {
     let mut line = Printer::new(ShortWriter::new(1000, usize::MAX));
     line.put(b"> ");
     line.put_hex(b"\x3b\xfA");
@@ -20,7 +20,7 @@ fn prints_a_line() -> bool {
 
 /// A call of a printer, and what it must answer.
 #[derive(Clone, Copy)]
-enum Step {
+pub enum Step {
     /// Prints bytes.
     Prints(&'static [u8], Result<(), WriteFailed>),
     /// Makes room for so many bytes.
@@ -40,7 +40,7 @@ fn make_room(to: &mut Printer<ShortWriter>, room: usize) -> Option<Result<(), Wr
 }
 
 /// Whether the call is answered so.
-fn agrees(to: &mut Printer<ShortWriter>, step: Step) -> bool {
+fn is_answered(to: &mut Printer<ShortWriter>, step: Step) -> bool {
     match step {
         Prints(bytes, answer) => to.print(bytes) == answer,
         MakesRoom(room, answer) => make_room(to, room) == Some(answer),
@@ -48,15 +48,20 @@ fn agrees(to: &mut Printer<ShortWriter>, step: Step) -> bool {
     }
 }
 
-/// The first call that is answered otherwise, of a printer to a writer that takes at most so many bytes in a call.
-fn first_wrong(most: usize, steps: &[Step]) -> Option<usize> {
-    let mut to = Printer::new(ShortWriter::new(most, usize::MAX));
-    for (at, step) in steps.iter().enumerate() {
-        if !agrees(&mut to, *step) {
-            return Some(at);
+/// Calls of a printer to a writer that takes at most so many bytes in a call.
+pub struct Calls(usize, &'static [Step]);
+
+impl Row for Calls {
+    /// Whether each call is answered so.
+    fn agrees(&self, _alloc: Global) -> bool {
+        let mut to = Printer::new(ShortWriter::new(self.0, usize::MAX));
+        for step in self.1 {
+            if !is_answered(&mut to, *step) {
+                return false;
+            }
         }
+        true
     }
-    None
 }
 
 // What is more than is held goes to the writer, which has room for 16,384 bytes.
@@ -71,89 +76,61 @@ const MORE: &[Step] = &[
     MakesRoom(8192, Err(WriteFailed)),
 ];
 
-/// The first row that is otherwise: more than is held.
-pub fn more_than_is_held() -> Option<usize> {
-    first_wrong(5000, MORE)
-}
+pub const MORE_ROWS: &[Calls] = &[Calls(5000, MORE)];
 
-/// Whether the fault displays its word.
-fn displays(alloc: Global, fault: LineFault) -> bool {
-    match format!(in alloc; "{fault}") {
-        Ok(text) => text.as_str() == fault.word(),
-        Err(_) => false,
+/// A fault of a line, which displays its word.
+pub struct OfLine(LineFault);
+
+impl Row for OfLine {
+    /// Whether it displays its word.
+    fn agrees(&self, alloc: Global) -> bool {
+        displays(alloc, &self.0, self.0.word())
     }
 }
 
-/// The first of these faults that does not display its word.
-fn first_undisplayed(alloc: Global, faults: &[LineFault]) -> Option<usize> {
-    for (at, fault) in faults.iter().enumerate() {
-        if !displays(alloc, *fault) {
-            return Some(at);
-        }
-    }
-    None
-}
+/// A fault of a line, and its word.
+pub struct HasWord(LineFault, &'static str);
 
-/// Whether the fault has this text and this number.
-fn is_told(alloc: Global, fault: ReplayFault, wanted: &str, number: u8) -> bool {
-    match format!(in alloc; "{fault}") {
-        Ok(text) => text.as_str() == wanted && fault.number() == number,
-        Err(_) => false,
+impl Row for HasWord {
+    /// Whether this is its word.
+    fn agrees(&self, _alloc: Global) -> bool {
+        self.0.word() == self.1
     }
 }
 
-/// The first of these faults that has another text or number.
-fn first_untold(alloc: Global, rows: &[(ReplayFault, &str, u8)]) -> Option<usize> {
-    for (at, row) in rows.iter().enumerate() {
-        let (fault, text, number) = *row;
-        if !is_told(alloc, fault, text, number) {
-            return Some(at);
-        }
-    }
-    None
-}
+/// A fault of a replay, its text and its number.
+pub struct OfReplay(ReplayFault, &'static str, u8);
 
-/// Whether a fault displays this text.
-fn reads<D: Display>(alloc: Global, fault: &D, wanted: &str) -> bool {
-    match format!(in alloc; "{fault}") {
-        Ok(text) => text.as_str() == wanted,
-        Err(_) => false,
+impl Row for OfReplay {
+    /// Whether it has this text and this number.
+    fn agrees(&self, alloc: Global) -> bool {
+        displays(alloc, &self.0, self.1) && self.0.number() == self.2
     }
 }
 
-const OF_LINES: &[LineFault] = &[
-    LineFault::TooLong,
-    LineFault::Form,
-    LineFault::Moment,
-    LineFault::Number,
-    LineFault::Peer,
-    LineFault::Hex,
+pub const OF_LINES: &[OfLine] = &[
+    OfLine(LineFault::TooLong),
+    OfLine(LineFault::Form),
+    OfLine(LineFault::Moment),
+    OfLine(LineFault::Number),
+    OfLine(LineFault::Peer),
+    OfLine(LineFault::Hex),
 ];
 
-const OF_REPLAYS: &[(ReplayFault, &str, u8)] = &[
-    (ReplayFault::Line(7, LineFault::Hex), "line 7: hex", 1),
-    (ReplayFault::Read, "read failed", 2),
-    (ReplayFault::Write, "write failed", 3),
-    (ReplayFault::TooMuch, "too much input", 4),
+pub const OF_REPLAYS: &[OfReplay] = &[
+    OfReplay(ReplayFault::Line(7, LineFault::Hex), "line 7: hex", 1),
+    OfReplay(ReplayFault::Read, "read failed", 2),
+    OfReplay(ReplayFault::Write, "write failed", 3),
+    OfReplay(ReplayFault::TooMuch, "too much input", 4),
 ];
 
-/// Whether the words of single faults are these.
-fn are_read(alloc: Global) -> bool {
-    LineFault::TooLong.word() == "too long"
-        && reads(alloc, &Stop::Line(LineFault::Peer), "peer")
-        && reads(alloc, &Stop::Write, "write failed")
-        && reads(alloc, &ReadFailed, "read failed")
-        && reads(alloc, &WriteFailed, "write failed")
-}
+pub const WORDS: &[HasWord] = &[HasWord(LineFault::TooLong, "too long")];
 
-/// Whether faults are told so.
-fn are_told(alloc: Global) -> bool {
-    first_undisplayed(alloc, OF_LINES).is_none()
-        && first_untold(alloc, OF_REPLAYS).is_none()
-        && are_read(alloc)
-}
+pub const OF_STOPS: &[Words<Stop>] = &[
+    Words(Stop::Line(LineFault::Peer), "peer"),
+    Words(Stop::Write, "write failed"),
+];
 
-#[test]
-fn printed_lines_and_faults(rt: HostRuntime) {
-    assert!(rt; prints_a_line() && are_told(rt.alloc()));
-}
+pub const OF_READS: &[Words<ReadFailed>] = &[Words(ReadFailed, "read failed")];
+
+pub const OF_WRITES: &[Words<WriteFailed>] = &[Words(WriteFailed, "write failed")];

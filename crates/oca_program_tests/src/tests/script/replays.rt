@@ -1,12 +1,14 @@
 //! Lines in, lines out: how a script is cut, where its reads and writes fail, and which lines are refused.
 ghost use Rattle.std.specs.Prelude.{Ok};
 
+use crate::tests::Row;
 use crate::tests::fakes::{Discard, PatternReader, PieceReader, ShortWriter};
 use oca_script::lines::serve_lines;
 use oca_script::{
     FromReader, Language, LineFault, Printer, ReplayFault, Sink, Source, Stop, ToWriter,
     WriteFailed,
 };
+use std::alloc::Global;
 
 /// Prints each line as it is, with no line feed, and counts the lines.
 struct Echo;
@@ -61,7 +63,7 @@ struct Ends {
 }
 
 /// What came of a replay of SCRIPT.
-#[derive(Clone, Copy, PartialEq, Eq)]
+#[derive(Clone, Copy)]
 struct Outcome {
     ended: Ended,
     /// How many lines were served.
@@ -110,28 +112,25 @@ fn is_whole(piece: usize) -> bool {
         most: piece,
         room: usize::MAX,
     };
-    let whole = Outcome {
-        ended: Ok(()),
-        lines: 3,
-        taken: TEXT.len(),
-        unread: 0,
-    };
-    replay(ends) == Some(whole)
+    match replay(ends) {
+        Some(outcome) => {
+            outcome.ended == Ok(())
+                && outcome.lines == 3
+                && outcome.taken == TEXT.len()
+                && outcome.unread == 0
+        }
+        None => false,
+    }
 }
 
 /// The first size of pieces in which SCRIPT is not replayed whole.
-fn first_broken(most: usize) -> Option<usize> {
-    for piece in 1..most {
+pub fn first_broken() -> Option<usize> {
+    for piece in 1..30 {
         if !is_whole(piece) {
             return Some(piece);
         }
     }
     None
-}
-
-/// The first row that is otherwise: pieces of each size.
-pub fn pieces_of_each_size() -> Option<usize> {
-    first_broken(30)
 }
 
 /// Whether a read that fails behind so many bytes ends the replay, with so many lines served and bytes taken.
@@ -164,7 +163,7 @@ fn served_before(place: usize) -> (u64, usize) {
 }
 
 /// The first place of SCRIPT at which a failed read does something else.
-fn first_misread() -> Option<usize> {
+pub fn first_misread() -> Option<usize> {
     for place in 0..SCRIPT.len() {
         let (lines, taken) = served_before(place);
         if !fails_to_read(place, lines, taken) {
@@ -172,11 +171,6 @@ fn first_misread() -> Option<usize> {
         }
     }
     None
-}
-
-/// The first row that is otherwise: read fails at each place.
-pub fn read_fails_at_each_place() -> Option<usize> {
-    first_misread()
 }
 
 /// Whether a write that fails behind so many bytes ends the replay, with those taken.
@@ -194,18 +188,13 @@ fn fails_to_write(place: usize) -> bool {
 }
 
 /// The first place of TEXT at which a failed write does something else.
-fn first_miswritten() -> Option<usize> {
+pub fn first_miswritten() -> Option<usize> {
     for place in 0..TEXT.len() {
         if !fails_to_write(place) {
             return Some(place);
         }
     }
     None
-}
-
-/// The first row that is otherwise: write fails at each place.
-pub fn write_fails_at_each_place() -> Option<usize> {
-    first_miswritten()
 }
 
 /// How a replay of SCRIPT through a reader into this writer ends.
@@ -225,8 +214,8 @@ fn ends_through_writer(place: usize, takes_nothing: bool, ended: Ended) -> bool 
     replay_into(&mut short) == ended && front_taken(&short) == Some(place)
 }
 
-/// The first room at which a replay through a writer ends otherwise.
-fn first_mistaken(takes_nothing: bool) -> Option<usize> {
+/// The first room at which a replay through a writer ends otherwise: a write that takes nothing is a failed one.
+pub fn first_mistaken(takes_nothing: bool) -> Option<usize> {
     for place in 0..TEXT.len() + 1 {
         let ended = if place == TEXT.len() {
             Ok(())
@@ -240,36 +229,31 @@ fn first_mistaken(takes_nothing: bool) -> Option<usize> {
     None
 }
 
-/// How a replay through a reader ends that fails behind eight bytes.
-fn replay_through_reader() -> Ended {
+/// Whether a replay through a reader that fails behind eight bytes ends with a failed read.
+pub fn ends_through_reader() -> bool {
     let mut lines = 0;
     let mut from = FromReader::new(PieceReader::new(SCRIPT, 5, 8));
     let mut to = Printer::new(Discard);
-    serve_lines::<Echo, FromReader<PieceReader>, Discard>(&mut lines, &mut 0, &mut from, &mut to)
+    let ended = serve_lines::<Echo, FromReader<PieceReader>, Discard>(
+        &mut lines, &mut 0, &mut from, &mut to,
+    );
+    ended == Err(ReplayFault::Read)
 }
 
-/// Whether the same holds through a reader and a writer: a write that takes nothing is a failed one.
-fn are_readers_and_writers() -> bool {
-    first_mistaken(false).is_none()
-        && first_mistaken(true).is_none()
-        && replay_through_reader() == Err(ReplayFault::Read)
-}
-
-/// How a replay ends in which nothing can be written, and how many bytes it does not read, in pieces of four.
-fn replay_without_room() -> Option<(Ended, usize)> {
-    let outcome = replay(Ends {
-        piece: 4,
-        before_fault: usize::MAX,
-        most: 1000,
-        room: 0,
-    })?;
-    Some((outcome.ended, outcome.unread))
-}
+/// A replay in pieces of four in which nothing can be written.
+const WITHOUT_ROOM: Ends = Ends {
+    piece: 4,
+    before_fault: usize::MAX,
+    most: 1000,
+    room: 0,
+};
 
 /// Whether the second read does not come where the first line's text can't be written.
-fn is_written_before_a_read() -> bool {
-    match replay_without_room() {
-        Some((ended, unread)) => ended == Err(ReplayFault::Write) && unread == SCRIPT.len() - 4,
+pub fn is_written_before_a_read() -> bool {
+    match replay(WITHOUT_ROOM) {
+        Some(outcome) => {
+            outcome.ended == Err(ReplayFault::Write) && outcome.unread == SCRIPT.len() - 4
+        }
         None => false,
     }
 }
@@ -286,66 +270,58 @@ fn replayed(script: &[u8]) -> (u64, Ended) {
 }
 
 /// A script, how many of its lines are served, and how it ends.
-type Row = (&'static [u8], u64, Ended);
+pub struct Served(&'static [u8], u64, Ended);
 
-/// The first script that ends otherwise.
-fn first_wrong(rows: &[Row]) -> Option<usize> {
-    for (at, row) in rows.iter().enumerate() {
-        let (script, lines, ended) = *row;
-        if replayed(script) != (lines, ended) {
-            return Some(at);
-        }
+impl Row for Served {
+    /// Whether so many are served, and it ends so.
+    fn agrees(&self, _alloc: Global) -> bool {
+        replayed(self.0) == (self.1, self.2)
     }
-    None
 }
 
 /// The first line is refused since it is too long.
 const TOO_LONG: Ended = Err(ReplayFault::Line(1, LineFault::TooLong));
 
-const FORMS: &[Row] = &[
-    (b"", 0, Ok(())),
-    (b"\n\n\n", 0, Ok(())),
-    (b"\r\n", 1, Ok(())),
-    (
+pub const FORMS: &[Served] = &[
+    Served(b"", 0, Ok(())),
+    Served(b"\n\n\n", 0, Ok(())),
+    Served(b"\r\n", 1, Ok(())),
+    Served(
         b"a\n#\xff\nb\x80",
         1,
         Err(ReplayFault::Line(3, LineFault::Form)),
     ),
-    (b" #\n", 1, Ok(())),
+    Served(b" #\n", 1, Ok(())),
 ];
 
-/// The first row that is otherwise: form of a line.
-pub fn form_of_a_line() -> Option<usize> {
-    first_wrong(FORMS)
-}
-
-const LENGTHS: &[Row] = &[
-    (&[b'#'; 4096], 0, Ok(())),
-    (&[b'#'; 4097], 0, TOO_LONG),
-    (&[b'a'; 4096], 1, Ok(())),
-    (&[b'a'; 4097], 0, TOO_LONG),
+pub const LENGTHS: &[Served] = &[
+    Served(&[b'#'; 4096], 0, Ok(())),
+    Served(&[b'#'; 4097], 0, TOO_LONG),
+    Served(&[b'a'; 4096], 1, Ok(())),
+    Served(&[b'a'; 4097], 0, TOO_LONG),
 ];
 
-/// Replays a line of 4,096 bytes that begins so, and one of a single byte behind it.
-fn replayed_after(first: u8) -> (u64, Ended) {
-    let mut lines = [b'a'; 4098];
-    lines[4096] = b'\n';
-    lines[0] = first;
-    replayed(&lines)
+/// How a line of 4,096 bytes begins, how many lines are served of it and one of a single byte behind it, and how that
+/// ends.
+pub struct After(u8, u64, Ended);
+
+impl Row for After {
+    /// Whether so many are served, and it ends so.
+    fn agrees(&self, _alloc: Global) -> bool {
+        let mut lines = [b'a'; 4098];
+        lines[4096] = b'\n';
+        lines[0] = self.0;
+        replayed(&lines) == (self.1, self.2)
+    }
 }
 
-/// Whether a line of 4,096 bytes is served, and refused where it has no form of one.
-fn are_lengths_of_lines() -> bool {
-    replayed_after(b'a') == (2, Ok(()))
-        && replayed_after(0xff) == (0, Err(ReplayFault::Line(1, LineFault::Form)))
-}
+/// A line of 4,096 bytes is served, and refused where it has no form of one.
+pub const AFTER: &[After] = &[
+    After(b'a', 2, Ok(())),
+    After(0xff, 0, Err(ReplayFault::Line(1, LineFault::Form))),
+];
 
-/// The first script of a long line that ends otherwise.
-fn first_long() -> Option<usize> {
-    first_wrong(LENGTHS)
-}
-
-/// The same for a pattern that is given again and again.
+/// The lines that were served of a pattern that is given again and again, and how the replay ended.
 fn replayed_pattern(pattern: &[u8], count: usize) -> (u64, Ended) {
     let mut lines = 0;
     let mut from = PatternReader {
@@ -358,26 +334,34 @@ fn replayed_pattern(pattern: &[u8], count: usize) -> (u64, Ended) {
     (lines, ended)
 }
 
-/// The same for lines of 99 bytes.
-fn replayed_lines(count: usize) -> (u64, Ended) {
-    let mut lines = [b'a'; 4000];
-    for i in 0..40usize {
-        lines[100 * i + 99] = b'\n';
+/// Of how many bytes in lines of 99 how many lines are served, and how that ends.
+pub struct Lines(usize, u64, Ended);
+
+impl Row for Lines {
+    /// Whether so many are served, and it ends so.
+    fn agrees(&self, _alloc: Global) -> bool {
+        let mut lines = [b'a'; 4000];
+        for i in 0..40usize {
+            lines[100 * i + 99] = b'\n';
+        }
+        replayed_pattern(&lines, self.0) == (self.1, self.2)
     }
-    replayed_pattern(&lines, count)
 }
 
-/// Whether a script of 16,777,216 bytes is served, and one of more is not.
-fn are_lengths_of_scripts() -> bool {
-    replayed_lines(16_777_216) == (167_773, Ok(()))
-        && replayed_lines(16_777_217) == (167_772, Err(ReplayFault::TooMuch))
-        && replayed_pattern(b"#", 99_999_999) == (0, TOO_LONG)
-}
+/// A script of 16,777,216 bytes is served, and one of more is not.
+pub const LINES: &[Lines] = &[
+    Lines(16_777_216, 167_773, Ok(())),
+    Lines(16_777_217, 167_772, Err(ReplayFault::TooMuch)),
+];
 
-#[test]
-fn ends_and_lengths(rt: HostRuntime) {
-    assert!(rt; are_readers_and_writers());
-    assert!(rt; is_written_before_a_read());
-    assert!(rt; are_lengths_of_lines() && first_long().is_none());
-    assert!(rt; are_lengths_of_scripts());
+/// Of a pattern that is given up to so many bytes how many lines are served, and how that ends.
+pub struct Pattern(&'static [u8], usize, u64, Ended);
+
+pub const PATTERNS: &[Pattern] = &[Pattern(b"#", 99_999_999, 0, TOO_LONG)];
+
+impl Row for Pattern {
+    /// Whether so many are served, and it ends so.
+    fn agrees(&self, _alloc: Global) -> bool {
+        replayed_pattern(self.0, self.1) == (self.2, self.3)
+    }
 }

@@ -1,17 +1,15 @@
 //! How many objects a text lists, and the fault of each line that lists none.
+use crate::tests::{Row, Words};
 use oca_textree::{ObjectFault, TreeFault, tree_from_text};
 use std::alloc::Global;
-
-/// A text, and how many objects it lists with the root, or the line of its first fault and the fault.
-type Case = (&'static [u8], Result<usize, (u64, ObjectFault)>);
 
 /// How many objects a text lists with the root, or its first fault.
 fn listed(alloc: Global, text: &[u8]) -> Result<usize, TreeFault> {
     Ok(tree_from_text(alloc, text)?.len())
 }
 
-/// Whether a text lists so.
-fn lists_so(alloc: Global, text: &[u8], want: Result<usize, (u64, ObjectFault)>) -> bool {
+/// Whether a text lists so many objects with the root, or has its first fault on this line.
+pub fn lists_so(alloc: Global, text: &[u8], want: Result<usize, (u64, ObjectFault)>) -> bool {
     match (listed(alloc, text), want) {
         (Ok(found), Ok(objects)) => found == objects,
         (Err(found), Err((line, fault))) => found == TreeFault::Line(line, fault),
@@ -19,139 +17,127 @@ fn lists_so(alloc: Global, text: &[u8], want: Result<usize, (u64, ObjectFault)>)
     }
 }
 
-/// The first case that comes out otherwise.
-fn first_wrong_case(alloc: Global, cases: &[Case]) -> Option<usize> {
-    for (at, (text, want)) in cases.iter().enumerate() {
-        if !lists_so(alloc, text, *want) {
-            return Some(at);
-        }
+/// A text, and how many objects it lists with the root, or the line of its first fault and the fault.
+pub struct Lists(pub &'static [u8], pub Result<usize, (u64, ObjectFault)>);
+
+impl Row for Lists {
+    /// Whether it lists so.
+    fn agrees(&self, alloc: Global) -> bool {
+        lists_so(alloc, self.0, self.1)
     }
-    None
 }
 
-const NOTHING: &[Case] = &[
-    (b"", Ok(1)),
-    (b"\n", Ok(1)),
-    (b"# \xff\x01", Ok(1)),
-    (b"\n\n#\n", Ok(1)),
+pub const NOTHING: &[Lists] = &[
+    Lists(b"", Ok(1)),
+    Lists(b"\n", Ok(1)),
+    Lists(b"# \xff\x01", Ok(1)),
+    Lists(b"\n\n#\n", Ok(1)),
 ];
 
-/// The first row that is otherwise: nothing is listed.
-pub fn nothing_is_listed(alloc: Global) -> Option<usize> {
-    first_wrong_case(alloc, NOTHING)
-}
-
-const FORMS: &[Case] = &[
-    (b"4096", Err((1, ObjectFault::Form))),
-    (b"4096 ", Err((1, ObjectFault::Number))),
-    (b"4096 100", Err((1, ObjectFault::Form))),
-    (b"4096 100 block", Err((1, ObjectFault::Form))),
-    (b"4096 100 block lockable", Err((1, ObjectFault::Form))),
-    (b"4096 100 block lockable a b", Err((1, ObjectFault::Form))),
-    (b"4096 100 block lockable \"a", Err((1, ObjectFault::Form))),
-    (
+pub const FORMS: &[Lists] = &[
+    Lists(b"4096", Err((1, ObjectFault::Form))),
+    Lists(b"4096 ", Err((1, ObjectFault::Number))),
+    Lists(b"4096 100", Err((1, ObjectFault::Form))),
+    Lists(b"4096 100 block", Err((1, ObjectFault::Form))),
+    Lists(b"4096 100 block lockable", Err((1, ObjectFault::Form))),
+    Lists(b"4096 100 block lockable a b", Err((1, ObjectFault::Form))),
+    Lists(b"4096 100 block lockable \"a", Err((1, ObjectFault::Form))),
+    Lists(
         b"4096 100 block lockable \"a\"b",
         Err((1, ObjectFault::Form)),
     ),
-    (b"4096 100 block lockable a\r", Err((1, ObjectFault::Form))),
-    (b"4096 100 block lockable a\t", Err((1, ObjectFault::Form))),
-    (b"4096 100 mute muted", Err((1, ObjectFault::Form))),
-    (b"4096 100 switch a", Err((1, ObjectFault::Form))),
-    (b"4096 100 int8 0 1", Err((1, ObjectFault::Form))),
+    Lists(b"4096 100 block lockable a\r", Err((1, ObjectFault::Form))),
+    Lists(b"4096 100 block lockable a\t", Err((1, ObjectFault::Form))),
+    Lists(b"4096 100 mute muted", Err((1, ObjectFault::Form))),
+    Lists(b"4096 100 switch a", Err((1, ObjectFault::Form))),
+    Lists(b"4096 100 int8 0 1", Err((1, ObjectFault::Form))),
 ];
 
-/// The first row that is otherwise: lines that are not of the form.
-pub fn lines_that_are_not_of_the_form(alloc: Global) -> Option<usize> {
-    first_wrong_case(alloc, FORMS)
-}
-
-const FIELDS: &[Case] = &[
-    (b"x 100 block lockable a", Err((1, ObjectFault::Number))),
-    (
+pub const NUMBERS: &[Lists] = &[
+    Lists(b"x 100 block lockable a", Err((1, ObjectFault::Number))),
+    Lists(
         b"4294967296 100 block lockable a",
         Err((1, ObjectFault::Number)),
     ),
-    (
+    Lists(
         b"00000004096 100 block lockable a",
         Err((1, ObjectFault::Number)),
     ),
-    (b"4096  100 block lockable a", Err((1, ObjectFault::Number))),
-    (b"4096 -1 block lockable a", Err((1, ObjectFault::Number))),
-    (b"4096 100 gain lockable a", Err((1, ObjectFault::Class))),
-    (b"4096 100 Block lockable a", Err((1, ObjectFault::Class))),
-    (b"4096 100 mute on lockable a", Err((1, ObjectFault::Value))),
-    (
+    Lists(b"4096  100 block lockable a", Err((1, ObjectFault::Number))),
+    Lists(b"4096 -1 block lockable a", Err((1, ObjectFault::Number))),
+    Lists(b"4096 100 gain lockable a", Err((1, ObjectFault::Class))),
+    Lists(b"4096 100 Block lockable a", Err((1, ObjectFault::Class))),
+    Lists(b"4096 100 mute on lockable a", Err((1, ObjectFault::Value))),
+    Lists(
         b"4096 100 polarity muted lockable a",
         Err((1, ObjectFault::Value)),
     ),
-    (
+    Lists(
         b"4096 100 boolean 1 lockable a",
         Err((1, ObjectFault::Value)),
     ),
-    (
+    Lists(
         b"4096 100 switch a,b c lockable a",
         Err((1, ObjectFault::Value)),
     ),
-    (
+    Lists(
         b"4096 100 switch a,b 1 lockable a",
         Err((1, ObjectFault::Value)),
     ),
-    (
+    Lists(
         b"4096 100 int8 -129 127 0 lockable a",
         Err((1, ObjectFault::Number)),
     ),
-    (
+];
+
+pub const FIELDS: &[Lists] = &[
+    Lists(
         b"4096 100 int8 -128 128 0 lockable a",
         Err((1, ObjectFault::Number)),
     ),
-    (
+    Lists(
         b"4096 100 uint8 -1 1 0 lockable a",
         Err((1, ObjectFault::Number)),
     ),
-    (
+    Lists(
         b"4096 100 uint8 0 256 0 lockable a",
         Err((1, ObjectFault::Number)),
     ),
-    (
+    Lists(
         b"4096 100 int16 +1 2 1 lockable a",
         Err((1, ObjectFault::Number)),
     ),
-    (
+    Lists(
         b"4096 100 int16 - 2 1 lockable a",
         Err((1, ObjectFault::Number)),
     ),
-    (b"4096 100 block yes a", Err((1, ObjectFault::Lockable))),
-    (b"4096 100 block lockable \xff", Err((1, ObjectFault::Text))),
-    (
+    Lists(b"4096 100 block yes a", Err((1, ObjectFault::Lockable))),
+    Lists(b"4096 100 block lockable \xff", Err((1, ObjectFault::Text))),
+    Lists(
         b"4096 100 block lockable a\x7f",
         Err((1, ObjectFault::Text)),
     ),
-    (
+    Lists(
         b"4096 100 block lockable \xc2\x9b",
         Err((1, ObjectFault::Text)),
     ),
-    (
+    Lists(
         b"4096 100 block lockable a\xe2\x80\xa8b",
         Err((1, ObjectFault::Text)),
     ),
-    (
+    Lists(
         b"4096 100 switch a,\xe2\x80\xaeb a lockable a",
         Err((1, ObjectFault::Text)),
     ),
-    (b"4096 100 block lockable a\\n\xc2\xa0", Ok(2)),
-    (
+    Lists(b"4096 100 block lockable a\\n\xc2\xa0", Ok(2)),
+    Lists(
         b"4096 100 switch a,\xff a lockable a",
         Err((1, ObjectFault::Text)),
     ),
 ];
 
-/// The first row that is otherwise: fields with faults.
-pub fn fields_with_faults(alloc: Global) -> Option<usize> {
-    first_wrong_case(alloc, FIELDS)
-}
-
 /// A line behind a comment and two objects, and its fault.
-type Fourth = (&'static [u8], ObjectFault);
+pub struct Fourth(&'static [u8], ObjectFault);
 
 const FRONT: &[u8] = b"# two\n4096 100 block lockable desk\n4097 4096 mute muted lockable a\n";
 
@@ -160,63 +146,45 @@ fn put_behind(text: &mut Vec<u8>, line: &[u8]) -> bool {
     text.extend_from_slice(FRONT).is_ok() && text.extend_from_slice(line).is_ok()
 }
 
-/// Whether a line behind these three is the first with a fault, and this its fault.
-fn refuses_behind(alloc: Global, line: &[u8], fault: ObjectFault) -> bool {
-    let mut text = Vec::new(alloc);
-    put_behind(&mut text, line) && lists_so(alloc, text.as_slice(), Err((4, fault)))
-}
-
-/// The first line with another fault.
-fn first_wrong_fourth(alloc: Global, lines: &[Fourth]) -> Option<usize> {
-    for (at, (line, fault)) in lines.iter().enumerate() {
-        if !refuses_behind(alloc, line, *fault) {
-            return Some(at);
-        }
+impl Row for Fourth {
+    /// Whether the line behind these three is the first with a fault, and this its fault.
+    fn agrees(&self, alloc: Global) -> bool {
+        let mut text = Vec::new(alloc);
+        put_behind(&mut text, self.0) && lists_so(alloc, text.as_slice(), Err((4, self.1)))
     }
-    None
 }
 
-const REFUSALS: &[Fourth] = &[
-    (b"4095 100 block lockable a", ObjectFault::Reserved),
-    (b"4097 100 mute muted lockable a", ObjectFault::Taken),
-    (b"4098 4099 mute muted lockable a", ObjectFault::Container),
-    (b"4098 4097 mute muted lockable a", ObjectFault::Container),
-    (b"4098 0 mute muted lockable a", ObjectFault::Container),
-    (b"4098 100 mute muted lockable ", ObjectFault::Text),
-    (b"4098 100 mute muted lockable \"\"", ObjectFault::Text),
-    (b"4098 100 int8 1 0 0 lockable a", ObjectFault::Range),
-    (b"4098 100 int8 0 1 2 lockable a", ObjectFault::Range),
-    (
+pub const REFUSALS: &[Fourth] = &[
+    Fourth(b"4095 100 block lockable a", ObjectFault::Reserved),
+    Fourth(b"4097 100 mute muted lockable a", ObjectFault::Taken),
+    Fourth(b"4098 4099 mute muted lockable a", ObjectFault::Container),
+    Fourth(b"4098 4097 mute muted lockable a", ObjectFault::Container),
+    Fourth(b"4098 0 mute muted lockable a", ObjectFault::Container),
+    Fourth(b"4098 100 mute muted lockable ", ObjectFault::Text),
+    Fourth(b"4098 100 mute muted lockable \"\"", ObjectFault::Text),
+    Fourth(b"4098 100 int8 1 0 0 lockable a", ObjectFault::Range),
+    Fourth(b"4098 100 int8 0 1 2 lockable a", ObjectFault::Range),
+    Fourth(
         b"4098 100 switch 1,2,3,4,5,6,7,8,9,10,11,12,13,14,15,16,17 1 lockable a",
         ObjectFault::Range,
     ),
 ];
 
-/// The first row that is otherwise: objects that are refused.
-pub fn objects_that_are_refused(alloc: Global) -> Option<usize> {
-    first_wrong_fourth(alloc, REFUSALS)
-}
-
 // A role of 64 bytes, and one of 65.
-const LONG_TEXTS: &[Case] = &[
-    (
+pub const LONG_TEXTS: &[Lists] = &[
+    Lists(
         b"4096 100 block lockable aaaaaaaaaaaaaaaaaaaaaaaaaaaaaaaaaaaaaaaaaaaaaaaaaaaaaaaaaaaaaaaa",
         Ok(2),
     ),
-    (
+    Lists(
         b"4096 100 block lockable aaaaaaaaaaaaaaaaaaaaaaaaaaaaaaaaaaaaaaaaaaaaaaaaaaaaaaaaaaaaaaaaa",
         Err((1, ObjectFault::Text)),
     ),
 ];
 
-/// The first row that is otherwise: long texts.
-pub fn long_texts(alloc: Global) -> Option<usize> {
-    first_wrong_case(alloc, LONG_TEXTS)
-}
-
 // Blocks within blocks, down to depth 8, and one more.
-const DEPTHS: &[Case] = &[
-    (
+pub const DEPTHS: &[Lists] = &[
+    Lists(
         b"4096 100 block lockable a
 4097 4096 block lockable a
 4098 4097 block lockable a
@@ -227,7 +195,7 @@ const DEPTHS: &[Case] = &[
 4103 4102 block lockable a",
         Err((8, ObjectFault::Depth)),
     ),
-    (
+    Lists(
         b"4096 100 block lockable a
 4097 4096 block lockable a
 4098 4097 block lockable a
@@ -238,11 +206,6 @@ const DEPTHS: &[Case] = &[
         Ok(8),
     ),
 ];
-
-/// The first row that is otherwise: depths.
-pub fn depths(alloc: Global) -> Option<usize> {
-    first_wrong_case(alloc, DEPTHS)
-}
 
 /// Adds a line for an object.
 fn add_line(alloc: Global, text: &mut String, ono: u32) -> bool {
@@ -263,7 +226,7 @@ fn add_most_lines(alloc: Global, text: &mut String) -> bool {
 }
 
 /// Whether 4,096 objects with the root are listed, and a line more is refused.
-fn lists_4096(alloc: Global) -> bool {
+pub fn lists_4096(alloc: Global) -> bool {
     let mut text = String::new(alloc);
     add_most_lines(alloc, &mut text)
         && lists_so(alloc, text.as_bytes(), Ok(4096))
@@ -271,59 +234,31 @@ fn lists_4096(alloc: Global) -> bool {
         && lists_so(alloc, text.as_bytes(), Err((4096, ObjectFault::Full)))
 }
 
-#[test]
-fn many_objects(rt: HostRuntime) {
-    assert!(rt; lists_4096(rt.alloc()));
-}
-
-/// Whether a fault displays this text.
-fn displays(alloc: Global, fault: TreeFault, wanted: &str) -> bool {
-    match format!(in alloc; "{fault}") {
-        Ok(text) => text.as_str() == wanted,
-        Err(_) => false,
-    }
-}
-
-/// The first fault that displays another text.
-fn first_undisplayed(alloc: Global, rows: &[(TreeFault, &str)]) -> Option<usize> {
-    for (at, (fault, wanted)) in rows.iter().enumerate() {
-        if !displays(alloc, *fault, wanted) {
-            return Some(at);
-        }
-    }
-    None
-}
-
-const DISPLAYED: &[(TreeFault, &str)] = &[
-    (TreeFault::Line(1, ObjectFault::Form), "line 1: form"),
-    (TreeFault::Line(2, ObjectFault::Number), "line 2: number"),
-    (TreeFault::Line(3, ObjectFault::Class), "line 3: class"),
-    (TreeFault::Line(4, ObjectFault::Value), "line 4: value"),
-    (
+pub const DISPLAYED: &[Words<TreeFault>] = &[
+    Words(TreeFault::Line(1, ObjectFault::Form), "line 1: form"),
+    Words(TreeFault::Line(2, ObjectFault::Number), "line 2: number"),
+    Words(TreeFault::Line(3, ObjectFault::Class), "line 3: class"),
+    Words(TreeFault::Line(4, ObjectFault::Value), "line 4: value"),
+    Words(
         TreeFault::Line(5, ObjectFault::Lockable),
         "line 5: lockable",
     ),
-    (TreeFault::Line(6, ObjectFault::Text), "line 6: text"),
-    (TreeFault::Line(7, ObjectFault::Full), "line 7: full"),
-    (
+    Words(TreeFault::Line(6, ObjectFault::Text), "line 6: text"),
+    Words(TreeFault::Line(7, ObjectFault::Full), "line 7: full"),
+    Words(
         TreeFault::Line(8, ObjectFault::Reserved),
         "line 8: reserved",
     ),
-    (TreeFault::Line(9, ObjectFault::Taken), "line 9: taken"),
-    (
+    Words(TreeFault::Line(9, ObjectFault::Taken), "line 9: taken"),
+    Words(
         TreeFault::Line(10, ObjectFault::Container),
         "line 10: container",
     ),
-    (TreeFault::Line(11, ObjectFault::Depth), "line 11: depth"),
-    (TreeFault::Line(12, ObjectFault::Range), "line 12: range"),
-    (
+    Words(TreeFault::Line(11, ObjectFault::Depth), "line 11: depth"),
+    Words(TreeFault::Line(12, ObjectFault::Range), "line 12: range"),
+    Words(
         TreeFault::Line(u64::MAX, ObjectFault::NoMemory),
         "line 18446744073709551615: no memory",
     ),
-    (TreeFault::NoMemory, "no memory"),
+    Words(TreeFault::NoMemory, "no memory"),
 ];
-
-/// The first row that is otherwise: displayed faults.
-pub fn displayed_faults(alloc: Global) -> Option<usize> {
-    first_undisplayed(alloc, DISPLAYED)
-}

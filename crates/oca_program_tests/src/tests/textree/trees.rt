@@ -1,4 +1,5 @@
 //! The trees that lines list.
+use crate::tests;
 use oca_textree::tree_from_text;
 use oca_tree::{Setting, Tree};
 use oca_types::{Class, Ono};
@@ -23,7 +24,7 @@ const ALL: &[u8] = b"# a desk
 
 /// What is read of a tree.
 #[derive(Clone, Copy)]
-enum Row {
+pub enum Part {
     /// How many objects there are.
     Len(usize),
     /// The object with this number is set so.
@@ -34,7 +35,7 @@ enum Row {
     Shows(usize, u32, u32, Class, &'static str),
 }
 
-use Row::*;
+use Part::*;
 
 /// Whether the object at a place is so.
 fn shows(tree: &Tree, place: usize, ono: u32, container: u32, class: Class, role: &str) -> bool {
@@ -48,8 +49,8 @@ fn shows(tree: &Tree, place: usize, ono: u32, container: u32, class: Class, role
 }
 
 /// Whether the tree is so.
-fn agrees(tree: &Tree, row: Row) -> bool {
-    match row {
+fn is_so(tree: &Tree, part: Part) -> bool {
+    match part {
         Len(count) => tree.len() == count,
         Set(ono, setting) => tree.setting_of(Ono(ono)) == Some(setting),
         Number(ono, setting, least, greatest) => {
@@ -66,25 +67,17 @@ fn agrees(tree: &Tree, row: Row) -> bool {
     }
 }
 
-/// The first row of which the tree is not.
-fn first_wrong_row(tree: &Tree, rows: &[Row]) -> Option<usize> {
-    for (at, row) in rows.iter().enumerate() {
-        if !agrees(tree, *row) {
-            return Some(at);
+impl tests::Row for Part {
+    /// Whether the tree of all classes is so.
+    fn agrees(&self, alloc: Global) -> bool {
+        match tree_from_text(alloc, ALL) {
+            Ok(tree) => is_so(&tree, *self),
+            Err(_) => false,
         }
     }
-    None
 }
 
-/// Whether nothing is wrong with the tree of a text, or the first row that is; without a tree one behind the last.
-fn wrong_row_of(alloc: Global, text: &[u8], rows: &[Row]) -> Option<usize> {
-    match tree_from_text(alloc, text) {
-        Ok(tree) => first_wrong_row(&tree, rows),
-        Err(_) => Some(rows.len()),
-    }
-}
-
-const CLASSES: &[Row] = &[
+pub const CLASSES: &[Part] = &[
     Len(14),
     Set(4097, Setting::State(2)),
     Set(4098, Setting::State(2)),
@@ -92,12 +85,7 @@ const CLASSES: &[Row] = &[
     Set(4100, Setting::Truth(true)),
 ];
 
-/// The first row that is otherwise: every class.
-pub fn every_class(alloc: Global) -> Option<usize> {
-    wrong_row_of(alloc, ALL, CLASSES)
-}
-
-const INTEGERS: &[Row] = &[
+pub const INTEGERS: &[Part] = &[
     Number(4101, -128, -128, 127),
     Number(4102, -1, -600, 600),
     Number(4103, 5, -2147483648, 2147483647),
@@ -111,12 +99,7 @@ const INTEGERS: &[Row] = &[
     Number(4294967295, 18446744073709551615, 0, 18446744073709551615),
 ];
 
-/// The first row that is otherwise: integers.
-pub fn integers(alloc: Global) -> Option<usize> {
-    wrong_row_of(alloc, ALL, INTEGERS)
-}
-
-const PLACES: &[Row] = &[
+pub const PLACES: &[Part] = &[
     Shows(0, 100, 0, Class::Block, "root"),
     Shows(1, 4096, 100, Class::Block, "the desk"),
     Shows(2, 4097, 4096, Class::Mute, "mute"),
@@ -124,8 +107,3 @@ const PLACES: &[Row] = &[
     Shows(4, 4099, 4096, Class::Switch, "input"),
     Shows(13, 4294967295, 100, Class::Uint64, "B\u{fc}hne"),
 ];
-
-/// The first row that is otherwise: places and roles.
-pub fn places_and_roles(alloc: Global) -> Option<usize> {
-    wrong_row_of(alloc, ALL, PLACES)
-}
