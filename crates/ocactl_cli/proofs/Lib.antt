@@ -9,3 +9,4 @@ mod HoldLemmas
 mod ProbeLemmas
 mod MatchLemmas
 mod SocketLemmas
+mod RowLemmas

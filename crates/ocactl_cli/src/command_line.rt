@@ -4,7 +4,8 @@ ghost use Rattle.clap.specs.Simple.{app_of, with_subcommand};
 ghost use Rattle.clap.specs.Walk.{rule_of};
 ghost use Rattle.oca_program.specs.Commands.{with_rules};
 ghost use Rattle.ocactl_cli.specs.CommandLine.{IsOwn, TakesApp, bare_program, hold_rule, own_app, with_shapes};
-ghost use Rattle.ocactl_cli.specs.CommandLine.{words_rule};
+ghost use Rattle.ocactl_cli.specs.CommandLine.{objects_rules, own_commands, replay_rules, run_rules, send_rules};
+ghost use Rattle.ocactl_cli.specs.CommandLine.{set_rules, words_rule};
 ghost use Rattle.ocactl_cli.specs.PrivateCommandLine.{further_rules, row_app, row_command, row_rule};
 
 use clap::{Arg, ArgAction, Command};
@@ -164,33 +165,6 @@ const PORT: OptionRow = OptionRow {
     required: false,
 };
 
-/// The options of `replay`.
-const REPLAY_OPTIONS: [OptionRow; 3] = [DEVICE, SPAN, OWN_FIRST_HANDLE];
-
-/// The options of `send`.
-const SEND_OPTIONS: [OptionRow; 11] = [
-    DEVICE,
-    SPAN,
-    FIRST_HANDLE,
-    IP,
-    TARGET,
-    LEVEL,
-    INDEX,
-    COUNT,
-    PARAMS,
-    SEND_TURNS,
-    SEND_PORT,
-];
-
-/// The options of `run`.
-const RUN_OPTIONS: [OptionRow; 6] = [DEVICE, SPAN, FIRST_HANDLE, IP, AHEAD, RUN_PORT];
-
-/// The options of `get`, `lock`, `unlock` and `tree`.
-const OBJECTS_OPTIONS: [OptionRow; 6] = [DEVICE, SPAN, FIRST_HANDLE, IP, TURNS, PORT];
-
-/// The options of `set`.
-const SET_OPTIONS: [OptionRow; 7] = [DEVICE, SPAN, FIRST_HANDLE, IP, TURNS, PORT, AHEAD];
-
 const TREE_EXAMPLE: &str =
     "Prints a line for each object: its ONo, its class identifier, the ONo of its
 container (0 for the root), and its role. If an object does not give its class
@@ -257,66 +231,6 @@ Exit status: 0 if each command was answered, 3 if one was not.
 
 Example: echo '4097 4 1 0 -' | ocactl run --device 127.0.0.1:65000";
 
-/// The commands, in the order of `--help`.
-const COMMANDS: [CommandRow; 8] = [
-    CommandRow {
-        name: "tree",
-        about: "Prints the objects of a device",
-        example: TREE_EXAMPLE,
-        options: &OBJECTS_OPTIONS,
-        further: Further::Nothing,
-    },
-    CommandRow {
-        name: "get",
-        about: "Prints the values of objects of a device",
-        example: GET_EXAMPLE,
-        options: &OBJECTS_OPTIONS,
-        further: Further::Objects,
-    },
-    CommandRow {
-        name: "set",
-        about: "Sets objects of a device",
-        example: SET_EXAMPLE,
-        options: &SET_OPTIONS,
-        further: Further::Values,
-    },
-    CommandRow {
-        name: "lock",
-        about: "Locks objects of a device",
-        example: LOCK_EXAMPLE,
-        options: &OBJECTS_OPTIONS,
-        further: Further::ObjectsToHold,
-    },
-    CommandRow {
-        name: "unlock",
-        about: "Releases the locks of objects of a device",
-        example: UNLOCK_EXAMPLE,
-        options: &OBJECTS_OPTIONS,
-        further: Further::Objects,
-    },
-    CommandRow {
-        name: "replay",
-        about: "Runs a controller's link over a script on standard input, without a network",
-        example: REPLAY_EXAMPLE,
-        options: &REPLAY_OPTIONS,
-        further: Further::Nothing,
-    },
-    CommandRow {
-        name: "send",
-        about: "Sends a command to a device and prints its answer: status, ParamCount, parameters",
-        example: SEND_EXAMPLE,
-        options: &SEND_OPTIONS,
-        further: Further::Nothing,
-    },
-    CommandRow {
-        name: "run",
-        about: "Sends the commands on standard input, and prints the answer to each in the order of their lines",
-        example: RUN_EXAMPLE,
-        options: &RUN_OPTIONS,
-        further: Further::Nothing,
-    },
-];
-
 const PROGRAM_EXAMPLE: &str =
     "Example, with the bench device: ocactl set --device 127.0.0.1:65000 4097 unmuted";
 
@@ -324,7 +238,119 @@ const PROGRAM_EXAMPLE: &str =
 pub fn program<'a>(alloc: Global) -> Result<Command<'a>, AllocError>
     ensures { IfOk result (TakesApp own_app) }
 {
-    with_commands(without_commands(alloc), &COMMANDS, alloc)
+    with_commands(without_commands(alloc), &rows(), alloc)
+}
+
+/// The commands, in the order of `--help`.
+fn rows() -> [CommandRow; 8]
+    ensures { map row_command result ≡ own_commands }
+{
+    let of_objects = objects_options();
+    [
+        CommandRow {
+            name: "tree",
+            about: "Prints the objects of a device",
+            example: TREE_EXAMPLE,
+            options: of_objects,
+            further: Further::Nothing,
+        },
+        CommandRow {
+            name: "get",
+            about: "Prints the values of objects of a device",
+            example: GET_EXAMPLE,
+            options: of_objects,
+            further: Further::Objects,
+        },
+        CommandRow {
+            name: "set",
+            about: "Sets objects of a device",
+            example: SET_EXAMPLE,
+            options: set_options(),
+            further: Further::Values,
+        },
+        CommandRow {
+            name: "lock",
+            about: "Locks objects of a device",
+            example: LOCK_EXAMPLE,
+            options: of_objects,
+            further: Further::ObjectsToHold,
+        },
+        CommandRow {
+            name: "unlock",
+            about: "Releases the locks of objects of a device",
+            example: UNLOCK_EXAMPLE,
+            options: of_objects,
+            further: Further::Objects,
+        },
+        CommandRow {
+            name: "replay",
+            about: "Runs a controller's link over a script on standard input, without a network",
+            example: REPLAY_EXAMPLE,
+            options: replay_options(),
+            further: Further::Nothing,
+        },
+        CommandRow {
+            name: "send",
+            about: "Sends a command to a device and prints its answer: status, ParamCount, parameters",
+            example: SEND_EXAMPLE,
+            options: send_options(),
+            further: Further::Nothing,
+        },
+        CommandRow {
+            name: "run",
+            about: "Sends the commands on standard input, and prints the answer to each in the order of their lines",
+            example: RUN_EXAMPLE,
+            options: run_options(),
+            further: Further::Nothing,
+        },
+    ]
+}
+
+/// The options of `get`, `lock`, `unlock` and `tree`.
+fn objects_options() -> &'static [OptionRow]
+    ensures { map row_rule result.now ≡ objects_rules }
+{
+    &[DEVICE, SPAN, FIRST_HANDLE, IP, TURNS, PORT]
+}
+
+/// The options of `set`.
+fn set_options() -> &'static [OptionRow]
+    ensures { map row_rule result.now ≡ set_rules }
+{
+    &[DEVICE, SPAN, FIRST_HANDLE, IP, TURNS, PORT, AHEAD]
+}
+
+/// The options of `replay`.
+fn replay_options() -> &'static [OptionRow]
+    ensures { map row_rule result.now ≡ replay_rules }
+{
+    &[DEVICE, SPAN, OWN_FIRST_HANDLE]
+}
+
+/// The options of `send`.
+fn send_options() -> &'static [OptionRow]
+    ensures { map row_rule result.now ≡ send_rules }
+{
+    &[
+        DEVICE,
+        SPAN,
+        FIRST_HANDLE,
+        IP,
+        TARGET,
+        LEVEL,
+        INDEX,
+        COUNT,
+        PARAMS,
+        SEND_TURNS,
+        SEND_PORT,
+    ]
+}
+
+/// The options of `run`.
+fn run_options() -> &'static [OptionRow]
+    ensures { map row_rule result.now ≡ run_rules }
+{
+    &[DEVICE, SPAN, FIRST_HANDLE, IP, AHEAD, RUN_PORT]
 }
 
 /// With these commands.
@@ -429,9 +455,9 @@ fn with_further<'a>(
 {
     match further {
         Further::Nothing => Ok(command),
-        Further::Objects => command.arg(objects(alloc)),
+        Further::Objects => with_words(command, OBJECTS, alloc),
         Further::ObjectsToHold => with_held_objects(command, alloc),
-        Further::Values => command.arg(values(alloc)),
+        Further::Values => with_words(command, VALUES, alloc),
     }
 }
 
@@ -440,17 +466,48 @@ fn with_held_objects<'a>(command: Command<'a>, alloc: Global) -> Result<Command<
     requires { IsOwn command }
     ensures { IfOk result (TakesApp (with_rules (app_of command.entry) (hold_rule ∷ words_rule ∷ []))) }
 {
-    command.arg(hold(alloc))?.arg(objects(alloc))
+    with_words(command.arg(hold(alloc))?, OBJECTS, alloc)
+}
+
+/// What the words behind the options are: how they are called, and what `--help` says of them.
+#[derive(Clone, Copy)]
+struct WordsRow {
+    value: &'static str,
+    help: &'static str,
 }
 
 /// The objects that a command is about.
-fn objects<'a>(alloc: Global) -> Arg<'a>
+const OBJECTS: WordsRow = WordsRow {
+    value: "ONO",
+    help: "The numbers (ONo) of the objects",
+};
+
+/// The objects and the words for their values.
+const VALUES: WordsRow = WordsRow {
+    value: "ONO VALUE",
+    help: "The number (ONo) of each object, followed by its value",
+};
+
+/// With the words behind the options.
+fn with_words<'a>(
+    command: Command<'a>,
+    row: WordsRow,
+    alloc: Global,
+) -> Result<Command<'a>, AllocError>
+    requires { IsOwn command }
+    ensures { IfOk result (TakesApp (with_rules (app_of command.entry) (words_rule ∷ []))) }
+{
+    command.arg(words(row, alloc))
+}
+
+/// The words behind the options, one or more.
+fn words<'a>(row: WordsRow, alloc: Global) -> Arg<'a>
     ensures rule { rule_of result ≡ words_rule }
     ensures own { result.global ≡ false }
 {
     Arg::new(alloc, "ONO")
-        .value_name("ONO")
-        .help("The numbers (ONo) of the objects")
+        .value_name(row.value)
+        .help(row.help)
         .action(ArgAction::Append)
         .num_args(1..)
         .required(true)
@@ -468,17 +525,4 @@ fn hold<'a>(alloc: Global) -> Arg<'a>
             lapse after 15 seconds",
         )
         .action(ArgAction::SetTrue)
-}
-
-/// The objects and the words for their values.
-fn values<'a>(alloc: Global) -> Arg<'a>
-    ensures rule { rule_of result ≡ words_rule }
-    ensures own { result.global ≡ false }
-{
-    Arg::new(alloc, "ONO")
-        .value_name("ONO VALUE")
-        .help("The number (ONo) of each object, followed by its value")
-        .action(ArgAction::Append)
-        .num_args(1..)
-        .required(true)
 }

@@ -1,6 +1,7 @@
 //! The lines of objects.
 ghost use Rattle.std.specs.Prelude.{◌≡◌, ◌+◌, ◌*◌, ◌++◌, ◌≤◌, codes, length, decimal};
 ghost use Rattle.oca_script.specs.Ends.{output};
+ghost use Rattle.oca_script.specs.Escapes.{escaped};
 ghost use Rattle.oca_script.specs.Printing.{WritesOut};
 ghost use Rattle.oca_model.specs.declared.value.Value.TheVariants.{Switch};
 ghost use Rattle.oca_model.specs.Statuses.{status_name_of};
@@ -167,6 +168,18 @@ pub fn put_place<W: Sink>(
 {
     printer.put_number(u64::from(ono));
     put_fields(fields, printer);
+    put_holder(container, role, printer);
+}
+
+/// Holds the end of an object's line in a tree: the number of its container, and its role as a text is printed.
+fn put_holder<W: Sink>(container: u32, role: &str, printer: &mut Printer<W>)
+    requires role { length role.now ≤ 64 }
+    requires room { length printer.old.held + 600 ≤ 8192 }
+    ensures value { printer.new ≡ output printer.old.contents
+        (printer.old.held ++ codes " " ++ decimal container ++ codes " " ++ escaped role.now ++ codes "\n")
+        printer.old.failed }
+    ensures len { length printer.new.held ≤ length printer.old.held + 600 }
+{
     printer.put(b" ");
     printer.put_number(u64::from(container));
     printer.put(b" ");

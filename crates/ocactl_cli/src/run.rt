@@ -1,5 +1,5 @@
 //! A run of the program.
-ghost use Rattle.std.specs.Prelude.{◌≡◌, false, if◌then◌else◌, map};
+ghost use Rattle.std.specs.Prelude.{◌≡◌, ℤ, Some, false, if◌then◌else◌, map};
 ghost use Rattle.clap.specs.Words.{kind_of};
 ghost use Rattle.oca_types.specs.Sizes.{span_size};
 ghost use Rattle.oca_script.specs.Ends.{input};
@@ -13,7 +13,7 @@ ghost use Rattle.oca_program.specs.Faults.{asks_for_text};
 ghost use Rattle.ocactl_cli.specs.Runs.{run_status, RunsProgram, RunsWords, DoesByMatches, DoesMatchedCommand};
 ghost use Rattle.ocactl_cli.specs.Runs.{DoesByOptions, DoesRequest, AnswersUnmatched, PrintsHelp, EndsWithText};
 ghost use Rattle.ocactl_cli.specs.Runs.{ReplaysScript, SendsAt, SendsOne, AsksOver, RunsAt, RunsFrom, DoesAt, DoesTask};
-ghost use Rattle.ocactl_cli.specs.Runs.{AsksEach};
+ghost use Rattle.ocactl_cli.specs.Runs.{AsksEach, new_session};
 
 use super::commands::send_all;
 use super::exchange::ask_once;
@@ -29,6 +29,7 @@ use super::watched::Watched;
 use super::words::{Asked, Linking, Reach, Sending, asked_for};
 use clap::error::ErrorKind;
 use clap::{ArgMatches, Error};
+use oca_control::Link;
 use oca_net::{End, UdpEnd};
 use oca_panel::{OwnPort, Panel};
 use oca_program::options::help_or_failure;
@@ -39,6 +40,7 @@ use oca_types::{Handle, Ono, Span};
 use ocactl_replay::replay::replay;
 use std::alloc::{AllocError, Global};
 use std::convert::AsStr;
+use std::io;
 use std::net::Net;
 use std::os::fd::AsRawFd;
 use std::rt::Clock;
@@ -380,12 +382,23 @@ fn ran<N: Net + Clock, R: Source, W: Sink, F: Sink>(
     note_span(alloc, reach.span, faults);
     match reached(alloc, system, reach, false, faults) {
         Ok((link, end)) => {
-            let socket = Some(end.end().as_raw_fd());
-            let session = Session::new(link, end, ahead, socket);
+            let session = session_over(link, end, ahead);
             ran_over(alloc, system, session, reach, reader, printer, faults)
         }
         Err(failure) => Err(failure),
     }
+}
+
+/// A session over a socket, for which is waited beside input.
+fn session_over<'a, N: Net + Clock>(
+    link: Link,
+    end: Watched<UdpEnd<'a, N>>,
+    ahead: Span,
+) -> Session<Watched<UdpEnd<'a, N>>>
+    ensures { (socket : ℤ) × (result ≡ new_session link end.entry.end_state (span_size ahead) (Some socket)) }
+{
+    let socket = Some(end.end().as_raw_fd());
+    Session::new(link, end, ahead, socket)
 }
 
 /// The same over a session.
@@ -418,11 +431,29 @@ fn concluded<N: Net + Clock, F: Sink>(
 ) -> u8
     ensures { result ≡ if session.entry.unanswered then 3 else 0 }
 {
-    let status = if session.unanswered() { 3 } else { 0 };
+    let status = session_status(session.unanswered());
     let silent = session.is_lost();
-    let mut end = session.into_end();
-    note_no_answer(alloc, system, &mut end, reach, silent, true, faults);
+    note_end(alloc, system, session.into_end(), reach, silent, faults);
     status
+}
+
+/// The exit status of a session, by whether a command got no answer.
+fn session_status(unanswered: bool) -> u8
+    ensures { result ≡ if unanswered then 3 else 0 }
+{
+    if unanswered { 3 } else { 0 }
+}
+
+/// Prints why an end is silent, where it is, and lets it go.
+fn note_end<N: Net + Clock, F: Sink>(
+    alloc: Global,
+    system: &N,
+    mut end: Watched<UdpEnd<'_, N>>,
+    reach: Reach,
+    silent: bool,
+    faults: &mut Printer<F>,
+) {
+    note_no_answer(alloc, system, &mut end, reach, silent, true, faults);
 }
 
 /// Does something with objects over a socket, and prints it.
@@ -468,8 +499,7 @@ fn done_over<N: Net + Clock, R: Source, W: Sink, F: Sink>(
     match do_task(alloc, &mut panel, task, reader, printer) {
         Ok(status) => {
             let silent = status == 3 && panel.unanswered();
-            let mut end = panel.into_end();
-            note_no_answer(alloc, system, &mut end, reach, silent, true, faults);
+            note_end(alloc, system, panel.into_end(), reach, silent, faults);
             Ok(status)
         }
         Err(failure) => Err(failure),
@@ -553,13 +583,18 @@ fn note_no_answer<N: Net + Clock, F: Sink>(
     asks: bool,
     faults: &mut Printer<F>,
 ) {
-    if !silent {
+    if silent {
+        note_failed_send(alloc, end.end().last_failed_send(), faults);
+        note_silence(alloc, system, end, reach, asks, faults);
+    }
+}
+
+/// Prints why a send failed, where one has and there is memory for the line.
+fn note_failed_send<F: Sink>(alloc: Global, reason: Option<io::Error>, faults: &mut Printer<F>) {
+    let Some(reason) = reason else {
         return;
+    };
+    if let Ok(note) = format!(in alloc; "a send failed: {reason}") {
+        print_note(note.as_str(), faults);
     }
-    if let Some(reason) = end.end().last_failed_send() {
-        if let Ok(note) = format!(in alloc; "a send failed: {reason}") {
-            print_note(note.as_str(), faults);
-        }
-    }
-    note_silence(alloc, system, end, reach, asks, faults);
 }

@@ -7,3 +7,4 @@ pub mod RunLemmas
 pub mod TraceLemmas
 pub mod EffectLemmas
 pub mod KeepLemmas
+pub mod RowLemmas

@@ -10,7 +10,7 @@ ghost use Rattle.oca_program.specs.declared.fault.RunFault.TheVariants.{BadWords
 ghost use Rattle.oca_program.specs.Commands.{AddsRules, MatchingGives, flag_rule, option_rule, required_rule};
 ghost use Rattle.oca_program.specs.Commands.{with_rules};
 ghost use Rattle.clap.specs.Words.{app_of, new_app, shape_of};
-ghost use Rattle.ocadev_cli.specs.CommandLine.{command_line, device_rules, object_rules, program_shape, replay_shape};
+ghost use Rattle.ocadev_cli.specs.CommandLine.{command_line, device_rules, program_shape, replay_shape};
 ghost use Rattle.ocadev_cli.specs.CommandLine.{running_rules, serve_shape, show_shape, socket_rules, with_commands};
 
 use clap::{ArgMatches, Command, Error};
@@ -67,97 +67,117 @@ pub struct Serving<'a> {
     pub keep: Option<&'a str>,
 }
 
-/// With the option of how many commands are kept with their replies.
-fn with_window<'a>(command: Command<'a>, alloc: Global) -> Result<Command<'a>, AllocError>
-    ensures { IfOk result (AddsRules (option_rule (codes "window") ∷ []) command.entry) }
-{
-    with_option(
-        alloc,
-        command,
-        "window",
-        "W",
-        "The reply window: how many commands of each peer are kept with their replies, 1 to 64 [default: 32]",
-    )
+/// An option with a value: its name, the word for its value, and what `--help` says of it.
+#[derive(Clone, Copy)]
+struct OptionRow {
+    name: &'static str,
+    value: &'static str,
+    help: &'static str,
 }
 
-/// With the option of how many peers have a session.
-fn with_peers<'a>(command: Command<'a>, alloc: Global) -> Result<Command<'a>, AllocError>
-    ensures { IfOk result (AddsRules (option_rule (codes "peers") ∷ []) command.entry) }
-{
-    with_option(
-        alloc,
-        command,
-        "peers",
-        "N",
-        "How many peers can have a session at once, 1 to 64 [default: 16]",
-    )
-}
+/// How many commands are kept with their replies.
+const WINDOW: OptionRow = OptionRow {
+    name: "window",
+    value: "W",
+    help: "The reply window: how many commands of each peer are kept with their replies, 1 to 64 [default: 32]",
+};
 
-/// With the option of how many channel strips there are.
-fn with_channels<'a>(command: Command<'a>, alloc: Global) -> Result<Command<'a>, AllocError>
-    ensures { IfOk result (AddsRules (option_rule (codes "channels") ∷ []) command.entry) }
-{
-    with_option(
-        alloc,
-        command,
-        "channels",
-        "N",
-        "How many channel strips are added to the objects of the bench device, 0 to 1022; a strip is a block with a \
+/// How many peers have a session.
+const PEERS: OptionRow = OptionRow {
+    name: "peers",
+    value: "N",
+    help: "How many peers can have a session at once, 1 to 64 [default: 16]",
+};
+
+/// How many channel strips there are.
+const CHANNELS: OptionRow = OptionRow {
+    name: "channels",
+    value: "N",
+    help: "How many channel strips are added to the objects of the bench device, 0 to 1022; a strip is a block with a \
         mute, a polarity and a trim [default: 0]",
-    )
+};
+
+/// The file that lists the objects.
+const TREE: OptionRow = OptionRow {
+    name: "tree",
+    value: "FILE",
+    help: "A file that lists the objects, one per line, instead of those of the bench device; see \
+        examples/stagebox.tree",
+};
+
+/// How many turns are served.
+const TURNS: OptionRow = OptionRow {
+    name: "turns",
+    value: "T",
+    help: "Stops after this many turns, 0 to 4294967295; without this option it runs until you stop it",
+};
+
+/// The address.
+const IP: OptionRow = OptionRow {
+    name: "ip",
+    value: "A.B.C.D",
+    help: "The address to listen at. 0.0.0.0 means every address of the machine: a reply may then leave from a \
+        different address than the one that the controller sent to, and controllers drop such replies \
+        [default: 127.0.0.1]",
+};
+
+/// How often the report so far is printed.
+const STATS: OptionRow = OptionRow {
+    name: "stats",
+    value: "SECONDS",
+    help: "Every SECONDS seconds, 1 to 86400, prints the counts so far on standard error, with the number of sessions \
+        and of locks held",
+};
+
+/// The file in which the state is kept.
+const KEEP: OptionRow = OptionRow {
+    name: "keep",
+    value: "FILE",
+    help: "The file in which the device's state is stored. If it exists at the start, the device has its objects, \
+        whatever --tree and --channels say. It is written after each datagram that wrote to an object. Locks, reply \
+        windows and sessions are not stored: after a restart, a duplicate of a command from before is executed as new",
+};
+
+/// With these options.
+fn with_options<'a>(
+    command: Command<'a>,
+    rows: &[OptionRow],
+    alloc: Global,
+) -> Result<Command<'a>, AllocError>
+    ensures { IfOk result (AddsRules (map (λ row. option_rule row.name.now) rows.now) command.entry) }
+{
+    let mut so_far = command;
+    for row in rows {
+        so_far = with_option(alloc, so_far, row.name, row.value, row.help)?;
+    }
+    Ok(so_far)
 }
 
-/// With the option of the file that lists the objects.
-fn with_tree<'a>(command: Command<'a>, alloc: Global) -> Result<Command<'a>, AllocError>
-    ensures { IfOk result (AddsRules (option_rule (codes "tree") ∷ []) command.entry) }
+/// A command without its options: its name, and what `--help` says of it at first and at last.
+fn named<'a>(alloc: Global, name: &'a str, about: &'a str, example: &'a str) -> Command<'a>
+    ensures { app_of result ≡ new_app name.entry.now }
 {
-    with_option(
-        alloc,
-        command,
-        "tree",
-        "FILE",
-        "A file that lists the objects, one per line, instead of those of the bench device; see examples/stagebox.tree",
-    )
-}
-
-/// With the options of the objects.
-fn listed<'a>(command: Command<'a>, alloc: Global) -> Result<Command<'a>, AllocError>
-    ensures { IfOk result (AddsRules object_rules command.entry) }
-{
-    with_tree(with_channels(command, alloc)?, alloc)
-}
-
-/// With the options of how large a device is.
-fn sized<'a>(command: Command<'a>, alloc: Global) -> Result<Command<'a>, AllocError>
-    ensures { IfOk result (AddsRules (option_rule (codes "window") ∷ option_rule (codes "peers") ∷ []) command.entry) }
-{
-    with_peers(with_window(command, alloc)?, alloc)
-}
-
-/// With the options of a device.
-fn made<'a>(command: Command<'a>, alloc: Global) -> Result<Command<'a>, AllocError>
-    ensures { IfOk result (AddsRules device_rules command.entry) }
-{
-    listed(sized(command, alloc)?, alloc)
+    Command::new(alloc, name).about(about).after_help(example)
 }
 
 /// The command `replay` without its options.
 fn replay_name<'a>(alloc: Global) -> Command<'a>
     ensures { app_of result ≡ new_app (codes "replay") }
 {
-    Command::new(alloc, "replay")
-        .about(
-            "Runs the bench device, or one with the objects of --tree, over the script on standard input, and prints \
-            its answers",
-        )
-        .after_help("Example: ocadev replay < examples/getstate.script")
+    named(
+        alloc,
+        "replay",
+        "Runs the bench device, or one with the objects of --tree, over the script on standard input, and prints its \
+        answers",
+        "Example: ocadev replay < examples/getstate.script",
+    )
 }
 
 /// The command `replay`.
 fn replay_command<'a>(alloc: Global) -> Result<Command<'a>, AllocError>
     ensures { IfOk result (λ r. shape_of r ≡ replay_shape) }
 {
-    made(replay_name(alloc), alloc)
+    with_options(replay_name(alloc), &[WINDOW, PEERS, CHANNELS, TREE], alloc)
 }
 
 /// What stands behind the options of `serve` in its help text.
@@ -181,47 +201,6 @@ fn with_port<'a>(command: Command<'a>, alloc: Global) -> Result<Command<'a>, All
     )
 }
 
-/// With the option of how many turns are served.
-fn with_turns<'a>(command: Command<'a>, alloc: Global) -> Result<Command<'a>, AllocError>
-    ensures { IfOk result (AddsRules (option_rule (codes "turns") ∷ []) command.entry) }
-{
-    with_option(
-        alloc,
-        command,
-        "turns",
-        "T",
-        "Stops after this many turns, 0 to 4294967295; without this option it runs until you stop it",
-    )
-}
-
-/// With the option of the address.
-fn with_ip<'a>(command: Command<'a>, alloc: Global) -> Result<Command<'a>, AllocError>
-    ensures { IfOk result (AddsRules (option_rule (codes "ip") ∷ []) command.entry) }
-{
-    with_option(
-        alloc,
-        command,
-        "ip",
-        "A.B.C.D",
-        "The address to listen at. 0.0.0.0 means every address of the machine: a reply may then leave from a different \
-        address than the one that the controller sent to, and controllers drop such replies [default: 127.0.0.1]",
-    )
-}
-
-/// With the options of a port and of turns.
-fn for_turns<'a>(command: Command<'a>, alloc: Global) -> Result<Command<'a>, AllocError>
-    ensures { IfOk result (AddsRules (required_rule (codes "port") ∷ option_rule (codes "turns") ∷ []) command.entry) }
-{
-    with_turns(with_port(command, alloc)?, alloc)
-}
-
-/// With the options of a socket.
-fn bound<'a>(command: Command<'a>, alloc: Global) -> Result<Command<'a>, AllocError>
-    ensures { IfOk result (AddsRules socket_rules command.entry) }
-{
-    with_ip(for_turns(command, alloc)?, alloc)
-}
-
 /// With the flag for a line for each datagram.
 fn with_verbose<'a>(command: Command<'a>, alloc: Global) -> Result<Command<'a>, AllocError>
     ensures { IfOk result (AddsRules (flag_rule (codes "verbose") ∷ []) command.entry) }
@@ -235,65 +214,31 @@ fn with_verbose<'a>(command: Command<'a>, alloc: Global) -> Result<Command<'a>, 
     )
 }
 
-/// With the option of how often the report so far is printed.
-fn with_stats<'a>(command: Command<'a>, alloc: Global) -> Result<Command<'a>, AllocError>
-    ensures { IfOk result (AddsRules (option_rule (codes "stats") ∷ []) command.entry) }
-{
-    with_option(
-        alloc,
-        command,
-        "stats",
-        "SECONDS",
-        "Every SECONDS seconds, 1 to 86400, prints the counts so far on standard error, with the number of sessions \
-        and of locks held",
-    )
-}
-
-/// With the option of the file in which the state is kept.
-fn with_keep<'a>(command: Command<'a>, alloc: Global) -> Result<Command<'a>, AllocError>
-    ensures { IfOk result (AddsRules (option_rule (codes "keep") ∷ []) command.entry) }
-{
-    with_option(
-        alloc,
-        command,
-        "keep",
-        "FILE",
-        "The file in which the device's state is stored. If it exists at the start, the device has its objects, \
-        whatever --tree and --channels say. It is written after each datagram that wrote to an object. Locks, reply \
-        windows and sessions are not stored: after a restart, a duplicate of a command from before is executed as new",
-    )
-}
-
-/// With the options of what is printed while a device is served.
-fn printed<'a>(command: Command<'a>, alloc: Global) -> Result<Command<'a>, AllocError>
-    ensures { IfOk result (AddsRules (flag_rule (codes "verbose") ∷ option_rule (codes "stats") ∷ []) command.entry) }
-{
-    with_stats(with_verbose(command, alloc)?, alloc)
-}
-
 /// With the options of what is printed and kept while a device is served.
 fn observed<'a>(command: Command<'a>, alloc: Global) -> Result<Command<'a>, AllocError>
     ensures { IfOk result (AddsRules running_rules command.entry) }
 {
-    with_keep(printed(command, alloc)?, alloc)
+    with_options(with_verbose(command, alloc)?, &[STATS, KEEP], alloc)
 }
 
 /// The command `serve` without its options.
 fn serve_name<'a>(alloc: Global) -> Command<'a>
     ensures { app_of result ≡ new_app (codes "serve") }
 {
-    Command::new(alloc, "serve")
-        .about(
-            "Serves the bench device, or one with the objects of --tree, at a UDP socket; prints a report at the end",
-        )
-        .after_help(SERVE_EXAMPLE)
+    named(
+        alloc,
+        "serve",
+        "Serves the bench device, or one with the objects of --tree, at a UDP socket; prints a report at the end",
+        SERVE_EXAMPLE,
+    )
 }
 
 /// The command `serve` with the options of its socket and of its device.
 fn served_device<'a>(alloc: Global) -> Result<Command<'a>, AllocError>
     ensures { IfOk result (λ r. app_of r ≡ with_rules (new_app (codes "serve")) (socket_rules ++ device_rules)) }
 {
-    made(bound(serve_name(alloc), alloc)?, alloc)
+    let begun = with_port(serve_name(alloc), alloc)?;
+    with_options(begun, &[TURNS, IP, WINDOW, PEERS, CHANNELS, TREE], alloc)
 }
 
 /// The command `serve`.
@@ -319,18 +264,20 @@ fn with_text<'a>(command: Command<'a>, alloc: Global) -> Result<Command<'a>, All
 fn show_name<'a>(alloc: Global) -> Command<'a>
     ensures { app_of result ≡ new_app (codes "show") }
 {
-    Command::new(alloc, "show")
-        .about(
-            "Prints the objects of a device, one per line: ONo, class identifier, container and role",
-        )
-        .after_help("Example: ocadev show --tree examples/stagebox.tree")
+    named(
+        alloc,
+        "show",
+        "Prints the objects of a device, one per line: ONo, class identifier, container and role",
+        "Example: ocadev show --tree examples/stagebox.tree",
+    )
 }
 
 /// The command `show`.
 fn show_command<'a>(alloc: Global) -> Result<Command<'a>, AllocError>
     ensures { IfOk result (λ r. shape_of r ≡ show_shape) }
 {
-    with_text(listed(show_name(alloc), alloc)?, alloc)
+    let listed = with_options(show_name(alloc), &[CHANNELS, TREE], alloc)?;
+    with_text(listed, alloc)
 }
 
 /// The program without its commands.
@@ -352,7 +299,8 @@ Example: ocadev replay < examples/getstate.script",
 fn with_replay<'a>(alloc: Global) -> Result<Command<'a>, AllocError>
     ensures { IfOk result (λ r. app_of r ≡ with_commands (replay_shape ∷ [])) }
 {
-    program(alloc).subcommand(replay_command(alloc)?)
+    let added = replay_command(alloc)?;
+    program(alloc).subcommand(added)
 }
 
 /// The program with the commands `replay` and `serve`.
