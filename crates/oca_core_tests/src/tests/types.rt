@@ -24,8 +24,6 @@ fn classes_and_methods(rt: HostRuntime) {
             first_wrong(alloc, classes::NO_STATUSES),
             first_wrong(alloc, methods::METHODS),
             first_wrong(alloc, methods::OF_NO_CLASS),
-            first_wrong(alloc, documented::STATUSES),
-            first_wrong(alloc, documented::TAKES),
         ],
     );
 }
@@ -87,4 +85,10 @@ fn texts_with_counts(rt: HostRuntime) {
             first_wrong(alloc, texts::BY_DEFAULT),
         ],
     );
+}
+
+#[test]
+fn what_is_documented(rt: HostRuntime) {
+    assert!(rt; documented::take(&rt).is_ok());
+    documented::name_a_status(&rt);
 }
