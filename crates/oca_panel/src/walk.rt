@@ -66,11 +66,12 @@ pub struct Visit {
 ///
 /// ```
 /// let mut walk = Walk::new(rt.alloc())?;
+/// // ...
 /// for _place in 0..MOST_PLACES {
-///     let Some(visit) = walk.next(&mut panel)? else {
+///     let Some(visit) = walk.next(panel)? else {
 ///         return Ok(());
 ///     };
-///     print_found(rt, &mut panel, visit.place.ono, &visit.found)?;
+///     print_found(rt, panel, visit.place.ono, &visit.found)?;
 /// }
 /// ```
 #[derive(Drop)]

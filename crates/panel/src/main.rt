@@ -10,7 +10,7 @@ mod words;
 use anyhow::Error;
 use objects::print_objects;
 use oca_model::{MuteState, Value, word_of};
-use oca_net::{UdpEnd, fill_standard_descriptors};
+use oca_net::{End, UdpEnd, fill_standard_descriptors};
 use oca_panel::{Panel, Trouble};
 use oca_types::{Handle, Ono, Peer, Span};
 use std::net::Net;
@@ -40,11 +40,15 @@ fn run<R: Runtime + Net + AllocGlobal>(rt: &R) -> Result<(), Error> {
     }
 }
 
-/// Opens channel 1, sets its gain to -6 dB and reads it back. A command waits for 210 turns of at most 50 ms, as long as a
-/// link retransmits it.
+/// Sets a channel of the device. A command waits for 210 turns of at most 50 ms, as long as a link retransmits it.
 fn set_channel<R: Runtime + Net + AllocGlobal>(rt: &R, device: Peer) -> Result<(), Error> {
     let end = UdpEnd::bind(rt.alloc(), rt, device.ip, 0)?;
     let mut panel = Panel::open(device, end, Handle(1), Span::default(), 210);
+    set_over(rt, &mut panel)
+}
+
+/// Opens channel 1, sets its gain to -6 dB and reads it back.
+fn set_over<R: Runtime, E: End>(rt: &R, panel: &mut Panel<E>) -> Result<(), Error> {
     let [mute, gain] = CHANNEL;
     let open = status(panel.set(mute, Value::Mute(MuteState::Unmuted)))?;
     println!(rt; "open channel 1: status {open}")?;

@@ -12,12 +12,26 @@ use std::rt::Runtime;
 pub fn print_objects<R: Runtime + Net + AllocGlobal>(rt: &R, device: Peer) -> Result<(), Error> {
     let end = UdpEnd::bind(rt.alloc(), rt, device.ip, 0)?;
     let mut panel = Panel::open(device, end, Handle(1), Span::default(), 210);
+    print_all(rt, &mut panel)
+}
+
+/// Prints what a walk over the panel finds.
+fn print_all<R: Runtime + AllocGlobal, E: End>(rt: &R, panel: &mut Panel<E>) -> Result<(), Error> {
     let mut walk = Walk::new(rt.alloc())?;
+    print_places(rt, panel, &mut walk)
+}
+
+/// Prints what the walk has yet to find.
+fn print_places<R: Runtime, E: End>(
+    rt: &R,
+    panel: &mut Panel<E>,
+    walk: &mut Walk,
+) -> Result<(), Error> {
     for _place in 0..MOST_PLACES {
-        let Some(visit) = walk.next(&mut panel)? else {
+        let Some(visit) = walk.next(panel)? else {
             return Ok(());
         };
-        print_found(rt, &mut panel, visit.place.ono, &visit.found)?;
+        print_found(rt, panel, visit.place.ono, &visit.found)?;
     }
     Ok(())
 }
