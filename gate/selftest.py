@@ -137,8 +137,10 @@ def run_beside(edits, file, crates, most, calls):
 
 
 def waits_for_proofs():
-    """Beside `rt ci` the edits of a crate wait for the libraries below it, and only half as many checks run as later."""
+    """Beside `rt ci` the edits of a crate wait for the libraries below it and for an idle processor, and only half as
+    many checks run as later."""
     edits, found = importlib.import_module("edits"), []
+    real, edits.is_idle = edits.is_idle, lambda _: True
     later, free = {"z": "c", "y": "ab", "x": "a", "w": ""}, dict.fromkeys("pqrst", "")
     tells = {"w": ["a"], "x": ["b"], "y": [edits.ENDED]}
     with tempfile.TemporaryDirectory() as folder:
@@ -151,8 +153,12 @@ def waits_for_proofs():
         found += [run_beside(edits, file, free, 4, {})[1] == 4]
         file.write_text("")
         found += [run_beside(edits, file, free, 4, {})[1] == 2, edits.ENDED == run.ENDED]
+        asked = []
+        edits.is_idle = lambda _: asked.append(1) or len(asked) > 3 and not file.write_text(f"{edits.ENDED}\n")
+        found += [run_beside(edits, file, {"p": ""}, 1, {}) == (["p"], 1), len(asked) == 4]
         os.environ.pop("GATE_PROVED")
-    return all(found)
+    edits.is_idle = real
+    return all(found) and real(1_000_000) and not real(0)
 
 
 # what `rt ci` does, how many checks it is to pass, and what is counted of it

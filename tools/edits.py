@@ -25,8 +25,9 @@ The edits of tools/edits_selftest/CRATE/ must not be refused, and for what their
 
 Crates run side by side, as many as there are processors and memory for, or as many as RT_JOBS says. The libraries below
 a crate are taken from out/rlib as `rt ci` left them, and are built where they are not there. Beside the gate's `rt ci`,
-which notes the crates that it has proved in the file GATE_PROVED, each crate waits for the libraries below it, and only
-half as many run side by side until that has ended, since it takes memory too. With EDITS_KEPT=1 a check
+which notes the crates that it has proved in the file GATE_PROVED, each crate waits for the libraries below it, and until
+that has ended for a processor that is idle; only half as many run side by side then, since it takes memory too, and checks
+that take turns on a processor need more of it. With EDITS_KEPT=1 a check
 begins with what earlier checks of the crate kept in out/incremental, which is faster while edits are written.
 The last line is 'N passed, M failed', and the exit status 1 where anything failed."""
 import copy
@@ -606,15 +607,24 @@ def lanes():
     return int(os.environ.get("RT_JOBS") or max(1, min(rt.processors(), rt.free() // NEEDS)))
 
 
+def is_idle(number):
+    """Whether a second long fewer processes want a processor than there are; this one is counted each time, too."""
+    for _ in range(4):
+        time.sleep(0.25)
+        if int(Path("/proc/loadavg").read_text().split()[3].split("/")[0]) > number:
+            return False
+    return True
+
+
 def beside_proofs(tasks, crates, most):
     """Runs the tasks, so many at most, each once the libraries below its crate are proved, of these the longest first,
-    and returns what each gave. Until the proofs have ended only half as many run."""
+    and returns what each gave. Until the proofs have ended only half as many run, each begun on an idle processor."""
     left, running, given = sorted(tasks, key=lambda it: -tasks[it][1]), {}, {}
     with ThreadPoolExecutor(most) as pool:
         while left or running:
             proved = proved_beside()
             ready = [it for it in left if proved is None or {below.name for below in crates[it[0]].below()} <= proved]
-            if ready and len(running) < (most if proved is None else max(1, most // 2)):
+            if ready and len(running) < (most if proved is None else max(1, most // 2)) and (proved is None or is_idle(rt.processors())):
                 left.remove(ready[0])
                 running[pool.submit(tasks[ready[0]][3], given, 1)] = ready[0]
             elif running:
