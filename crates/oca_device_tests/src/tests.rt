@@ -4,13 +4,37 @@ mod session;
 mod tree;
 
 use oca_types::{Peer, Peers, Sizes, Window};
-use std::alloc::AllocError;
+use std::alloc::Global;
+use std::fmt::Display;
 use std::process::Abort;
 
-/// Nothing is wrong in the table of this name.
-fn none_wrong(rt: &impl Abort, table: &str, wrong: Option<usize>) {
-    if let Some(at) = wrong {
-        panic!(rt; "{table}: {at}");
+/// A row of a table: what goes in, and what must come of it.
+trait Row {
+    /// Whether it comes out as the row says.
+    fn agrees(&self, alloc: Global) -> bool;
+}
+
+/// The first row of a table that comes out otherwise.
+fn first_wrong<R: Row>(alloc: Global, rows: &[R]) -> Option<usize> {
+    for (at, row) in rows.iter().enumerate() {
+        if !row.agrees(alloc) {
+            return Some(at);
+        }
+    }
+    None
+}
+
+/// What stands for a row that is wrong where this does not hold.
+fn wrong_unless(holds: bool) -> Option<usize> {
+    if holds { None } else { Some(0) }
+}
+
+/// In no table of the group of this name a row comes out otherwise.
+fn none_wrong(rt: &impl Abort, group: &str, tables: &[Option<usize>]) {
+    for (table, wrong) in tables.iter().enumerate() {
+        if let Some(row) = wrong {
+            panic!(rt; "{group}: table {table}, row {row}");
+        }
     }
 }
 
@@ -22,18 +46,23 @@ fn peer(port: u16) -> Peer {
     }
 }
 
-/// Whether what is printed reads so.
-fn reads(printed: Result<String, AllocError>, words: &str) -> bool {
-    match printed {
-        Ok(text) => text.as_str() == words,
-        Err(_) => false,
+/// A value, and the words that it displays.
+struct Words<T>(T, &'static str);
+
+impl<T: Display> Row for Words<T> {
+    /// Whether it displays them.
+    fn agrees(&self, alloc: Global) -> bool {
+        match self.0.to_string(alloc) {
+            Ok(text) => text.as_str() == self.1,
+            Err(_) => false,
+        }
     }
 }
 
 /// Windows of one command, and sessions of at most so many peers.
 fn sizes(count: u8) -> Option<Sizes> {
-    Some(Sizes {
-        window: Window::new(1)?,
-        peers: Peers::new(count)?,
-    })
+    match (Window::new(1), Peers::new(count)) {
+        (Some(window), Some(peers)) => Some(Sizes { window, peers }),
+        _ => None,
+    }
 }

@@ -1,9 +1,11 @@
 //! The devices that scripts run on.
-use super::super::sizes;
 use super::super::tree::script::{Addition, Over, tree_of};
-use oca_device::Device;
+use super::super::{none_wrong, sizes};
+use oca_device::{Device, Outbox};
+use oca_tree::Tree;
 use oca_types::Window;
 use std::alloc::Global;
+use std::process::Abort;
 
 /// What the device of a script is made of.
 #[derive(Clone, Copy)]
@@ -17,22 +19,77 @@ pub enum Setup {
 }
 
 /// The device over this tree, with windows of so many commands.
-fn with_window(alloc: Global, over: Over, size: u8) -> Option<Device> {
-    let window = Window::new(size)?;
-    Device::new(alloc, tree_of(alloc, over)?, window).ok()
+fn with_window(alloc: Global, tree: Tree, size: u8) -> Option<Device> {
+    match Window::new(size) {
+        Some(window) => Device::new(alloc, tree, window).ok(),
+        None => None,
+    }
 }
 
-/// The bench device with windows of one command and sessions of at most so many peers.
-fn with_peers(alloc: Global, count: u8) -> Option<Device> {
-    let sizes = sizes(count)?;
-    Device::with_sizes(alloc, tree_of(alloc, Over::Bench)?, sizes).ok()
+/// The device over this tree, with windows of one command and sessions of at most so many peers.
+fn with_peers(alloc: Global, tree: Tree, count: u8) -> Option<Device> {
+    match sizes(count) {
+        Some(sizes) => Device::with_sizes(alloc, tree, sizes).ok(),
+        None => None,
+    }
+}
+
+/// What the tree of a setup is made of.
+fn tree_under(setup: Setup) -> Over {
+    match setup {
+        Setup::Built(additions) => Over::Built(additions),
+        _ => Over::Bench,
+    }
+}
+
+/// The device of this setup over this tree.
+fn device_over(alloc: Global, tree: Tree, setup: Setup) -> Option<Device> {
+    match setup {
+        Setup::Window(size) => with_window(alloc, tree, size),
+        Setup::Peers(count) => with_peers(alloc, tree, count),
+        Setup::Built(_) => with_window(alloc, tree, 32),
+    }
 }
 
 /// The device of this setup.
 pub fn device_of(alloc: Global, setup: Setup) -> Option<Device> {
-    match setup {
-        Setup::Window(size) => with_window(alloc, Over::Bench, size),
-        Setup::Peers(count) => with_peers(alloc, count),
-        Setup::Built(additions) => with_window(alloc, Over::Built(additions), 32),
+    match tree_of(alloc, tree_under(setup)) {
+        Some(tree) => device_over(alloc, tree, setup),
+        None => None,
+    }
+}
+
+/// A script of steps with a device.
+pub trait Played {
+    /// Its name.
+    fn name(&self) -> &'static str;
+
+    /// What its device is made of.
+    fn setup(&self) -> Setup;
+
+    /// The first wrong step with this device and this outbox; the last number where what else it needs is not there.
+    fn wrong_with(&self, alloc: Global, device: &mut Device, outbox: &mut Outbox) -> Option<usize>;
+}
+
+/// The first wrong step with this device; the last number where there is no outbox.
+fn wrong_of<P: Played>(alloc: Global, device: &mut Device, script: &P) -> Option<usize> {
+    match Outbox::new(alloc) {
+        Ok(mut outbox) => script.wrong_with(alloc, device, &mut outbox),
+        Err(_) => Some(usize::MAX),
+    }
+}
+
+/// The first wrong step of the script; the last number where there is no device.
+fn wrong_step<P: Played>(alloc: Global, script: &P) -> Option<usize> {
+    match device_of(alloc, script.setup()) {
+        Some(mut device) => wrong_of(alloc, &mut device, script),
+        None => Some(usize::MAX),
+    }
+}
+
+/// Plays scripts: of each step comes what it says.
+pub fn play<P: Played>(rt: &impl Abort, alloc: Global, scripts: &[P]) {
+    for script in scripts {
+        none_wrong(rt, script.name(), &[wrong_step(alloc, script)]);
     }
 }

@@ -1,7 +1,8 @@
 //! The members of blocks, as whole datagrams.
 use super::super::tree::script::Addition::{self, Many, One};
 use super::super::tree::words::{BLOCK, MUTE};
-use super::play::{Script, play};
+use super::benches::play;
+use super::play::Script;
 use super::*;
 use Part::*;
 use Step::*;

@@ -1,7 +1,7 @@
 //! Outboxes with room for some packets only. What is left out of one changes nothing else: beside each device that
 //! answers into one stands a device with an outbox for all packets, which takes the same datagrams.
-use super::super::{none_wrong, peer};
-use super::benches::{Setup, device_of};
+use super::super::peer;
+use super::benches::{Played, Setup, device_of, play};
 use super::grouping::{BEATS, TWO_GETS, TWO_STATES};
 use super::parts::{Part, bytes_of, is_of};
 use super::play::hears;
@@ -12,7 +12,6 @@ use oca_device::{BoundedOutbox, Device, Outbox};
 use oca_tree::Tree;
 use oca_types::Ono;
 use std::alloc::Global;
-use std::process::Abort;
 
 /// An event, and what must come of it.
 #[derive(Clone, Copy)]
@@ -88,8 +87,10 @@ fn are_same(all: &Device, few: &Device) -> bool {
         && are_same_objects(few.tree(), all.tree())
 }
 
-/// Whether the device makes this of a datagram of whose answers some have room.
-fn hears_within(
+/// Whether both devices make this of a datagram, of whose answers some have room.
+fn both_hear(
+    all: &mut Device,
+    sent: &mut Outbox,
     few: &mut Device,
     kept: &mut BoundedOutbox,
     port: u16,
@@ -97,7 +98,8 @@ fn hears_within(
     parts: &[Part],
     verdict: Verdict,
 ) -> bool {
-    few.datagram_within(peer(port), bytes_of(parts).as_slice(), now, kept) == verdict
+    hears(all, sent, port, now, parts, verdict)
+        && few.datagram_within(peer(port), bytes_of(parts).as_slice(), now, kept) == verdict
 }
 
 /// Whether this comes of an event.
@@ -110,14 +112,12 @@ fn agrees(
 ) -> bool {
     match step {
         Hears(port, now, parts, verdict, packets, left_out) => {
-            hears(all, sent, port, now, parts, verdict)
-                && hears_within(few, kept, port, now, parts, verdict)
+            both_hear(all, sent, few, kept, port, now, parts, verdict)
                 && keeps(sent, kept, packets.len(), left_out)
                 && holds(kept, packets)
         }
         Counts(port, parts, count, left_out) => {
-            hears(all, sent, port, 0, parts, NOTHING)
-                && hears_within(few, kept, port, 0, parts, NOTHING)
+            both_hear(all, sent, few, kept, port, 0, parts, NOTHING)
                 && keeps(sent, kept, count, left_out)
         }
         Wrote(count) => few.written().len() == count,
@@ -176,26 +176,20 @@ fn wrong_beside(
     }
 }
 
-/// The first wrong step beside this device; the last number where there is no outbox.
-fn wrong_of(alloc: Global, all: &mut Device, script: &Script) -> Option<usize> {
-    match Outbox::new(alloc) {
-        Ok(mut sent) => wrong_beside(alloc, all, &mut sent, script),
-        Err(_) => Some(usize::MAX),
+impl Played for Script {
+    /// The script's name.
+    fn name(&self) -> &'static str {
+        self.name
     }
-}
 
-/// The first wrong step of the script; the last number where there is no device.
-fn wrong_step(alloc: Global, script: &Script) -> Option<usize> {
-    match device_of(alloc, script.setup) {
-        Some(mut all) => wrong_of(alloc, &mut all, script),
-        None => Some(usize::MAX),
+    /// What both devices are made of.
+    fn setup(&self) -> Setup {
+        self.setup
     }
-}
 
-/// Plays scripts: of each step comes what it says.
-fn play(rt: &impl Abort, alloc: Global, scripts: &[Script]) {
-    for script in scripts {
-        none_wrong(rt, script.name, wrong_step(alloc, script));
+    /// The first wrong step beside this device.
+    fn wrong_with(&self, alloc: Global, device: &mut Device, outbox: &mut Outbox) -> Option<usize> {
+        wrong_beside(alloc, device, outbox, self)
     }
 }
 

@@ -1,5 +1,6 @@
 //! Commands, keep-alives and datagrams that are no datagrams.
-use super::play::{Script, play};
+use super::benches::play;
+use super::play::Script;
 use super::*;
 use Part::*;
 use Step::*;

@@ -1,5 +1,6 @@
 //! How answers are grouped into datagrams.
-use super::play::{Script, play};
+use super::benches::play;
+use super::play::Script;
 use super::*;
 use Part::*;
 use Step::*;

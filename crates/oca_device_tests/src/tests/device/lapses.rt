@@ -1,5 +1,6 @@
 //! When a clock reading next changes something.
-use super::play::{Script, play};
+use super::benches::play;
+use super::play::Script;
 use super::*;
 use Part::*;
 use Step::*;

@@ -1,12 +1,11 @@
 //! The steps of a script, and the loop that plays it.
-use super::super::{none_wrong, peer};
+use super::super::peer;
 use super::EXECUTED;
-use super::benches::{Setup, device_of};
+use super::benches::{Played, Setup};
 use super::parts::{Part, bytes_of, is_of};
 use oca_device::{Device, Outbox, Verdict, law_by_events, law_of_groups};
 use oca_types::Ono;
 use std::alloc::Global;
-use std::process::Abort;
 
 /// An event, and what must come of it.
 #[derive(Clone, Copy)]
@@ -85,6 +84,19 @@ pub fn hears(
     device.datagram(peer(port), bytes_of(parts).as_slice(), now, outbox) == verdict
 }
 
+/// Whether the device makes this of a datagram, and answers with these packets.
+fn groups(
+    device: &mut Device,
+    outbox: &mut Outbox,
+    port: u16,
+    now: u64,
+    parts: &[Part],
+    verdict: Verdict,
+    packets: &[&[Part]],
+) -> bool {
+    hears(device, outbox, port, now, parts, verdict) && holds(outbox, packets)
+}
+
 /// Whether the device makes this of a datagram, and answers with this packet alone.
 fn answers(
     device: &mut Device,
@@ -95,7 +107,7 @@ fn answers(
     verdict: Verdict,
     reply: Part,
 ) -> bool {
-    hears(device, outbox, port, now, &[part], verdict) && holds(outbox, &[&[reply]])
+    groups(device, outbox, port, now, &[part], verdict, &[&[reply]])
 }
 
 /// Whether GetState of A under each of these handles is executed and answered as Muted.
@@ -142,10 +154,10 @@ fn agrees(device: &mut Device, outbox: &mut Outbox, step: Step) -> bool {
             answers(device, outbox, port, now, part, verdict, reply)
         }
         Step::Ignores(port, now, part, verdict) => {
-            hears(device, outbox, port, now, &[part], verdict) && outbox.len() == 0
+            groups(device, outbox, port, now, &[part], verdict, &[])
         }
         Step::Groups(port, now, parts, verdict, packets) => {
-            hears(device, outbox, port, now, parts, verdict) && holds(outbox, packets)
+            groups(device, outbox, port, now, parts, verdict, packets)
         }
         other => comes(device, outbox, other),
     }
@@ -210,25 +222,24 @@ fn first_wrong(device: &mut Device, outbox: &mut Outbox, steps: &[Step]) -> Opti
     None
 }
 
-/// The first step of which something else comes with this device; the last number where there is no outbox.
-fn wrong_with(alloc: Global, device: &mut Device, steps: &[Step]) -> Option<usize> {
-    match Outbox::new(alloc) {
-        Ok(mut outbox) => first_wrong(device, &mut outbox, steps),
-        Err(_) => Some(usize::MAX),
+impl Played for Script {
+    /// The script's name.
+    fn name(&self) -> &'static str {
+        self.name
     }
-}
 
-/// The first step of the script of which something else comes; the last number where there is no device.
-fn wrong_step(alloc: Global, script: &Script) -> Option<usize> {
-    match device_of(alloc, script.setup) {
-        Some(mut device) => wrong_with(alloc, &mut device, script.steps),
-        None => Some(usize::MAX),
+    /// The script's device.
+    fn setup(&self) -> Setup {
+        self.setup
     }
-}
 
-/// Plays scripts: of each step comes what it says.
-pub fn play(rt: &impl Abort, alloc: Global, scripts: &[Script]) {
-    for script in scripts {
-        none_wrong(rt, script.name, wrong_step(alloc, script));
+    /// The first step of which something else comes.
+    fn wrong_with(
+        &self,
+        _alloc: Global,
+        device: &mut Device,
+        outbox: &mut Outbox,
+    ) -> Option<usize> {
+        first_wrong(device, outbox, self.steps)
     }
 }

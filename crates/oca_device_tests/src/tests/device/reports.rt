@@ -1,5 +1,5 @@
 //! Reports that are added, and verdicts as text.
-use super::super::{none_wrong, reads};
+use super::super::{Row, Words, first_wrong, none_wrong, wrong_unless};
 use oca_device::{Report, Verdict};
 use std::alloc::Global;
 
@@ -49,8 +49,18 @@ const LAST: Report = Report {
 };
 
 /// Two reports, and what both did.
-const SUMS: &[(Report, Report, Report)] = &[
-    (
+struct Sum(Report, Report, Report);
+
+impl Row for Sum {
+    /// Whether both did this.
+    fn agrees(&self, _alloc: Global) -> bool {
+        self.0 + self.1 == self.2
+    }
+}
+
+/// Reports, and their sums.
+const SUMS: &[Sum] = &[
+    Sum(
         Report {
             turns: 1,
             executed: 2,
@@ -91,8 +101,8 @@ const SUMS: &[(Report, Report, Report)] = &[
             failed_sends: 1111,
         },
     ),
-    (LAST, ONE, LAST),
-    (NONE, ONE, ONE),
+    Sum(LAST, ONE, LAST),
+    Sum(NONE, ONE, ONE),
 ];
 
 /// Whether a report that nobody made is that of nothing.
@@ -100,22 +110,9 @@ fn is_none_by_default() -> bool {
     Report::default() == NONE
 }
 
-/// The first sum that is another; the last number where a report that nobody made is not that of nothing.
-fn first_wrong(rows: &[(Report, Report, Report)]) -> Option<usize> {
-    if !is_none_by_default() {
-        return Some(usize::MAX);
-    }
-    for (at, (one, other, both)) in rows.iter().enumerate() {
-        if *one + *other != *both {
-            return Some(at);
-        }
-    }
-    None
-}
-
 /// Verdicts, and how they read.
-const TEXTS: &[(Verdict, &str)] = &[
-    (
+const TEXTS: &[Words<Verdict>] = &[
+    Words(
         Verdict::Served {
             executed: 1,
             kept: 2,
@@ -124,21 +121,19 @@ const TEXTS: &[(Verdict, &str)] = &[
         },
         "1 executed, 2 duplicates, 3 too old, 4 under a handle that was used",
     ),
-    (Verdict::NoRoom, "no room for a session"),
+    Words(Verdict::NoRoom, "no room for a session"),
 ];
-
-/// The first verdict that reads otherwise.
-fn first_other(alloc: Global, rows: &[(Verdict, &str)]) -> Option<usize> {
-    for (at, (verdict, wanted)) in rows.iter().enumerate() {
-        if !reads(format!(in alloc; "{verdict}"), wanted) {
-            return Some(at);
-        }
-    }
-    None
-}
 
 #[test]
 fn tables(rt: HostRuntime) {
-    none_wrong(&rt, "sums", first_wrong(SUMS));
-    none_wrong(&rt, "texts", first_other(rt.alloc(), TEXTS));
+    let alloc = rt.alloc();
+    none_wrong(
+        &rt,
+        "sums, texts and the default",
+        &[
+            first_wrong(alloc, SUMS),
+            first_wrong(alloc, TEXTS),
+            wrong_unless(is_none_by_default()),
+        ],
+    );
 }

@@ -1,12 +1,11 @@
 //! The loop over an end in memory.
-use super::super::{none_wrong, peer};
-use super::benches::device_of;
+use super::super::peer;
+use super::benches::{Played, play};
 use super::parts::{bytes_of, is_of};
 use super::*;
 use oca_device::{Device, Outbox, Report, serve};
 use oca_net::{MemoryEnd, Scripted};
 use std::alloc::Global;
-use std::process::Abort;
 
 /// What an end delivers.
 #[derive(Clone, Copy)]
@@ -54,11 +53,16 @@ struct Play {
     turns: &'static [Turn],
 }
 
+/// Adds one to what an end delivers.
+fn put(script: &mut Vec<Scripted>, one: Scripted) -> bool {
+    script.push(one).is_ok()
+}
+
 /// Adds a datagram at the end of a script.
 fn add(alloc: Global, script: &mut Vec<Scripted>, port: u16, now: u64, parts: &[Part]) -> bool {
     let from = peer(port);
     match bytes_of(parts).as_slice().to_vec(alloc) {
-        Ok(bytes) => script.push(Scripted::Datagram { from, bytes, now }).is_ok(),
+        Ok(bytes) => put(script, Scripted::Datagram { from, bytes, now }),
         Err(_) => false,
     }
 }
@@ -84,8 +88,8 @@ fn add_delivery(alloc: Global, script: &mut Vec<Scripted>, delivery: Delivery) -
     match delivery {
         Datagram(port, now, parts) => add(alloc, script, port, now, parts),
         Peers(first, after, parts) => add_peers(alloc, script, first, after, parts),
-        Quiet(now) => script.push(Scripted::Quiet { now }).is_ok(),
-        Failed => script.push(Scripted::Failed).is_ok(),
+        Quiet(now) => put(script, Scripted::Quiet { now }),
+        Failed => put(script, Scripted::Failed),
     }
 }
 
@@ -142,32 +146,23 @@ fn first_wrong(
     None
 }
 
-/// The first wrong turn with this device and this outbox; the last number where there is no end.
-fn wrong_with(
-    alloc: Global,
-    device: &mut Device,
-    outbox: &mut Outbox,
-    play: &Play,
-) -> Option<usize> {
-    match end_of(alloc, play) {
-        Some(mut end) => first_wrong(device, outbox, &mut end, play.turns),
-        None => Some(usize::MAX),
+impl Played for Play {
+    /// The play's name.
+    fn name(&self) -> &'static str {
+        self.name
     }
-}
 
-/// The first wrong turn with this device; the last number where there is no outbox.
-fn wrong_of(alloc: Global, device: &mut Device, play: &Play) -> Option<usize> {
-    match Outbox::new(alloc) {
-        Ok(mut outbox) => wrong_with(alloc, device, &mut outbox, play),
-        Err(_) => Some(usize::MAX),
+    /// The play's device.
+    fn setup(&self) -> Setup {
+        self.setup
     }
-}
 
-/// The first turn of a play that tells something else; the last number where there is no device.
-fn wrong_turn(alloc: Global, play: &Play) -> Option<usize> {
-    match device_of(alloc, play.setup) {
-        Some(mut device) => wrong_of(alloc, &mut device, play),
-        None => Some(usize::MAX),
+    /// The first turn that tells something else; the last number where there is no end.
+    fn wrong_with(&self, alloc: Global, device: &mut Device, outbox: &mut Outbox) -> Option<usize> {
+        match end_of(alloc, self) {
+            Some(mut end) => first_wrong(device, outbox, &mut end, self.turns),
+            None => Some(usize::MAX),
+        }
     }
 }
 
@@ -320,15 +315,8 @@ const SERVING: &[Play] = &[CLOSED, SERVED, COUNTED];
 /// Plays over an end of which a send fails.
 const FAILING: &[Play] = &[GOES_ON, LOST];
 
-/// Each turn of these plays tells what it must.
-fn run(rt: &impl Abort, alloc: Global, plays: &[Play]) {
-    for play in plays {
-        none_wrong(rt, play.name, wrong_turn(alloc, play));
-    }
-}
-
 #[test]
 fn plays(rt: HostRuntime) {
-    run(&rt, rt.alloc(), SERVING);
-    run(&rt, rt.alloc(), FAILING);
+    play(&rt, rt.alloc(), SERVING);
+    play(&rt, rt.alloc(), FAILING);
 }

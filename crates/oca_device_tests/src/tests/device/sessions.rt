@@ -1,5 +1,6 @@
 //! Sessions, reply windows, locks and silence.
-use super::play::{Script, play};
+use super::benches::play;
+use super::play::Script;
 use super::*;
 use Part::*;
 use Step::*;

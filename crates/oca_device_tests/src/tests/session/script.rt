@@ -232,6 +232,6 @@ fn wrong_step(alloc: Global, script: &Script) -> Option<usize> {
 /// Plays scripts: each event is answered as they say.
 pub fn play(rt: &impl Abort, alloc: Global, scripts: &[Script]) {
     for script in scripts {
-        none_wrong(rt, script.name, wrong_step(alloc, script));
+        none_wrong(rt, script.name, &[wrong_step(alloc, script)]);
     }
 }

@@ -1,5 +1,5 @@
 //! What a builder refuses.
-use super::super::{none_wrong, reads};
+use super::super::{Row, Words, first_wrong, none_wrong, wrong_unless};
 use super::script::Addition::{Many, Nested, One};
 use super::script::Over::Built;
 use super::script::Row::{Holds, Len, Reads};
@@ -115,32 +115,22 @@ const SWITCH_ROWS: &[At] = &[At(
 )];
 
 // The words of each fault.
-const WORDS: &[(AddFault, &str)] = &[
-    (AddFault::Full, "there is no room for another object"),
-    (AddFault::Reserved, "the number is below 4096"),
-    (AddFault::Taken, "the number is taken"),
-    (
+const WORDS: &[Words<AddFault>] = &[
+    Words(AddFault::Full, "there is no room for another object"),
+    Words(AddFault::Reserved, "the number is below 4096"),
+    Words(AddFault::Taken, "the number is taken"),
+    Words(
         AddFault::NoSuchBlock,
         "the container is no block of the tree",
     ),
-    (AddFault::TooDeep, "the object would stand at depth 9"),
-    (
+    Words(AddFault::TooDeep, "the object would stand at depth 9"),
+    Words(
         AddFault::BadText,
         "a text is empty or has more than 64 bytes",
     ),
-    (AddFault::BadRange, "the setting is outside its range"),
-    (AddFault::NoMemory, "no memory"),
+    Words(AddFault::BadRange, "the setting is outside its range"),
+    Words(AddFault::NoMemory, "no memory"),
 ];
-
-/// The first fault with other words.
-fn first_wrong_words(alloc: Global, rows: &[(AddFault, &str)]) -> Option<usize> {
-    for (at, (fault, words)) in rows.iter().enumerate() {
-        if !reads(fault.to_string(alloc), words) {
-            return Some(at);
-        }
-    }
-    None
-}
 
 /// The fault of the first mute that a builder does not take into the root.
 fn fault_of_more(builder: &mut TreeBuilder) -> Option<AddFault> {
@@ -152,39 +142,46 @@ fn fault_of_more(builder: &mut TreeBuilder) -> Option<AddFault> {
     None
 }
 
-/// How many objects there are once a builder with this room is full, the root counted; none where there is no such room
-/// or another fault.
-fn most_objects(alloc: Global, room: u16) -> Option<usize> {
-    let room = Room::new(room)?;
-    let mut builder = TreeBuilder::with_room(alloc, room).ok()?;
+/// How many objects there are once this builder is full, the root counted; none where there is another fault.
+fn most_of(mut builder: TreeBuilder) -> Option<usize> {
     match fault_of_more(&mut builder) {
         Some(AddFault::Full) => Some(builder.finish().len()),
         _ => None,
     }
 }
 
-// A tree has as many objects as there is room for, the root counted.
-const ROOMS: &[(u16, Option<usize>)] = &[
-    (0, None),
-    (1, Some(1)),
-    (2, Some(2)),
-    (8, Some(8)),
-    (129, Some(129)),
-    (4096, Some(4096)),
-    (4097, None),
-];
+/// How many objects there are once a builder with this room is full; none where there is none.
+fn most_objects(alloc: Global, room: Room) -> Option<usize> {
+    match TreeBuilder::with_room(alloc, room) {
+        Ok(builder) => most_of(builder),
+        Err(_) => None,
+    }
+}
 
-/// The first room that is filled otherwise.
-fn first_wrong_room(alloc: Global, rows: &[(u16, Option<usize>)]) -> Option<usize> {
-    for (at, (room, objects)) in rows.iter().enumerate() {
-        if most_objects(alloc, *room) != *objects
-            || Room::new(*room).is_none() != objects.is_none()
-        {
-            return Some(at);
+/// A room, and how many objects there are once a builder with it is full, the root counted; none where there is no such
+/// room.
+struct Filled(u16, Option<usize>);
+
+impl Row for Filled {
+    /// Whether there are so many.
+    fn agrees(&self, alloc: Global) -> bool {
+        match Room::new(self.0) {
+            Some(room) => self.1.is_some() && most_objects(alloc, room) == self.1,
+            None => self.1.is_none(),
         }
     }
-    None
 }
+
+// A tree has as many objects as there is room for, the root counted.
+const ROOMS: &[Filled] = &[
+    Filled(0, None),
+    Filled(1, Some(1)),
+    Filled(2, Some(2)),
+    Filled(8, Some(8)),
+    Filled(129, Some(129)),
+    Filled(4096, Some(4096)),
+    Filled(4097, None),
+];
 
 /// The script of what is refused of any object.
 const OF_OBJECTS: &[Script] = &[Script {
@@ -204,7 +201,13 @@ const OF_SWITCHES: &[Script] = &[Script {
 fn scripts(rt: HostRuntime) {
     play(&rt, rt.alloc(), OF_OBJECTS);
     play(&rt, rt.alloc(), OF_SWITCHES);
-    none_wrong(&rt, "words", first_wrong_words(rt.alloc(), WORDS));
-    none_wrong(&rt, "rooms", first_wrong_room(rt.alloc(), ROOMS));
-    assert!(rt; Room::default().get() == 128);
+    none_wrong(
+        &rt,
+        "words, rooms and the default",
+        &[
+            first_wrong(rt.alloc(), WORDS),
+            first_wrong(rt.alloc(), ROOMS),
+            wrong_unless(Room::default().get() == 128),
+        ],
+    );
 }

@@ -1,11 +1,12 @@
 //! Setting objects at the local front panel.
-use super::super::none_wrong;
+use super::super::{Row, first_wrong, none_wrong};
 use super::script::Over::Bench;
 use super::script::Row::{Calls, Holds, Locked, Puts, Sends};
 use super::script::{At, Script, play};
 use super::words::*;
 use oca_tree::{Lock, LockKind, MuteState, PolarityState, SetFault, Setting, Value};
 use oca_types::{Class, Status};
+use std::alloc::Global;
 
 const UNMUTE: Value = Value::Mute(MuteState::Unmuted);
 
@@ -166,59 +167,63 @@ const SCRIPTS: &[Script] = &[
     },
 ];
 
-// The value of a class whose state has a number.
-const STATES: &[(Class, u8, Option<Value>)] = &[
-    (Class::Mute, 0, None),
-    (Class::Mute, 1, Some(Value::Mute(MuteState::Muted))),
-    (Class::Mute, 2, Some(UNMUTE)),
-    (Class::Mute, 3, None),
-    (
+/// The value of a class whose state has a number.
+struct OfState(Class, u8, Option<Value>);
+
+impl Row for OfState {
+    /// Whether it is this.
+    fn agrees(&self, _alloc: Global) -> bool {
+        Value::of_state(self.0, self.1) == self.2
+    }
+}
+
+const STATES: &[OfState] = &[
+    OfState(Class::Mute, 0, None),
+    OfState(Class::Mute, 1, Some(Value::Mute(MuteState::Muted))),
+    OfState(Class::Mute, 2, Some(UNMUTE)),
+    OfState(Class::Mute, 3, None),
+    OfState(
         Class::Polarity,
         1,
         Some(Value::Polarity(PolarityState::NonInverted)),
     ),
-    (Class::Switch, 1, None),
-    (Class::Block, 1, None),
+    OfState(Class::Switch, 1, None),
+    OfState(Class::Block, 1, None),
 ];
 
-// The value of a class that is an integer.
-const INTEGERS: &[(Class, i128, Option<Value>)] = &[
-    (Class::Int8, -128, Some(Value::Int8(-128))),
-    (Class::Int8, -129, None),
-    (Class::Int16, 32767, Some(Value::Int16(32767))),
-    (Class::Uint8, -1, None),
-    (
+/// The value of a class that is an integer.
+struct OfInteger(Class, i128, Option<Value>);
+
+impl Row for OfInteger {
+    /// Whether it is this.
+    fn agrees(&self, _alloc: Global) -> bool {
+        Value::of_integer(self.0, self.1) == self.2
+    }
+}
+
+const INTEGERS: &[OfInteger] = &[
+    OfInteger(Class::Int8, -128, Some(Value::Int8(-128))),
+    OfInteger(Class::Int8, -129, None),
+    OfInteger(Class::Int16, 32767, Some(Value::Int16(32767))),
+    OfInteger(Class::Uint8, -1, None),
+    OfInteger(
         Class::Uint64,
         18446744073709551615,
         Some(Value::Uint64(18446744073709551615)),
     ),
-    (Class::Int64, 18446744073709551615, None),
-    (Class::Boolean, 1, None),
+    OfInteger(Class::Int64, 18446744073709551615, None),
+    OfInteger(Class::Boolean, 1, None),
 ];
-
-/// The first of these rows that comes out otherwise.
-fn first_wrong_state(rows: &[(Class, u8, Option<Value>)]) -> Option<usize> {
-    for (at, (class, number, want)) in rows.iter().enumerate() {
-        if Value::of_state(*class, *number) != *want {
-            return Some(at);
-        }
-    }
-    None
-}
-
-/// The first of these rows that comes out otherwise.
-fn first_wrong_integer(rows: &[(Class, i128, Option<Value>)]) -> Option<usize> {
-    for (at, (class, number, want)) in rows.iter().enumerate() {
-        if Value::of_integer(*class, *number) != *want {
-            return Some(at);
-        }
-    }
-    None
-}
 
 #[test]
 fn scripts(rt: HostRuntime) {
     play(&rt, rt.alloc(), SCRIPTS);
-    none_wrong(&rt, "states", first_wrong_state(STATES));
-    none_wrong(&rt, "integers", first_wrong_integer(INTEGERS));
+    none_wrong(
+        &rt,
+        "states and integers",
+        &[
+            first_wrong(rt.alloc(), STATES),
+            first_wrong(rt.alloc(), INTEGERS),
+        ],
+    );
 }

@@ -1,8 +1,9 @@
 //! What is read of each object.
+use super::super::{none_wrong, wrong_unless};
 use super::script::Over::{Bench, Channels};
 use super::script::Row::{Ends, Holds, Len, Shows};
 use super::script::{At, Script, play};
-use oca_tree::{Tree, bench, bench_with_channels};
+use oca_tree::{ObjectInfo, Tree, bench, bench_with_channels};
 use oca_types::Class;
 use std::alloc::Global;
 
@@ -79,12 +80,19 @@ fn has_no_room_for(alloc: Global, channels: u16) -> bool {
     bench_with_channels(alloc, channels).is_err()
 }
 
+/// Whether an object has the number and the role of the one that is given by an index.
+fn is_at(tree: &Tree, at: usize, info: &ObjectInfo) -> bool {
+    match tree.object_at(at) {
+        Some(same) => info.ono == same.ono && info.role.as_str() == same.role.as_str(),
+        None => false,
+    }
+}
+
 /// How many objects the iterator gives, where each is what is given by index.
 fn in_order(tree: &Tree) -> Option<usize> {
     let mut objects = 0;
     for (at, info) in tree.objects().enumerate() {
-        let same = tree.object_at(at)?;
-        if info.ono != same.ono || info.role.as_str() != same.role.as_str() {
+        if !is_at(tree, at, &info) {
             return None;
         }
         objects = at.saturating_add(1);
@@ -94,7 +102,10 @@ fn in_order(tree: &Tree) -> Option<usize> {
 
 /// How many objects of the bench device the iterator gives in order.
 fn in_order_on_bench(alloc: Global) -> Option<usize> {
-    in_order(&bench(alloc).ok()?)
+    match bench(alloc) {
+        Ok(tree) => in_order(&tree),
+        Err(_) => None,
+    }
 }
 
 /// Scripts over the bench device.
@@ -129,6 +140,12 @@ const OF_CHANNELS: &[Script] = &[
 fn scripts(rt: HostRuntime) {
     play(&rt, rt.alloc(), OF_THE_BENCH);
     play(&rt, rt.alloc(), OF_CHANNELS);
-    assert!(rt; has_no_room_for(rt.alloc(), 1023));
-    assert!(rt; in_order_on_bench(rt.alloc()) == Some(8));
+    none_wrong(
+        &rt,
+        "channels and the order of objects",
+        &[
+            wrong_unless(has_no_room_for(rt.alloc(), 1023)),
+            wrong_unless(in_order_on_bench(rt.alloc()) == Some(8)),
+        ],
+    );
 }

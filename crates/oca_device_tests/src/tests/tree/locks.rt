@@ -1,5 +1,5 @@
 //! Locks of two peers.
-use super::super::none_wrong;
+use super::super::{Row, first_wrong, none_wrong};
 use super::script::Over::Bench;
 use super::script::Row::{Calls, Locked, Releases};
 use super::script::{At, Script, call, gives, play};
@@ -81,7 +81,7 @@ const READONLY_OF_B: Option<Lock> = Some(Lock {
 });
 
 /// The lock of the mute, a call of A with its ParamCount and parameters, the call's status, and the lock that is left.
-type Case = (
+struct Case(
     Option<Lock>,
     Called,
     (u8, &'static [u8]),
@@ -107,49 +107,40 @@ fn begins(tree: &mut Tree, before: Option<Lock>) -> bool {
 }
 
 /// Whether the case comes out so over this bench device.
-fn comes_out_of(tree: &mut Tree, case: Case) -> bool {
-    let (before, method, params, status, after) = case;
-    begins(tree, before)
-        && call(tree, A, 4097, method, params).0 == status
-        && tree.lock_of(Ono(4097)) == after
+fn comes_out_of(tree: &mut Tree, case: &Case) -> bool {
+    begins(tree, case.0)
+        && call(tree, A, 4097, case.1, case.2).0 == case.3
+        && tree.lock_of(Ono(4097)) == case.4
 }
 
-/// Whether the case comes out so over a bench device of its own.
-fn comes_out(alloc: Global, case: Case) -> bool {
-    match bench(alloc) {
-        Ok(mut tree) => comes_out_of(&mut tree, case),
-        Err(_) => false,
-    }
-}
-
-/// The first case that comes out otherwise.
-fn first_wrong(alloc: Global, cases: &[Case]) -> Option<usize> {
-    for (at, case) in cases.iter().enumerate() {
-        if !comes_out(alloc, *case) {
-            return Some(at);
+impl Row for Case {
+    /// Whether the case comes out so over a bench device of its own.
+    fn agrees(&self, alloc: Global) -> bool {
+        match bench(alloc) {
+            Ok(mut tree) => comes_out_of(&mut tree, self),
+            Err(_) => false,
         }
     }
-    None
 }
 
 // Both kinds of lock against reading and writing, for the holder and for another peer.
 const ACCESSES: &[Case] = &[
-    (None, GET_STATE, NONE, Status::Ok, None),
-    (None, SET_STATE, (1, &[2]), Status::Ok, None),
-    (TOTAL_OF_A, GET_STATE, NONE, Status::Ok, TOTAL_OF_A),
-    (TOTAL_OF_A, SET_STATE, (1, &[2]), Status::Ok, TOTAL_OF_A),
-    (READONLY_OF_A, GET_STATE, NONE, Status::Ok, READONLY_OF_A),
-    (
+    Case(None, GET_STATE, NONE, Status::Ok, None),
+    Case(None, SET_STATE, (1, &[2]), Status::Ok, None),
+    Case(TOTAL_OF_A, GET_STATE, NONE, Status::Ok, TOTAL_OF_A),
+    Case(TOTAL_OF_A, SET_STATE, (1, &[2]), Status::Ok, TOTAL_OF_A),
+    Case(READONLY_OF_A, GET_STATE, NONE, Status::Ok, READONLY_OF_A),
+    Case(
         READONLY_OF_A,
         SET_STATE,
         (1, &[2]),
         Status::Ok,
         READONLY_OF_A,
     ),
-    (TOTAL_OF_B, GET_STATE, NONE, Status::Locked, TOTAL_OF_B),
-    (TOTAL_OF_B, SET_STATE, (1, &[2]), Status::Locked, TOTAL_OF_B),
-    (READONLY_OF_B, GET_STATE, NONE, Status::Ok, READONLY_OF_B),
-    (
+    Case(TOTAL_OF_B, GET_STATE, NONE, Status::Locked, TOTAL_OF_B),
+    Case(TOTAL_OF_B, SET_STATE, (1, &[2]), Status::Locked, TOTAL_OF_B),
+    Case(READONLY_OF_B, GET_STATE, NONE, Status::Ok, READONLY_OF_B),
+    Case(
         READONLY_OF_B,
         SET_STATE,
         (1, &[2]),
@@ -160,28 +151,28 @@ const ACCESSES: &[Case] = &[
 
 // Both kinds of lock against locking, for the holder, who changes the kind, and for another peer.
 const LOCKINGS: &[Case] = &[
-    (None, LOCK_TOTAL, NONE, Status::Ok, TOTAL_OF_A),
-    (TOTAL_OF_A, LOCK_TOTAL, NONE, Status::Ok, TOTAL_OF_A),
-    (READONLY_OF_A, LOCK_TOTAL, NONE, Status::Ok, TOTAL_OF_A),
-    (TOTAL_OF_B, LOCK_TOTAL, NONE, Status::Locked, TOTAL_OF_B),
-    (
+    Case(None, LOCK_TOTAL, NONE, Status::Ok, TOTAL_OF_A),
+    Case(TOTAL_OF_A, LOCK_TOTAL, NONE, Status::Ok, TOTAL_OF_A),
+    Case(READONLY_OF_A, LOCK_TOTAL, NONE, Status::Ok, TOTAL_OF_A),
+    Case(TOTAL_OF_B, LOCK_TOTAL, NONE, Status::Locked, TOTAL_OF_B),
+    Case(
         READONLY_OF_B,
         LOCK_TOTAL,
         NONE,
         Status::Locked,
         READONLY_OF_B,
     ),
-    (None, LOCK_READONLY, NONE, Status::Ok, READONLY_OF_A),
-    (TOTAL_OF_A, LOCK_READONLY, NONE, Status::Ok, READONLY_OF_A),
-    (
+    Case(None, LOCK_READONLY, NONE, Status::Ok, READONLY_OF_A),
+    Case(TOTAL_OF_A, LOCK_READONLY, NONE, Status::Ok, READONLY_OF_A),
+    Case(
         READONLY_OF_A,
         LOCK_READONLY,
         NONE,
         Status::Ok,
         READONLY_OF_A,
     ),
-    (TOTAL_OF_B, LOCK_READONLY, NONE, Status::Locked, TOTAL_OF_B),
-    (
+    Case(TOTAL_OF_B, LOCK_READONLY, NONE, Status::Locked, TOTAL_OF_B),
+    Case(
         READONLY_OF_B,
         LOCK_READONLY,
         NONE,
@@ -192,11 +183,11 @@ const LOCKINGS: &[Case] = &[
 
 // Both kinds of lock against unlocking, for the holder and for another peer.
 const UNLOCKINGS: &[Case] = &[
-    (None, UNLOCK, NONE, Status::InvalidRequest, None),
-    (TOTAL_OF_A, UNLOCK, NONE, Status::Ok, None),
-    (READONLY_OF_A, UNLOCK, NONE, Status::Ok, None),
-    (TOTAL_OF_B, UNLOCK, NONE, Status::Locked, TOTAL_OF_B),
-    (READONLY_OF_B, UNLOCK, NONE, Status::Locked, READONLY_OF_B),
+    Case(None, UNLOCK, NONE, Status::InvalidRequest, None),
+    Case(TOTAL_OF_A, UNLOCK, NONE, Status::Ok, None),
+    Case(READONLY_OF_A, UNLOCK, NONE, Status::Ok, None),
+    Case(TOTAL_OF_B, UNLOCK, NONE, Status::Locked, TOTAL_OF_B),
+    Case(READONLY_OF_B, UNLOCK, NONE, Status::Locked, READONLY_OF_B),
 ];
 
 // A release takes one peer's locks off and leaves those of another.
@@ -228,7 +219,13 @@ const RELEASED: &[Script] = &[Script {
 fn scripts(rt: HostRuntime) {
     play(&rt, rt.alloc(), LOCKED);
     play(&rt, rt.alloc(), RELEASED);
-    none_wrong(&rt, "accesses", first_wrong(rt.alloc(), ACCESSES));
-    none_wrong(&rt, "lockings", first_wrong(rt.alloc(), LOCKINGS));
-    none_wrong(&rt, "unlockings", first_wrong(rt.alloc(), UNLOCKINGS));
+    none_wrong(
+        &rt,
+        "accesses, lockings and unlockings",
+        &[
+            first_wrong(rt.alloc(), ACCESSES),
+            first_wrong(rt.alloc(), LOCKINGS),
+            first_wrong(rt.alloc(), UNLOCKINGS),
+        ],
+    );
 }

@@ -224,23 +224,25 @@ fn first_wrong(tree: &mut Tree, script: &[At]) -> Option<Wrong> {
     None
 }
 
+/// Whether a builder takes an object into a container as this number.
+fn takes(builder: &mut TreeBuilder, container: u32, ono: u32, spec: &Spec<'_>) -> bool {
+    builder.add(Ono(container), Ono(ono), spec).is_ok()
+}
+
 /// Whether a builder takes an object so often, each as the next number.
 fn takes_many(builder: &mut TreeBuilder, first: u32, end: u32, spec: &Spec<'_>) -> bool {
     for ono in first..end {
-        if builder.add(Ono(100), Ono(ono), spec).is_err() {
+        if !takes(builder, 100, ono, spec) {
             return false;
         }
     }
     true
 }
 
-/// Whether a builder takes blocks that stand in one another.
-fn takes_nested(builder: &mut TreeBuilder, first: u32, end: u32) -> bool {
+/// Whether a builder takes such blocks that stand in one another.
+fn takes_nested(builder: &mut TreeBuilder, first: u32, end: u32, spec: &Spec<'_>) -> bool {
     for ono in first..end {
-        if builder
-            .add(Ono(ono), Ono(ono.saturating_add(1)), &BLOCK)
-            .is_err()
-        {
+        if !takes(builder, ono, ono.saturating_add(1), spec) {
             return false;
         }
     }
@@ -254,7 +256,7 @@ fn adds(builder: &mut TreeBuilder, addition: &Addition) -> bool {
             builder.add(Ono(*container), Ono(*ono), spec) == *want
         }
         Many(first, end, spec) => takes_many(builder, *first, *end, spec),
-        Nested(first, end) => takes_nested(builder, *first, *end),
+        Nested(first, end) => takes_nested(builder, *first, *end, &BLOCK),
         other => adds_stored(builder, other),
     }
 }
@@ -283,12 +285,19 @@ fn adds_all(builder: &mut TreeBuilder, additions: &[Addition]) -> bool {
 }
 
 /// The tree of a builder with these additions to it, where all are answered so.
-fn built(builder: Option<TreeBuilder>, additions: &[Addition]) -> Option<Tree> {
-    let mut builder = builder?;
+fn finished(mut builder: TreeBuilder, additions: &[Addition]) -> Option<Tree> {
     if adds_all(&mut builder, additions) {
         Some(builder.finish())
     } else {
         None
+    }
+}
+
+/// The tree of a builder, where there is one, with these additions to it, where all are answered so.
+fn built(builder: Option<TreeBuilder>, additions: &[Addition]) -> Option<Tree> {
+    match builder {
+        Some(builder) => finished(builder, additions),
+        None => None,
     }
 }
 
@@ -299,8 +308,10 @@ pub fn tree_of(alloc: Global, over: Over) -> Option<Tree> {
         Over::Channels(count) => bench_with_channels(alloc, count).ok(),
         Over::Built(additions) => built(TreeBuilder::new(alloc).ok(), additions),
         Over::Root(stored, additions) => {
-            let builder = TreeBuilder::with_root(alloc, Room::default(), &stored);
-            built(builder.ok(), additions)
+            built(
+                TreeBuilder::with_root(alloc, Room::default(), &stored).ok(),
+                additions,
+            )
         }
     }
 }

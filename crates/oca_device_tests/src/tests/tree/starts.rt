@@ -1,5 +1,5 @@
 //! What was stored of an object is there when the device begins again.
-use super::super::{none_wrong, reads};
+use super::super::{Words, first_wrong, none_wrong};
 use super::script::Addition::{One, Stored, Unstored};
 use super::script::Over::{Built, Root};
 use super::script::Row::{Len, Reads};
@@ -129,24 +129,14 @@ const ROOT_ROWS: &[At] = &[At(
 )];
 
 // The words of each fault.
-const WORDS: &[(StartFault, &str)] = &[
-    (StartFault::Add(AddFault::Taken), "the number is taken"),
-    (StartFault::BadLabel, "the label has more than 64 bytes"),
-    (
+const WORDS: &[Words<StartFault>] = &[
+    Words(StartFault::Add(AddFault::Taken), "the number is taken"),
+    Words(StartFault::BadLabel, "the label has more than 64 bytes"),
+    Words(
         StartFault::BadFlags,
         "the flags are not as many as the positions",
     ),
 ];
-
-/// The first fault with other words.
-fn first_wrong_words(alloc: Global, rows: &[(StartFault, &str)]) -> Option<usize> {
-    for (at, (fault, words)) in rows.iter().enumerate() {
-        if !reads(fault.to_string(alloc), words) {
-            return Some(at);
-        }
-    }
-    None
-}
 
 /// What is read of an object: its number, its label, its class, whether it is enabled and can be locked, and the flags
 /// and the names of its positions.
@@ -216,14 +206,21 @@ fn are_names(tree: &Tree, row: &Described) -> bool {
             .all(|(name, wanted)| name.as_str() == *wanted)
 }
 
+/// Whether this is what begins.
+fn is_start(tree: &Tree, row: &Described) -> bool {
+    match tree.start_of(Ono(row.ono)) {
+        Some(start) => {
+            start.label == row.label
+                && start.enabled == row.enabled
+                && start.position_enableds == row.flags
+        }
+        None => false,
+    }
+}
+
 /// Whether this is read.
 fn is_read(tree: &Tree, row: &Described) -> bool {
-    let Some(start) = tree.start_of(Ono(row.ono)) else {
-        return false;
-    };
-    start.label == row.label
-        && start.enabled == row.enabled
-        && start.position_enableds == row.flags
+    is_start(tree, row)
         && tree.is_lockable(Ono(row.ono)) == Some(row.lockable)
         && tree.class_of(Ono(row.ono)) == Some(row.class)
         && are_names(tree, row)
@@ -250,27 +247,28 @@ fn first_other(tree: &Tree, rows: &[Described]) -> Option<usize> {
     }
 }
 
-/// The first row that is read otherwise of what was stored; the last number where there is no tree.
-fn first_wrong_stored(alloc: Global, rows: &[Described]) -> Option<usize> {
-    match tree_of(alloc, STORED_TREE) {
-        Some(tree) => first_other(&tree, rows),
-        None => Some(usize::MAX),
-    }
-}
-
 /// Whether the tree is the same but for locks as itself, and not as the bench.
-fn is_compared_with_bench(alloc: Global, tree: &Tree) -> bool {
+fn is_compared(alloc: Global, tree: &Tree) -> bool {
     match bench(alloc) {
         Ok(other) => tree.is_but_for_locks(tree) && !tree.is_but_for_locks(&other),
         Err(_) => false,
     }
 }
 
-/// Whether the tree of what was stored is the same but for locks as itself, and not as the bench.
-fn is_compared(alloc: Global) -> bool {
+/// The first row that is read otherwise of this tree; the last number where it is compared otherwise.
+fn first_wrong_of(alloc: Global, tree: &Tree, rows: &[Described]) -> Option<usize> {
+    if is_compared(alloc, tree) {
+        first_other(tree, rows)
+    } else {
+        Some(usize::MAX)
+    }
+}
+
+/// The first row that is read otherwise of what was stored; the last number where there is no tree.
+fn first_wrong_stored(alloc: Global, rows: &[Described]) -> Option<usize> {
     match tree_of(alloc, STORED_TREE) {
-        Some(tree) => is_compared_with_bench(alloc, &tree),
-        None => false,
+        Some(tree) => first_wrong_of(alloc, &tree, rows),
+        None => Some(usize::MAX),
     }
 }
 
@@ -315,7 +313,12 @@ fn scripts(rt: HostRuntime) {
     play(&rt, rt.alloc(), LABELS);
     play(&rt, rt.alloc(), FLAGS);
     play(&rt, rt.alloc(), OF_THE_ROOT);
-    none_wrong(&rt, "words", first_wrong_words(rt.alloc(), WORDS));
-    none_wrong(&rt, "stored", first_wrong_stored(rt.alloc(), DESCRIBED));
-    assert!(rt; is_compared(rt.alloc()));
+    none_wrong(
+        &rt,
+        "words, and what was stored",
+        &[
+            first_wrong(rt.alloc(), WORDS),
+            first_wrong_stored(rt.alloc(), DESCRIBED),
+        ],
+    );
 }
