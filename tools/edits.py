@@ -25,10 +25,10 @@ The edits of tools/edits_selftest/CRATE/ must not be refused, and for what their
 
 Crates run side by side, as many as there are processors and memory for, or as many as RT_JOBS says. The libraries below
 a crate are taken from out/rlib as `rt ci` left them, and are built where they are not there. Beside the gate's `rt ci`,
-which notes the crates that it has proved in the file GATE_PROVED, each crate waits for the libraries below it, and until
-that has ended for a processor that is idle; only half as many run side by side then, since it takes memory too, and checks
-that take turns on a processor need more of it. With EDITS_KEPT=1 a check
-begins with what earlier checks of the crate kept in out/incremental, which is faster while edits are written.
+which notes the crates that it has proved in the file GATE_PROVED, each crate waits for the libraries below it; and until
+that has ended, for a processor that is idle. Only half as many run side by side then, since `rt ci` takes memory too, and
+checks slow each other down. With EDITS_KEPT=1 a check begins with what earlier checks of the crate kept in
+out/incremental, which is faster while edits are written.
 The last line is 'N passed, M failed', and the exit status 1 where anything failed."""
 import copy
 import importlib.machinery
