@@ -7,16 +7,13 @@ A row is a run, as in `runs.py`. Readers that give and writers that take a littl
 write fails by the system. The last line is 'N passed, M failed'."""
 import contextlib
 import os
-import resource
 import select
 import socket
-import struct
 import subprocess
 import sys
-import tempfile
 import time
 
-from runs import MOST, Runs, comments
+from runs import MOST, Runs, comments, cut_input, fails_to_write, refuses_no_word
 
 REPLAY = ["ocactl", "replay", "--device", "127.0.0.1:65000", "--first-handle"]
 REPLAY_1 = [*REPLAY, "1"]
@@ -214,10 +211,6 @@ AHEAD = [
     ("255.255.255.255", "", None),
 ]
 
-# Runs a program without any word, not even its own name: a system may make a word of nothing of that.
-WITHOUT_WORDS = "import ctypes, sys; none = (ctypes.c_char_p * 1)(); ctypes.CDLL(None).execve(sys.argv[1].encode(), none, none)"
-
-
 def silent():
     """A socket of this machine where nobody answers."""
     end = socket.socket(socket.AF_INET, socket.SOCK_DGRAM)
@@ -246,24 +239,12 @@ def asks_for_nothing(runs):
     """Words that are refused, and those that are answered by a text."""
     for words in BAD_WORDS:
         runs.gives(words, b"0 due\n", 2, b"", b"bad words\n")
-    run = subprocess.run([sys.executable, "-c", WITHOUT_WORDS, f"{runs.folder}/ocactl"], input=b"0 due\n", capture_output=True, timeout=120,
-                         check=False)
-    runs.check([], (run.returncode, run.stdout) == (2, b"") and run.stderr.endswith(b"bad words\n"), run)
+    refuses_no_word(runs, "ocactl", b"0 due\n")
     for words in HELP:
         unread = os.open("/", os.O_RDONLY)
         run = subprocess.run([f"{runs.folder}/ocactl", *words.split()[1:]], stdin=unread, capture_output=True, timeout=120, check=False)
         os.close(unread)
         runs.check([words], run.returncode == 0 and len(run.stdout) > 200 and not run.stderr, run)
-
-
-def cut_input(given):
-    """A socket from which these bytes are read, and then a read fails."""
-    with socket.create_server(("127.0.0.1", 0)) as server:
-        writer = socket.create_connection(server.getsockname())
-        reader, _ = server.accept()
-    writer.setsockopt(socket.SOL_SOCKET, socket.SO_LINGER, struct.pack("ii", 1, 0))
-    writer.sendall(given)
-    return reader, writer
 
 
 def fails_to_read(runs):
@@ -275,18 +256,6 @@ def fails_to_read(runs):
     rest, told = run.communicate(timeout=120)
     reader.close()
     runs.check(REPLAY_1, (run.returncode, printed + rest, told) == (1, b"nothing\n", b"read failed\n"), (run.returncode, printed, rest, told))
-
-
-def fails_to_write(runs, words, begins):
-    """A write that fails behind three bytes: a file may have no more."""
-    def limit():
-        resource.setrlimit(resource.RLIMIT_FSIZE, (3, 3))
-    with tempfile.TemporaryFile() as out:
-        run = subprocess.run([f"{runs.folder}/{words[0]}", *words[1:]], input=b"0 due\n0 due\n", stdout=out, stderr=subprocess.PIPE, timeout=120,
-                             check=False, preexec_fn=limit, restore_signals=False)
-        out.seek(0)
-        text = out.read()
-    runs.check(words, (run.returncode, run.stderr) == (1, b"write failed\n") and len(text) == 3 and text.startswith(begins), (run, text))
 
 
 def sends(runs):
@@ -338,8 +307,8 @@ def main(folder):
     replays(runs)
     asks_for_nothing(runs)
     fails_to_read(runs)
-    fails_to_write(runs, REPLAY_1, b"not")
-    fails_to_write(runs, ["ocactl", "--help"], b"")
+    fails_to_write(runs, REPLAY_1, b"0 due\n0 due\n", 3, b"not")
+    fails_to_write(runs, ["ocactl", "--help"], b"", 3, b"")
     sends(runs)
     for host, more, ahead in AHEAD:
         lets_ahead(runs, host, more, ahead)

@@ -485,7 +485,8 @@ class Trial:
     def __init__(self, crate, room, part=0, parts=1):
         self.crate, self.kept, self.checks, self.why = crate, f"{room}/kept", 0, None
         edits = [Edit(it, crate) for it in listed(Path(crate.folder, "wrong"))]
-        self.edits = (edits + [Edit(it, crate, must_pass=True) for it in listed(SELFTEST / crate.name)])[part::parts]
+        edits += [Edit(it, crate, must_pass=True) for it in listed(SELFTEST / crate.name)]
+        self.edits = sorted(edits, key=lambda it: sorted(map(str, it.keys())))[part::parts]  # those of one function in different parts
         earlier = f"{crate.folder}/out/incremental"
         if os.environ.get("EDITS_KEPT") and os.path.isdir(earlier):
             shutil.copytree(earlier, self.kept)

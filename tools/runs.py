@@ -3,11 +3,22 @@
 
 Usage: runs.py BIN     BIN is the folder with `ocadev`
 
-A row is a run. What notes stand before a fault, lines that begin with `note: `, is left open. Ends that fail or cut what they give are
-tried in `oca_program_tests`. The last line is 'N passed, M failed'."""
+A row is a run. What notes stand before a fault, lines that begin with `note: `, is left open. Readers and writers that fail at each place,
+and writers that take a little at a time, are tried in `oca_program_tests`; here the input comes in pieces of each size below 100 bytes, and
+a read or a write of the system fails. The last line is 'N passed, M failed'."""
+import array
+import fcntl
+import os
 import re
+import resource
+import select
+import socket
+import struct
 import subprocess
 import sys
+import tempfile
+import termios
+import time
 
 # GetState of 4097 under handle 1.
 GET_1 = b"0 127.0.0.1:9001 3b00010000001a0100010000001100000001000010010004000100\n"
@@ -297,6 +308,9 @@ DEVICE_HELP = [
 
 MOST = 16_777_216  # bytes that a script may have
 
+# Runs a program without any word, not even its own name: a system may make a word of nothing of that.
+WITHOUT_WORDS = "import ctypes, sys; none = (ctypes.c_char_p * 1)(); ctypes.CDLL(None).execve(sys.argv[1].encode(), none, none)"
+
 
 class Runs:
     """Runs programs of a folder, and counts what comes out as it must."""
@@ -319,6 +333,74 @@ class Runs:
         self.check(words, (run.returncode, run.stdout, told) == (status, output, fault), (given[:200], run))
 
 
+def unread(end):
+    """How many bytes wait in a pipe or a socket."""
+    number = array.array("i", [0])
+    fcntl.ioctl(end, termios.FIONREAD, number)
+    return number[0]
+
+
+def await_read(end, run):
+    """Waits until all that was written to the end is read, the run is over, or a minute is."""
+    until = time.monotonic() + 60
+    while unread(end) and run.poll() is None and time.monotonic() < until:
+        time.sleep(0.0002)
+
+
+def ran_in_pieces(runs, words, given, size):
+    """A run that gets its input in pieces of this size, each once it has read the one before."""
+    reader, writer = os.pipe()
+    with subprocess.Popen([f"{runs.folder}/{words[0]}", *words[1:]], stdin=reader, stdout=subprocess.PIPE, stderr=subprocess.PIPE) as run:
+        for at in range(0, len(given), size):
+            os.write(writer, given[at:at + size])
+            await_read(reader, run)
+        os.close(reader)
+        os.close(writer)
+        said = run.communicate(timeout=120)
+    return run.returncode, *said
+
+
+def cut_input(given):
+    """A socket from which these bytes are read, and then, once the other one is closed, a read fails."""
+    with socket.create_server(("127.0.0.1", 0)) as server:
+        writer = socket.create_connection(server.getsockname())
+        reader, _ = server.accept()
+    writer.setsockopt(socket.SOL_SOCKET, socket.SO_LINGER, struct.pack("ii", 1, 0))
+    writer.sendall(given)
+    select.select([reader], [], [], 60)
+    return reader, writer
+
+
+def fails_to_read(runs, words, given):
+    """A read that fails behind these bytes, which are no whole line."""
+    reader, writer = cut_input(given)
+    with subprocess.Popen([f"{runs.folder}/{words[0]}", *words[1:]], stdin=reader, stdout=subprocess.PIPE, stderr=subprocess.PIPE) as run:
+        await_read(reader, run)
+        writer.close()
+        said = run.communicate(timeout=120)
+    reader.close()
+    runs.check(words, (run.returncode, *said) == (1, b"", b"read failed\n"), said)
+
+
+def fails_to_write(runs, words, given, most, begins):
+    """A write that fails behind so many bytes: a file may have no more."""
+    def limit():
+        resource.setrlimit(resource.RLIMIT_FSIZE, (most, most))
+    with tempfile.TemporaryFile() as out:
+        run = subprocess.run([f"{runs.folder}/{words[0]}", *words[1:]], input=given, stdout=out, stderr=subprocess.PIPE, timeout=120,
+                             check=False, preexec_fn=limit, restore_signals=False)
+        out.seek(0)
+        text = out.read()
+    runs.check(words, (run.returncode, run.stderr) == (1, b"write failed\n") and len(text) == most and text.startswith(begins), (run, text))
+
+
+def refuses_no_word(runs, program, given):
+    """A run without any word."""
+    run = subprocess.run([sys.executable, "-c", WITHOUT_WORDS, f"{runs.folder}/{program}"], input=given, capture_output=True, timeout=120,
+                         check=False)
+    runs.check([], (run.returncode, run.stdout) == (2, b"") and run.stderr.endswith(b"bad words\n"), run)
+
+
 def device(runs):
     """`ocadev`."""
     for words, given, output in DEVICE_PRINTS:
@@ -335,6 +417,14 @@ def device(runs):
         run = runs.ran(words.split(), GET_1)
         runs.check([words], run.returncode == 0 and bool(run.stdout) and not run.stderr, run)
     runs.gives(["ocadev", "replay"], comments(4096, MOST + 1), 1, b"", b"too much input\n")
+    for size in range(1, 100):
+        said = ran_in_pieces(runs, ["ocadev", "replay"], UNMUTES, size)
+        runs.check([f"pieces of {size}"], said == (0, UNMUTED, b""), said)
+    fails_to_read(runs, ["ocadev", "replay"], UNMUTES[:20])
+    fails_to_write(runs, ["ocadev", "replay"], UNMUTES, 10, UNMUTED[:10])
+    fails_to_write(runs, ["ocadev", "show"], b"", 10, OBJECTS[:10])
+    fails_to_write(runs, ["ocadev", "--help"], b"", 10, b"")
+    refuses_no_word(runs, "ocadev", UNMUTES)
     serves_nobody(runs)
 
 

@@ -1,15 +1,10 @@
-//! What the clauses leave open: runs between ends that cut what they give and take, and what goes over sockets. Whole
-//! runs between ends that do not are rows of `tools/runs.py`.
+//! What the clauses leave open: replays between ends that cut what they give and take, or fail at each place, and what
+//! goes over sockets. Whole runs of the program are rows of `tools/runs.py`.
 use super::{first_wrong, none_wrong, wrong_unless};
-use crate::tests::fakes::{PieceReader, ShortWriter};
 use oca_device::Device;
-use oca_script::Printer;
 use oca_tree::{Tree, bench};
 use oca_types::Window;
-use ocadev_cli::run::run;
 use std::alloc::Global;
-use std::net::Net;
-use std::rt::{Clock, Files};
 
 mod ends;
 mod replay;
@@ -31,7 +26,7 @@ served 1 0 0
 > 3b0001000000140300010000000b00000004000102
 ";
 
-/// How the ends of a run cut what they give and take, and after how many bytes each fails.
+/// How the ends of a replay cut what they give and take, and after how many bytes each fails.
 #[derive(Clone, Copy)]
 struct Cuts {
     piece: usize,
@@ -47,48 +42,6 @@ const WHOLE: Cuts = Cuts {
     most: 5000,
     taken: usize::MAX,
 };
-
-/// How a run ends: its status, how many bytes it prints where not all are known, and how what it prints of faults ends.
-#[derive(Clone, Copy)]
-struct Ending<'a> {
-    status: u8,
-    output: Option<&'a [u8]>,
-    length: usize,
-    fault: &'a [u8],
-}
-
-/// Whether the program, run on these words and this input between these ends, ends so. Where the words are bad notes may
-/// stand before the fault.
-fn runs<N: Net + Clock + Files>(
-    system: &N,
-    alloc: Global,
-    words: &[&str],
-    input: &[u8],
-    ends: Cuts,
-    ending: &Ending<'_>,
-) -> bool {
-    let mut from = PieceReader::new(input, ends.piece.max(1), ends.given);
-    let mut printer = Printer::new(ShortWriter::new(ends.most, ends.taken));
-    let mut faults = Printer::new(ShortWriter::new(5000, usize::MAX));
-    let status = run(alloc, system, words, &mut from, &mut printer, &mut faults);
-    status == ending.status && is_output(printer.sink(), ending) && is_fault(faults.sink(), ending)
-}
-
-/// Whether a run prints this.
-fn is_output(writer: &ShortWriter, ending: &Ending<'_>) -> bool {
-    let output = writer.taken.as_slice();
-    let is_wanted = match ending.output {
-        Some(wanted) => output == wanted,
-        None => true,
-    };
-    is_wanted && output.len() == ending.length
-}
-
-/// Whether a run prints this of faults.
-fn is_fault(writer: &ShortWriter, ending: &Ending<'_>) -> bool {
-    let printed = writer.taken.as_slice();
-    printed == ending.fault || ending.status == 2 && printed.ends_with(ending.fault)
-}
 
 /// The device of a tree.
 fn device_of(alloc: Global, tree: Tree) -> Option<Device> {
@@ -110,10 +63,9 @@ fn ends_that_fail(rt: HostRuntime) {
         &rt,
         "ends that fail",
         &[
-            ends::first_wrong_piece(&rt, alloc),
+            ends::first_wrong_piece(alloc),
             ends::first_wrong_read(alloc),
             ends::first_wrong_write(alloc),
-            ends::first_wrong_fault(&rt, alloc, ends::FAILING),
         ],
     );
 }

@@ -1,5 +1,5 @@
-//! Ends that cut what they give and take, or fail, and how a run that fails ends.
-use super::{Cuts, Ending, UNMUTED, UNMUTES, WHOLE, bench_device, runs};
+//! Ends that cut what they give and take, or fail.
+use super::{Cuts, UNMUTED, UNMUTES, WHOLE, bench_device};
 use crate::tests::fakes::{PieceReader, ShortWriter, lines_in};
 use oca_device::{Device, Outbox};
 use oca_script::{Printer, ReplayFault};
@@ -7,43 +7,12 @@ use oca_tree::Setting;
 use oca_types::Ono;
 use ocadev_replay::replay::replay;
 use std::alloc::Global;
-use std::net::Net;
-use std::rt::{Clock, Files};
 
-/// The words of a replay.
-const REPLAY: &[&str] = &["ocadev", "replay"];
-
-/// Whether the script is replayed so through pieces of this size.
-fn runs_in_pieces<N: Net + Clock + Files>(system: &N, alloc: Global, piece: usize) -> bool {
-    let ends = Cuts {
-        piece,
-        most: piece,
-        ..WHOLE
-    };
-    let ending = Ending {
-        status: 0,
-        output: Some(UNMUTED),
-        length: UNMUTED.len(),
-        fault: b"",
-    };
-    runs(system, alloc, REPLAY, UNMUTES, ends, &ending)
-}
-
-/// The first size of pieces that changes what is printed.
-pub fn first_wrong_piece<N: Net + Clock + Files>(system: &N, alloc: Global) -> Option<usize> {
-    for piece in 1..100 {
-        if !runs_in_pieces(system, alloc, piece) {
-            return Some(piece);
-        }
-    }
-    None
-}
-
-/// How a replay of the script on the bench device ends: the fault, what is printed, and the state of 4097 behind it. Muted
-/// is 1 and Unmuted is 2.
+/// How a replay of the script on the bench device ends: what it returns, what is printed, and the state of 4097 behind
+/// it. Muted is 1 and Unmuted is 2.
 #[derive(Clone, Copy)]
 struct Ended<'a> {
-    fault: ReplayFault,
+    end: Result<(), ReplayFault>,
     text: &'a [u8],
     state: u8,
 }
@@ -58,7 +27,7 @@ fn replays_with(device: &mut Device, outbox: &mut Outbox, ends: Cuts, wanted: &E
     let mut from = PieceReader::new(UNMUTES, ends.piece.max(1), ends.given);
     let mut printer = Printer::new(ShortWriter::new(ends.most, ends.taken));
     let ended = replay(device, outbox, &mut from, &mut printer);
-    ended == Err(wanted.fault)
+    ended == wanted.end
         && printer.sink().taken.as_slice() == wanted.text
         && state_of(device) == Some(Setting::State(wanted.state))
 }
@@ -79,6 +48,31 @@ fn replays(alloc: Global, ends: Cuts, wanted: &Ended<'_>) -> bool {
     }
 }
 
+/// Whether the script is replayed to its end through pieces of this size.
+fn replays_in_pieces(alloc: Global, piece: usize) -> bool {
+    let ends = Cuts {
+        piece,
+        most: piece,
+        ..WHOLE
+    };
+    let wanted = Ended {
+        end: Ok(()),
+        text: UNMUTED,
+        state: 2,
+    };
+    replays(alloc, ends, &wanted)
+}
+
+/// The first size of pieces that changes what is printed.
+pub fn first_wrong_piece(alloc: Global) -> Option<usize> {
+    for piece in 1..100 {
+        if !replays_in_pieces(alloc, piece) {
+            return Some(piece);
+        }
+    }
+    None
+}
+
 /// How many bytes of the text are printed, and in which state 4097 is, once so many line feeds of the script were read.
 const BY_LINES: [(usize, u8); 5] = [(0, 1), (58, 1), (58, 1), (114, 2), (114, 2)];
 
@@ -86,7 +80,7 @@ const BY_LINES: [(usize, u8); 5] = [(0, 1), (58, 1), (58, 1), (114, 2), (114, 2)
 fn ended_behind(front: &[u8]) -> Option<Ended<'static>> {
     let (text, state) = *BY_LINES.get(lines_in(front))?;
     Some(Ended {
-        fault: ReplayFault::Read,
+        end: Err(ReplayFault::Read),
         text: UNMUTED.get(..text)?,
         state,
     })
@@ -125,7 +119,7 @@ fn ends_where_writes_fail(alloc: Global, place: usize) -> bool {
         ..WHOLE
     };
     let wanted = Ended {
-        fault: ReplayFault::Write,
+        end: Err(ReplayFault::Write),
         text: UNMUTED.get(..place).unwrap_or_default(),
         state: if place < 58 { 1 } else { 2 },
     };
@@ -137,60 +131,6 @@ pub fn first_wrong_write(alloc: Global) -> Option<usize> {
     for place in 0..UNMUTED.len() {
         if !ends_where_writes_fail(alloc, place) {
             return Some(place);
-        }
-    }
-    None
-}
-
-/// Ends of which the reader fails.
-const READS_FAIL: Cuts = Cuts {
-    piece: 30,
-    given: 20,
-    most: 1000,
-    taken: usize::MAX,
-};
-
-/// Ends of which the writer fails.
-const WRITES_FAIL: Cuts = Cuts {
-    piece: 30,
-    given: usize::MAX,
-    most: 1000,
-    taken: 10,
-};
-
-/// Words, the ends of their run, its status, how many bytes it prints, and the fault that is printed, behind notes
-/// where the words are bad.
-pub struct Failing(&'static [&'static str], Cuts, u8, usize, &'static [u8]);
-
-pub const FAILING: &[Failing] = &[
-    Failing(REPLAY, READS_FAIL, 1, 0, b"read failed\n"),
-    Failing(REPLAY, WRITES_FAIL, 1, 10, b"write failed\n"),
-    Failing(&["ocadev", "show"], WRITES_FAIL, 1, 10, b"write failed\n"),
-    Failing(&["ocadev", "--help"], WRITES_FAIL, 1, 10, b"write failed\n"),
-    // no word at all
-    Failing(&[], WHOLE, 2, 0, b"bad words\n"),
-];
-
-/// Whether the words fail so.
-fn fails<N: Net + Clock + Files>(system: &N, alloc: Global, row: &Failing) -> bool {
-    let ending = Ending {
-        status: row.2,
-        output: None,
-        length: row.3,
-        fault: row.4,
-    };
-    runs(system, alloc, row.0, UNMUTES, row.1, &ending)
-}
-
-/// The first words that fail otherwise.
-pub fn first_wrong_fault<N: Net + Clock + Files>(
-    system: &N,
-    alloc: Global,
-    rows: &[Failing],
-) -> Option<usize> {
-    for (at, row) in rows.iter().enumerate() {
-        if !fails(system, alloc, row) {
-            return Some(at);
         }
     }
     None
