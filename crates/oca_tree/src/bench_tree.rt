@@ -1,5 +1,5 @@
 //! The bench device (profile): a desk with one object of each form.
-ghost use Rattle.std.specs.Prelude.{◌≡◌, ◌≤◌, ◌<◌, ◌^◌, [], ◌∷◌, ◌++◌, None, OnOk, IfOk, IfErr, IsErrOf};
+ghost use Rattle.std.specs.Prelude.{◌≡◌, ◌≤◌, ◌<◌, ◌^◌, [], ◌∷◌, ◌++◌, take, None, OnOk, IfOk, IfErr, IsErrOf};
 ghost use Rattle.oca_tree.specs.Bench.{bench_objects, strip, bench_with};
 ghost use Rattle.oca_tree.specs.Room.{room_size};
 ghost use Rattle.oca_tree.specs.Building.{add_fault, object_of_spec};
@@ -22,33 +22,32 @@ fn add(builder: &mut TreeBuilder, container: Ono, ono: Ono, spec: &Spec<'_>) -> 
     builder.add(container, ono, spec)
 }
 
-/// The bench device's own objects in a builder with this room. Refusal: `NoMemory`, where that was refused.
-fn desk(alloc: Global, room: Room) -> Result<TreeBuilder, AddFault>
-    requires { 8 ≤ room_size room }
-    ensures ok { IfOk result (λ builder. builder ≡ record { room = room_size room; list = bench_objects }) }
+/// Adds the desk, and in it the mute, the polarity and the switch. Refusal: `NoMemory`, where that was refused.
+fn add_states(builder: &mut TreeBuilder) -> Result<(), AddFault>
+    requires room { 8 ≤ builder.old.room }
+    requires first { builder.old.list ≡ take 1 bench_objects }
+    ensures ok { OnOk result (builder.new ≡ record builder.old { list = take 5 bench_objects }) }
     ensures err { IfErr result (λ e. e ≡ NoMemory) }
 {
-    let mut builder = TreeBuilder::with_room(alloc, room)?;
-    let root = Ono(100);
     let desk = Ono(4096);
     let desk_spec = Spec {
         role: "desk",
         lockable: true,
         kind: Kind::Block,
     };
-    add(&mut builder, root, desk, &desk_spec)?;
+    add(builder, Ono(100), desk, &desk_spec)?;
     let mute_spec = Spec {
         role: "mute",
         lockable: true,
         kind: Kind::Mute(MuteState::Muted),
     };
-    add(&mut builder, desk, Ono(4097), &mute_spec)?;
+    add(builder, desk, Ono(4097), &mute_spec)?;
     let polarity_spec = Spec {
         role: "polarity",
         lockable: true,
         kind: Kind::Polarity(PolarityState::NonInverted),
     };
-    add(&mut builder, desk, Ono(4098), &polarity_spec)?;
+    add(builder, desk, Ono(4098), &polarity_spec)?;
     let input_spec = Spec {
         role: "input",
         lockable: true,
@@ -57,7 +56,18 @@ fn desk(alloc: Global, room: Room) -> Result<TreeBuilder, AddFault>
             position: 0,
         },
     };
-    add(&mut builder, desk, Ono(4099), &input_spec)?;
+    add(builder, desk, Ono(4099), &input_spec)?;
+    Ok(())
+}
+
+/// Adds the numbers of the desk. Refusal: `NoMemory`, where that was refused.
+fn add_numbers(builder: &mut TreeBuilder) -> Result<(), AddFault>
+    requires room { 8 ≤ builder.old.room }
+    requires first { builder.old.list ≡ take 5 bench_objects }
+    ensures ok { OnOk result (builder.new ≡ record builder.old { list = bench_objects }) }
+    ensures err { IfErr result (λ e. e ≡ NoMemory) }
+{
+    let desk = Ono(4096);
     let trim_spec = Spec {
         role: "trim",
         lockable: true,
@@ -67,13 +77,13 @@ fn desk(alloc: Global, room: Room) -> Result<TreeBuilder, AddFault>
             greatest: 600,
         },
     };
-    add(&mut builder, desk, Ono(4100), &trim_spec)?;
+    add(builder, desk, Ono(4100), &trim_spec)?;
     let lamp_spec = Spec {
         role: "lamp",
         lockable: true,
         kind: Kind::Boolean(false),
     };
-    add(&mut builder, desk, Ono(4101), &lamp_spec)?;
+    add(builder, desk, Ono(4101), &lamp_spec)?;
     let dim_spec = Spec {
         role: "dim",
         lockable: false,
@@ -83,7 +93,29 @@ fn desk(alloc: Global, room: Room) -> Result<TreeBuilder, AddFault>
             greatest: 100,
         },
     };
-    add(&mut builder, desk, Ono(4102), &dim_spec)?;
+    add(builder, desk, Ono(4102), &dim_spec)?;
+    Ok(())
+}
+
+/// Adds the bench device's own objects behind the root. Refusal: `NoMemory`, where that was refused.
+fn add_desk(builder: &mut TreeBuilder) -> Result<(), AddFault>
+    requires room { 8 ≤ builder.old.room }
+    requires first { builder.old.list ≡ take 1 bench_objects }
+    ensures ok { OnOk result (builder.new ≡ record builder.old { list = bench_objects }) }
+    ensures err { IfErr result (λ e. e ≡ NoMemory) }
+{
+    add_states(builder)?;
+    add_numbers(builder)
+}
+
+/// The bench device's own objects in a builder with this room. Refusal: `NoMemory`, where that was refused.
+fn desk(alloc: Global, room: Room) -> Result<TreeBuilder, AddFault>
+    requires { 8 ≤ room_size room }
+    ensures ok { IfOk result (λ builder. builder ≡ record { room = room_size room; list = bench_objects }) }
+    ensures err { IfErr result (λ e. e ≡ NoMemory) }
+{
+    let mut builder = TreeBuilder::with_room(alloc, room)?;
+    add_desk(&mut builder)?;
     Ok(builder)
 }
 
