@@ -6,7 +6,7 @@ use oca_model::Request;
 use oca_types::{Class, Handle, Method};
 
 /// What is asked of an object.
-#[derive(Clone, Copy, Debug, PartialEq, Eq)]
+#[derive(Clone, Copy, PartialEq, Eq)]
 pub enum Ask {
     /// The members of a block.
     Members,
@@ -72,7 +72,7 @@ pub fn class_for(class: Option<Class>) -> Class
 }
 
 /// A question about the object that stands at this place of the list, made in this round through the device.
-#[derive(Clone, Copy, Debug, PartialEq, Eq)]
+#[derive(Clone, Copy, PartialEq, Eq)]
 pub struct Question {
     /// Where the object stands.
     pub place: usize,
@@ -83,7 +83,7 @@ pub struct Question {
 }
 
 /// A question in flight.
-#[derive(Clone, Copy, Debug, PartialEq, Eq)]
+#[derive(Clone, Copy, PartialEq, Eq)]
 pub struct Asked {
     /// The handle of its command.
     pub handle: Handle,

@@ -7,7 +7,7 @@ use oca_panel::Trouble;
 use oca_types::{Class, Ono, Text};
 
 /// Whose lock is on an object, as far as answers say.
-#[derive(Clone, Copy, Debug, PartialEq, Eq)]
+#[derive(Clone, Copy, PartialEq, Eq)]
 pub enum Lock {
     /// None that is known.
     Free,
@@ -29,7 +29,7 @@ impl Lock {
 }
 
 /// What changes of an object, and is sent again and again.
-#[derive(Clone, Copy, Debug, PartialEq, Eq)]
+#[derive(Clone, Copy, PartialEq, Eq)]
 pub struct Shown {
     /// What it is set to, with its limits; none before it was read.
     pub reading: Option<Reading>,

@@ -16,7 +16,7 @@ pub const MOST_IN_FLIGHT: usize = 32;
 pub const MOST_RESULTS: usize = 128;
 
 /// What a page wants done with an object.
-#[derive(Clone, Copy, Debug, PartialEq, Eq)]
+#[derive(Clone, Copy, PartialEq, Eq)]
 pub enum Action {
     /// That it is set to this.
     Set(Value),
@@ -50,7 +50,7 @@ impl Action {
 }
 
 /// An order of a page.
-#[derive(Clone, Copy, Debug, PartialEq, Eq)]
+#[derive(Clone, Copy, PartialEq, Eq)]
 pub struct Order {
     /// The number by which the page knows it.
     pub ticket: u64,
@@ -72,7 +72,7 @@ impl Default for Order {
 }
 
 /// An order in flight.
-#[derive(Clone, Copy, Debug, PartialEq, Eq)]
+#[derive(Clone, Copy, PartialEq, Eq)]
 pub struct Sent {
     /// The handle of its command.
     pub handle: Handle,
@@ -91,7 +91,7 @@ impl Default for Sent {
 }
 
 /// How an order fared.
-#[derive(Clone, Copy, Debug, PartialEq, Eq)]
+#[derive(Clone, Copy, PartialEq, Eq)]
 pub struct OrderResult {
     /// The number by which the page knows it.
     pub ticket: u64,

@@ -16,7 +16,7 @@ const SELDOM: u64 = 32;
 const MOST_VISIBLE: usize = 512;
 
 /// Which object is read again next: in rounds, while a page is open. What a page shows at the moment comes first.
-#[derive(Clone, Copy, Debug)]
+#[derive(Clone, Copy)]
 pub struct Poll {
     begun: u64,
     round: u64,

@@ -51,7 +51,7 @@ pub fn settle_at<E: End>(
 }
 
 /// An order in flight that came out.
-#[derive(Clone, Copy, Debug, PartialEq, Eq)]
+#[derive(Clone, Copy, PartialEq, Eq)]
 pub struct Settled {
     /// The order, with the handle of its command.
     pub sent: Sent,

@@ -15,7 +15,7 @@ use oca_types::{Class, Handle, NoMemory, Ono, Peer, Span};
 use std::alloc::Global;
 
 /// Where the device is, and how many of its commands are in flight at most.
-#[derive(Clone, Copy, Debug)]
+#[derive(Clone, Copy)]
 pub struct Reach {
     /// The device's address.
     pub device: Peer,
@@ -24,7 +24,7 @@ pub struct Reach {
 }
 
 /// How the link to the device is. Moments are in milliseconds.
-#[derive(Clone, Copy, Debug)]
+#[derive(Clone, Copy)]
 pub struct LinkNews {
     /// The present moment.
     pub now: u64,
@@ -41,7 +41,7 @@ pub struct LinkNews {
 }
 
 /// Why an order is not taken.
-#[derive(Clone, Copy, Debug, PartialEq, Eq)]
+#[derive(Clone, Copy, PartialEq, Eq)]
 pub enum NoOrder {
     /// There is no such object.
     NoObject,

@@ -23,7 +23,7 @@ use oca_types::{Command, MethodId, Ono, Packet, Status};
 const EFFECT_ROOM: usize = 100;
 
 /// What a command did to its object, by the status of its response.
-#[derive(Clone, Copy, Debug)]
+#[derive(Clone, Copy)]
 pub enum Effect {
     Locked,
     Unlocked,

@@ -50,7 +50,7 @@ pub fn serve_turns<E: End>(
 }
 
 /// What is printed while an end is served.
-#[derive(Clone, Copy, Debug)]
+#[derive(Clone, Copy)]
 pub struct Tracing {
     /// Whether a line is printed for each datagram.
     pub verbose: bool,

@@ -38,7 +38,7 @@ pub enum Asked<'a> {
 }
 
 /// The objects of a device.
-#[derive(Clone, Copy, PartialEq, Eq, Debug)]
+#[derive(Clone, Copy, PartialEq, Eq)]
 pub enum Objects<'a> {
     /// The bench's, and so many channel strips behind them.
     Bench(u16),
@@ -47,7 +47,7 @@ pub enum Objects<'a> {
 }
 
 /// The device that is made: its objects and its sizes.
-#[derive(Clone, Copy, PartialEq, Eq, Debug)]
+#[derive(Clone, Copy, PartialEq, Eq)]
 pub struct Making<'a> {
     pub objects: Objects<'a>,
     pub sizes: Sizes,
@@ -56,7 +56,7 @@ pub struct Making<'a> {
 /// Where to serve which device, for how many turns where that is given, whether to print a line for each datagram,
 /// every how many seconds the report so far, where that is given, and in which file to keep the state, where one is
 /// named.
-#[derive(Clone, Copy, PartialEq, Eq, Debug)]
+#[derive(Clone, Copy, PartialEq, Eq)]
 pub struct Serving<'a> {
     pub ip: u32,
     pub port: u16,

@@ -23,7 +23,7 @@ const LISTEN: Peer = Peer {
 };
 
 /// What the words ask for: a panel for a device.
-#[derive(Clone, Copy, Debug, PartialEq, Eq)]
+#[derive(Clone, Copy, PartialEq, Eq)]
 pub struct Serving {
     /// Where the device is.
     pub device: Peer,
