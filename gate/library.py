@@ -5,7 +5,8 @@ Usage: library.py [TARGET [CPU]]     TARGET is x86_64-unknown-linux-gnu or aarch
 
 Writes crates/oca_c/out/TARGET/liboca_c.a, for every processor of that kind unless CPU names one (x86-64-v2, x86-64-v3;
 neoverse-v2). Crates that the gate has just proved and left are taken as they are where no source has changed since,
-others are built over kept work. An archive that stood there before is taken away first."""
+others are built over kept work. An archive that stood there before is taken away first. It is proved by as many processes
+as there are processors, or as LIBRARY_JOBS says: one takes less of a busy machine."""
 import os
 import sys
 from pathlib import Path
@@ -49,7 +50,7 @@ def main():
     if not is_left and not build.build_libraries(rt, set(crate.below())):
         return 1
     os.makedirs(f"{crate.folder}/out/{target}", exist_ok=True)
-    words = ["--jobs", str(rt.processors()), "--target", target, "--cpu", cpu]
+    words = ["--jobs", os.environ.get("LIBRARY_JOBS") or str(rt.processors()), "--target", target, "--cpu", cpu]
     status = compiled(crate, words, f"{crate.folder}/out/{target}/liboca_c.a")
     for it in held:
         os.close(it)

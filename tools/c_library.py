@@ -52,8 +52,10 @@ class Checks:
 
 
 def library(target):
-    """The library for a kind of processor, proved and built: over the crates below it as the gate has just proved them, else over kept work."""
-    run = subprocess.run([sys.executable, "gate/library.py", target], cwd=TOP, stdout=subprocess.PIPE, stderr=subprocess.STDOUT, text=True)
+    """The library for a kind of processor, proved and built: over the crates below it as the gate has just proved them, else over kept work.
+    One process proves it, since other steps run beside this one."""
+    run = subprocess.run([sys.executable, "gate/library.py", target], cwd=TOP, stdout=subprocess.PIPE, stderr=subprocess.STDOUT, text=True,
+                         env={**os.environ, "LIBRARY_JOBS": "1"})
     if run.returncode:
         sys.exit(f"no library for {target}:\n{run.stdout[-2000:]}")
     return TOP / f"crates/oca_c/out/{target}/liboca_c.a"
