@@ -25,6 +25,7 @@ import subprocess
 import sys
 import tempfile
 import time
+from collections import Counter
 from concurrent.futures import ThreadPoolExecutor, as_completed
 from pathlib import Path
 
@@ -182,6 +183,14 @@ def lanes():
     return max(1, min(rt.processors(), rt.free() // NEEDS))
 
 
+def waited_for(top=TOP):
+    """The crate that most others use, where it uses none of them: as long as it is not proved hardly any other can be."""
+    lines = [line.split("#")[0].replace(":", " ").split() for line in (top / "crates.txt").read_text().splitlines()]
+    uses = {words[0]: words[1:] for words in lines if words}
+    used = Counter(name for words in uses.values() for name in words if name in uses)
+    return next((name for name, _ in used.most_common(1) if not {*uses[name]} & {*uses}), None)
+
+
 def processor_minutes():
     used = resource.getrusage(resource.RUSAGE_CHILDREN)
     return (used.ru_utime + used.ru_stime) / 60
@@ -219,8 +228,12 @@ class Early:
 
 
 def of_ci(steps, others, room):
-    """Runs `rt ci`, and beside it, in this pool, the steps that begin early. Answers its counts, and the steps that have begun."""
-    early = Early(steps, others, room)
+    """Runs `rt ci`, and beside it, in this pool, the steps that begin early. Answers its counts, and the steps that have begun.
+    The crate that all wait for is proved before, by all processors; `rt ci` takes it as it is kept then, or says itself what
+    is wrong with it. Where RT_JOBS says how many checks run at once, it is not."""
+    early, first = Early(steps, others, room), waited_for()
+    if first and lanes() > 1 and not os.environ.get("RT_JOBS"):
+        watched(f"rt ci {first}", 1)
     count = watched(f"RT_JOBS={lanes()} rt ci", least_of_ci(), early.note)
     early.add(ENDED)
     print(f"gate: {processor_minutes():.1f} processor minutes for rt ci", flush=True)

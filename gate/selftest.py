@@ -190,29 +190,48 @@ def knows_the_least(folder):
     return run.least_of_ci(folder) == 5
 
 
+def knows_what_is_waited_for(folder):
+    """The crate that most others use is proved first, where it uses none of them; of the kit's libraries none is."""
+    found = []
+    for text in ("a: x\nb: a x\nc staticlib: a b x # a\n", "b: a\n# b\na: b\nc: a\n", "a: x\nb: x\n", ""):
+        (folder / "crates.txt").write_text(text)
+        found.append(run.waited_for(folder))
+    return found == ["a", None, None, None]
+
+
 def counts_all():
     """The whole gate passes only where `rt ci`, its steps and their list do: each of them is made to fail alone. It calls
     `rt ci` without other words, on as many lanes as there are, for as many checks as that is to pass, and every step of
-    the file, as it stands there."""
-    real = run.watched, run.run_steps, run.left_out, run.lanes
-    run.lanes = lambda: 3
+    the file, as it stands there; before, where nothing says how many lanes there are, `rt ci` of the crate that all others
+    wait for, whose failure is left to the other call."""
+    real, said = (run.watched, run.run_steps, run.left_out, run.lanes, run.waited_for), os.environ.pop("RT_JOBS", None)
+    run.waited_for = lambda: "a"
     parts = run.paragraphs(HERE / "steps")
     steps = [[(step.least, step.minutes, step.command) for step in part] for part in parts]
     called = [("RT_JOBS=3 rt ci", run.least_of_ci()), (steps, {}), (sum(steps, []), run.TOP / "tools")]
+    first = [("rt ci a", 1)]
     words = lambda steps: [(it.least, it.minutes, it.command) for it in steps]
     try:
         found, asked = [], []
-        for of_ci, of_steps, missing in (((3, 0), [(5, 0)], []), ((3, 1), [(5, 0)], []), ((3, 0), [(5, 1)], []), ((3, 0), [(5, 0)], ["x.py"])):
-            run.watched = lambda command, least, note: asked.append((command, least)) or of_ci
+        for of_ci, of_steps, missing, lanes in (((3, 0), [(5, 0)], [], 3), ((3, 1), [(5, 0)], [], 3), ((3, 0), [(5, 1)], [], 3),
+                                                ((3, 0), [(5, 0)], ["x.py"], 3), ((3, 0), [(5, 0)], [], 1), ((3, 0), [(5, 0)], [], 0)):
+            run.lanes = lambda: lanes or 3
+            if not lanes:
+                os.environ["RT_JOBS"] = "3"
+            run.watched = lambda command, least, note=None: asked.append((command, least)) or (of_ci if note else (0, 1))
             run.run_steps = lambda given, _, early: asked.append(([words(part) for part in given], early)) or of_steps
             run.left_out = lambda given, tools: asked.append((words(given), tools)) or missing
             told = io.StringIO()
             with contextlib.redirect_stdout(told):
                 found.append((run.main([]), run.last_line(told.getvalue())))
-        is_asked = sorted(asked, key=str) == sorted(called * 4, key=str)
-        return is_asked and found == [(0, "8 passed, 0 failed")] + [(1, "8 passed, 1 failed")] * 3
+        alone = [("RT_JOBS=1 rt ci", called[0][1]), *called[1:]]
+        is_asked = sorted(asked, key=str) == sorted((first + called) * 4 + alone + called, key=str)
+        return is_asked and found == [(0, "8 passed, 0 failed")] + [(1, "8 passed, 1 failed")] * 3 + [(0, "8 passed, 0 failed")] * 2
     finally:
-        run.watched, run.run_steps, run.left_out, run.lanes = real
+        run.watched, run.run_steps, run.left_out, run.lanes, run.waited_for = real
+        os.environ.pop("RT_JOBS", None)
+        if said is not None:
+            os.environ["RT_JOBS"] = said
 
 
 def knows_the_lanes():
@@ -635,7 +654,7 @@ def told_of_clause(edits, crate, clause, narrow, whole, wanted):
 # word takes some of them away unseen.
 PROGRAMS = "ocadev ocactl ocapanel trials amplifier panel"
 FEWEST = {
-    "python3 gate/selftest.py": 100,
+    "python3 gate/selftest.py": 101,
     f"mkdir -p bin && for name in {PROGRAMS}; do cp crates/$name/out/$name bin/ || exit 1; done": 1,
     "python3 tools/c_library.py bin": 26600, "python3 examples/run.py bin/ocadev": 4, "python3 tools/runs.py bin": 206,
     "python3 tools/ctl_runs.py bin": 100, "python3 tools/unreliable.py bin": 3690, "python3 tools/fuzz.py bin 20": 200,
@@ -811,6 +830,7 @@ def main():
         tried = [(what, is_as_wanted(Path(room), *case)) for what, *case in CASES]
         tried += [(what, is_counted(*case)) for what, *case in OF_CI]
         tried += [("a tool that no step runs is found", finds_what_is_left_out(Path(room))), ("the least of rt ci", knows_the_least(Path(room))),
+                  ("the crate that others wait for", knows_what_is_waited_for(Path(room))),
                   ("what hangs is ended", ends_all_that_hangs(Path(room))),
                   ("what failed is told", tells_what_failed(Path(room))),
                   ("a step goes on beside others", goes_on_beside(Path(room))),
