@@ -35,18 +35,11 @@ pub fn wait_for(input: Option<RawFd>, beside: Option<RawFd>, milliseconds: u64) 
     let mut asked = [question(input), question(beside)];
     let most = i32::try_from(milliseconds).unwrap_or(i32::MAX);
     if poll(&mut asked, most) < 0 {
-        let error = io::Error::from_raw_os_error(os::errno());
-        if error.kind() == io::ErrorKind::Interrupted {
-            return Ok(Ready {
-                input: false,
-                beside: false,
-            });
-        }
-        return Err(error);
+        return unless_interrupted(io::Error::from_raw_os_error(os::errno()));
     }
     Ok(Ready {
-        input: input.is_some() && asked[0].revents != 0,
-        beside: beside.is_some() && asked[1].revents != 0,
+        input: has_something(input, asked[0].revents),
+        beside: has_something(beside, asked[1].revents),
     })
 }
 
@@ -67,4 +60,25 @@ fn question(descriptor: Option<RawFd>) -> pollfd {
         events: POLLIN,
         revents: 0,
     }
+}
+
+/// Whether this descriptor, where there is one, has something by what the system answers of it.
+fn has_something(descriptor: Option<RawFd>, answered: i16) -> bool
+    ensures { descriptor ≡ None → result ≡ false }
+{
+    descriptor.is_some() && answered != 0
+}
+
+/// What a wait that fails with this error gives: neither has anything where a signal ended it.
+fn unless_interrupted(error: io::Error) -> io::Result<Ready>
+    ensures neither { IfOk result (λ ready. (ready.input ≡ false) × (ready.beside ≡ false)) }
+    ensures signal { IfErr result (λ e. error_kind e ≢ Interrupted) }
+{
+    if error.kind() == io::ErrorKind::Interrupted {
+        return Ok(Ready {
+            input: false,
+            beside: false,
+        });
+    }
+    Err(error)
 }
