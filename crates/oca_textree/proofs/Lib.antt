@@ -1,3 +1,4 @@
+pub mod PlacedLemmas
 pub mod SplitLemmas
 pub mod SwitchLemmas
 pub mod StoredLemmas

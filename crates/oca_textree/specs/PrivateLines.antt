@@ -1,5 +1,5 @@
 -- What the program's own values of a line's parts say.
-use Rattle.std.specs.Prelude.{◌≡◌, ℕ, List, map, Bool, Option, Result, Ok, Err, ℤ, ◌≤ℤ◌}
+use Rattle.std.specs.Prelude.{◌≡◌, ℕ, List, [], ◌∷◌, codes, map, Bool, Option, Result, Ok, Err, ℤ, ◌≤ℤ◌}
 use Rattle.std.specs.Option.{option_copied}
 use denote.Ref.{Bor}
 use Rattle.oca_tree.specs.declared.object.Object.{Object}
@@ -10,11 +10,58 @@ use Rattle.oca_textree.specs.declared.fault.ObjectFault.{ObjectFault}
 use Rattle.oca_textree.specs.declared.fault.TreeFault.{TreeFault}
 use Rattle.oca_textree.specs.declared.fault.TreeFault.TheVariants.{Line}
 use Rattle.oca_textree.specs.declared.value.Limits.{Limits}
-use Rattle.oca_textree.specs.Lines.{Taken, Limited, Valued}
+use Rattle.oca_types.specs.declared.class.Class.{Class}
+use Rattle.oca_types.specs.declared.class.Class.TheVariants as class
+use Rattle.oca_textree.specs.declared.fault.ObjectFault.TheVariants as fault
+use Rattle.oca_textree.specs.Lines.{Taken, Limited, Valued, then_by, some_or_fault, field_at, integer_of, ono_of}
+use Rattle.oca_textree.specs.Lines.{class_named, class_of_word}
 
 abbrev pub field_view : Result (Bor (List ℕ) × Option (Bor (List ℕ))) ObjectFault → Result Taken ObjectFault
 field_view (Ok p) = Ok (p.0.now, option_copied p.1)
 field_view (Err f) = Err f
+
+-- the class of an integer by its word
+unfoldable pub integer_class_of : List ℕ → Option Class
+integer_class_of word = class_named (
+    (codes "int8", class.Int8) ∷ (codes "int16", class.Int16) ∷ (codes "int32", class.Int32)
+    ∷ (codes "int64", class.Int64) ∷ (codes "uint8", class.Uint8) ∷ (codes "uint16", class.Uint16)
+    ∷ (codes "uint32", class.Uint32)
+    ∷ (codes "uint64", class.Uint64) ∷ []) word
+
+-- the next field as the number of an object, and what is left
+unfoldable pub ono_at : Option (List ℕ) → Result (ℕ × Option (List ℕ)) ObjectFault
+ono_at rest =
+    then_by (field_at rest) (λ f. then_by (some_or_fault fault.Number (ono_of f.0)) (λ ono. Ok (ono, f.1)))
+
+abbrev pub ono_view : Result (ℕ × Option (Bor (List ℕ))) ObjectFault → Result (ℕ × Option (List ℕ)) ObjectFault
+ono_view (Ok p) = Ok (p.0, option_copied p.1)
+ono_view (Err f) = Err f
+
+-- the number, the container and the class of an object, and what is left
+pub record Placed : Type 0 where
+  pub ono : ℕ
+  pub container : ℕ
+  pub class_read : Class
+  pub rest : Option (List ℕ)
+
+unfoldable pub placed_at : Option (List ℕ) → Result Placed ObjectFault
+placed_at rest =
+    then_by (ono_at rest) (λ a. then_by (ono_at a.1) (λ b.
+    then_by (field_at b.1) (λ c. then_by (some_or_fault fault.Class (class_of_word c.0)) (λ k.
+    Ok (record { ono = a.0; container = b.0; class_read = k; rest = c.1 })))))
+
+abbrev pub placed_view : Result (ℕ × ℕ × Class × Option (Bor (List ℕ))) ObjectFault → Result Placed ObjectFault
+placed_view (Ok p) = Ok (record { ono = p.0; container = p.1; class_read = p.2; rest = option_copied p.3 })
+placed_view (Err f) = Err f
+
+-- the next field as an integer from the one to the other, and what is left
+unfoldable pub limit_at : ℤ → ℤ → Option (List ℕ) → Result (ℤ × Option (List ℕ)) ObjectFault
+limit_at low high rest =
+    then_by (field_at rest) (λ f. then_by (some_or_fault fault.Number (integer_of low high f.0)) (λ z. Ok (z, f.1)))
+
+abbrev pub limit_view : Result (ℤ × Option (Bor (List ℕ))) ObjectFault → Result (ℤ × Option (List ℕ)) ObjectFault
+limit_view (Ok p) = Ok (p.0, option_copied p.1)
+limit_view (Err f) = Err f
 
 abbrev pub limits_view : Result Limits ObjectFault → Result Limited ObjectFault
 limits_view (Ok l) = Ok

@@ -3,52 +3,40 @@ ghost use Rattle.std.specs.Prelude.{◌≡◌};
 ghost use Rattle.oca_textree.specs.Faults.{object_fault_word, object_fault_of};
 
 use oca_tree::{AddFault, StartFault};
+use std::fmt::{self, Display, Formatter};
 use thiserror::Error;
 
 /// What is wrong with a line: what is found first from its left, and where all its fields can be read why its object is
 /// not added.
-#[derive(Clone, Copy, PartialEq, Eq, Debug, Error)]
+#[derive(Clone, Copy, PartialEq, Eq, Debug)]
 pub enum ObjectFault {
     /// A field is missing or too many, a quote is left open, or there is a control character.
-    #[error("form")]
     Form,
     /// The object's number, its container's, or an integer is not of its form, or not of its type.
-    #[error("number")]
     Number,
     /// No such class.
-    #[error("class")]
     Class,
     /// No value of the class, no position of the switch, or other than one flag a position.
-    #[error("value")]
     Value,
     /// Neither `lockable` nor `no-lock`.
-    #[error("lockable")]
     Lockable,
     /// The role is empty, or the role or a position's name has more than 64 bytes, is not UTF-8, or has a character
     /// that
     /// is printed as an escape, a backslash left aside.
-    #[error("text")]
     Text,
     /// 4,096 objects are there, the root counted.
-    #[error("full")]
     Full,
     /// The number is below 4096.
-    #[error("reserved")]
     Reserved,
     /// The number is there.
-    #[error("taken")]
     Taken,
     /// The container is no block that stands before.
-    #[error("container")]
     Container,
     /// The object would stand at depth 9; the root is at depth 1.
-    #[error("depth")]
     Depth,
     /// The least is above the greatest, the setting is outside them, or there are more than 16 positions.
-    #[error("range")]
     Range,
     /// Memory was refused.
-    #[error("no memory")]
     NoMemory,
 }
 
@@ -74,6 +62,15 @@ impl ObjectFault {
         }
     }
 }
+
+impl Display for ObjectFault {
+    /// Writes its word.
+    fn fmt<W: fmt::Write>(&self, f: &mut Formatter<W>) -> fmt::Result {
+        f.write_str(self.word())
+    }
+}
+
+impl std::error::Error for ObjectFault {}
 
 impl From<AddFault> for ObjectFault {
     ghost use Rattle.std.specs.Prelude.{◌≡◌};

@@ -4,7 +4,7 @@ ghost use Rattle.std.specs.Option.{option_copied};
 ghost use Rattle.oca_script.specs.Fields.{split_at};
 ghost use Rattle.oca_textree.specs.Lines.{field_at, plain as plain_field, quoted as quoted_field, ono_of};
 ghost use Rattle.oca_textree.specs.Lines.{class_of_word, has_control as has_control_byte, is_text};
-ghost use Rattle.oca_textree.specs.PrivateLines.{field_view};
+ghost use Rattle.oca_textree.specs.PrivateLines.{field_view, integer_class_of, ono_at, ono_view, placed_at, placed_view};
 
 use super::fault::ObjectFault;
 use oca_script::escape::has_hidden;
@@ -73,7 +73,7 @@ pub fn text_of(bytes: &[u8]) -> Option<&str>
 }
 
 /// An object's number: 1 to 10 digits, in 32 bits.
-pub fn ono(text: &[u8]) -> Option<u32>
+fn ono(text: &[u8]) -> Option<u32>
     ensures { result ≡ ono_of text.now }
 {
     match number(text, 10, 4294967295) {
@@ -82,9 +82,35 @@ pub fn ono(text: &[u8]) -> Option<u32>
     }
 }
 
+/// The number of an object that the next field says, and what is left of the line.
+#[tactic(auto, unfolding(crate::specs::PrivateLines::ono_at))]
+fn next_ono(rest: Option<&[u8]>) -> Result<(u32, Option<&[u8]>), ObjectFault>
+    ensures { ono_view result ≡ ono_at (option_copied rest.entry) }
+{
+    let (text, rest) = field(rest)?;
+    match ono(text) {
+        Some(ono) => Ok((ono, rest)),
+        None => Err(ObjectFault::Number),
+    }
+}
+
+/// The number of an object, that of its container and its class, by the next three fields, and what is left of the line.
+#[tactic(auto, unfolding(crate::specs::PrivateLines::placed_at))]
+pub fn placed(rest: Option<&[u8]>) -> Result<(u32, u32, Class, Option<&[u8]>), ObjectFault>
+    ensures { placed_view result ≡ placed_at (option_copied rest.entry) }
+{
+    let (ono, rest) = next_ono(rest)?;
+    let (container, rest) = next_ono(rest)?;
+    let (word, rest) = field(rest)?;
+    match class(word) {
+        Some(class) => Ok((ono, container, class, rest)),
+        None => Err(ObjectFault::Class),
+    }
+}
+
 /// A class by its word.
-#[tactic(auto, unfolding(crate::specs::Lines::class_of_word))]
-pub fn class(word: &[u8]) -> Option<Class>
+#[tactic(auto, unfolding(crate::specs::Lines::class_of_word, crate::specs::PrivateLines::integer_class_of))]
+fn class(word: &[u8]) -> Option<Class>
     ensures { result ≡ class_of_word word.now }
 {
     if word == b"block".as_slice() {
@@ -102,6 +128,14 @@ pub fn class(word: &[u8]) -> Option<Class>
     if word == b"boolean".as_slice() {
         return Some(Class::Boolean);
     }
+    integer_class(word)
+}
+
+/// The class of an integer by its word.
+#[tactic(auto, unfolding(crate::specs::PrivateLines::integer_class_of))]
+fn integer_class(word: &[u8]) -> Option<Class>
+    ensures { result ≡ integer_class_of word.now }
+{
     if word == b"int8".as_slice() {
         return Some(Class::Int8);
     }

@@ -8,7 +8,7 @@ ghost use Rattle.oca_textree.specs.Stored.{after_line, after_word as behind_word
 ghost use Rattle.oca_textree.specs.PrivateLines.{last_view, Became, kind_valued};
 
 use super::fault::ObjectFault;
-use super::field::{class, field, has_control, ono, text_of};
+use super::field::{field, has_control, placed, text_of};
 use super::stored::add_stored;
 use super::value::{Names, kind_at, lockable, positions};
 use oca_script::field::split_at_byte;
@@ -100,23 +100,12 @@ fn add_of_class(
 }
 
 /// Adds the object that the fields of a line list.
-#[tactic(auto, unfolding(crate::specs::Lines::added_by))]
+#[tactic(auto, using(crate::proofs::PlacedLemmas::placed_rules))]
 fn add_listed(builder: &mut TreeBuilder, line: &[u8]) -> Result<(), ObjectFault>
     requires { builder.old.room ≡ 4096 }
     ensures { Became result builder.old builder.new (added_by builder.old.list line.now) }
 {
-    let (text, rest) = field(Some(line))?;
-    let Some(number) = ono(text) else {
-        return Err(ObjectFault::Number);
-    };
-    let (text, rest) = field(rest)?;
-    let Some(container) = ono(text) else {
-        return Err(ObjectFault::Number);
-    };
-    let (word, rest) = field(rest)?;
-    let Some(class) = class(word) else {
-        return Err(ObjectFault::Class);
-    };
+    let (number, container, class, rest) = placed(Some(line))?;
     add_of_class(builder, container, number, class, rest)
 }
 

@@ -12,7 +12,7 @@ ghost use Rattle.oca_textree.specs.PrivateStored.{ending_view, kind_flagged};
 ghost use Rattle.oca_tree.specs.Building.{value_of, has_bad_name};
 
 use super::fault::ObjectFault;
-use super::field::{class, field, ono};
+use super::field::{field, placed};
 use super::quoted::{field_text, is_quoted, text_at};
 use super::value::{kind_at, lockable, truth};
 use arrayvec::ArrayVec;
@@ -288,22 +288,11 @@ fn add_of_class(
 }
 
 /// Adds the object that the fields of a line list, all that was stored of it included.
-#[tactic(auto, unfolding(crate::specs::Stored::stored_by))]
+#[tactic(auto, using(crate::proofs::PlacedLemmas::placed_rules))]
 pub fn add_stored(builder: &mut TreeBuilder, line: &[u8]) -> Result<(), ObjectFault>
     requires { builder.old.room ≡ 4096 }
     ensures { Became result builder.old builder.new (stored_by builder.old.list line.now) }
 {
-    let (text, rest) = field(Some(line))?;
-    let Some(number) = ono(text) else {
-        return Err(ObjectFault::Number);
-    };
-    let (text, rest) = field(rest)?;
-    let Some(container) = ono(text) else {
-        return Err(ObjectFault::Number);
-    };
-    let (word, rest) = field(rest)?;
-    let Some(class) = class(word) else {
-        return Err(ObjectFault::Class);
-    };
+    let (number, container, class, rest) = placed(Some(line))?;
     add_of_class(builder, container, number, class, rest)
 }

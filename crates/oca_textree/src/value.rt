@@ -9,7 +9,7 @@ ghost use Rattle.oca_model.specs.declared.value.MuteState.TheVariants.{Muted, Un
 ghost use Rattle.oca_model.specs.declared.value.PolarityState.TheVariants.{NonInverted, Inverted};
 ghost use Rattle.oca_textree.specs.Lines.{one_of, signed_of, integer_of, limits_of, names_after, position_named};
 ghost use Rattle.oca_textree.specs.Lines.{positions_of, value_at};
-ghost use Rattle.oca_textree.specs.PrivateLines.{limits_view, IsWithin, names_view, positions_view, kind_view};
+ghost use Rattle.oca_textree.specs.PrivateLines.{limit_at, limit_view, limits_view, IsWithin, names_view, positions_view, kind_view};
 
 use super::fault::ObjectFault;
 use super::field::{field, text_of};
@@ -116,18 +116,28 @@ fn integer(text: &[u8], low: i128, high: i128) -> Option<i128>
     }
 }
 
+/// The integer that the next field says, from the one to the other, and what is left of the line.
+#[tactic(auto, unfolding(crate::specs::PrivateLines::limit_at))]
+fn limit(rest: Option<&[u8]>, low: i128, high: i128) -> Result<(i128, Option<&[u8]>), ObjectFault>
+    ensures value { limit_view result ≡ limit_at low high (option_copied rest.entry) }
+    ensures within { IfOk result (λ p. (low ≤ℤ p.0) × (p.0 ≤ℤ high)) }
+{
+    let (text, rest) = field(rest)?;
+    match integer(text, low, high) {
+        Some(value) => Ok((value, rest)),
+        None => Err(ObjectFault::Number),
+    }
+}
+
 /// The least, the greatest and the setting of an integer, each from the one to the other.
-#[tactic(auto, unfolding(crate::specs::Lines::limits_of))]
+#[tactic(auto, unfolding(crate::specs::Lines::limits_of, crate::specs::PrivateLines::limit_at))]
 fn read_limits<'a>(rest: Option<&'a [u8]>, low: i128, high: i128) -> Result<Limits<'a>, ObjectFault>
     ensures value { limits_view result ≡ limits_of low high (option_copied rest.entry) }
     ensures within { IfOk result (IsWithin low high) }
 {
-    let (least, rest) = field(rest)?;
-    let least = integer(least, low, high).ok_or(ObjectFault::Number)?;
-    let (greatest, rest) = field(rest)?;
-    let greatest = integer(greatest, low, high).ok_or(ObjectFault::Number)?;
-    let (setting, rest) = field(rest)?;
-    let setting = integer(setting, low, high).ok_or(ObjectFault::Number)?;
+    let (least, rest) = limit(rest, low, high)?;
+    let (greatest, rest) = limit(rest, low, high)?;
+    let (setting, rest) = limit(rest, low, high)?;
     Ok(Limits {
         least,
         greatest,

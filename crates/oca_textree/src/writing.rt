@@ -1,5 +1,5 @@
 //! A tree written as a text.
-ghost use Rattle.std.specs.Prelude.{◌≡◌, ◌+◌, ◌*◌, ◌≤◌, ◌++◌, ◌∷◌, length, map, not, Some};
+ghost use Rattle.std.specs.Prelude.{◌≡◌, ◌+◌, ◌*◌, ◌≤◌, ◌++◌, [], ◌∷◌, length, map, not, Some};
 ghost use Rattle.std.specs.Fmt.{signed_decimal};
 ghost use Rattle.std.specs.Option.{option_copied, option_map};
 ghost use Rattle.std.specs.List.{flat_map, list_any};
@@ -10,8 +10,8 @@ ghost use Rattle.oca_textree.specs.Written.{is_plain as is_plain_text, is_plain_
 ghost use Rattle.oca_textree.specs.Written.{name_part, joined_names, names_field, flag_digit, flags_field, state_word};
 ghost use Rattle.oca_textree.specs.Written.{truth_word, truth_field, limit_field, range_fields, number_fields};
 ghost use Rattle.oca_textree.specs.Written.{holds_mark, holds_comma, position_field, switch_fields, set_fields};
-ghost use Rattle.oca_textree.specs.Written.{class_before, value_fields, start_fields, place_fields};
-ghost use Rattle.oca_textree.specs.Written.{text_of};
+ghost use Rattle.oca_textree.specs.Written.{class_before, value_fields, start_fields, place_fields, lock_word};
+ghost use Rattle.oca_textree.specs.Written.{end_fields, text_of};
 ghost use Rattle.oca_textree.specs.PrivateWritten.{IsInteger, IsWritten, few_flags, Fits, stored_flags, end_text};
 ghost use Rattle.oca_textree.specs.PrivateWritten.{root_text, object_text, tree_line_text};
 
@@ -393,20 +393,36 @@ fn put_end<W: Sink>(
         (printer.old.held ++ end_text lockable role.now (option_map stored_in start.entry)) printer.old.failed }
     ensures len { length printer.new.held ≤ length printer.old.held + 300 }
 {
-    let Some(lockable) = lockable else {
-        return;
-    };
-    let Some(start) = start else {
-        return;
-    };
-    printer.put(if lockable {
-        b" lockable ".as_slice()
+    match (lockable, start) {
+        (Some(lockable), Some(start)) => put_ending(lockable, role, &start, printer),
+        _ => {}
+    }
+}
+
+/// The word that says whether an object can be locked, between spaces.
+fn lock_part(lockable: bool) -> &'static [u8]
+    ensures value { result.now ≡ 32 ∷ lock_word lockable ++ 32 ∷ [] }
+    ensures short { length result.now ≤ 10 }
+{
+    if lockable {
+        b" lockable "
     } else {
         b" no-lock "
-    });
+    }
+}
+
+/// Holds the end of the line of an object of which this is known.
+fn put_ending<W: Sink>(lockable: bool, role: &Text, start: &Start<'_>, printer: &mut Printer<W>)
+    requires { length printer.old.held + 300 ≤ 8192 }
+    ensures value { printer.new
+        ≡ output printer.old.contents
+        (printer.old.held ++ end_fields lockable role.now start.now.enabled start.now.label.now) printer.old.failed }
+    ensures len { length printer.new.held ≤ length printer.old.held + 300 }
+{
+    printer.put(lock_part(lockable));
     put_text(role.as_str(), printer);
     printer.put(b" ");
-    put_start(&start, printer);
+    put_start(start, printer);
 }
 
 /// The flags of its positions, of a switch.
