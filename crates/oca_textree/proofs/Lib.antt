@@ -1,4 +1,4 @@
-pub mod PlacedLemmas
+pub mod OrderLemmas
 pub mod SplitLemmas
 pub mod SwitchLemmas
 pub mod StoredLemmas

@@ -1,5 +1,5 @@
 -- What the program's own values of a line's parts say.
-use Rattle.std.specs.Prelude.{◌≡◌, ℕ, List, [], ◌∷◌, codes, map, Bool, Option, Result, Ok, Err, ℤ, ◌≤ℤ◌}
+use Rattle.std.specs.Prelude.{◌≡◌, ◌⊎◌, ℕ, List, [], ◌∷◌, codes, map, Bool, Option, Some, None, Result, Ok, Err, ℤ, ◌≤ℤ◌}
 use Rattle.std.specs.Option.{option_copied}
 use denote.Ref.{Bor}
 use Rattle.oca_tree.specs.declared.object.Object.{Object}
@@ -54,14 +54,13 @@ abbrev pub placed_view : Result (ℕ × ℕ × Class × Option (Bor (List ℕ)))
 placed_view (Ok p) = Ok (record { ono = p.0; container = p.1; class_read = p.2; rest = option_copied p.3 })
 placed_view (Err f) = Err f
 
--- the next field as an integer from the one to the other, and what is left
-unfoldable pub limit_at : ℤ → ℤ → Option (List ℕ) → Result (ℤ × Option (List ℕ)) ObjectFault
-limit_at low high rest =
-    then_by (field_at rest) (λ f. then_by (some_or_fault fault.Number (integer_of low high f.0)) (λ z. Ok (z, f.1)))
-
-abbrev pub limit_view : Result (ℤ × Option (Bor (List ℕ))) ObjectFault → Result (ℤ × Option (List ℕ)) ObjectFault
-limit_view (Ok p) = Ok (p.0, option_copied p.1)
-limit_view (Err f) = Err f
+-- The next field was read as an integer from the one to the other; or it has that fault.
+abbrev pub IsLimit : ℤ → ℤ → Option (List ℕ) → Result (ℤ × Option (Bor (List ℕ))) ObjectFault → Type 0
+IsLimit low high rest (Ok p) =
+    (text : List ℕ) × (field_at rest ≡ Ok (text, option_copied p.1)) × (integer_of low high text ≡ Some p.0)
+IsLimit low high rest (Err f) =
+    (field_at rest ≡ Err f)
+    ⊎ ((f ≡ fault.Number) × (t : Taken) × (field_at rest ≡ Ok t) × (integer_of low high t.0 ≡ None))
 
 abbrev pub limits_view : Result Limits ObjectFault → Result Limited ObjectFault
 limits_view (Ok l) = Ok

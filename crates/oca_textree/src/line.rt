@@ -100,7 +100,7 @@ fn add_of_class(
 }
 
 /// Adds the object that the fields of a line list.
-#[tactic(auto, using(crate::proofs::PlacedLemmas::placed_rules))]
+#[tactic(auto, using(crate::proofs::OrderLemmas::placed_rules))]
 fn add_listed(builder: &mut TreeBuilder, line: &[u8]) -> Result<(), ObjectFault>
     requires { builder.old.room ≡ 4096 }
     ensures { Became result builder.old builder.new (added_by builder.old.list line.now) }

@@ -288,7 +288,7 @@ fn add_of_class(
 }
 
 /// Adds the object that the fields of a line list, all that was stored of it included.
-#[tactic(auto, using(crate::proofs::PlacedLemmas::placed_rules))]
+#[tactic(auto, using(crate::proofs::OrderLemmas::placed_rules))]
 pub fn add_stored(builder: &mut TreeBuilder, line: &[u8]) -> Result<(), ObjectFault>
     requires { builder.old.room ≡ 4096 }
     ensures { Became result builder.old builder.new (stored_by builder.old.list line.now) }

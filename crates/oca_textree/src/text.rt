@@ -53,10 +53,21 @@ fn plain_tree(alloc: Global, text: &[u8]) -> Result<Tree, TreeFault>
     ensures ok { IfOk result (λ tree. from_root None text.now ≡ ok tree) }
     ensures err { IfErr result (λ e. (e ≡ NoMemory) ⊎ (from_root None text.now ≡ err e)) }
 {
-    let Ok(mut builder) = TreeBuilder::with_room(alloc, most_room()) else {
-        return Err(TreeFault::NoMemory);
-    };
-    add_lines(&mut builder, 1, text)?;
+    match TreeBuilder::with_room(alloc, most_room()) {
+        Ok(builder) => finished(builder, 1, text),
+        Err(_) => Err(TreeFault::NoMemory),
+    }
+}
+
+/// The tree with the objects of further lines, of which the first has this number.
+fn finished(builder: TreeBuilder, first: u64, text: &[u8]) -> Result<Tree, TreeFault>
+    requires room { builder.room ≡ 4096 }
+    requires first { first ≤ 2 }
+    ensures ok { IfOk result (λ tree. after_lines first builder.list (split_on 10 text.now) ≡ ok tree) }
+    ensures err { IfErr result (λ e. after_lines first builder.list (split_on 10 text.now) ≡ err e) }
+{
+    let mut builder = builder;
+    add_lines(&mut builder, first, text)?;
     Ok(builder.finish())
 }
 
@@ -65,11 +76,11 @@ fn rooted_tree(alloc: Global, fields: &[u8], text: &[u8]) -> Result<Tree, TreeFa
     ensures ok { IfOk result (λ tree. from_root (Some fields.now) text.now ≡ ok tree) }
     ensures err { IfErr result (λ e. (e ≡ NoMemory) ⊎ (from_root (Some fields.now) text.now ≡ err e)) }
 {
-    let mut builder = rooted_builder(alloc, fields)?;
-    if let Some((_, rest)) = split_at_byte(text, b'\n') {
-        add_lines(&mut builder, 2, rest)?;
+    let builder = rooted_builder(alloc, fields)?;
+    match split_at_byte(text, b'\n') {
+        Some((_, rest)) => finished(builder, 2, rest),
+        None => Ok(builder.finish()),
     }
-    Ok(builder.finish())
 }
 
 /// What the fields of the root's line say of it.

@@ -9,7 +9,7 @@ ghost use Rattle.oca_model.specs.declared.value.MuteState.TheVariants.{Muted, Un
 ghost use Rattle.oca_model.specs.declared.value.PolarityState.TheVariants.{NonInverted, Inverted};
 ghost use Rattle.oca_textree.specs.Lines.{one_of, signed_of, integer_of, limits_of, names_after, position_named};
 ghost use Rattle.oca_textree.specs.Lines.{positions_of, value_at};
-ghost use Rattle.oca_textree.specs.PrivateLines.{limit_at, limit_view, limits_view, IsWithin, names_view, positions_view, kind_view};
+ghost use Rattle.oca_textree.specs.PrivateLines.{IsLimit, limits_view, IsWithin, names_view, positions_view, kind_view};
 
 use super::fault::ObjectFault;
 use super::field::{field, text_of};
@@ -117,9 +117,8 @@ fn integer(text: &[u8], low: i128, high: i128) -> Option<i128>
 }
 
 /// The integer that the next field says, from the one to the other, and what is left of the line.
-#[tactic(auto, unfolding(crate::specs::PrivateLines::limit_at))]
 fn limit(rest: Option<&[u8]>, low: i128, high: i128) -> Result<(i128, Option<&[u8]>), ObjectFault>
-    ensures value { limit_view result ≡ limit_at low high (option_copied rest.entry) }
+    ensures value { IsLimit low high (option_copied rest.entry) result }
     ensures within { IfOk result (λ p. (low ≤ℤ p.0) × (p.0 ≤ℤ high)) }
 {
     let (text, rest) = field(rest)?;
@@ -130,7 +129,7 @@ fn limit(rest: Option<&[u8]>, low: i128, high: i128) -> Result<(i128, Option<&[u
 }
 
 /// The least, the greatest and the setting of an integer, each from the one to the other.
-#[tactic(auto, unfolding(crate::specs::Lines::limits_of, crate::specs::PrivateLines::limit_at))]
+#[tactic(auto, unfolding(crate::specs::Lines::limits_of))]
 fn read_limits<'a>(rest: Option<&'a [u8]>, low: i128, high: i128) -> Result<Limits<'a>, ObjectFault>
     ensures value { limits_view result ≡ limits_of low high (option_copied rest.entry) }
     ensures within { IfOk result (IsWithin low high) }
@@ -307,7 +306,7 @@ fn int64_at(rest: Option<&[u8]>) -> Read<'_>
 fn uint8_at(rest: Option<&[u8]>) -> Read<'_>
     ensures { kind_view result ≡ value_at Class.Uint8 (option_copied rest.entry) }
 {
-    let read = read_limits(rest, i128::from(u8::MIN), i128::from(u8::MAX))?;
+    let read = read_limits(rest, 0, 255)?;
     let kind = Kind::Uint8 {
         setting: read.setting as u8,
         least: read.least as u8,
@@ -321,7 +320,7 @@ fn uint8_at(rest: Option<&[u8]>) -> Read<'_>
 fn uint16_at(rest: Option<&[u8]>) -> Read<'_>
     ensures { kind_view result ≡ value_at Class.Uint16 (option_copied rest.entry) }
 {
-    let read = read_limits(rest, i128::from(u16::MIN), i128::from(u16::MAX))?;
+    let read = read_limits(rest, 0, 65535)?;
     let kind = Kind::Uint16 {
         setting: read.setting as u16,
         least: read.least as u16,
@@ -335,7 +334,7 @@ fn uint16_at(rest: Option<&[u8]>) -> Read<'_>
 fn uint32_at(rest: Option<&[u8]>) -> Read<'_>
     ensures { kind_view result ≡ value_at Class.Uint32 (option_copied rest.entry) }
 {
-    let read = read_limits(rest, i128::from(u32::MIN), i128::from(u32::MAX))?;
+    let read = read_limits(rest, 0, 4294967295)?;
     let kind = Kind::Uint32 {
         setting: read.setting as u32,
         least: read.least as u32,
@@ -349,7 +348,7 @@ fn uint32_at(rest: Option<&[u8]>) -> Read<'_>
 fn uint64_at(rest: Option<&[u8]>) -> Read<'_>
     ensures { kind_view result ≡ value_at Class.Uint64 (option_copied rest.entry) }
 {
-    let read = read_limits(rest, i128::from(u64::MIN), i128::from(u64::MAX))?;
+    let read = read_limits(rest, 0, 18446744073709551615)?;
     let kind = Kind::Uint64 {
         setting: read.setting as u64,
         least: read.least as u64,

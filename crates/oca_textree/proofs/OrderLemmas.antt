@@ -1,4 +1,4 @@
--- The lines that begin with an object's number, its container's and its class, by what these three fields say.
+-- Fields that are read one after another, by the functions that read some of them.
 use Rattle.std.proofs.Common.{◌≡◌, ℕ, List, Option, Some, None, Ok, Err, refl}
 use Rattle.std.specs.Prelude.{Result}
 use Rattle.oca_types.specs.declared.class.Class.{Class}
