@@ -2,28 +2,23 @@
 ghost use Rattle.std.specs.Prelude.{◌≡◌};
 ghost use Rattle.oca_script.specs.Faults.{fault_word, script_fault_number};
 
+use std::fmt::{self, Display, Formatter};
 use thiserror::Error;
 
 /// What is wrong with a line. Each kind is looked for in the whole line before the next.
-#[derive(Clone, Copy, PartialEq, Eq, Debug, Error)]
+#[derive(Clone, Copy, PartialEq, Eq, Debug)]
 pub enum LineFault {
     /// More than 4,096 bytes before its line feed.
-    #[error("too long")]
     TooLong,
     /// A wrong number of fields, an unknown keyword, or a byte past ASCII.
-    #[error("form")]
     Form,
     /// A moment that is not 1 to 20 digits, or does not fit 64 bits.
-    #[error("moment")]
     Moment,
     /// Another number that is not of its form, or out of its range.
-    #[error("number")]
     Number,
     /// A peer that is not `a.b.c.d:port`.
-    #[error("peer")]
     Peer,
     /// Bytes that are not an even number, two or more, of hexadecimal digits, nor `-`.
-    #[error("hex")]
     Hex,
 }
 
@@ -42,6 +37,15 @@ impl LineFault {
         }
     }
 }
+
+impl Display for LineFault {
+    /// Writes its word.
+    fn fmt<W: fmt::Write>(&self, f: &mut Formatter<W>) -> fmt::Result {
+        f.write_str(self.word())
+    }
+}
+
+impl std::error::Error for LineFault {}
 
 /// Why a replay ended before its script did.
 #[derive(Clone, Copy, PartialEq, Eq, Debug, Error)]
