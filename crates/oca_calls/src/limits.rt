@@ -1,7 +1,7 @@
 //! Reading the words of a reading: a value, and limits of its class.
 ghost use Rattle.std.specs.Prelude.{◌≡◌};
 ghost use Rattle.oca_calls.specs.CSpecs.{AreReadingOf, int8_in, int16_in, int32_in, int64_in, ranged, uint8_in, uint16_in};
-ghost use Rattle.oca_calls.specs.CSpecs.{uint32_in, uint64_in};
+ghost use Rattle.oca_calls.specs.CSpecs.{reading_of_values, uint32_in, uint64_in};
 
 use crate::value_words::ReadingWords;
 use oca_model::{Ranged, Reading, Value};
@@ -102,38 +102,37 @@ fn uint64_in(value: Option<Value>) -> Option<u64>
 pub fn reading_of(words: &ReadingWords) -> Option<Reading>
     ensures { AreReadingOf words.now result }
 {
-    let least = words.least.value();
-    let greatest = words.greatest.value();
-    match words.value.value()? {
+    reading_of_values(
+        words.value.value(),
+        words.least.value(),
+        words.greatest.value(),
+    )
+}
+
+/// The reading that a value and its limits make.
+fn reading_of_values(
+    value: Option<Value>,
+    low: Option<Value>,
+    high: Option<Value>,
+) -> Option<Reading>
+    ensures { result ≡ reading_of_values value low high }
+{
+    match value? {
         Value::Mute(state) => Some(Reading::Mute(state)),
         Value::Polarity(state) => Some(Reading::Polarity(state)),
-        Value::Switch(number) => Some(Reading::Switch(Ranged {
-            setting: number,
-            least: number,
-            greatest: number,
+        Value::Switch(n) => Some(Reading::Switch(Ranged {
+            setting: n,
+            least: n,
+            greatest: n,
         })),
         Value::Boolean(truth) => Some(Reading::Boolean(truth)),
-        Value::Int8(number) => ranged(number, int8_in(least), int8_in(greatest)).map(Reading::Int8),
-        Value::Int16(number) => ranged(number, int16_in(least), int16_in(greatest)).map(
-            Reading::Int16,
-        ),
-        Value::Int32(number) => ranged(number, int32_in(least), int32_in(greatest)).map(
-            Reading::Int32,
-        ),
-        Value::Int64(number) => ranged(number, int64_in(least), int64_in(greatest)).map(
-            Reading::Int64,
-        ),
-        Value::Uint8(number) => ranged(number, uint8_in(least), uint8_in(greatest)).map(
-            Reading::Uint8,
-        ),
-        Value::Uint16(number) => ranged(number, uint16_in(least), uint16_in(greatest)).map(
-            Reading::Uint16,
-        ),
-        Value::Uint32(number) => ranged(number, uint32_in(least), uint32_in(greatest)).map(
-            Reading::Uint32,
-        ),
-        Value::Uint64(number) => ranged(number, uint64_in(least), uint64_in(greatest)).map(
-            Reading::Uint64,
-        ),
+        Value::Int8(n) => ranged(n, int8_in(low), int8_in(high)).map(Reading::Int8),
+        Value::Int16(n) => ranged(n, int16_in(low), int16_in(high)).map(Reading::Int16),
+        Value::Int32(n) => ranged(n, int32_in(low), int32_in(high)).map(Reading::Int32),
+        Value::Int64(n) => ranged(n, int64_in(low), int64_in(high)).map(Reading::Int64),
+        Value::Uint8(n) => ranged(n, uint8_in(low), uint8_in(high)).map(Reading::Uint8),
+        Value::Uint16(n) => ranged(n, uint16_in(low), uint16_in(high)).map(Reading::Uint16),
+        Value::Uint32(n) => ranged(n, uint32_in(low), uint32_in(high)).map(Reading::Uint32),
+        Value::Uint64(n) => ranged(n, uint64_in(low), uint64_in(high)).map(Reading::Uint64),
     }
 }

@@ -1,5 +1,5 @@
 //! Opening a device.
-ghost use Rattle.std.specs.Prelude.{◌≡◌, ◌⊎◌, None, Some};
+ghost use Rattle.std.specs.Prelude.{◌≡◌, None, Some, IfSome, MatchOption};
 ghost use Rattle.oca_calls.specs.CSpecs.{OpensOver};
 
 use crate::answer::Answer;
@@ -14,21 +14,29 @@ pub fn open_over(alloc: Global, handle: &mut DeviceHandle, builder: TreeBuilder)
     ensures { OpensOver result handle.new.slot.inner builder }
 {
     match room_for(alloc, 0) {
-        Some(outbox) => put_boxed(alloc, handle, DeviceBehind::over(builder, outbox)),
+        Some(outbox) => put(handle, boxed(alloc, DeviceBehind::over(builder, outbox))),
         None => Answer::NoMemory.number(),
     }
 }
 
-/// Puts this behind a closed handle, where there is memory for it.
-fn put_boxed(alloc: Global, handle: &mut DeviceHandle, behind: DeviceBehind) -> u32
-    requires { handle.old.slot.inner ≡ None }
-    ensures { ((result ≡ 0) × (handle.new.slot.inner ≡ Some behind)) ⊎ ((result ≡ 8) × (handle.new.slot.inner ≡ None)) }
+/// Moves this into memory of its own, where there is some.
+fn boxed(alloc: Global, behind: DeviceBehind) -> Option<Box<DeviceBehind>>
+    ensures { IfSome result (λ b. b.value ≡ behind) }
 {
-    match Box::new(alloc, behind) {
-        Ok(behind) => {
+    Box::new(alloc, behind).ok()
+}
+
+/// Puts this behind a closed handle, where there was memory for it.
+fn put(handle: &mut DeviceHandle, behind: Option<Box<DeviceBehind>>) -> u32
+    requires { handle.old.slot.inner ≡ None }
+    ensures { MatchOption behind ((result ≡ 8) × (handle.new.slot.inner ≡ None))
+        (λ b. (result ≡ 0) × (handle.new.slot.inner ≡ Some b.value)) }
+{
+    match behind {
+        Some(behind) => {
             handle.put(behind);
             Answer::Done.number()
         }
-        Err(_) => Answer::NoMemory.number(),
+        None => Answer::NoMemory.number(),
     }
 }

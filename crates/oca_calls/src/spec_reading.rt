@@ -1,5 +1,5 @@
 //! Telling of an object all that an addition makes of it.
-ghost use Rattle.std.specs.Prelude.{◌≡◌, ◌⊎◌, ◌≤◌, length, map, take, IfSome, IsSome};
+ghost use Rattle.std.specs.Prelude.{◌≡◌, ◌⊎◌, ◌≤◌, length, map, take, Some, IfSome, IsSome};
 ghost use Rattle.std.specs.Option.{option_copied};
 ghost use Rattle.oca_tree.specs.Readers.{info_at};
 ghost use Rattle.oca_calls.specs.CSpecs.{AreSettingWords, FitsBits, FitsSetting, FitsSpec, HasBits, IsNumberWords};
@@ -107,10 +107,26 @@ fn number_limits(
     ensures greatest { IfSome result (λ w. IsNumberWords class_number greatest w.greatest) }
     ensures fits { FitsBits setting → FitsBits least → FitsBits greatest → IsSome result }
 {
+    all_three(
+        number_words(class_number, setting),
+        number_words(class_number, least),
+        number_words(class_number, greatest),
+    )
+}
+
+/// A value with its limits, where all three are there.
+fn all_three(
+    value: Option<ValueWords>,
+    least: Option<ValueWords>,
+    greatest: Option<ValueWords>,
+) -> Option<ReadingWords>
+    ensures words { IfSome result (λ w. (value ≡ Some w.value) × (least ≡ Some w.least) × (greatest ≡ Some w.greatest)) }
+    ensures some { IsSome value → IsSome least → IsSome greatest → IsSome result }
+{
     Some(ReadingWords {
-        value: number_words(class_number, setting)?,
-        least: number_words(class_number, least)?,
-        greatest: number_words(class_number, greatest)?,
+        value: value?,
+        least: least?,
+        greatest: greatest?,
     })
 }
 
