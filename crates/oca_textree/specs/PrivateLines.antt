@@ -28,6 +28,12 @@ integer_class_of word = class_named (
     ∷ (codes "uint32", class.Uint32)
     ∷ (codes "uint64", class.Uint64) ∷ []) word
 
+-- that of an integer without a sign
+unfoldable pub unsigned_class_of : List ℕ → Option Class
+unsigned_class_of word = class_named (
+    (codes "uint8", class.Uint8) ∷ (codes "uint16", class.Uint16) ∷ (codes "uint32", class.Uint32)
+    ∷ (codes "uint64", class.Uint64) ∷ []) word
+
 -- the next field as the number of an object, and what is left
 unfoldable pub ono_at : Option (List ℕ) → Result (ℕ × Option (List ℕ)) ObjectFault
 ono_at rest =

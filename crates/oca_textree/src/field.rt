@@ -4,7 +4,8 @@ ghost use Rattle.std.specs.Option.{option_copied};
 ghost use Rattle.oca_script.specs.Fields.{split_at};
 ghost use Rattle.oca_textree.specs.Lines.{field_at, plain as plain_field, quoted as quoted_field, ono_of};
 ghost use Rattle.oca_textree.specs.Lines.{class_of_word, has_control as has_control_byte, is_text};
-ghost use Rattle.oca_textree.specs.PrivateLines.{field_view, integer_class_of, ono_at, ono_view, placed_at, placed_view};
+ghost use Rattle.oca_textree.specs.PrivateLines.{field_view, integer_class_of, unsigned_class_of, ono_at, ono_view};
+ghost use Rattle.oca_textree.specs.PrivateLines.{placed_at, placed_view};
 
 use super::fault::ObjectFault;
 use oca_script::escape::has_hidden;
@@ -132,7 +133,7 @@ fn class(word: &[u8]) -> Option<Class>
 }
 
 /// The class of an integer by its word.
-#[tactic(auto, unfolding(crate::specs::PrivateLines::integer_class_of))]
+#[tactic(auto, unfolding(crate::specs::PrivateLines::integer_class_of, crate::specs::PrivateLines::unsigned_class_of))]
 fn integer_class(word: &[u8]) -> Option<Class>
     ensures { result ≡ integer_class_of word.now }
 {
@@ -148,6 +149,14 @@ fn integer_class(word: &[u8]) -> Option<Class>
     if word == b"int64".as_slice() {
         return Some(Class::Int64);
     }
+    unsigned_class(word)
+}
+
+/// The class of an integer without a sign by its word.
+#[tactic(auto, unfolding(crate::specs::PrivateLines::unsigned_class_of))]
+fn unsigned_class(word: &[u8]) -> Option<Class>
+    ensures { result ≡ unsigned_class_of word.now }
+{
     if word == b"uint8".as_slice() {
         return Some(Class::Uint8);
     }
