@@ -320,7 +320,7 @@ fn uint8_at(rest: Option<&[u8]>) -> Read<'_>
 fn uint16_at(rest: Option<&[u8]>) -> Read<'_>
     ensures { kind_view result ≡ value_at Class.Uint16 (option_copied rest.entry) }
 {
-    let read = read_limits(rest, 0, 65535)?;
+    let read = read_limits(rest, 0, 65_535)?;
     let kind = Kind::Uint16 {
         setting: read.setting as u16,
         least: read.least as u16,
@@ -334,7 +334,7 @@ fn uint16_at(rest: Option<&[u8]>) -> Read<'_>
 fn uint32_at(rest: Option<&[u8]>) -> Read<'_>
     ensures { kind_view result ≡ value_at Class.Uint32 (option_copied rest.entry) }
 {
-    let read = read_limits(rest, 0, 4294967295)?;
+    let read = read_limits(rest, 0, 4_294_967_295)?;
     let kind = Kind::Uint32 {
         setting: read.setting as u32,
         least: read.least as u32,
@@ -348,7 +348,7 @@ fn uint32_at(rest: Option<&[u8]>) -> Read<'_>
 fn uint64_at(rest: Option<&[u8]>) -> Read<'_>
     ensures { kind_view result ≡ value_at Class.Uint64 (option_copied rest.entry) }
 {
-    let read = read_limits(rest, 0, 18446744073709551615)?;
+    let read = read_limits(rest, 0, 18_446_744_073_709_551_615)?;
     let kind = Kind::Uint64 {
         setting: read.setting as u64,
         least: read.least as u64,
