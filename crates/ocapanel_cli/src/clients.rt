@@ -201,13 +201,17 @@ impl Clients {
     }
 
     /// Keeps a connection, where the system takes it.
-    fn keep(&mut self, stream: TcpStream, poll: &Poll, keys: RandomState, now: u64) {
+    fn keep(&mut self, mut stream: TcpStream, poll: &Poll, keys: RandomState, now: u64) {
         let token = self.next_token();
-        let mut client = client_of(self.alloc, stream, token, keys, now);
-        if is_waited_for(&mut client.stream, poll, token) {
+        if is_waited_for(&mut stream, poll, token) {
             self.more = true;
-            drop(self.clients.push(client));
+            self.push(client_of(self.alloc, stream, token, keys, now));
         }
+    }
+
+    /// Puts a connection behind the others, where there is memory for it.
+    fn push(&mut self, client: Client) {
+        drop(self.clients.push(client));
     }
 
     /// A token that no source has.

@@ -23,7 +23,7 @@ const LISTEN: Peer = Peer {
 };
 
 /// What the words ask for: a panel for a device.
-#[derive(Clone, Copy, PartialEq, Eq)]
+#[derive(Clone, Copy)]
 pub struct Serving {
     /// Where the device is.
     pub device: Peer,
@@ -54,27 +54,31 @@ const EXAMPLE: &str =
 Example: ocapanel --device 127.0.0.1:65000, and open http://127.0.0.1:8080/";
 
 /// An option with a value that need not be given: its name, what the value is called, and what it does.
-type OptionRow = (&'static str, &'static str, &'static str);
+struct OptionRow {
+    name: &'static str,
+    value: &'static str,
+    help: &'static str,
+}
 
 /// The options with a value that need not be given.
 const OPTIONS: [OptionRow; 3] = [
-    (
-        "listen",
-        "A.B.C.D:PORT",
-        "The address and port for browsers; the address is one of 127.0.0.0/8, and at port 0 the system chooses one \
-        [default: 127.0.0.1:8080]",
-    ),
-    (
-        "span",
-        "S",
-        "The span, 2 to 32: the handles of the commands in flight are within S consecutive numbers; half of it is kept \
-        for orders from browsers [default: 16]",
-    ),
-    (
-        "port",
-        "PORT",
-        "The local port of the socket for the device [default: the system chooses one]",
-    ),
+    OptionRow {
+        name: "listen",
+        value: "A.B.C.D:PORT",
+        help: "The address and port for browsers; the address is one of 127.0.0.0/8, and at port 0 the system chooses \
+            one [default: 127.0.0.1:8080]",
+    },
+    OptionRow {
+        name: "span",
+        value: "S",
+        help: "The span, 2 to 32: the handles of the commands in flight are within S consecutive numbers; half of it \
+            is kept for orders from browsers [default: 16]",
+    },
+    OptionRow {
+        name: "port",
+        value: "PORT",
+        help: "The local port of the socket for the device [default: the system chooses one]",
+    },
 ];
 
 /// What the flag `verbose` does.
@@ -83,9 +87,18 @@ const VERBOSE: &str =
 
 /// The whole program.
 fn command<'a>(alloc: Global) -> Result<Command<'a>, AllocError> {
+    with_flag(alloc, with_values(alloc)?, "verbose", VERBOSE)
+}
+
+/// The program with the options that have a value.
+fn with_values<'a>(alloc: Global) -> Result<Command<'a>, AllocError> {
+    with_options(alloc, with_device(alloc)?, &OPTIONS)
+}
+
+/// The program with the option that must be given.
+fn with_device<'a>(alloc: Global) -> Result<Command<'a>, AllocError> {
     let device = "The device's address and port";
-    let named = with_required(alloc, named(alloc), "device", "A.B.C.D:PORT", device)?;
-    with_flag(alloc, with_options(alloc, named)?, "verbose", VERBOSE)
+    with_required(alloc, named(alloc), "device", "A.B.C.D:PORT", device)
 }
 
 /// The program's name and what it is for.
@@ -96,11 +109,15 @@ fn named<'a>(alloc: Global) -> Command<'a> {
         .after_help(EXAMPLE)
 }
 
-/// The same with the options that need not be given.
-fn with_options<'a>(alloc: Global, command: Command<'a>) -> Result<Command<'a>, AllocError> {
+/// With these options.
+fn with_options<'a>(
+    alloc: Global,
+    command: Command<'a>,
+    rows: &[OptionRow],
+) -> Result<Command<'a>, AllocError> {
     let mut so_far = command;
-    for (name, value, help) in OPTIONS {
-        so_far = with_option(alloc, so_far, name, value, help)?;
+    for row in rows {
+        so_far = with_option(alloc, so_far, row.name, row.value, row.help)?;
     }
     Ok(so_far)
 }
