@@ -40,7 +40,7 @@ struct Client {
 }
 
 /// What became of a connection.
-#[derive(Clone, Copy, PartialEq)]
+#[derive(Clone, Copy)]
 enum Stands {
     /// It waits for the browser.
     Waits,
@@ -222,12 +222,19 @@ impl Clients {
 
     /// Closes the first connection that rests. Returns whether there was one.
     fn close_resting(&mut self, now: u64) -> bool {
-        let resting = self.clients.iter().position(|client| client.rests(now));
-        match resting {
-            Some(place) => {
+        for place in 0..self.clients.len() {
+            if self.rests_at(place, now) {
                 self.close(place);
-                true
+                return true;
             }
+        }
+        false
+    }
+
+    /// Whether the connection at this place rests.
+    fn rests_at(&self, place: usize, now: u64) -> bool {
+        match self.clients.get(place) {
+            Some(client) => client.rests(now),
             None => false,
         }
     }
@@ -272,13 +279,12 @@ impl Clients {
         if !client.ready {
             return client.is_late(now);
         }
-        let stands = client.serve(site, now);
-        client.ready = stands == Stands::HasMore;
-        let ends = stands == Stands::Ended || client.is_late(now);
-        if stands == Stands::HasMore {
-            self.more = true;
+        match client.serve(site, now) {
+            Stands::Waits => client.ready = false,
+            Stands::HasMore => self.more = true,
+            Stands::Ended => return true,
         }
-        ends
+        client.is_late(now)
     }
 
     /// Whether a connection may have more to do.

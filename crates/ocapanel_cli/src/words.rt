@@ -87,12 +87,18 @@ const VERBOSE: &str =
 
 /// The whole program.
 fn command<'a>(alloc: Global) -> Result<Command<'a>, AllocError> {
-    with_flag(alloc, with_values(alloc)?, "verbose", VERBOSE)
+    match with_values(alloc) {
+        Ok(so_far) => with_flag(alloc, so_far, "verbose", VERBOSE),
+        Err(refused) => Err(refused),
+    }
 }
 
 /// The program with the options that have a value.
 fn with_values<'a>(alloc: Global) -> Result<Command<'a>, AllocError> {
-    with_options(alloc, with_device(alloc)?, &OPTIONS)
+    match with_device(alloc) {
+        Ok(so_far) => with_options(alloc, so_far, &OPTIONS),
+        Err(refused) => Err(refused),
+    }
 }
 
 /// The program with the option that must be given.
@@ -117,7 +123,10 @@ fn with_options<'a>(
 ) -> Result<Command<'a>, AllocError> {
     let mut so_far = command;
     for row in rows {
-        so_far = with_option(alloc, so_far, row.name, row.value, row.help)?;
+        match with_option(alloc, so_far, row.name, row.value, row.help) {
+            Ok(more) => so_far = more,
+            Err(refused) => return Err(refused),
+        }
     }
     Ok(so_far)
 }
@@ -167,7 +176,10 @@ pub fn asked_for<S: AsStr>(alloc: Global, words: &[S]) -> Result<Asked, Failure>
             Some(serving) => Ok(Asked::Serve(serving)),
             None => Err(bad_option(alloc, &matches, &RULES, ELSEWHERE)),
         },
-        Err(error) => Ok(Asked::Help(help_or_failure(alloc, &error)?)),
+        Err(error) => match help_or_failure(alloc, &error) {
+            Ok(text) => Ok(Asked::Help(text)),
+            Err(failure) => Err(failure),
+        },
     }
 }
 
