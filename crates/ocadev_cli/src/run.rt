@@ -194,7 +194,7 @@ fn replay_tree<R: Source, W: Sink>(
         printer.old printer.new }
 {
     match made(alloc, tree, sizes) {
-        Ok((mut device, mut outbox)) => { replay_on(&mut device, &mut outbox, reader, printer) }
+        Ok(mut both) => replay_on(&mut both.0, &mut both.1, reader, printer),
         Err(fault) => Err(Failure::from(fault)),
     }
 }
@@ -355,9 +355,7 @@ fn served_tree<N: Net + Clock + Files, F: Sink>(
     ensures { ServesOrFails (serving_fields serving.entry) tree (fault_in result) }
 {
     match made(alloc, tree, serving.making.sizes) {
-        Ok((mut device, mut outbox)) => {
-            served_at(alloc, system, serving, &mut device, &mut outbox, faults)
-        }
+        Ok(mut both) => served_at(alloc, system, serving, &mut both.0, &mut both.1, faults),
         Err(fault) => Err(Failure::from(fault)),
     }
 }
@@ -425,7 +423,7 @@ fn served_over<N: Clock, L: Files, F: Sink>(
     print_bound(alloc, &end, faults);
     let tracing = Tracing::new(serving.verbose, serving.stats);
     if tracing.prints() || keeping.keeps() {
-        return traced_over(
+        traced_over(
             alloc,
             end,
             serving.turns,
@@ -434,9 +432,10 @@ fn served_over<N: Clock, L: Files, F: Sink>(
             outbox,
             keeping,
             faults,
-        );
+        )
+    } else {
+        untraced_over(alloc, end, serving.turns, device, outbox, faults)
     }
-    untraced_over(alloc, end, serving.turns, device, outbox, faults)
 }
 
 /// PrintsText where the device listens, and that this is every address where it is, and that the system grants little

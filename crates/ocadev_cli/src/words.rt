@@ -5,7 +5,7 @@ ghost use Rattle.oca_types.specs.Sizes.{window_size, peer_count};
 ghost use Rattle.ocadev_cli.specs.Words.{window_of as window_in_text, window_in, peer_limit_of as peers_in_text};
 ghost use Rattle.ocadev_cli.specs.Words.{peers_in, channels_in, object_source, objects_in, making_fields, making_in};
 ghost use Rattle.ocadev_cli.specs.Words.{turns_in, has_flag, seconds_of as seconds_in_text, stats_in, serving_fields};
-ghost use Rattle.ocadev_cli.specs.Words.{serving_in, asked_fields, asked_by, shown_by as shown_fields};
+ghost use Rattle.ocadev_cli.specs.Words.{serving_in, asked_fields, asked_by, shown_by as shown_fields, Replays, Serves};
 ghost use Rattle.oca_program.specs.declared.fault.RunFault.TheVariants.{BadWords};
 ghost use Rattle.oca_program.specs.Commands.{AddsRules, MatchingGives, flag_rule, option_rule, required_rule};
 ghost use Rattle.oca_program.specs.Commands.{with_rules};
@@ -38,7 +38,7 @@ pub enum Asked<'a> {
 }
 
 /// The objects of a device.
-#[derive(Clone, Copy, PartialEq, Eq)]
+#[derive(Clone, Copy)]
 pub enum Objects<'a> {
     /// The bench's, and so many channel strips behind them.
     Bench(u16),
@@ -47,7 +47,7 @@ pub enum Objects<'a> {
 }
 
 /// The device that is made: its objects and its sizes.
-#[derive(Clone, Copy, PartialEq, Eq)]
+#[derive(Clone, Copy)]
 pub struct Making<'a> {
     pub objects: Objects<'a>,
     pub sizes: Sizes,
@@ -56,7 +56,7 @@ pub struct Making<'a> {
 /// Where to serve which device, for how many turns where that is given, whether to print a line for each datagram,
 /// every how many seconds the report so far, where that is given, and in which file to keep the state, where one is
 /// named.
-#[derive(Clone, Copy, PartialEq, Eq)]
+#[derive(Clone, Copy)]
 pub struct Serving<'a> {
     pub ip: u32,
     pub port: u16,
@@ -148,7 +148,10 @@ fn with_options<'a>(
 {
     let mut so_far = command;
     for row in rows {
-        so_far = with_option(alloc, so_far, row.name, row.value, row.help)?;
+        match with_option(alloc, so_far, row.name, row.value, row.help) {
+            Ok(more) => so_far = more,
+            Err(refused) => return Err(refused),
+        }
     }
     Ok(so_far)
 }
@@ -218,7 +221,10 @@ fn with_verbose<'a>(command: Command<'a>, alloc: Global) -> Result<Command<'a>, 
 fn observed<'a>(command: Command<'a>, alloc: Global) -> Result<Command<'a>, AllocError>
     ensures { IfOk result (AddsRules running_rules command.entry) }
 {
-    with_options(with_verbose(command, alloc)?, &[STATS, KEEP], alloc)
+    match with_verbose(command, alloc) {
+        Ok(so_far) => with_options(so_far, &[STATS, KEEP], alloc),
+        Err(refused) => Err(refused),
+    }
 }
 
 /// The command `serve` without its options.
@@ -237,15 +243,20 @@ fn serve_name<'a>(alloc: Global) -> Command<'a>
 fn served_device<'a>(alloc: Global) -> Result<Command<'a>, AllocError>
     ensures { IfOk result (λ r. app_of r ≡ with_rules (new_app (codes "serve")) (socket_rules ++ device_rules)) }
 {
-    let begun = with_port(serve_name(alloc), alloc)?;
-    with_options(begun, &[TURNS, IP, WINDOW, PEERS, CHANNELS, TREE], alloc)
+    match with_port(serve_name(alloc), alloc) {
+        Ok(begun) => with_options(begun, &[TURNS, IP, WINDOW, PEERS, CHANNELS, TREE], alloc),
+        Err(refused) => Err(refused),
+    }
 }
 
 /// The command `serve`.
 fn serve_command<'a>(alloc: Global) -> Result<Command<'a>, AllocError>
     ensures { IfOk result (λ r. shape_of r ≡ serve_shape) }
 {
-    observed(served_device(alloc)?, alloc)
+    match served_device(alloc) {
+        Ok(so_far) => observed(so_far, alloc),
+        Err(refused) => Err(refused),
+    }
 }
 
 /// With the flag for a text.
@@ -276,8 +287,10 @@ fn show_name<'a>(alloc: Global) -> Command<'a>
 fn show_command<'a>(alloc: Global) -> Result<Command<'a>, AllocError>
     ensures { IfOk result (λ r. shape_of r ≡ show_shape) }
 {
-    let listed = with_options(show_name(alloc), &[CHANNELS, TREE], alloc)?;
-    with_text(listed, alloc)
+    match with_options(show_name(alloc), &[CHANNELS, TREE], alloc) {
+        Ok(listed) => with_text(listed, alloc),
+        Err(refused) => Err(refused),
+    }
 }
 
 /// The program without its commands.
@@ -405,15 +418,36 @@ fn asked_in<'a>(name: &str, options: &ArgMatches<'a>) -> Option<Asked<'a>>
     ensures { option_map asked_fields result ≡ asked_by name.now options.now }
 {
     if name == "replay" {
-        return Some(Asked::Replay(making_of(options)?));
+        return replay_in(options);
     }
     if name == "serve" {
-        return Some(Asked::Serve(serving_of(options)?));
+        return serve_in(options);
     }
     if name == "show" {
-        return Some(shown_by(options, objects_of(options)?));
+        return show_in(options);
     }
     None
+}
+
+/// What the options of `replay` ask for.
+fn replay_in<'a>(options: &ArgMatches<'a>) -> Option<Asked<'a>>
+    ensures { option_map asked_fields result ≡ option_map Replays (making_in options.now) }
+{
+    Some(Asked::Replay(making_of(options)?))
+}
+
+/// What the options of `serve` ask for.
+fn serve_in<'a>(options: &ArgMatches<'a>) -> Option<Asked<'a>>
+    ensures { option_map asked_fields result ≡ option_map Serves (serving_in options.now) }
+{
+    Some(Asked::Serve(serving_of(options)?))
+}
+
+/// What the options of `show` ask for.
+fn show_in<'a>(options: &ArgMatches<'a>) -> Option<Asked<'a>>
+    ensures { option_map asked_fields result ≡ option_map (shown_fields options.now) (objects_in options.now) }
+{
+    Some(shown_by(options, objects_of(options)?))
 }
 
 /// The objects as lines for a person, or as a text where the words say so.

@@ -5,5 +5,5 @@ use Rattle.ocadev_cli.proofs.run.served_tree.Goals as goal
 
 pub returns-in-Ok : goal.returns-in-Ok
 returns-in-Ok g c =
-    let made : Represents (sizes_of c.args.serving.making.sizes) c.in-Ok.device c.args.tree [] = search rules in
+    let made : Represents (sizes_of c.args.serving.making.sizes) c.in-Ok.both.0 c.args.tree [] = search rules in
     c.served_at.ensures c.args.tree made
