@@ -32,32 +32,41 @@ fn main(rt: HostRuntime) -> Result<(), Error> {
 /// Sets a channel of the device at the port that the words name, or lists its objects.
 fn run<R: Runtime + Net + AllocGlobal>(rt: &R) -> Result<(), Error> {
     let (port, lists) = asked(rt)?;
-    let device = Peer::loopback(port);
-    if lists {
-        print_objects(rt, device)
-    } else {
-        set_channel(rt, device)
-    }
+    ask_device(rt, Peer::loopback(port), lists)
 }
 
-/// Sets a channel of the device. A command waits for 210 turns of at most 50 ms, as long as a link retransmits it.
-fn set_channel<R: Runtime + Net + AllocGlobal>(rt: &R, device: Peer) -> Result<(), Error> {
+/// Opens a panel for the device. A command waits for 210 turns of at most 50 ms, as long as a link retransmits it.
+fn ask_device<R: Runtime + Net + AllocGlobal>(
+    rt: &R,
+    device: Peer,
+    lists: bool,
+) -> Result<(), Error> {
     let end = UdpEnd::bind(rt.alloc(), rt, device.ip, 0)?;
     let mut panel = Panel::open(device, end, Handle(1), Span::default(), 210);
-    set_over(rt, &mut panel)
+    if lists {
+        print_objects(rt, &mut panel)
+    } else {
+        set_channel(rt, &mut panel)
+    }
 }
 
 /// Opens channel 1, sets its gain to -6 dB and reads it back.
-fn set_over<R: Runtime, E: End>(rt: &R, panel: &mut Panel<E>) -> Result<(), Error> {
+fn set_channel<R: Runtime, E: End>(rt: &R, panel: &mut Panel<E>) -> Result<(), Error> {
     let [mute, gain] = CHANNEL;
-    let open = status(panel.set(mute, Value::Mute(MuteState::Unmuted)))?;
-    println!(rt; "open channel 1: status {open}")?;
-    let lower = status(panel.set(gain, Value::Int16(-60)))?;
-    println!(rt; "gain to -6 dB: status {lower}")?;
+    let open = panel.set(mute, Value::Mute(MuteState::Unmuted));
+    print_status(rt, "open channel 1", open)?;
+    let lower = panel.set(gain, Value::Int16(-60));
+    print_status(rt, "gain to -6 dB", lower)?;
     match panel.get(gain) {
-        Ok(value) => println!(rt; "gain: {} dB/10", word_of(value).as_str())?,
-        Err(trouble) => println!(rt; "gain: status {}", status(Err(trouble))?)?,
+        Ok(value) => Ok(println!(rt; "gain: {} dB/10", word_of(value).as_str())?),
+        Err(trouble) => print_status(rt, "gain", Err(trouble)),
     }
+}
+
+/// Prints the number of the device's status behind what was done.
+fn print_status<R: Runtime>(rt: &R, what: &str, done: Result<(), Trouble>) -> Result<(), Error> {
+    let status = status(done)?;
+    println!(rt; "{what}: status {status}")?;
     Ok(())
 }
 

@@ -1,22 +1,18 @@
 //! The objects of a device, as a walk finds them.
 use anyhow::Error;
 use oca_model::{class_with, word_of};
-use oca_net::{End, UdpEnd};
+use oca_net::End;
 use oca_panel::{Description, Found, MOST_PLACES, Panel, Walk};
-use oca_types::{Handle, Ono, Peer, Span};
+use oca_types::Ono;
 use std::fmt::Display;
-use std::net::Net;
+use std::io;
 use std::rt::Runtime;
 
 /// Prints the objects of the device, a line for each.
-pub fn print_objects<R: Runtime + Net + AllocGlobal>(rt: &R, device: Peer) -> Result<(), Error> {
-    let end = UdpEnd::bind(rt.alloc(), rt, device.ip, 0)?;
-    let mut panel = Panel::open(device, end, Handle(1), Span::default(), 210);
-    print_all(rt, &mut panel)
-}
-
-/// Prints what a walk over the panel finds.
-fn print_all<R: Runtime + AllocGlobal, E: End>(rt: &R, panel: &mut Panel<E>) -> Result<(), Error> {
+pub fn print_objects<R: Runtime + AllocGlobal, E: End>(
+    rt: &R,
+    panel: &mut Panel<E>,
+) -> Result<(), Error> {
     let mut walk = Walk::new(rt.alloc())?;
     print_places(rt, panel, &mut walk)
 }
@@ -42,7 +38,7 @@ fn print_found<R: Runtime, E: End>(
     panel: &mut Panel<E>,
     ono: Ono,
     found: &Found,
-) -> Result<(), Error> {
+) -> io::Result<()> {
     match found {
         Found::Object(object) => match panel.get(ono) {
             Ok(value) => print_line(rt, ono, object, &word_of(value).as_str()),
@@ -50,7 +46,7 @@ fn print_found<R: Runtime, E: End>(
         },
         Found::Block(block, Ok(())) => print_line(rt, ono, block, &"its members follow"),
         Found::Block(block, Err(trouble)) => print_line(rt, ono, block, trouble),
-        Found::Undescribed(trouble) => Ok(println!(rt; "{}: {trouble}", ono.0)?),
+        Found::Undescribed(trouble) => println!(rt; "{}: {trouble}", ono.0),
         Found::Again => Ok(()),
     }
 }
@@ -61,11 +57,10 @@ fn print_line<R: Runtime, T: Display>(
     ono: Ono,
     object: &Description,
     value: &T,
-) -> Result<(), Error> {
+) -> io::Result<()> {
     let class = match class_with(object.fields.as_slice()) {
         Some(class) => class.name(),
         None => "of another class",
     };
-    println!(rt; "{} {class} {:?}: {value}", ono.0, object.role.as_str())?;
-    Ok(())
+    println!(rt; "{} {class} {:?}: {value}", ono.0, object.role.as_str())
 }

@@ -6,7 +6,12 @@ use std::rt::Runtime;
 /// The port that the command line names, 9 without one, and whether the objects are to be listed.
 pub fn asked<R: Runtime + AllocGlobal>(rt: &R) -> Result<(u16, bool), Error> {
     let words = env::args(rt)?.collect::<Vec<String>>(rt.alloc())?;
-    match words.as_slice() {
+    asked_by(words.as_slice())
+}
+
+/// The same, by the words, the program's name first.
+fn asked_by(words: &[String]) -> Result<(u16, bool), Error> {
+    match words {
         [_] => Ok((9, false)),
         [_, port] => Ok((port.parse::<u16>()?, false)),
         [_, port, word] if word.as_str() == "objects" => Ok((port.parse::<u16>()?, true)),
