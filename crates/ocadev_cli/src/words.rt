@@ -297,15 +297,23 @@ fn show_command<'a>(alloc: Global) -> Result<Command<'a>, AllocError>
 fn program<'a>(alloc: Global) -> Command<'a>
     ensures { app_of result ≡ record { top = program_shape; subs = [] } }
 {
-    Command::new(alloc, "ocadev")
-        .about("An OCA (AES70) device over UDP")
+    program_name(alloc)
         .version(VERSION)
-        .after_help(
-            "The bench device is built in, for trying things out: ocadev show lists its objects.
+        .subcommand_required(true)
+}
+
+/// The program's name, and what `--help` says of it at first and at last.
+fn program_name<'a>(alloc: Global) -> Command<'a>
+    ensures { app_of result ≡ new_app (codes "ocadev") }
+{
+    named(
+        alloc,
+        "ocadev",
+        "An OCA (AES70) device over UDP",
+        "The bench device is built in, for trying things out: ocadev show lists its objects.
 
 Example: ocadev replay < examples/getstate.script",
-        )
-        .subcommand_required(true)
+    )
 }
 
 /// The program with the command `replay`.
