@@ -133,7 +133,10 @@ fn with_options<'a>(
 
 /// The words, matched with what the program takes.
 fn matches_of<'a, S: AsStr>(alloc: Global, words: &'a [S]) -> Result<ArgMatches<'a>, Error> {
-    command(alloc)?.try_get_matches_from(words)
+    match command(alloc) {
+        Ok(program) => program.try_get_matches_from(words),
+        Err(refused) => Err(Error::from(refused)),
+    }
 }
 
 /// The options with a form.
