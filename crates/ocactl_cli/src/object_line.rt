@@ -168,11 +168,11 @@ pub fn put_place<W: Sink>(
 {
     printer.put_number(u64::from(ono));
     put_fields(fields, printer);
-    put_holder(container, role, printer);
+    put_container(container, role, printer);
 }
 
 /// Holds the end of an object's line in a tree: the number of its container, and its role as a text is printed.
-fn put_holder<W: Sink>(container: u32, role: &str, printer: &mut Printer<W>)
+fn put_container<W: Sink>(container: u32, role: &str, printer: &mut Printer<W>)
     requires role { length role.now ≤ 64 }
     requires room { length printer.old.held + 600 ≤ 8192 }
     ensures value { printer.new ≡ output printer.old.contents
