@@ -1,26 +1,31 @@
 -- For private contracts: the rows of the program's tables, as `clap` reads them.
-use Rattle.std.specs.Prelude.{List, [], ◌∷◌, map}
+use Rattle.std.specs.Prelude.{List, ℕ, Result, Ok, Err, IfOk, map}
 use Rattle.clap.specs.Walk.{Rule}
 use Rattle.clap.specs.Simple.{App, Shape, new_app}
-use Rattle.oca_program.specs.Commands.{option_rule, with_rules}
-use Rattle.ocactl_cli.specs.CommandLine.{hold_rule, words_rule}
+use Rattle.clap.specs.declared.builder.command.Command.{Command}
+use Rattle.oca_program.specs.Commands.{flag_rule, option_rule, required_rule, with_rules}
+use Rattle.ocactl_cli.specs.CommandLine.{words_rule}
+use Rattle.ocactl_cli.specs.declared.command_line.ArgumentRow.{ArgumentRow}
 use Rattle.ocactl_cli.specs.declared.command_line.CommandRow.{CommandRow}
-use Rattle.ocactl_cli.specs.declared.command_line.Further.{Further}
-use Rattle.ocactl_cli.specs.declared.command_line.Further.TheVariants as further
-use Rattle.ocactl_cli.specs.declared.command_line.OptionRow.{OptionRow}
+use Rattle.ocactl_cli.specs.declared.command_line.Kind.{Kind}
+use Rattle.ocactl_cli.specs.declared.command_line.Kind.TheVariants as kind
 
-abbrev pub row_rule : OptionRow → Rule
-row_rule row = record (option_rule row.name.now) { required = row.required }
+abbrev pub rule_by : Kind → List ℕ → Rule
+rule_by kind.Required name = required_rule name
+rule_by kind.Optional name = option_rule name
+rule_by kind.Flag name = flag_rule name
+rule_by kind.Words name = record words_rule { id = name }
 
--- what a command takes besides options with values
-abbrev pub further_rules : Further → List Rule
-further_rules further.Nothing = []
-further_rules further.Objects = words_rule ∷ []
-further_rules further.ObjectsToHold = hold_rule ∷ words_rule ∷ []
-further_rules further.Values = words_rule ∷ []
+abbrev pub row_rule : ArgumentRow → Rule
+row_rule row = rule_by row.kind row.name.now
 
 abbrev pub row_app : CommandRow → App
-row_app row = with_rules (with_rules (new_app row.name.now) (map row_rule row.options.now)) (further_rules row.further)
+row_app row = with_rules (new_app row.name.now) (map row_rule row.arguments.now)
 
 abbrev pub row_command : CommandRow → Shape
 row_command row = (row_app row).top
+
+-- the new command, where there is one, comes of the old one by this step; where there was none, there is none
+abbrev pub GoesOn : {E : Type 0} → (Command → Command → Type 0) → Result Command E → Result Command E → Type 0
+GoesOn step (Ok old) result = IfOk result (step old)
+GoesOn step (Err _) result = IfOk result (λ _. ⊥)

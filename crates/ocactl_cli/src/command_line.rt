@@ -1,168 +1,194 @@
 //! The commands of the program and their options, as `clap` has them.
-ghost use Rattle.std.specs.Prelude.{◌≡◌, [], ◌∷◌, IfOk, false, map};
+ghost use Rattle.std.specs.Prelude.{◌≡◌, [], ◌∷◌, ◌++◌, IfOk, false, map};
 ghost use Rattle.clap.specs.Simple.{app_of, with_subcommand};
 ghost use Rattle.clap.specs.Walk.{rule_of};
-ghost use Rattle.oca_program.specs.Commands.{with_rules};
+ghost use Rattle.oca_program.specs.Commands.{flag_rule, option_rule, with_rules};
 ghost use Rattle.ocactl_cli.specs.CommandLine.{IsOwn, TakesApp, bare_program, hold_rule, own_app, with_shapes};
 ghost use Rattle.ocactl_cli.specs.CommandLine.{objects_rules, own_commands, replay_rules, run_rules, send_rules};
 ghost use Rattle.ocactl_cli.specs.CommandLine.{set_rules, words_rule};
-ghost use Rattle.ocactl_cli.specs.PrivateCommandLine.{further_rules, row_app, row_command, row_rule};
+ghost use Rattle.ocactl_cli.specs.PrivateCommandLine.{GoesOn, row_app, row_command, row_rule};
 
 use clap::{Arg, ArgAction, Command};
 use oca_program::VERSION;
 use std::alloc::{AllocError, Global};
 
-/// An option with a value: its name, the word for its value, what `--help` says of it, and whether it is to be given.
+/// What an argument of a command is.
 #[derive(Clone, Copy)]
-struct OptionRow {
+enum Kind {
+    /// An option with a value that is to be given.
+    Required,
+    /// An option with a value.
+    Optional,
+    /// A flag.
+    Flag,
+    /// The words behind the options, one or more.
+    Words,
+}
+
+/// An argument of a command: its name, the word for its value (none for a flag), what `--help` says of it, and what it
+/// is.
+#[derive(Clone, Copy)]
+struct ArgumentRow {
     name: &'static str,
     value: &'static str,
     help: &'static str,
-    required: bool,
+    kind: Kind,
 }
 
-/// What a command takes besides options with values.
-#[derive(Clone, Copy)]
-enum Further {
-    Nothing,
-    /// The numbers of objects.
-    Objects,
-    /// The numbers of objects, and the flag by which their locks are kept.
-    ObjectsToHold,
-    /// The numbers of objects, and behind each its value.
-    Values,
-}
-
-/// A command: its name, what `--help` says of it at first and at last, its options, and what it takes besides.
+/// A command: its name, what `--help` says of it at first and at last, and its arguments.
 #[derive(Clone, Copy)]
 struct CommandRow {
     name: &'static str,
     about: &'static str,
     example: &'static str,
-    options: &'static [OptionRow],
-    further: Further,
+    arguments: &'static [ArgumentRow],
 }
 
-const DEVICE: OptionRow = OptionRow {
+const DEVICE: ArgumentRow = ArgumentRow {
     name: "device",
     value: "A.B.C.D:PORT",
     help: "The device's address and port",
-    required: true,
+    kind: Kind::Required,
 };
 
-const SPAN: OptionRow = OptionRow {
+const SPAN: ArgumentRow = ArgumentRow {
     name: "span",
     value: "S",
     help: "The span, 1 to 32: the handles of the commands whose answers were not yet taken are within S consecutive \
         numbers. The device needs a reply window of at least 2 * S - 1 commands; its default of 32 is enough for a \
         span of 16 [default: 16]",
-    required: false,
+    kind: Kind::Optional,
 };
 
-const FIRST_HANDLE: OptionRow = OptionRow {
+const FIRST_HANDLE: ArgumentRow = ArgumentRow {
     name: "first-handle",
     value: "H",
     help: "The handle of the first command, 0 to 4294967295; it must be above every handle that was used from the same \
         local port since the last pause of more than two minutes in which nothing was sent from there [default: from \
         the clock; it rises by 100000 a second, and starts again from 0 when it reaches 2147483648]",
-    required: false,
+    kind: Kind::Optional,
 };
 
-const OWN_FIRST_HANDLE: OptionRow = OptionRow {
+const OWN_FIRST_HANDLE: ArgumentRow = ArgumentRow {
     name: "first-handle",
     value: "H",
     help: "The handle of the first command, 0 to 4294967295",
-    required: true,
+    kind: Kind::Required,
 };
 
-const IP: OptionRow = OptionRow {
+const IP: ArgumentRow = ArgumentRow {
     name: "ip",
     value: "A.B.C.D",
     help: "The local address [default: 127.0.0.1 for a device on this machine (127.x.x.x), otherwise any address of \
         this machine]",
-    required: false,
+    kind: Kind::Optional,
 };
 
-const AHEAD: OptionRow = OptionRow {
+const AHEAD: ArgumentRow = ArgumentRow {
     name: "ahead",
     value: "N",
     help: "How many commands may wait for their answers at once, 1 to the span; commands in flight together may be \
         executed in any order [default: 1]",
-    required: false,
+    kind: Kind::Optional,
 };
 
-const TARGET: OptionRow = OptionRow {
+const TARGET: ArgumentRow = ArgumentRow {
     name: "target",
     value: "ONO",
     help: "The target's object number",
-    required: true,
+    kind: Kind::Required,
 };
 
-const LEVEL: OptionRow = OptionRow {
+const LEVEL: ArgumentRow = ArgumentRow {
     name: "level",
     value: "L",
     help: "The method's DefLevel",
-    required: true,
+    kind: Kind::Required,
 };
 
-const INDEX: OptionRow = OptionRow {
+const INDEX: ArgumentRow = ArgumentRow {
     name: "index",
     value: "I",
     help: "The method's MethodIndex",
-    required: true,
+    kind: Kind::Required,
 };
 
-const COUNT: OptionRow = OptionRow {
+const COUNT: ArgumentRow = ArgumentRow {
     name: "count",
     value: "C",
     help: "ParamCount: how many parameters there are",
-    required: true,
+    kind: Kind::Required,
 };
 
-const PARAMS: OptionRow = OptionRow {
+const PARAMS: ArgumentRow = ArgumentRow {
     name: "params",
     value: "HEX",
     help: "The parameters in hexadecimal, or - for none [default: none]",
-    required: false,
+    kind: Kind::Optional,
 };
 
-const SEND_TURNS: OptionRow = OptionRow {
+const SEND_TURNS: ArgumentRow = ArgumentRow {
     name: "turns",
     value: "T",
     help: "Gives up after T waits of up to 50 ms each; at 0 the command is sent once, and no answer is waited for \
         [default: 200]",
-    required: false,
+    kind: Kind::Optional,
 };
 
-const SEND_PORT: OptionRow = OptionRow {
+const SEND_PORT: ArgumentRow = ArgumentRow {
     name: "port",
     value: "PORT",
     help: "The local port [default: the system chooses one]. Without this option each call takes a new session at the \
         device, which has 16 unless its maker chose otherwise: so give a port if you make many calls in a row",
-    required: false,
+    kind: Kind::Optional,
 };
 
-const RUN_PORT: OptionRow = OptionRow {
+const RUN_PORT: ArgumentRow = ArgumentRow {
     name: "port",
     value: "PORT",
     help: "The local port [default: 65001 or 65002, which alternate every six hours; if that port is in use, the \
         system chooses one]",
-    required: false,
+    kind: Kind::Optional,
 };
 
-const TURNS: OptionRow = OptionRow {
+const TURNS: ArgumentRow = ArgumentRow {
     name: "turns",
     value: "T",
     help: "Gives up on a command after T waits of up to 50 ms each [default: 200]",
-    required: false,
+    kind: Kind::Optional,
 };
 
-const PORT: OptionRow = OptionRow {
+const PORT: ArgumentRow = ArgumentRow {
     name: "port",
     value: "PORT",
     help: "The local port [default: 65001 or 65002, which alternate every six hours; lock and unlock fail if either of \
         the two is in use; for other commands the system chooses a port if theirs is in use]",
-    required: false,
+    kind: Kind::Optional,
+};
+
+/// The flag by which locks are kept until the input ends.
+const HOLD: ArgumentRow = ArgumentRow {
+    name: "hold",
+    value: "",
+    help: "Keeps the locks until standard input ends, and then releases them; if a signal stops the program, they lapse \
+        after 15 seconds",
+    kind: Kind::Flag,
+};
+
+/// The objects that a command is about.
+const OBJECTS: ArgumentRow = ArgumentRow {
+    name: "ONO",
+    value: "ONO",
+    help: "The numbers (ONo) of the objects",
+    kind: Kind::Words,
+};
+
+/// The objects and the words for their values.
+const VALUES: ArgumentRow = ArgumentRow {
+    name: "ONO",
+    value: "ONO VALUE",
+    help: "The number (ONo) of each object, followed by its value",
+    kind: Kind::Words,
 };
 
 const TREE_EXAMPLE: &str =
@@ -238,97 +264,103 @@ const PROGRAM_EXAMPLE: &str =
 pub fn program<'a>(alloc: Global) -> Result<Command<'a>, AllocError>
     ensures { IfOk result (TakesApp own_app) }
 {
-    with_commands(without_commands(alloc), &rows(), alloc)
+    with_commands(Ok(without_commands(alloc)), &rows(), alloc)
 }
 
 /// The commands, in the order of `--help`.
 fn rows() -> [CommandRow; 8]
     ensures { map row_command result ≡ own_commands }
 {
-    let of_objects = objects_options();
+    let of_objects = objects_arguments();
     [
         CommandRow {
             name: "tree",
             about: "Prints the objects of a device",
             example: TREE_EXAMPLE,
-            options: of_objects,
-            further: Further::Nothing,
+            arguments: tree_arguments(),
         },
         CommandRow {
             name: "get",
             about: "Prints the values of objects of a device",
             example: GET_EXAMPLE,
-            options: of_objects,
-            further: Further::Objects,
+            arguments: of_objects,
         },
         CommandRow {
             name: "set",
             about: "Sets objects of a device",
             example: SET_EXAMPLE,
-            options: set_options(),
-            further: Further::Values,
+            arguments: set_arguments(),
         },
         CommandRow {
             name: "lock",
             about: "Locks objects of a device",
             example: LOCK_EXAMPLE,
-            options: of_objects,
-            further: Further::ObjectsToHold,
+            arguments: lock_arguments(),
         },
         CommandRow {
             name: "unlock",
             about: "Releases the locks of objects of a device",
             example: UNLOCK_EXAMPLE,
-            options: of_objects,
-            further: Further::Objects,
+            arguments: of_objects,
         },
         CommandRow {
             name: "replay",
             about: "Runs a controller's link over a script on standard input, without a network",
             example: REPLAY_EXAMPLE,
-            options: replay_options(),
-            further: Further::Nothing,
+            arguments: replay_arguments(),
         },
         CommandRow {
             name: "send",
             about: "Sends a command to a device and prints its answer: status, ParamCount, parameters",
             example: SEND_EXAMPLE,
-            options: send_options(),
-            further: Further::Nothing,
+            arguments: send_arguments(),
         },
         CommandRow {
             name: "run",
             about: "Sends the commands on standard input, and prints the answer to each in the order of their lines",
             example: RUN_EXAMPLE,
-            options: run_options(),
-            further: Further::Nothing,
+            arguments: run_arguments(),
         },
     ]
 }
 
-/// The options of `get`, `lock`, `unlock` and `tree`.
-fn objects_options() -> &'static [OptionRow]
+/// The arguments of `tree`.
+fn tree_arguments() -> &'static [ArgumentRow]
     ensures { map row_rule result.now ≡ objects_rules }
 {
     &[DEVICE, SPAN, FIRST_HANDLE, IP, TURNS, PORT]
 }
 
-/// The options of `set`.
-fn set_options() -> &'static [OptionRow]
-    ensures { map row_rule result.now ≡ set_rules }
+/// The arguments of `get` and `unlock`.
+fn objects_arguments() -> &'static [ArgumentRow]
+    ensures { map row_rule result.now ≡ objects_rules ++ words_rule ∷ [] }
 {
-    &[DEVICE, SPAN, FIRST_HANDLE, IP, TURNS, PORT, AHEAD]
+    &[DEVICE, SPAN, FIRST_HANDLE, IP, TURNS, PORT, OBJECTS]
 }
 
-/// The options of `replay`.
-fn replay_options() -> &'static [OptionRow]
+/// The arguments of `set`.
+fn set_arguments() -> &'static [ArgumentRow]
+    ensures { map row_rule result.now ≡ set_rules ++ words_rule ∷ [] }
+{
+    &[DEVICE, SPAN, FIRST_HANDLE, IP, TURNS, PORT, AHEAD, VALUES]
+}
+
+/// The arguments of `lock`.
+fn lock_arguments() -> &'static [ArgumentRow]
+    ensures { map row_rule result.now ≡ objects_rules ++ hold_rule ∷ words_rule ∷ [] }
+{
+    &[DEVICE, SPAN, FIRST_HANDLE, IP, TURNS, PORT, HOLD, OBJECTS]
+}
+
+/// The arguments of `replay`.
+fn replay_arguments() -> &'static [ArgumentRow]
     ensures { map row_rule result.now ≡ replay_rules }
 {
     &[DEVICE, SPAN, OWN_FIRST_HANDLE]
 }
 
-/// The options of `send`.
-fn send_options() -> &'static [OptionRow]
+/// The arguments of `send`.
+fn send_arguments() -> &'static [ArgumentRow]
     ensures { map row_rule result.now ≡ send_rules }
 {
     &[
@@ -346,27 +378,27 @@ fn send_options() -> &'static [OptionRow]
     ]
 }
 
-/// The options of `run`.
-fn run_options() -> &'static [OptionRow]
+/// The arguments of `run`.
+fn run_arguments() -> &'static [ArgumentRow]
     ensures { map row_rule result.now ≡ run_rules }
 {
     &[DEVICE, SPAN, FIRST_HANDLE, IP, AHEAD, RUN_PORT]
 }
 
-/// With these commands.
+/// With these commands, where memory was not refused before.
 fn with_commands<'a>(
-    program: Command<'a>,
+    program: Result<Command<'a>, AllocError>,
     rows: &[CommandRow],
     alloc: Global,
 ) -> Result<Command<'a>, AllocError>
-    requires { IsOwn program }
-    ensures { IfOk result (TakesApp (with_shapes (app_of program.entry) (map row_command rows.now))) }
+    requires { IfOk program IsOwn }
+    ensures { GoesOn (λ old. TakesApp (with_shapes (app_of old) (map row_command rows.now))) program.entry result }
 {
     let mut so_far = program;
     for row in rows {
-        so_far = with(so_far, row, alloc)?;
+        so_far = with(so_far, row, alloc);
     }
-    Ok(so_far)
+    so_far
 }
 
 /// The program without its commands.
@@ -380,8 +412,23 @@ fn without_commands<'a>(alloc: Global) -> Command<'a>
         .subcommand_required(true)
 }
 
-/// With a command.
+/// With a command, where memory was not refused before.
 fn with<'a>(
+    program: Result<Command<'a>, AllocError>,
+    row: &CommandRow,
+    alloc: Global,
+) -> Result<Command<'a>, AllocError>
+    requires { IfOk program IsOwn }
+    ensures { GoesOn (λ old. TakesApp (with_subcommand (app_of old) (row_command row.now))) program.entry result }
+{
+    match program {
+        Ok(program) => with_command(program, row, alloc),
+        Err(refused) => Err(refused),
+    }
+}
+
+/// With a command.
+fn with_command<'a>(
     program: Command<'a>,
     row: &CommandRow,
     alloc: Global,
@@ -389,8 +436,10 @@ fn with<'a>(
     requires { IsOwn program }
     ensures { IfOk result (TakesApp (with_subcommand (app_of program.entry) (row_command row.now))) }
 {
-    let added = command(row, alloc)?;
-    program.subcommand(added)
+    match command(row, alloc) {
+        Ok(added) => program.subcommand(added),
+        Err(refused) => Err(refused),
+    }
 }
 
 /// A command.
@@ -400,40 +449,56 @@ fn command<'a>(row: &CommandRow, alloc: Global) -> Result<Command<'a>, AllocErro
     let begun = Command::new(alloc, row.name)
         .about(row.about)
         .after_help(row.example);
-    with_further(with_options(begun, row.options, alloc)?, row.further, alloc)
+    with_arguments(Ok(begun), row.arguments, alloc)
 }
 
-/// With these options.
-fn with_options<'a>(
-    command: Command<'a>,
-    rows: &[OptionRow],
+/// With these arguments, where memory was not refused before.
+fn with_arguments<'a>(
+    command: Result<Command<'a>, AllocError>,
+    rows: &[ArgumentRow],
     alloc: Global,
 ) -> Result<Command<'a>, AllocError>
-    requires { IsOwn command }
-    ensures { IfOk result (TakesApp (with_rules (app_of command.entry) (map row_rule rows.now))) }
+    requires { IfOk command IsOwn }
+    ensures { GoesOn (λ old. TakesApp (with_rules (app_of old) (map row_rule rows.now))) command.entry result }
 {
     let mut so_far = command;
     for row in rows {
-        so_far = with_option(so_far, row, alloc)?;
+        so_far = with_argument(so_far, row, alloc);
     }
-    Ok(so_far)
+    so_far
 }
 
-/// With an option.
-fn with_option<'a>(
-    command: Command<'a>,
-    row: &OptionRow,
+/// With an argument, where memory was not refused before.
+fn with_argument<'a>(
+    command: Result<Command<'a>, AllocError>,
+    row: &ArgumentRow,
     alloc: Global,
 ) -> Result<Command<'a>, AllocError>
-    requires { IsOwn command }
-    ensures { IfOk result (TakesApp (with_rules (app_of command.entry) (row_rule row.now ∷ []))) }
+    requires { IfOk command IsOwn }
+    ensures { GoesOn (λ old. TakesApp (with_rules (app_of old) (row_rule row.now ∷ []))) command.entry result }
 {
-    command.arg(option(row, alloc))
+    match command {
+        Ok(command) => command.arg(argument(row, alloc)),
+        Err(refused) => Err(refused),
+    }
+}
+
+/// An argument.
+fn argument<'a>(row: &ArgumentRow, alloc: Global) -> Arg<'a>
+    ensures rule { rule_of result ≡ row_rule row.now }
+    ensures own { result.global ≡ false }
+{
+    match row.kind {
+        Kind::Required => option(row, true, alloc),
+        Kind::Optional => option(row, false, alloc),
+        Kind::Flag => flag(row, alloc),
+        Kind::Words => words(row, alloc),
+    }
 }
 
 /// An option with a value.
-fn option<'a>(row: &OptionRow, alloc: Global) -> Arg<'a>
-    ensures rule { rule_of result ≡ row_rule row.now }
+fn option<'a>(row: &ArgumentRow, required: bool, alloc: Global) -> Arg<'a>
+    ensures rule { rule_of result ≡ record (option_rule row.now.name.now) { required = required } }
     ensures own { result.global ≡ false }
 {
     Arg::new(alloc, row.name)
@@ -441,88 +506,29 @@ fn option<'a>(row: &OptionRow, alloc: Global) -> Arg<'a>
         .value_name(row.value)
         .help(row.help)
         .action(ArgAction::Set)
-        .required(row.required)
+        .required(required)
 }
 
-/// With what a command takes besides.
-fn with_further<'a>(
-    command: Command<'a>,
-    further: Further,
-    alloc: Global,
-) -> Result<Command<'a>, AllocError>
-    requires { IsOwn command }
-    ensures { IfOk result (TakesApp (with_rules (app_of command.entry) (further_rules further))) }
+/// A flag.
+fn flag<'a>(row: &ArgumentRow, alloc: Global) -> Arg<'a>
+    ensures rule { rule_of result ≡ flag_rule row.now.name.now }
+    ensures own { result.global ≡ false }
 {
-    match further {
-        Further::Nothing => Ok(command),
-        Further::Objects => with_words(command, OBJECTS, alloc),
-        Further::ObjectsToHold => with_held_objects(command, alloc),
-        Further::Values => with_words(command, VALUES, alloc),
-    }
-}
-
-/// With the objects that are locked, and the flag by which their locks are kept.
-fn with_held_objects<'a>(command: Command<'a>, alloc: Global) -> Result<Command<'a>, AllocError>
-    requires { IsOwn command }
-    ensures { IfOk result (TakesApp (with_rules (app_of command.entry) (hold_rule ∷ words_rule ∷ []))) }
-{
-    with_words(command.arg(hold(alloc))?, OBJECTS, alloc)
-}
-
-/// What the words behind the options are: how they are called, and what `--help` says of them.
-#[derive(Clone, Copy)]
-struct WordsRow {
-    value: &'static str,
-    help: &'static str,
-}
-
-/// The objects that a command is about.
-const OBJECTS: WordsRow = WordsRow {
-    value: "ONO",
-    help: "The numbers (ONo) of the objects",
-};
-
-/// The objects and the words for their values.
-const VALUES: WordsRow = WordsRow {
-    value: "ONO VALUE",
-    help: "The number (ONo) of each object, followed by its value",
-};
-
-/// With the words behind the options.
-fn with_words<'a>(
-    command: Command<'a>,
-    row: WordsRow,
-    alloc: Global,
-) -> Result<Command<'a>, AllocError>
-    requires { IsOwn command }
-    ensures { IfOk result (TakesApp (with_rules (app_of command.entry) (words_rule ∷ []))) }
-{
-    command.arg(words(row, alloc))
+    Arg::new(alloc, row.name)
+        .long(row.name)
+        .help(row.help)
+        .action(ArgAction::SetTrue)
 }
 
 /// The words behind the options, one or more.
-fn words<'a>(row: WordsRow, alloc: Global) -> Arg<'a>
-    ensures rule { rule_of result ≡ words_rule }
+fn words<'a>(row: &ArgumentRow, alloc: Global) -> Arg<'a>
+    ensures rule { rule_of result ≡ record words_rule { id = row.now.name.now } }
     ensures own { result.global ≡ false }
 {
-    Arg::new(alloc, "ONO")
+    Arg::new(alloc, row.name)
         .value_name(row.value)
         .help(row.help)
         .action(ArgAction::Append)
         .num_args(1..)
         .required(true)
-}
-
-/// The flag by which locks are kept until the input ends.
-fn hold<'a>(alloc: Global) -> Arg<'a>
-    ensures rule { rule_of result ≡ hold_rule }
-    ensures own { result.global ≡ false }
-{
-    Arg::new(alloc, "hold")
-        .long("hold")
-        .help(
-            "Keeps the locks until standard input ends, and then releases them; if a signal stops the program, they \
-            lapse after 15 seconds",
-        )
-        .action(ArgAction::SetTrue)
 }
