@@ -1,17 +1,42 @@
-//! A module for each crate.
+//! A module for each crate, and what they share.
 mod control;
+mod ending;
 mod net;
 mod pair;
 mod panel;
 
+use oca_types::Packet;
 use std::alloc::Global;
 use std::fmt::Display;
 use std::process::Abort;
 
-/// Nothing is wrong: no script or table of a name has a step or a row that comes out otherwise.
-fn none_wrong(rt: &impl Abort, wrong: Option<(&'static str, usize)>) {
-    if let Some((name, at)) = wrong {
-        panic!(rt; "{name}: {at}");
+/// A row of a table: what goes in, and what must come of it.
+trait Row {
+    /// Whether it comes out as the row says.
+    fn agrees(&self, alloc: Global) -> bool;
+}
+
+/// The first row of a table that comes out otherwise.
+fn first_wrong<R: Row>(alloc: Global, rows: &[R]) -> Option<usize> {
+    for (at, row) in rows.iter().enumerate() {
+        if !row.agrees(alloc) {
+            return Some(at);
+        }
+    }
+    None
+}
+
+/// What stands for a row that is wrong where this does not hold.
+fn wrong_unless(holds: bool) -> Option<usize> {
+    if holds { None } else { Some(0) }
+}
+
+/// In no table of the group of this name a row comes out otherwise.
+fn none_wrong(rt: &impl Abort, group: &str, tables: &[Option<usize>]) {
+    for (table, wrong) in tables.iter().enumerate() {
+        if let Some(row) = wrong {
+            panic!(rt; "{group}: table {table}, row {row}");
+        }
     }
 }
 
@@ -20,5 +45,55 @@ fn reads<T: Display>(alloc: Global, shown: &T, text: &str) -> bool {
     match format!(in alloc; "{shown}") {
         Ok(words) => words.as_str() == text,
         Err(_) => false,
+    }
+}
+
+/// A value, and the words that it displays.
+struct Words<T>(T, &'static str);
+
+impl<T: Display> Row for Words<T> {
+    /// Whether it displays them.
+    fn agrees(&self, alloc: Global) -> bool {
+        reads(alloc, &self.0, self.1)
+    }
+}
+
+/// A script by its name: calls, one after another, and what each must answer.
+trait Script {
+    /// The name.
+    fn name(&self) -> &'static str;
+
+    /// The first call that is answered otherwise; the last number where there is nothing to call. The packet is empty
+    /// before the first.
+    fn wrong_step(&self, rt: &HostRuntime, packet: &mut Packet) -> Option<usize>;
+}
+
+/// Plays scripts: each call is answered as they say.
+fn play<S: Script>(abort: &impl Abort, rt: &HostRuntime, scripts: &[S]) {
+    let mut packet = Packet::new();
+    for script in scripts {
+        packet.clear();
+        none_wrong(abort, script.name(), &[script.wrong_step(rt, &mut packet)]);
+    }
+}
+
+/// What must be found at a place of a list.
+trait Wanted<T> {
+    /// Whether it is this.
+    fn is(&self, found: &T) -> bool;
+}
+
+/// The first place of a list at which something else is found than is wanted, or nothing, or too much.
+fn first_other<T, W: Wanted<T>>(found: &[T], wanted: &[W]) -> Option<usize> {
+    for (at, want) in wanted.iter().enumerate() {
+        match found.get(at) {
+            Some(one) if want.is(one) => {}
+            _ => return Some(at),
+        }
+    }
+    if found.len() == wanted.len() {
+        None
+    } else {
+        Some(wanted.len())
     }
 }

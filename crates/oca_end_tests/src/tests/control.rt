@@ -11,8 +11,7 @@ mod reports;
 mod sending;
 mod standstill;
 
-use super::none_wrong;
-use oca_types::{Packet, Peer};
+use oca_types::Peer;
 
 /// The address of the device.
 pub const DEVICE: Peer = Peer {
@@ -45,38 +44,4 @@ pub fn response(handle: u8) -> [u8; 21] {
     [
         0x3b, 0, 1, 0, 0, 0, 0x14, 3, 0, 1, 0, 0, 0, 0x0b, 0, 0, 0, handle, 0, 1, 1,
     ]
-}
-
-/// The laws run nothing.
-#[test]
-fn scripts_over_a_link(rt: HostRuntime) {
-    let mut packet = Packet::new();
-    sending::laws();
-    none_wrong(&rt, links::wrong_script(&mut packet, datagrams::SCRIPTS));
-    none_wrong(&rt, links::wrong_script(&mut packet, handles::SCRIPTS));
-    none_wrong(&rt, links::wrong_script(&mut packet, questions::SCRIPTS));
-    none_wrong(&rt, links::wrong_script(&mut packet, sending::SCRIPTS));
-}
-
-#[test]
-fn scripts_over_an_end(rt: HostRuntime) {
-    let alloc = rt.alloc();
-    let mut packet = Packet::new();
-    none_wrong(&rt, ends::wrong_script(alloc, &mut packet, asking::SCRIPTS));
-    none_wrong(
-        &rt,
-        ends::wrong_script(alloc, &mut packet, driving::SCRIPTS),
-    );
-    none_wrong(
-        &rt,
-        ends::wrong_script(alloc, &mut packet, standstill::SCRIPTS),
-    );
-}
-
-#[test]
-fn tables_of_rows(rt: HostRuntime) {
-    none_wrong(&rt, asking::first_wrong());
-    none_wrong(&rt, standstill::first_wrong());
-    none_wrong(&rt, reports::first_wrong());
-    none_wrong(&rt, reports::first_other(rt.alloc()));
 }

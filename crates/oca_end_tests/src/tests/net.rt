@@ -5,9 +5,11 @@ mod moments;
 mod refusals;
 mod sockets;
 
-use super::none_wrong;
+use super::{Script, first_wrong, none_wrong, play, wrong_unless};
 use oca_net::{End, Heard, UdpEnd};
 use oca_types::{Packet, Peer};
+use std::net::{Ipv4Addr, UdpSocket};
+use std::time::Instant;
 
 /// 127.0.0.1.
 const LOCALHOST: u32 = 0x7f00_0001;
@@ -28,11 +30,17 @@ const LARGEST: usize = 1472;
 /// What a packet holds before a receive.
 const HELD: &[u8] = &[1];
 
+/// A packet that holds these bytes alone.
+fn hold(packet: &mut Packet, bytes: &[u8]) {
+    packet.clear();
+    let _ = packet.try_extend_from_slice(bytes);
+}
+
 /// An end at a socket of this machine.
-type SocketEnd<'a> = UdpEnd<'a, HostRuntime>;
+pub type SocketEnd<'a> = UdpEnd<'a, HostRuntime>;
 
 /// An end on this machine, at a port of the system's choice.
-fn end_here(rt: &HostRuntime) -> Option<SocketEnd<'_>> {
+pub fn end_here(rt: &HostRuntime) -> Option<SocketEnd<'_>> {
     UdpEnd::bind(rt.alloc(), rt, LOCALHOST, 0).ok()
 }
 
@@ -48,20 +56,201 @@ fn heard_by_now<E: End>(end: &mut E, packet: &mut Packet) -> (u64, Heard, u64) {
     (before, heard, end.now())
 }
 
+/// The clock before the sockets of a script were bound, and after, and where they are.
+#[derive(Clone, Copy)]
+struct Begun {
+    before: Instant,
+    bound: Instant,
+    first: Peer,
+    second: Peer,
+    plain: Peer,
+}
+
+/// A call of two ends and a socket without one, and what it must answer.
+trait Call {
+    /// Whether it is answered so.
+    fn agrees(
+        &self,
+        rt: &HostRuntime,
+        begun: &Begun,
+        first: &mut SocketEnd<'_>,
+        second: &mut SocketEnd<'_>,
+        plain: &UdpSocket,
+        packet: &mut Packet,
+    ) -> bool;
+}
+
+/// The clock.
+fn instant(rt: &HostRuntime) -> Option<Instant> {
+    match Instant::now(rt) {
+        Ok(now) => Some(now),
+        Err(_) => None,
+    }
+}
+
+/// The port of a socket without an end.
+fn port_of(plain: &UdpSocket) -> Option<u16> {
+    match plain.local_addr() {
+        Ok(address) => Some(address.port()),
+        Err(_) => None,
+    }
+}
+
+/// What is known where the sockets are bound.
+fn begin(
+    rt: &HostRuntime,
+    before: Instant,
+    first: Peer,
+    second: Peer,
+    plain: &UdpSocket,
+) -> Option<Begun> {
+    Some(Begun {
+        before,
+        bound: instant(rt)?,
+        first,
+        second,
+        plain: Peer {
+            ip: LOCALHOST,
+            port: port_of(plain)?,
+        },
+    })
+}
+
+/// The first call that is answered otherwise.
+fn first_wrong_call<C: Call>(
+    rt: &HostRuntime,
+    begun: &Begun,
+    first: &mut SocketEnd<'_>,
+    second: &mut SocketEnd<'_>,
+    plain: &UdpSocket,
+    packet: &mut Packet,
+    calls: &[C],
+) -> Option<usize> {
+    for (at, call) in calls.iter().enumerate() {
+        if !call.agrees(rt, begun, first, second, plain, packet) {
+            return Some(at);
+        }
+    }
+    None
+}
+
+/// The same at a socket without an end; the last number where nothing is known of it.
+fn wrong_beside<C: Call>(
+    rt: &HostRuntime,
+    before: Instant,
+    first: &mut SocketEnd<'_>,
+    second: &mut SocketEnd<'_>,
+    plain: &UdpSocket,
+    packet: &mut Packet,
+    calls: &[C],
+) -> Option<usize> {
+    match begin(rt, before, first.local(), second.local(), plain) {
+        Some(begun) => first_wrong_call(rt, &begun, first, second, plain, packet, calls),
+        None => Some(usize::MAX),
+    }
+}
+
+/// The same between two ends; the last number where there is no socket without one.
+fn wrong_between<C: Call>(
+    rt: &HostRuntime,
+    before: Instant,
+    first: &mut SocketEnd<'_>,
+    second: &mut SocketEnd<'_>,
+    packet: &mut Packet,
+    calls: &[C],
+) -> Option<usize> {
+    match UdpSocket::bind(rt, (Ipv4Addr::LOCALHOST, 0u16)) {
+        Ok(plain) => wrong_beside(rt, before, first, second, &plain, packet, calls),
+        Err(_) => Some(usize::MAX),
+    }
+}
+
+/// The same at an end; the last number where there is no other.
+fn wrong_at<C: Call>(
+    rt: &HostRuntime,
+    before: Instant,
+    first: &mut SocketEnd<'_>,
+    packet: &mut Packet,
+    calls: &[C],
+) -> Option<usize> {
+    match end_here(rt) {
+        Some(mut second) => wrong_between(rt, before, first, &mut second, packet, calls),
+        None => Some(usize::MAX),
+    }
+}
+
+/// The same at new ends; the last number where there are none.
+fn wrong_since<C: Call>(
+    rt: &HostRuntime,
+    before: Instant,
+    packet: &mut Packet,
+    calls: &[C],
+) -> Option<usize> {
+    match end_here(rt) {
+        Some(mut first) => wrong_at(rt, before, &mut first, packet, calls),
+        None => Some(usize::MAX),
+    }
+}
+
+/// Calls of new sockets, by their name.
+struct AtSockets<C: 'static>(&'static str, &'static [C]);
+
+impl<C: Call> Script for AtSockets<C> {
+    /// The name.
+    fn name(&self) -> &'static str {
+        self.0
+    }
+
+    /// The first call that is answered otherwise; the last number where there are no sockets or no clock.
+    fn wrong_step(&self, rt: &HostRuntime, packet: &mut Packet) -> Option<usize> {
+        match instant(rt) {
+            Some(before) => wrong_since(rt, before, packet, self.1),
+            None => Some(usize::MAX),
+        }
+    }
+}
+
 #[test]
 fn ends_in_memory(rt: HostRuntime) {
-    none_wrong(&rt, memory::wrong(rt.alloc(), &mut Packet::new()));
+    play(&rt, &rt, memory::SCRIPTS);
 }
 
 #[test]
 fn ends_at_sockets(rt: HostRuntime) {
-    none_wrong(&rt, refusals::wrong(&rt));
-    none_wrong(&rt, sockets::wrong(&rt, &mut Packet::new()));
+    none_wrong(
+        &rt,
+        "standard_descriptors",
+        &[wrong_unless(refusals::are_filled(&rt))],
+    );
+    play(&rt, &rt, refusals::SCRIPTS);
+    none_wrong(
+        &rt,
+        "a_port_is_free_once_its_end_is_gone",
+        &[wrong_unless(refusals::is_free_again(&rt))],
+    );
+    none_wrong(
+        &rt,
+        "faults_in_words",
+        &[
+            first_wrong(rt.alloc(), refusals::FAULTS),
+            wrong_unless(refusals::error_reads(rt.alloc())),
+        ],
+    );
+    play(&rt, &rt, sockets::SCRIPTS);
 }
 
 #[test]
 fn moments_of_ends(rt: HostRuntime) {
+    play(&rt, &rt, moments::SCRIPTS);
     let mut packet = Packet::new();
-    none_wrong(&rt, moments::wrong(&rt, &mut packet));
-    none_wrong(&rt, moments::wrong_clock(&rt, &mut packet));
+    none_wrong(
+        &rt,
+        "moments_do_not_go_back",
+        &[moments::wrong_reading(&rt, &mut packet)],
+    );
+    none_wrong(
+        &rt,
+        "a_clock_that_counts_sleep_goes_on",
+        &[wrong_unless(moments::counts_sleep(&rt, &mut packet))],
+    );
 }

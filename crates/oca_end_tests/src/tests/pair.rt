@@ -44,15 +44,11 @@ pub const GET: &[u8] = &[
 /// A keep-alive of 5 seconds.
 pub const KEEP_ALIVE: &[u8] = &[0x3b, 0, 1, 0, 0, 0, 0x0b, 4, 0, 1, 0, 5];
 
-/// The laws run nothing.
 #[test]
-fn schedules_lead_to(rt: HostRuntime) {
-    let alloc = rt.alloc();
-    delivering::laws();
-    none_wrong(&rt, schedules::wrong_case(alloc, delivering::CASES));
-    none_wrong(&rt, schedules::wrong_case(alloc, peers::CASES));
-    none_wrong(&rt, schedules::wrong_case(alloc, stepping::CASES));
-    none_wrong(&rt, schedules::wrong_case(alloc, windows::CASES));
-    none_wrong(&rt, stepping::first_wrong());
-    none_wrong(&rt, turns::wrong(&rt));
+fn turn_by_turn(rt: HostRuntime) {
+    none_wrong(
+        &rt,
+        "a_device_and_a_link_turn_by_turn",
+        &[turns::wrong_step(&rt)],
+    );
 }

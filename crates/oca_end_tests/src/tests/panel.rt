@@ -1,5 +1,5 @@
 //! What the clauses leave open: that calls succeed, and what is printed.
-use super::none_wrong;
+use super::{Row, first_wrong, none_wrong};
 use oca_net::{MemoryEnd, Scripted};
 use oca_panel::Panel;
 use oca_types::{Handle, Peer, Span};
@@ -67,20 +67,64 @@ fn end(alloc: Global, answers: &[Answer]) -> Option<MemoryEnd> {
     }
 }
 
-/// A panel whose first handle is 7, over an end that delivers these answers in turn.
-fn panel(alloc: Global, answers: &[Answer]) -> Option<Panel<MemoryEnd>> {
+/// A panel whose first handle is 7, over an end that delivers these answers in turn. Each of its calls waits for so many
+/// turns, and so many commands are in flight at most, where that is chosen.
+fn panel(
+    alloc: Global,
+    answers: &[Answer],
+    turns: u32,
+    span: Option<u8>,
+) -> Option<Panel<MemoryEnd>> {
+    let span = match span {
+        Some(count) => Span::new(count)?,
+        None => Span::default(),
+    };
     match end(alloc, answers) {
-        Some(end) => Some(Panel::open(DEVICE, end, Handle(7), Span::default(), 10)),
+        Some(end) => Some(Panel::open(DEVICE, end, Handle(7), span, turns)),
         None => None,
+    }
+}
+
+/// What is asked of a panel, and what must come of it.
+trait Asked {
+    /// Whether it comes out so.
+    fn comes_out(&self, alloc: Global, panel: &mut Panel<MemoryEnd>) -> bool;
+}
+
+/// What is asked of a panel whose end delivers these answers. Its span is chosen, or not.
+struct Over<A> {
+    answers: &'static [Answer],
+    turns: u32,
+    span: Option<u8>,
+    asked: A,
+}
+
+impl<A: Asked> Row for Over<A> {
+    /// Whether it comes out so.
+    fn agrees(&self, alloc: Global) -> bool {
+        match panel(alloc, self.answers, self.turns, self.span) {
+            Some(mut panel) => self.asked.comes_out(alloc, &mut panel),
+            None => false,
+        }
     }
 }
 
 #[test]
 fn tables_of_rows(rt: HostRuntime) {
-    none_wrong(&rt, objects::first_wrong(rt.alloc()));
-    none_wrong(&rt, objects::first_other_text(rt.alloc()));
-    none_wrong(&rt, ports::first_other_turn());
-    none_wrong(&rt, given_up::first_wrong(rt.alloc()));
-    none_wrong(&rt, in_flight::first_wrong(rt.alloc()));
-    none_wrong(&rt, walks::first_wrong(rt.alloc()));
+    let alloc = rt.alloc();
+    none_wrong(&rt, "turns", &[first_wrong(alloc, ports::TURNS)]);
+    none_wrong(
+        &rt,
+        "answers to what was given up",
+        &[first_wrong(alloc, given_up::ROWS)],
+    );
+    none_wrong(
+        &rt,
+        "commands in flight",
+        &[
+            first_wrong(alloc, in_flight::ROWS),
+            first_wrong(alloc, in_flight::DOCUMENTED),
+        ],
+    );
+    none_wrong(&rt, "walks", &[first_wrong(alloc, walks::WALKS)]);
 }

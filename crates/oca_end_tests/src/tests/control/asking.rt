@@ -1,14 +1,17 @@
 //! Commands that are asked over an end in memory.
 use super::ends::Step::*;
-use super::ends::{Delivery, Ending, Fared, QUIET, Script, Step, is_outcome};
+use super::ends::{Fared, OverEnd, QUIET, Step, is_outcome};
 use super::links::Step::{HearsResponse, IsLost, Submits, Takes};
 use super::{ANSWER, COMMAND};
+use crate::tests::ending::{Ending, Entry};
+use crate::tests::{Row, first_wrong, none_wrong, play};
 use oca_control::{ControlFault, DriveReport, Reception, refused};
+use std::alloc::Global;
 
 /// An end that delivers the answer to the handle 1 at 10.
 const ANSWERS: Ending = Ending {
     quiet: 0,
-    deliveries: &[Delivery::Response(1, 10)],
+    entries: &[Entry::Response(1, 10)],
     room: 4,
     fail_send: None,
 };
@@ -16,7 +19,7 @@ const ANSWERS: Ending = Ending {
 /// An end that is closed.
 const CLOSED: Ending = Ending {
     quiet: 0,
-    deliveries: &[],
+    entries: &[],
     room: 32,
     fail_send: None,
 };
@@ -24,7 +27,7 @@ const CLOSED: Ending = Ending {
 /// An end that is quiet once.
 const QUIET_ONCE: Ending = Ending {
     quiet: 1,
-    deliveries: &[],
+    entries: &[],
     room: 32,
     fail_send: None,
 };
@@ -32,7 +35,7 @@ const QUIET_ONCE: Ending = Ending {
 /// An end that is quiet twice.
 const QUIET_TWICE: Ending = Ending {
     quiet: 2,
-    deliveries: &[],
+    entries: &[],
     room: 32,
     fail_send: None,
 };
@@ -40,22 +43,22 @@ const QUIET_TWICE: Ending = Ending {
 /// An end that is quiet each 50 ms.
 const EVERY_50_MS: Ending = Ending {
     quiet: 0,
-    deliveries: &[
-        Delivery::Quiet(50),
-        Delivery::Quiet(100),
-        Delivery::Quiet(150),
-        Delivery::Quiet(200),
-        Delivery::Quiet(250),
-        Delivery::Quiet(300),
-        Delivery::Quiet(350),
-        Delivery::Quiet(400),
-        Delivery::Quiet(450),
-        Delivery::Quiet(500),
-        Delivery::Quiet(550),
-        Delivery::Quiet(600),
-        Delivery::Quiet(650),
-        Delivery::Quiet(700),
-        Delivery::Quiet(750),
+    entries: &[
+        Entry::Quiet(50),
+        Entry::Quiet(100),
+        Entry::Quiet(150),
+        Entry::Quiet(200),
+        Entry::Quiet(250),
+        Entry::Quiet(300),
+        Entry::Quiet(350),
+        Entry::Quiet(400),
+        Entry::Quiet(450),
+        Entry::Quiet(500),
+        Entry::Quiet(550),
+        Entry::Quiet(600),
+        Entry::Quiet(650),
+        Entry::Quiet(700),
+        Entry::Quiet(750),
     ],
     room: 32,
     fail_send: None,
@@ -150,95 +153,106 @@ const ONE_TURN: &[Step] = &[
 ];
 
 /// Why a link refuses a command, and how it fared.
-const REFUSALS: &[(ControlFault, Fared)] = &[
-    (ControlFault::Lost, Fared::Lost),
-    (
+struct Refusal(ControlFault, Fared);
+
+impl Row for Refusal {
+    /// Whether the command fared so.
+    fn agrees(&self, _alloc: Global) -> bool {
+        is_outcome(&refused(self.0), self.1)
+    }
+}
+
+/// All that a link refuses.
+const REFUSALS: &[Refusal] = &[
+    Refusal(ControlFault::Lost, Fared::Lost),
+    Refusal(
         ControlFault::HandlesSpent,
         Fared::Refused(ControlFault::HandlesSpent),
     ),
-    (
+    Refusal(
         ControlFault::SpanFull,
         Fared::Refused(ControlFault::SpanFull),
     ),
-    (ControlFault::TooLong, Fared::Refused(ControlFault::TooLong)),
+    Refusal(ControlFault::TooLong, Fared::Refused(ControlFault::TooLong)),
 ];
 
-/// The first refusal after which a command fared otherwise.
-pub fn first_wrong() -> Option<(&'static str, usize)> {
-    for (at, (fault, want)) in REFUSALS.iter().enumerate() {
-        if !is_outcome(&refused(*fault), *want) {
-            return Some(("refusals", at));
-        }
-    }
-    None
-}
-
-/// The scripts.
-pub const SCRIPTS: &[Script] = &[
-    Script {
+/// Commands that are answered, or lost, or not.
+const ASKED: &[OverEnd] = &[
+    OverEnd {
         name: "a_command_is_answered",
         span: 16,
         ending: ANSWERS,
         steps: ANSWERED,
     },
-    Script {
+    OverEnd {
         name: "a_command_goes_out_again_in_time",
         span: 16,
         ending: EVERY_50_MS,
         steps: IN_TIME,
     },
-    Script {
+    OverEnd {
         name: "a_command_leaves_before_a_turn",
         span: 16,
         ending: ANSWERS,
         steps: NO_TURN,
     },
-    Script {
+    OverEnd {
         name: "another_answer_is_none",
         span: 16,
         ending: ANSWERS,
         steps: ANOTHER,
     },
-    Script {
+    OverEnd {
         name: "a_link_is_lost",
         span: 16,
         ending: QUIET,
         steps: LOST,
     },
-    Script {
+    OverEnd {
         name: "a_command_is_refused",
         span: 1,
         ending: ANSWERS,
         steps: REFUSED,
     },
-    Script {
+];
+
+/// Answers that are there, and what is given out.
+const GIVEN: &[OverEnd] = &[
+    OverEnd {
         name: "an_answer_that_is_there_takes_no_turn",
         span: 16,
         ending: QUIET_ONCE,
         steps: THERE,
     },
-    Script {
+    OverEnd {
         name: "a_closed_end_answers_nothing",
         span: 16,
         ending: CLOSED,
         steps: NOTHING,
     },
-    Script {
+    OverEnd {
         name: "all_that_is_due_is_given_out",
         span: 16,
         ending: CLOSED,
         steps: ALL,
     },
-    Script {
+    OverEnd {
         name: "a_keep_alive_is_given_out",
         span: 16,
         ending: CLOSED,
         steps: KEEP_ALIVES,
     },
-    Script {
+    OverEnd {
         name: "one_turn",
         span: 16,
         ending: QUIET_TWICE,
         steps: ONE_TURN,
     },
 ];
+
+#[test]
+fn scripts(rt: HostRuntime) {
+    play(&rt, &rt, ASKED);
+    play(&rt, &rt, GIVEN);
+    none_wrong(&rt, "refusals", &[first_wrong(rt.alloc(), REFUSALS)]);
+}

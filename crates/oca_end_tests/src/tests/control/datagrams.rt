@@ -1,7 +1,8 @@
 //! Datagrams of any bytes, from any address.
 use super::links::Step::*;
-use super::links::{Script, Step};
+use super::links::{OverLink, Step};
 use super::{ANSWER, COMMAND, DEVICE, STRANGER};
+use crate::tests::play;
 use oca_control::Reception;
 
 /// Two responses in one PDU, to the commands of the handles 1 and 2.
@@ -52,35 +53,40 @@ const MOST: &[Step] = &[
 ];
 
 /// The scripts.
-pub const SCRIPTS: &[Script] = &[
-    Script {
+const SCRIPTS: &[OverLink] = &[
+    OverLink {
         name: "two_answers_in_one_datagram",
         first: 1,
         span: 16,
         steps: BOTH,
     },
-    Script {
+    OverLink {
         name: "one_of_two_is_known",
         first: 1,
         span: 16,
         steps: ONE_OF_TWO,
     },
-    Script {
+    OverLink {
         name: "an_answer_is_taken_once",
         first: 1,
         span: 16,
         steps: ONCE,
     },
-    Script {
+    OverLink {
         name: "other_senders_and_other_bytes",
         first: 1,
         span: 16,
         steps: OTHERS,
     },
-    Script {
+    OverLink {
         name: "a_datagram_of_146_responses",
         first: 1,
         span: 16,
         steps: MOST,
     },
 ];
+
+#[test]
+fn scripts(rt: HostRuntime) {
+    play(&rt, &rt, SCRIPTS);
+}

@@ -1,14 +1,16 @@
 //! The loop over an end in memory.
 use super::ends::Step::*;
-use super::ends::{Delivery, Ending, QUIET, Script, Step};
+use super::ends::{OverEnd, QUIET, Step};
 use super::links::Step::{IsLost, Submits, Takes};
 use super::{ANSWER, COMMAND, KEEP_ALIVE};
+use crate::tests::ending::{Ending, Entry};
+use crate::tests::play;
 use oca_control::DriveReport;
 
 /// An end that is quiet at 0, and delivers an answer to the handle 1 at 10.
 const ANSWERS: Ending = Ending {
     quiet: 0,
-    deliveries: &[Delivery::Quiet(0), Delivery::Response(1, 10)],
+    entries: &[Entry::Quiet(0), Entry::Response(1, 10)],
     room: 4,
     fail_send: None,
 };
@@ -36,7 +38,7 @@ const ANSWERED: &[Step] = &[
 /// An end whose first send fails, and whose second receive.
 const FAILS: Ending = Ending {
     quiet: 0,
-    deliveries: &[Delivery::Quiet(0), Delivery::Failed, Delivery::Quiet(250)],
+    entries: &[Entry::Quiet(0), Entry::Failed, Entry::Quiet(250)],
     room: 4,
     fail_send: Some(0),
 };
@@ -114,35 +116,40 @@ const KEEP_ALIVES: &[Step] = &[
 ];
 
 /// The scripts.
-pub const SCRIPTS: &[Script] = &[
-    Script {
+const SCRIPTS: &[OverEnd] = &[
+    OverEnd {
         name: "a_command_is_sent_and_answered",
         span: 16,
         ending: ANSWERS,
         steps: ANSWERED,
     },
-    Script {
+    OverEnd {
         name: "a_send_that_fails_is_repeated",
         span: 16,
         ending: FAILS,
         steps: REPEATED,
     },
-    Script {
+    OverEnd {
         name: "no_turns",
         span: 16,
         ending: ANSWERS,
         steps: NO_TURNS,
     },
-    Script {
+    OverEnd {
         name: "a_loop_ends_where_the_link_is_lost",
         span: 16,
         ending: QUIET,
         steps: LOST,
     },
-    Script {
+    OverEnd {
         name: "keep_alives_are_sent",
         span: 16,
         ending: QUIET,
         steps: KEEP_ALIVES,
     },
 ];
+
+#[test]
+fn scripts(rt: HostRuntime) {
+    play(&rt, &rt, SCRIPTS);
+}

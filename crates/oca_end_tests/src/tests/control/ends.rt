@@ -1,10 +1,12 @@
 //! Scripts of a link over an end in memory.
 use super::links::{agrees as link_agrees, is_answer, link};
-use super::{DEVICE, Gave, links, response};
+use super::{DEVICE, Gave, links};
+use crate::tests::Script;
+use crate::tests::ending::{Ending, end_of};
 use oca_control::{
     ControlFault, DriveReport, Link, Outcome, ask, drive, give_in_time, give_out, wait_for,
 };
-use oca_net::{MemoryEnd, Scripted};
+use oca_net::MemoryEnd;
 use oca_types::{Handle, MethodId, Ono, Packet, Request};
 use std::alloc::Global;
 
@@ -16,34 +18,10 @@ const GET_STATE: Request = Request {
     params: &[],
 };
 
-/// What an end delivers.
-#[derive(Clone, Copy)]
-pub enum Delivery {
-    /// Silence at a moment.
-    Quiet(u64),
-    /// The device's response to the command of a handle, at a moment.
-    Response(u8, u64),
-    /// A receive that fails.
-    Failed,
-}
-
-/// An end in memory.
-#[derive(Clone, Copy)]
-pub struct Ending {
-    /// It is quiet so often before all else, each 250 ms from 0 on.
-    pub quiet: u64,
-    /// What it delivers then.
-    pub deliveries: &'static [Delivery],
-    /// How many datagrams it takes.
-    pub room: usize,
-    /// The number of a send that fails.
-    pub fail_send: Option<u64>,
-}
-
 /// An end that is quiet for 30 turns, each 250 ms.
 pub const QUIET: Ending = Ending {
     quiet: 30,
-    deliveries: &[],
+    entries: &[],
     room: 32,
     fail_send: None,
 };
@@ -81,61 +59,6 @@ pub enum Step {
 }
 
 use Step::*;
-
-/// The entry of a script that is such a delivery.
-fn entry(alloc: Global, delivery: Delivery) -> Option<Scripted> {
-    match delivery {
-        Delivery::Quiet(now) => Some(Scripted::Quiet { now }),
-        Delivery::Response(handle, now) => {
-            let bytes = response(handle).to_vec(alloc).ok()?;
-            Some(Scripted::Datagram {
-                from: DEVICE,
-                bytes,
-                now,
-            })
-        }
-        Delivery::Failed => Some(Scripted::Failed),
-    }
-}
-
-/// Adds so many silences, each 250 ms.
-fn add_quiet(script: &mut Vec<Scripted>, count: u64) -> bool {
-    for turn in 0..count {
-        let now = turn.saturating_mul(250);
-        if script.push(Scripted::Quiet { now }).is_err() {
-            return false;
-        }
-    }
-    true
-}
-
-/// Adds a delivery.
-fn add(alloc: Global, script: &mut Vec<Scripted>, delivery: Delivery) -> bool {
-    match entry(alloc, delivery) {
-        Some(entry) => script.push(entry).is_ok(),
-        None => false,
-    }
-}
-
-/// Adds the deliveries.
-fn add_all(alloc: Global, script: &mut Vec<Scripted>, deliveries: &[Delivery]) -> bool {
-    for delivery in deliveries {
-        if !add(alloc, script, *delivery) {
-            return false;
-        }
-    }
-    true
-}
-
-/// The end.
-fn end_of(alloc: Global, ending: Ending) -> Option<MemoryEnd> {
-    let mut script = Vec::new(alloc);
-    if add_quiet(&mut script, ending.quiet) && add_all(alloc, &mut script, ending.deliveries) {
-        MemoryEnd::new(alloc, script, ending.room, ending.fail_send).ok()
-    } else {
-        None
-    }
-}
 
 /// Whether a command fared so.
 pub fn is_outcome(outcome: &Outcome, want: Fared) -> bool {
@@ -214,7 +137,7 @@ fn agrees(link: &mut Link, end: &mut MemoryEnd, packet: &mut Packet, step: Step)
 }
 
 /// A script by its name, over a link at the moment 0 of this span, and an end.
-pub struct Script {
+pub struct OverEnd {
     pub name: &'static str,
     pub span: u8,
     pub ending: Ending,
@@ -241,7 +164,7 @@ fn wrong_over(
     alloc: Global,
     link: &mut Link,
     packet: &mut Packet,
-    script: &Script,
+    script: &OverEnd,
 ) -> Option<usize> {
     match end_of(alloc, script.ending) {
         Some(mut end) => first_wrong(link, &mut end, packet, script.steps),
@@ -249,24 +172,17 @@ fn wrong_over(
     }
 }
 
-/// The first step of a script that is answered otherwise; the last number where there is no such span.
-fn wrong_step(alloc: Global, packet: &mut Packet, script: &Script) -> Option<usize> {
-    match link(1, script.span) {
-        Some(mut link) => wrong_over(alloc, &mut link, packet, script),
-        None => Some(usize::MAX),
+impl Script for OverEnd {
+    /// The name.
+    fn name(&self) -> &'static str {
+        self.name
     }
-}
 
-/// The first script with a step that is answered otherwise, and that step.
-pub fn wrong_script(
-    alloc: Global,
-    packet: &mut Packet,
-    scripts: &[Script],
-) -> Option<(&'static str, usize)> {
-    for script in scripts {
-        if let Some(at) = wrong_step(alloc, packet, script) {
-            return Some((script.name, at));
+    /// The first step that is answered otherwise; the last number where there is no such span.
+    fn wrong_step(&self, rt: &HostRuntime, packet: &mut Packet) -> Option<usize> {
+        match link(1, self.span) {
+            Some(mut link) => wrong_over(rt.alloc(), &mut link, packet, self),
+            None => Some(usize::MAX),
         }
     }
-    None
 }

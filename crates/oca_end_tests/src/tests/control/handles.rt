@@ -1,7 +1,8 @@
 //! Handles and spans.
 use super::ANSWER;
 use super::links::Step::*;
-use super::links::{Script, Step};
+use super::links::{OverLink, Step};
+use crate::tests::play;
 use oca_control::{ControlFault, Reception};
 
 // No handle follows 4294967295.
@@ -33,29 +34,34 @@ const ONE: &[Step] = &[Submits(0, Ok(1)), Submits(0, Err(ControlFault::SpanFull)
 const THIRTY_TWO: &[Step] = &[SubmitsMany(7, 39), Submits(0, Err(ControlFault::SpanFull))];
 
 /// The scripts.
-pub const SCRIPTS: &[Script] = &[
-    Script {
+const SCRIPTS: &[OverLink] = &[
+    OverLink {
         name: "the_last_handle_is_given_out",
         first: 4_294_967_294,
         span: 16,
         steps: LAST,
     },
-    Script {
+    OverLink {
         name: "sixteen_are_in_flight",
         first: 1,
         span: 16,
         steps: SIXTEEN,
     },
-    Script {
+    OverLink {
         name: "a_span_of_one",
         first: 1,
         span: 1,
         steps: ONE,
     },
-    Script {
+    OverLink {
         name: "a_span_of_32",
         first: 7,
         span: 32,
         steps: THIRTY_TWO,
     },
 ];
+
+#[test]
+fn scripts(rt: HostRuntime) {
+    play(&rt, &rt, SCRIPTS);
+}

@@ -1,5 +1,6 @@
 //! Scripts of a link alone.
 use super::{COMMAND, DEVICE, Gave, response};
+use crate::tests::Script;
 use oca_control::{Answer, ControlFault, Due, Link, Reception};
 use oca_types::{Handle, MethodId, Ono, Packet, Peer, Span};
 
@@ -181,7 +182,7 @@ pub fn agrees(link: &mut Link, packet: &mut Packet, step: Step) -> bool {
 }
 
 /// A script by its name, over a link at the moment 0 of this span, whose first command gets this handle.
-pub struct Script {
+pub struct OverLink {
     pub name: &'static str,
     pub first: u32,
     pub span: u8,
@@ -190,7 +191,6 @@ pub struct Script {
 
 /// The first step that is answered otherwise.
 fn first_wrong(link: &mut Link, packet: &mut Packet, steps: &[Step]) -> Option<usize> {
-    packet.clear();
     for (at, step) in steps.iter().enumerate() {
         if !agrees(link, packet, *step) {
             return Some(at);
@@ -199,20 +199,17 @@ fn first_wrong(link: &mut Link, packet: &mut Packet, steps: &[Step]) -> Option<u
     None
 }
 
-/// The first step of a script that is answered otherwise; the last number where there is no such span.
-fn wrong_step(packet: &mut Packet, script: &Script) -> Option<usize> {
-    match link(script.first, script.span) {
-        Some(mut link) => first_wrong(&mut link, packet, script.steps),
-        None => Some(usize::MAX),
+impl Script for OverLink {
+    /// The name.
+    fn name(&self) -> &'static str {
+        self.name
     }
-}
 
-/// The first script with a step that is answered otherwise, and that step.
-pub fn wrong_script(packet: &mut Packet, scripts: &[Script]) -> Option<(&'static str, usize)> {
-    for script in scripts {
-        if let Some(at) = wrong_step(packet, script) {
-            return Some((script.name, at));
+    /// The first step that is answered otherwise; the last number where there is no such span.
+    fn wrong_step(&self, _rt: &HostRuntime, packet: &mut Packet) -> Option<usize> {
+        match link(self.first, self.span) {
+            Some(mut link) => first_wrong(&mut link, packet, self.steps),
+            None => Some(usize::MAX),
         }
     }
-    None
 }

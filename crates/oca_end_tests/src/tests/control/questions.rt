@@ -1,7 +1,8 @@
 //! What a link tells of itself.
 use super::links::Step::*;
-use super::links::{Script, Step};
+use super::links::{OverLink, Step};
 use super::{ANSWER, DEVICE, KEEP_ALIVE, STRANGER};
+use crate::tests::play;
 use oca_control::{Due, Reception};
 use oca_types::Handle;
 
@@ -63,41 +64,46 @@ const HEARD: &[Step] = &[
 ];
 
 /// The scripts.
-pub const SCRIPTS: &[Script] = &[
-    Script {
+const SCRIPTS: &[OverLink] = &[
+    OverLink {
         name: "a_keep_alive_is_due_next",
         first: 1,
         span: 16,
         steps: KEEP_ALIVE_NEXT,
     },
-    Script {
+    OverLink {
         name: "a_command_is_due_next",
         first: 1,
         span: 16,
         steps: COMMAND_NEXT,
     },
-    Script {
+    OverLink {
         name: "nothing_is_due_beyond_the_last_moment",
         first: 1,
         span: 16,
         steps: NEVER,
     },
-    Script {
+    OverLink {
         name: "a_lost_link_is_due_at_once",
         first: 1,
         span: 16,
         steps: LOST,
     },
-    Script {
+    OverLink {
         name: "the_lowest_answer_is_named",
         first: 1,
         span: 16,
         steps: LOWEST,
     },
-    Script {
+    OverLink {
         name: "the_device_was_heard_last",
         first: 1,
         span: 16,
         steps: HEARD,
     },
 ];
+
+#[test]
+fn scripts(rt: HostRuntime) {
+    play(&rt, &rt, SCRIPTS);
+}

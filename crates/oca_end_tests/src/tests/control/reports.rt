@@ -1,5 +1,5 @@
 //! Reports that are added, and outcomes as text.
-use crate::tests::reads;
+use crate::tests::{Row, first_wrong, none_wrong, reads, wrong_unless};
 use oca_control::{ControlFault, DriveReport, Outcome, refused};
 use std::alloc::Global;
 
@@ -37,8 +37,18 @@ const LAST: DriveReport = DriveReport {
 };
 
 /// Two reports, and what both did.
-const SUMS: &[(DriveReport, DriveReport, DriveReport)] = &[
-    (
+struct Sum(DriveReport, DriveReport, DriveReport);
+
+impl Row for Sum {
+    /// Whether both did that.
+    fn agrees(&self, _alloc: Global) -> bool {
+        self.0 + self.1 == self.2
+    }
+}
+
+/// Sums of reports.
+const SUMS: &[Sum] = &[
+    Sum(
         DriveReport {
             turns: 1,
             sent: 2,
@@ -67,43 +77,54 @@ const SUMS: &[(DriveReport, DriveReport, DriveReport)] = &[
             lost: true,
         },
     ),
-    (LAST, ONE, LAST),
-    (NONE, ONE, ONE),
+    Sum(LAST, ONE, LAST),
+    Sum(NONE, ONE, ONE),
 ];
 
-/// The first sum that is another; the last number where a report that nobody made is not that of nothing.
-pub fn first_wrong() -> Option<(&'static str, usize)> {
-    if DriveReport::default() != NONE {
-        return Some(("sums", usize::MAX));
+/// Why a link refuses a command, and how that reads.
+struct Refusal(ControlFault, &'static str);
+
+impl Row for Refusal {
+    /// Whether it reads so.
+    fn agrees(&self, alloc: Global) -> bool {
+        reads(alloc, &refused(self.0), self.1)
     }
-    for (at, (one, other, both)) in SUMS.iter().enumerate() {
-        if *one + *other != *both {
-            return Some(("sums", at));
-        }
-    }
-    None
 }
 
-/// Why a link refuses a command, and how that reads.
-const TEXTS: &[(ControlFault, &str)] = &[
-    (ControlFault::Lost, "the link is lost"),
-    (ControlFault::HandlesSpent, "not sent: no handle is left"),
-    (
+/// What a link refuses, as a text.
+const TEXTS: &[Refusal] = &[
+    Refusal(ControlFault::Lost, "the link is lost"),
+    Refusal(ControlFault::HandlesSpent, "not sent: no handle is left"),
+    Refusal(
         ControlFault::TooLong,
         "not sent: the parameters have more than 1,445 bytes",
     ),
 ];
 
-/// The first fault that reads otherwise; the last number where a command without an answer does.
-pub fn first_other(alloc: Global) -> Option<(&'static str, usize)> {
-    for (at, (fault, wanted)) in TEXTS.iter().enumerate() {
-        if !reads(alloc, &refused(*fault), wanted) {
-            return Some(("texts", at));
-        }
-    }
-    if reads(alloc, &Outcome::Unanswered, "not answered yet") {
-        None
-    } else {
-        Some(("texts", usize::MAX))
-    }
+/// Whether a report that nobody made is that of nothing.
+fn is_nothing() -> bool {
+    DriveReport::default() == NONE
+}
+
+/// Whether a command without an answer reads so.
+fn is_unanswered(alloc: Global) -> bool {
+    reads(alloc, &Outcome::Unanswered, "not answered yet")
+}
+
+#[test]
+fn rows(rt: HostRuntime) {
+    let alloc = rt.alloc();
+    none_wrong(
+        &rt,
+        "sums",
+        &[first_wrong(alloc, SUMS), wrong_unless(is_nothing())],
+    );
+    none_wrong(
+        &rt,
+        "texts",
+        &[
+            first_wrong(alloc, TEXTS),
+            wrong_unless(is_unanswered(alloc)),
+        ],
+    );
 }

@@ -1,14 +1,15 @@
 //! What is given out, and when.
 use super::links::Step::*;
-use super::links::{Script, Step};
+use super::links::{OverLink, Step};
 use super::{ANSWER, DEVICE, KEEP_ALIVE};
+use crate::tests::play;
 use oca_control::{
     ControlFault, Due, Reception, law_of_answering, law_of_giving_out, law_of_histories,
 };
 use oca_types::Handle;
 
 /// The laws of a link, whose functions run nothing.
-pub fn laws() {
+fn laws() {
     law_of_histories();
     law_of_answering();
     law_of_giving_out();
@@ -50,29 +51,35 @@ const LONG: &[Step] = &[
 ];
 
 /// The scripts.
-pub const SCRIPTS: &[Script] = &[
-    Script {
+const SCRIPTS: &[OverLink] = &[
+    OverLink {
         name: "a_keep_alive_after_2500_ms",
         first: 1,
         span: 16,
         steps: SILENCE,
     },
-    Script {
+    OverLink {
         name: "twenty_sendings_lose_the_link",
         first: 1,
         span: 16,
         steps: TWENTY,
     },
-    Script {
+    OverLink {
         name: "a_moment_that_runs_backwards",
         first: 1,
         span: 16,
         steps: BACKWARDS,
     },
-    Script {
+    OverLink {
         name: "the_most_parameters",
         first: 1,
         span: 16,
         steps: LONG,
     },
 ];
+
+#[test]
+fn scripts(rt: HostRuntime) {
+    laws();
+    play(&rt, &rt, SCRIPTS);
+}

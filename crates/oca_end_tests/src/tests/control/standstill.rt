@@ -2,21 +2,24 @@
 ghost use Rattle.std.specs.Prelude.{[], false, None};
 
 use super::ends::Step::*;
-use super::ends::{Delivery, Ending, Fared, Script, Step, is_outcome};
+use super::ends::{Fared, OverEnd, Step, is_outcome};
 use super::links::link;
 use super::{ANSWER, KEEP_ALIVE};
+use crate::tests::ending::{Ending, Entry};
+use crate::tests::{Row, first_wrong, none_wrong, play};
 use arrayvec::ArrayVec;
 use oca_control::{Link, ask};
 use oca_net::{End, Heard};
 use oca_types::{MethodId, Ono, Packet, Peer, Request};
+use std::alloc::Global;
 
 // A copy follows 99.9 and 100.0 seconds after the one before it, and none after 100.001.
 const PAUSES: Ending = Ending {
     quiet: 0,
-    deliveries: &[
-        Delivery::Quiet(99_900),
-        Delivery::Quiet(199_900),
-        Delivery::Quiet(299_901),
+    entries: &[
+        Entry::Quiet(99_900),
+        Entry::Quiet(199_900),
+        Entry::Quiet(299_901),
     ],
     room: 32,
     fail_send: None,
@@ -34,7 +37,7 @@ const LONGER_AND_LONGER: &[Step] = &[
 
 const LONG: Ending = Ending {
     quiet: 0,
-    deliveries: &[Delivery::Quiet(200_000), Delivery::Response(1, 200_001)],
+    entries: &[Entry::Quiet(200_000), Entry::Response(1, 200_001)],
     room: 32,
     fail_send: None,
 };
@@ -51,7 +54,7 @@ const LOST: &[Step] = &[
 
 const WAITING: Ending = Ending {
     quiet: 0,
-    deliveries: &[Delivery::Response(1, 200_000)],
+    entries: &[Entry::Response(1, 200_000)],
     room: 32,
     fail_send: None,
 };
@@ -135,7 +138,7 @@ const GET_STATE: Request = Request {
 type Asked = (u32, Fared);
 
 /// Commands at an end that begins at a moment and stands still so, and when the end sends.
-struct Row {
+struct Standstill {
     begun: u64,
     still: (u64, u64),
     asks: &'static [Asked],
@@ -158,7 +161,7 @@ fn all_fare(link: &mut Link, end: &mut Timed, asks: &[Asked]) -> bool {
 }
 
 /// Whether the row is so over a link and a new end: the commands fare so, and the end sends at these moments.
-fn is_so_over(link: &mut Link, row: &Row) -> bool {
+fn is_so_over(link: &mut Link, row: &Standstill) -> bool {
     let mut end = Timed {
         now: row.begun,
         still: row.still,
@@ -168,59 +171,52 @@ fn is_so_over(link: &mut Link, row: &Row) -> bool {
     all_fare(link, &mut end, row.asks) && end.sends.as_slice() == row.moments
 }
 
-/// Whether the row is so over a new link.
-fn is_so(row: &Row) -> bool {
-    match link(1, 16) {
-        Some(mut link) => is_so_over(&mut link, row),
-        None => false,
-    }
-}
-
-/// The first row that is otherwise.
-pub fn first_wrong() -> Option<(&'static str, usize)> {
-    for (at, row) in ROWS.iter().enumerate() {
-        if !is_so(row) {
-            return Some(("standstills", at));
+impl Row for Standstill {
+    /// Whether the row is so over a new link.
+    fn agrees(&self, _alloc: Global) -> bool {
+        match link(1, 16) {
+            Some(mut link) => is_so_over(&mut link, self),
+            None => false,
         }
     }
-    None
 }
 
-const ROWS: &[Row] = &[
+/// Standstills, and what follows them.
+const ROWS: &[Standstill] = &[
     // five turns of 50 ms go by between two copies
-    Row {
+    Standstill {
         begun: 0,
         still: (0, 0),
         asks: &[(15, Fared::Unanswered)],
         moments: &[0, 250, 500, 750],
     },
     // after an hour without a command the first copy is no repeat
-    Row {
+    Standstill {
         begun: 3_600_000,
         still: (0, 0),
         asks: &[(4, Fared::Unanswered)],
         moments: &[3_600_000],
     },
-    Row {
+    Standstill {
         begun: 3_600_000,
         still: (0, 0),
         asks: &[(5, Fared::Unanswered)],
         moments: &[3_600_000, 3_600_250],
     },
     // a command that comes behind a standstill is not begun while another is in flight
-    Row {
+    Standstill {
         begun: 0,
         still: (2, 99_900),
         asks: &[(3, Fared::Unanswered)],
         moments: &[0, 100_000],
     },
-    Row {
+    Standstill {
         begun: 0,
         still: (2, 99_901),
         asks: &[(9, Fared::Lost), (9, Fared::Lost)],
         moments: &[0],
     },
-    Row {
+    Standstill {
         begun: 0,
         still: (2, 200_000),
         asks: &[(9, Fared::Lost), (9, Fared::Lost)],
@@ -229,29 +225,35 @@ const ROWS: &[Row] = &[
 ];
 
 /// The scripts.
-pub const SCRIPTS: &[Script] = &[
-    Script {
+const SCRIPTS: &[OverEnd] = &[
+    OverEnd {
         name: "a_copy_follows_within_100_seconds_alone",
         span: 16,
         ending: PAUSES,
         steps: LONGER_AND_LONGER,
     },
-    Script {
+    OverEnd {
         name: "a_command_is_lost_in_a_standstill",
         span: 16,
         ending: LONG,
         steps: LOST,
     },
-    Script {
+    OverEnd {
         name: "an_answer_that_came_in_a_standstill_is_taken",
         span: 16,
         ending: WAITING,
         steps: ANSWERED,
     },
-    Script {
+    OverEnd {
         name: "nothing_is_given_out_too_late",
         span: 16,
         ending: WAITING,
         steps: GIVEN,
     },
 ];
+
+#[test]
+fn scripts(rt: HostRuntime) {
+    play(&rt, &rt, SCRIPTS);
+    none_wrong(&rt, "standstills", &[first_wrong(rt.alloc(), ROWS)]);
+}

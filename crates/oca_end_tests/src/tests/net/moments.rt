@@ -1,6 +1,8 @@
 //! How long a receive waits, and what its moments are. No clause says what a clock tells, so these tests alone refuse
 //! an end whose moments lag or stand still, or that waits longer or shorter than it says.
-use super::{HELD, LOCALHOST, SocketEnd, end_here, heard_by_now, sends};
+use super::{
+    AtSockets, Begun, Call, HELD, LOCALHOST, SocketEnd, heard_by_now, hold, instant, sends,
+};
 use oca_net::{CountsSleep, End, Heard, UdpEnd};
 use oca_types::Packet;
 use std::cell::Cell;
@@ -17,18 +19,22 @@ fn quiet(heard: Heard) -> Option<u64> {
     }
 }
 
-/// The milliseconds since then.
-fn since(rt: &HostRuntime, then: Instant) -> Option<u64> {
-    let time = then.elapsed(rt).ok()?;
-    u64::try_from(time.as_millis()).ok()
+/// The moment of a receive by this moment in which no datagram comes.
+fn quiet_by<E: End>(end: &mut E, packet: &mut Packet, moment: u64) -> Option<u64> {
+    quiet(end.receive_by(packet, moment))
 }
 
-/// The clock before an end was bound, and after.
-type Begun = (Instant, Instant);
+/// The milliseconds since then.
+fn since(rt: &HostRuntime, then: Instant) -> Option<u64> {
+    match then.elapsed(rt) {
+        Ok(time) => u64::try_from(time.as_millis()).ok(),
+        Err(_) => None,
+    }
+}
 
 /// Until when a receive waits.
 #[derive(Clone, Copy)]
-enum Until {
+pub enum Until {
     /// For 50 ms, as a receive does that is given no moment.
     NoMoment,
     /// For so many milliseconds.
@@ -41,7 +47,7 @@ use Until::*;
 
 /// Calls of one end, and what they must answer.
 #[derive(Clone, Copy)]
-enum Step {
+pub enum Step {
     /// After a pause of so many milliseconds no moment is before the one that stands before it: the milliseconds since
     /// the end was bound, what it says of them, what a receive says, and the milliseconds since before it was bound.
     Follows(u64),
@@ -72,18 +78,23 @@ fn least(until: Until) -> u64 {
 // then at once.
 const WAITS: usize = 5;
 
-/// How long one receive takes in which no datagram comes. The packet is empty then.
-fn time_once(end: &mut SocketEnd<'_>, packet: &mut Packet, until: Until) -> Option<u64> {
-    packet.clear();
-    let _ = packet.try_extend_from_slice(HELD);
-    let begun = end.now();
-    let heard = match until {
+/// What a receive hears that begins at a moment and waits so.
+fn receive_until(end: &mut SocketEnd<'_>, packet: &mut Packet, begun: u64, until: Until) -> Heard {
+    match until {
         NoMoment => end.receive(packet),
         After(wait) => end.receive_by(packet, begun.saturating_add(wait)),
         Past => end.receive_by(packet, 0),
-    };
-    let took = quiet(heard)?.saturating_sub(begun);
-    if packet.is_empty() { Some(took) } else { None }
+    }
+}
+
+/// How long one receive takes in which no datagram comes. The packet is empty then.
+fn time_once(end: &mut SocketEnd<'_>, packet: &mut Packet, until: Until) -> Option<u64> {
+    hold(packet, HELD);
+    let begun = end.now();
+    match quiet(receive_until(end, packet, begun, until)) {
+        Some(now) if packet.is_empty() => Some(now.saturating_sub(begun)),
+        _ => None,
+    }
 }
 
 /// How long a receive takes in which no datagram comes, where the wait was not cut short.
@@ -109,20 +120,29 @@ fn shortest_quiet(end: &mut SocketEnd<'_>, packet: &mut Packet, receives: &[Unti
     shortest
 }
 
+/// What an end says of the moment, and what a receive says then.
+fn told(end: &mut SocketEnd<'_>, packet: &mut Packet) -> (u64, Option<u64>) {
+    let asked = end.now();
+    (asked, quiet_by(end, packet, 0))
+}
+
 /// Whether the moments follow one another after a pause.
 fn follows(
     rt: &HostRuntime,
     end: &mut SocketEnd<'_>,
     packet: &mut Packet,
-    begun: Begun,
+    begun: &Begun,
     pause: u64,
-) -> Option<bool> {
+) -> bool {
     thread::sleep(rt, Duration::from_millis(pause));
-    let least = since(rt, begun.1)?;
-    let asked = end.now();
-    let heard = quiet(end.receive_by(packet, 0))?;
-    let most = since(rt, begun.0)?;
-    Some(least <= asked && asked <= heard && heard <= most)
+    let least = since(rt, begun.bound);
+    let (asked, heard) = told(end, packet);
+    match (least, heard, since(rt, begun.before)) {
+        (Some(least), Some(heard), Some(most)) => {
+            least <= asked && asked <= heard && heard <= most
+        }
+        _ => false,
+    }
 }
 
 /// Whether the end hears nothing, at a moment no earlier than it said before and no later than it says then.
@@ -134,79 +154,47 @@ fn is_timed(end: &mut SocketEnd<'_>, packet: &mut Packet) -> bool {
 }
 
 /// Whether 20 receives by a moment that is past are as short together as the step says, by the clock.
-fn are_past(
-    rt: &HostRuntime,
-    end: &mut SocketEnd<'_>,
-    packet: &mut Packet,
-    most: u64,
-) -> Option<bool> {
-    let begun = Instant::now(rt).ok()?;
+fn are_past(rt: &HostRuntime, end: &mut SocketEnd<'_>, packet: &mut Packet, most: u64) -> bool {
+    let Some(begun) = instant(rt) else {
+        return false;
+    };
     let shortest = shortest_quiet(end, packet, &[Past; 20]);
-    let took = since(rt, begun)?;
-    Some(shortest < u64::MAX && took < most)
+    match since(rt, begun) {
+        Some(took) => shortest < u64::MAX && took < most,
+        None => false,
+    }
 }
 
-/// Whether the end hears what it sends to itself.
-fn echoes(end: &mut SocketEnd<'_>, packet: &mut Packet, bytes: &[u8], moment: u64) -> bool {
-    let place = end.local();
-    if !sends(end, place, bytes, true) {
-        return false;
-    }
+/// Whether a receive by this moment hears these bytes.
+fn hears_by(end: &mut SocketEnd<'_>, packet: &mut Packet, bytes: &[u8], moment: u64) -> bool {
     match end.receive_by(packet, moment) {
         Heard::Datagram { .. } => packet.as_slice() == bytes,
         _ => false,
     }
 }
 
-/// Whether the calls are answered so.
-fn agrees(
-    rt: &HostRuntime,
-    end: &mut SocketEnd<'_>,
-    packet: &mut Packet,
-    begun: Begun,
-    step: Step,
-) -> bool {
-    match step {
-        Follows(pause) => follows(rt, end, packet, begun, pause) == Some(true),
-        IsTimed => is_timed(end, packet),
-        Quiet(receives, most) => shortest_quiet(end, packet, receives) < most,
-        TwentyPast(most) => are_past(rt, end, packet, most) == Some(true),
-        Echoes(bytes, moment) => echoes(end, packet, bytes, moment),
-    }
-}
-
-/// The first step that is answered otherwise; the last number where the clock can't be read.
-fn first_wrong(
-    rt: &HostRuntime,
-    end: &mut SocketEnd<'_>,
-    packet: &mut Packet,
-    before: Instant,
-    steps: &[Step],
-) -> Option<usize> {
-    let Ok(bound) = Instant::now(rt) else {
-        return Some(usize::MAX);
-    };
-    for (at, step) in steps.iter().enumerate() {
-        if !agrees(rt, end, packet, (before, bound), *step) {
-            return Some(at);
+impl Call for Step {
+    /// Whether it is answered so by the first end.
+    fn agrees(
+        &self,
+        rt: &HostRuntime,
+        begun: &Begun,
+        first: &mut SocketEnd<'_>,
+        _second: &mut SocketEnd<'_>,
+        _plain: &UdpSocket,
+        packet: &mut Packet,
+    ) -> bool {
+        match *self {
+            Follows(pause) => follows(rt, first, packet, begun, pause),
+            IsTimed => is_timed(first, packet),
+            Quiet(receives, most) => shortest_quiet(first, packet, receives) < most,
+            TwentyPast(most) => are_past(rt, first, packet, most),
+            Echoes(bytes, moment) => {
+                sends(first, begun.first, bytes, true) && hears_by(first, packet, bytes, moment)
+            }
         }
     }
-    None
 }
-
-/// The first step at a new end that is answered otherwise; the last number where there is none.
-fn wrong_step(rt: &HostRuntime, packet: &mut Packet, steps: &[Step]) -> Option<usize> {
-    let Ok(before) = Instant::now(rt) else {
-        return Some(usize::MAX);
-    };
-    match end_here(rt) {
-        Some(mut end) => first_wrong(rt, &mut end, packet, before, steps),
-        None => Some(usize::MAX),
-    }
-}
-
-/// A script by its name.
-type Script = (&'static str, &'static [Step]);
 
 // After each of these pauses the moments are asked for.
 const PAUSES: &[Step] = &[
@@ -247,27 +235,17 @@ const IN_TURN: &[Step] = &[
 ];
 
 /// The scripts.
-const SCRIPTS: &[Script] = &[
-    ("moments_are_milliseconds_since_bind", PAUSES),
-    ("an_end_at_a_socket_keeps_time", &[IsTimed]),
-    ("a_quiet_receive_takes_50_milliseconds", NO_MOMENT),
-    ("a_receive_waits_until_its_moment", BY_A_MOMENT),
-    (
+pub const SCRIPTS: &[AtSockets<Step>] = &[
+    AtSockets("moments_are_milliseconds_since_bind", PAUSES),
+    AtSockets("an_end_at_a_socket_keeps_time", &[IsTimed]),
+    AtSockets("a_quiet_receive_takes_50_milliseconds", NO_MOMENT),
+    AtSockets("a_receive_waits_until_its_moment", BY_A_MOMENT),
+    AtSockets(
         "a_receive_by_a_moment_that_is_past_does_not_wait",
         BY_THE_PAST,
     ),
-    ("each_wait_has_its_own_time", IN_TURN),
+    AtSockets("each_wait_has_its_own_time", IN_TURN),
 ];
-
-/// The first script with a step that is answered otherwise, and that step.
-pub fn wrong(rt: &HostRuntime, packet: &mut Packet) -> Option<(&'static str, usize)> {
-    for (name, steps) in SCRIPTS {
-        if let Some(at) = wrong_step(rt, packet, steps) {
-            return Some((*name, at));
-        }
-    }
-    None
-}
 
 /// A system whose clock gives the milliseconds that it is set to, and nothing where it is not set.
 #[derive(Drop)]
@@ -323,7 +301,7 @@ fn is_moment(
     moment: u64,
 ) -> bool {
     net.time.set(clock);
-    end.now() == moment && quiet(end.receive_by(packet, 0)) == Some(moment)
+    end.now() == moment && quiet_by(end, packet, 0) == Some(moment)
 }
 
 // Where the clock goes back, and where it can't be read, the latest moment is given again.
@@ -351,7 +329,7 @@ fn first_wrong_reading(
 }
 
 /// The same of an end that is bound when the clock gives 1,000 ms; the last number where there is none.
-fn wrong_reading(rt: &HostRuntime, packet: &mut Packet) -> Option<usize> {
+pub fn wrong_reading(rt: &HostRuntime, packet: &mut Packet) -> Option<usize> {
     let net = SetClock {
         system: rt,
         time: Cell::new(Some(1_000)),
@@ -365,7 +343,7 @@ fn wrong_reading(rt: &HostRuntime, packet: &mut Packet) -> Option<usize> {
 /// Whether an end at this clock hears nothing up to the moment 40, and then gives moments that are no earlier.
 fn is_quiet_until(end: &mut UdpEnd<'_, CountsSleep<'_, HostRuntime>>, packet: &mut Packet) -> bool {
     for _wait in 0..WAITS {
-        match quiet(end.receive_by(packet, 40)) {
+        match quiet_by(end, packet, 40) {
             Some(now) if now < 40 => {}
             Some(now) => return end.now() >= now,
             None => return false,
@@ -382,12 +360,20 @@ fn is_not_before(clock: &CountsSleep<'_, HostRuntime>, before: Duration) -> bool
     }
 }
 
+/// The date of a clock.
+fn date<C: Clock>(clock: &C) -> Option<Duration> {
+    match clock.since_1970() {
+        Ok(date) => Some(date),
+        Err(_) => None,
+    }
+}
+
 /// Whether the clock's date is the system's.
-fn has_the_date(rt: &HostRuntime, clock: &CountsSleep<'_, HostRuntime>) -> Option<bool> {
-    let before = rt.since_1970().ok()?;
-    let date = clock.since_1970().ok()?;
-    let behind = rt.since_1970().ok()?;
-    Some(before <= date && date <= behind)
+fn has_the_date(rt: &HostRuntime, clock: &CountsSleep<'_, HostRuntime>) -> bool {
+    match (date(rt), date(clock), date(rt)) {
+        (Some(before), Some(date), Some(behind)) => before <= date && date <= behind,
+        _ => false,
+    }
 }
 
 /// Whether an end over a clock that counts sleep gives moments that rise with it, and it is not behind this moment then.
@@ -404,22 +390,10 @@ fn goes_on(
 }
 
 /// Whether a clock that counts sleep has the system's date, and is not behind the system's.
-fn counts_sleep(rt: &HostRuntime, packet: &mut Packet) -> bool {
+pub fn counts_sleep(rt: &HostRuntime, packet: &mut Packet) -> bool {
     let clock = CountsSleep(rt);
     match rt.monotonic() {
-        Ok(before) => has_the_date(rt, &clock) == Some(true) && goes_on(rt, packet, &clock, before),
+        Ok(before) => has_the_date(rt, &clock) && goes_on(rt, packet, &clock, before),
         Err(_) => false,
-    }
-}
-
-/// The first reading of a clock that is set for which an end gives another moment, or the clock that counts sleep.
-pub fn wrong_clock(rt: &HostRuntime, packet: &mut Packet) -> Option<(&'static str, usize)> {
-    if let Some(at) = wrong_reading(rt, packet) {
-        return Some(("moments_do_not_go_back", at));
-    }
-    if counts_sleep(rt, packet) {
-        None
-    } else {
-        Some(("a_clock_that_counts_sleep_goes_on", 0))
     }
 }

@@ -1,12 +1,13 @@
 //! Where no end is bound, why, and the words of that; and the descriptor of one that is.
-use super::{LOCALHOST, SocketEnd, end_here};
-use crate::tests::reads;
+use super::{AtSockets, Begun, Call, LOCALHOST, SocketEnd, end_here};
+use crate::tests::{Words, reads};
 use oca_net::{
     BindError, BindFault, UdpEnd, fill_standard_descriptors, is_refused as host_refuses,
 };
-use oca_types::Peer;
+use oca_types::{Packet, Peer};
 use std::alloc::Global;
 use std::io::ErrorKind;
+use std::net::UdpSocket;
 use std::os::fd::{AsFd, AsRawFd};
 
 /// 192.0.2.1, an address of no machine, at a port of the system's choice.
@@ -47,71 +48,114 @@ fn has_a_descriptor(end: &SocketEnd<'_>) -> bool {
     number > 2 && end.as_fd().as_raw_fd() == number
 }
 
-/// Whether the faults are displayed so.
-fn faults_read(alloc: Global) -> bool {
-    reads(alloc, &BindFault::Io, "socket failed")
-        && reads(alloc, &BindFault::NoMemory, "no memory")
-        && reads(alloc, &BindError::NoMemory, "no memory")
+/// Where an end is asked for.
+#[derive(Clone, Copy)]
+pub enum Place {
+    /// Where the first end is bound.
+    InUse,
+    /// At an address of no machine.
+    Nowhere,
 }
 
-/// What is refused or answered otherwise while an end is bound.
-fn wrong_while_bound(rt: &HostRuntime, end: &SocketEnd<'_>) -> Option<&'static str> {
-    let local = end.local();
-    if !is_refused(rt, local) || !is_refused(rt, NO_MACHINE) {
-        return Some("a_port_in_use_is_refused");
-    }
-    let in_use = "Address already in use (os error 98)";
-    let nowhere = "Cannot assign requested address (os error 99)";
-    if !is_refused_for(rt, local, ErrorKind::AddrInUse, in_use)
-        || !is_refused_for(rt, NO_MACHINE, ErrorKind::AddrNotAvailable, nowhere)
-    {
-        return Some("a_refused_socket_has_the_systems_reason");
-    }
-    if host_refuses(rt, LOCALHOST, local) {
-        return Some("a_host_refuses_a_port_that_no_program_has");
-    }
-    if has_a_descriptor(end) {
-        None
-    } else {
-        Some("an_end_has_a_descriptor")
+/// Where it is.
+fn peer(begun: &Begun, place: Place) -> Peer {
+    match place {
+        Place::InUse => begun.first,
+        Place::Nowhere => NO_MACHINE,
     }
 }
 
-/// What is refused or answered otherwise where an end was bound that is gone.
-fn wrong_behind(rt: &HostRuntime, local: Peer) -> Option<&'static str> {
-    if !is_bound(rt, local) {
-        return Some("a_port_is_free_once_its_end_is_gone");
-    }
-    if !host_refuses(rt, LOCALHOST, local) || host_refuses(rt, NO_MACHINE.ip, local) {
-        return Some("a_host_refuses_a_port_that_no_program_has");
-    }
-    if faults_read(rt.alloc()) {
-        None
-    } else {
-        Some("faults_in_words")
+/// What is refused while an end is bound.
+#[derive(Clone, Copy)]
+pub enum Step {
+    /// The system refuses an end there.
+    IsRefused(Place),
+    /// It does for a reason of this kind with these words.
+    IsRefusedFor(Place, ErrorKind, &'static str),
+    /// A host does not refuse the port of the end.
+    HasAProgram,
+    /// The end has a descriptor.
+    HasADescriptor,
+}
+
+use Step::*;
+
+impl Call for Step {
+    /// Whether it is answered so.
+    fn agrees(
+        &self,
+        rt: &HostRuntime,
+        begun: &Begun,
+        first: &mut SocketEnd<'_>,
+        _second: &mut SocketEnd<'_>,
+        _plain: &UdpSocket,
+        _packet: &mut Packet,
+    ) -> bool {
+        match *self {
+            IsRefused(at) => is_refused(rt, peer(begun, at)),
+            IsRefusedFor(at, kind, text) => is_refused_for(rt, peer(begun, at), kind, text),
+            HasAProgram => !host_refuses(rt, LOCALHOST, begun.first),
+            HasADescriptor => has_a_descriptor(first),
+        }
     }
 }
 
-/// Where an end was bound that is gone, and what was refused or answered otherwise while it was bound.
-fn bound_once(rt: &HostRuntime) -> Option<(Peer, Option<&'static str>)> {
+const REASONS: &[Step] = &[
+    IsRefusedFor(
+        Place::InUse,
+        ErrorKind::AddrInUse,
+        "Address already in use (os error 98)",
+    ),
+    IsRefusedFor(
+        Place::Nowhere,
+        ErrorKind::AddrNotAvailable,
+        "Cannot assign requested address (os error 99)",
+    ),
+];
+
+/// The scripts.
+pub const SCRIPTS: &[AtSockets<Step>] = &[
+    AtSockets(
+        "a_port_in_use_is_refused",
+        &[IsRefused(Place::InUse), IsRefused(Place::Nowhere)],
+    ),
+    AtSockets("a_refused_socket_has_the_systems_reason", REASONS),
+    AtSockets("a_host_refuses_a_port_that_no_program_has", &[HasAProgram]),
+    AtSockets("an_end_has_a_descriptor", &[HasADescriptor]),
+];
+
+/// Where an end was bound that is gone.
+fn bound_once(rt: &HostRuntime) -> Option<Peer> {
     match end_here(rt) {
-        Some(end) => Some((end.local(), wrong_while_bound(rt, &end))),
+        Some(end) => Some(end.local()),
         None => None,
     }
 }
 
-/// What is refused or answered otherwise.
-pub fn wrong(rt: &HostRuntime) -> Option<(&'static str, usize)> {
-    if fill_standard_descriptors(rt).is_err() {
-        return Some(("standard_descriptors", 0));
+/// Whether a port is free once its end is gone, and a host refuses it then.
+pub fn is_free_again(rt: &HostRuntime) -> bool {
+    match bound_once(rt) {
+        Some(local) => {
+            is_bound(rt, local)
+                && host_refuses(rt, LOCALHOST, local)
+                && !host_refuses(rt, NO_MACHINE.ip, local)
+        }
+        None => false,
     }
-    let wrong = match bound_once(rt) {
-        Some((_, Some(name))) => Some(name),
-        Some((local, None)) => wrong_behind(rt, local),
-        None => Some("an_end_is_bound"),
-    };
-    match wrong {
-        Some(name) => Some((name, 0)),
-        None => None,
-    }
+}
+
+/// Whether the standard descriptors are there.
+pub fn are_filled(rt: &HostRuntime) -> bool {
+    fill_standard_descriptors(rt).is_ok()
+}
+
+/// The faults in words.
+pub const FAULTS: &[Words<BindFault>] = &[
+    Words(BindFault::Io, "socket failed"),
+    Words(BindFault::NoMemory, "no memory"),
+];
+
+/// Whether the error has the words of its fault.
+pub fn error_reads(alloc: Global) -> bool {
+    reads(alloc, &BindError::NoMemory, "no memory")
 }

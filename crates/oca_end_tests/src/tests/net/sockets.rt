@@ -1,7 +1,7 @@
 //! Ends at UDP sockets, in one process: what is sent lies at the socket until it is received, so no thread is needed.
 //! Each port is the system's choice. No clause says what goes through a socket, so these tests alone refuse an end that
 //! always returns Quiet or Failed, that drops datagrams, or that sends nothing and returns true.
-use super::{HELD, LARGEST, LOCALHOST, SocketEnd, end_here, sends};
+use super::{AtSockets, Begun, Call, HELD, LARGEST, LOCALHOST, SocketEnd, hold, sends};
 use oca_net::{End, Heard};
 use oca_types::{Packet, Peer};
 use std::io::ErrorKind;
@@ -12,7 +12,7 @@ const LONGEST: usize = 65507;
 
 /// A socket of the script.
 #[derive(Clone, Copy)]
-enum Holder {
+pub enum Holder {
     /// An end.
     First,
     /// Another end.
@@ -29,7 +29,7 @@ use Holder::*;
 
 /// A call of a socket, and what it must answer.
 #[derive(Clone, Copy)]
-enum Step {
+pub enum Step {
     /// The system granted the first end a send buffer of so many bytes at least.
     Granted(u32),
     /// The ends are bound to this machine, each to a port of its own.
@@ -46,20 +46,12 @@ enum Step {
 
 use Step::*;
 
-/// Where the sockets are.
-#[derive(Clone, Copy)]
-struct Places {
-    first: Peer,
-    second: Peer,
-    plain: Peer,
-}
-
 /// Where the socket is.
-fn place(places: Places, who: Holder) -> Peer {
+fn place(begun: &Begun, who: Holder) -> Peer {
     match who {
-        First => places.first,
-        Second => places.second,
-        Plain => places.plain,
+        First => begun.first,
+        Second => begun.second,
+        Plain => begun.plain,
         Nobody => Peer {
             ip: LOCALHOST,
             port: 0,
@@ -72,8 +64,7 @@ fn place(places: Places, who: Holder) -> Peer {
 }
 
 /// Whether each end has an address of its own.
-fn are_bound(places: Places) -> bool {
-    let (first, second) = (places.first, places.second);
+fn are_bound(first: Peer, second: Peer) -> bool {
     first.ip == LOCALHOST && first.port != 0 && first.port != second.port
 }
 
@@ -87,8 +78,7 @@ fn plain_sends(plain: &UdpSocket, to: Peer, bytes: &[u8], taken: bool) -> bool {
 
 /// Whether an end hears these bytes of this peer.
 fn end_hears(end: &mut SocketEnd<'_>, packet: &mut Packet, peer: Peer, bytes: &[u8]) -> bool {
-    packet.clear();
-    let _ = packet.try_extend_from_slice(HELD);
+    hold(packet, HELD);
     match end.receive(packet) {
         Heard::Datagram { from, .. } => from == peer && packet.as_slice() == bytes,
         _ => false,
@@ -106,8 +96,7 @@ fn plain_hears(plain: &UdpSocket, peer: Peer, wanted: &[u8]) -> bool {
 
 /// Whether an end hears a datagram as oversize, and the packet is empty.
 fn hears_oversize(end: &mut SocketEnd<'_>, packet: &mut Packet) -> bool {
-    packet.clear();
-    let _ = packet.try_extend_from_slice(HELD);
+    hold(packet, HELD);
     match end.receive(packet) {
         Heard::Oversize { .. } => packet.is_empty(),
         _ => false,
@@ -123,94 +112,32 @@ fn failed_for(end: &SocketEnd<'_>, wanted: Option<ErrorKind>) -> bool {
     kind == wanted && end.last_failed_receive().is_none()
 }
 
-/// Whether the call is answered so.
-fn agrees(
-    first: &mut SocketEnd<'_>,
-    second: &mut SocketEnd<'_>,
-    plain: &UdpSocket,
-    packet: &mut Packet,
-    places: Places,
-    step: Step,
-) -> bool {
-    match step {
-        Granted(least) => first.send_buffer() >= least,
-        AreBound => are_bound(places),
-        Sends(First, to, bytes, taken) => sends(first, place(places, to), bytes, taken),
-        Sends(Second, to, bytes, taken) => sends(second, place(places, to), bytes, taken),
-        Sends(Plain, to, bytes, taken) => plain_sends(plain, place(places, to), bytes, taken),
-        Hears(First, from, bytes) => end_hears(first, packet, place(places, from), bytes),
-        Hears(Second, from, bytes) => end_hears(second, packet, place(places, from), bytes),
-        Hears(Plain, from, bytes) => plain_hears(plain, place(places, from), bytes),
-        HearsOversize => hears_oversize(first, packet),
-        LastFailure(reason) => failed_for(first, reason),
-        Sends(..) | Hears(..) => false,
-    }
-}
-
-/// The first call that is answered otherwise; the last number where a socket has no address.
-fn first_wrong(
-    first: &mut SocketEnd<'_>,
-    second: &mut SocketEnd<'_>,
-    plain: &UdpSocket,
-    packet: &mut Packet,
-    steps: &[Step],
-) -> Option<usize> {
-    let Ok(address) = plain.local_addr() else {
-        return Some(usize::MAX);
-    };
-    let places = Places {
-        first: first.local(),
-        second: second.local(),
-        plain: Peer {
-            ip: LOCALHOST,
-            port: address.port(),
-        },
-    };
-    for (at, step) in steps.iter().enumerate() {
-        if !agrees(first, second, plain, packet, places, *step) {
-            return Some(at);
+impl Call for Step {
+    /// Whether it is answered so.
+    fn agrees(
+        &self,
+        _rt: &HostRuntime,
+        begun: &Begun,
+        first: &mut SocketEnd<'_>,
+        second: &mut SocketEnd<'_>,
+        plain: &UdpSocket,
+        packet: &mut Packet,
+    ) -> bool {
+        match *self {
+            Granted(least) => first.send_buffer() >= least,
+            AreBound => are_bound(begun.first, begun.second),
+            Sends(First, to, bytes, taken) => sends(first, place(begun, to), bytes, taken),
+            Sends(Second, to, bytes, taken) => sends(second, place(begun, to), bytes, taken),
+            Sends(Plain, to, bytes, taken) => plain_sends(plain, place(begun, to), bytes, taken),
+            Hears(First, from, bytes) => end_hears(first, packet, place(begun, from), bytes),
+            Hears(Second, from, bytes) => end_hears(second, packet, place(begun, from), bytes),
+            Hears(Plain, from, bytes) => plain_hears(plain, place(begun, from), bytes),
+            HearsOversize => hears_oversize(first, packet),
+            LastFailure(reason) => failed_for(first, reason),
+            Sends(..) | Hears(..) => false,
         }
     }
-    None
 }
-
-/// The same between two ends; the last number where there is no socket without one.
-fn wrong_between(
-    rt: &HostRuntime,
-    first: &mut SocketEnd<'_>,
-    second: &mut SocketEnd<'_>,
-    packet: &mut Packet,
-    steps: &[Step],
-) -> Option<usize> {
-    match UdpSocket::bind(rt, (Ipv4Addr::LOCALHOST, 0u16)) {
-        Ok(plain) => first_wrong(first, second, &plain, packet, steps),
-        Err(_) => Some(usize::MAX),
-    }
-}
-
-/// The same at an end; the last number where there is no other.
-fn wrong_at(
-    rt: &HostRuntime,
-    first: &mut SocketEnd<'_>,
-    packet: &mut Packet,
-    steps: &[Step],
-) -> Option<usize> {
-    match end_here(rt) {
-        Some(mut second) => wrong_between(rt, first, &mut second, packet, steps),
-        None => Some(usize::MAX),
-    }
-}
-
-/// The same at new sockets; the last number where there are none.
-fn wrong_step(rt: &HostRuntime, packet: &mut Packet, steps: &[Step]) -> Option<usize> {
-    match end_here(rt) {
-        Some(mut first) => wrong_at(rt, &mut first, packet, steps),
-        None => Some(usize::MAX),
-    }
-}
-
-/// A script by its name.
-type Script = (&'static str, &'static [Step]);
 
 // Datagrams wait at the socket, in order, while the other end is answered.
 const EXCHANGE: &[Step] = &[
@@ -265,22 +192,12 @@ const REFUSED: &[Step] = &[
 const BUFFER: &[Step] = &[Granted(425_984)];
 
 /// The scripts.
-const SCRIPTS: &[Script] = &[
-    ("two_ends_exchange_datagrams", EXCHANGE),
-    ("hears_1472_bytes_whole_and_1473_as_oversize", AT_THE_LIMIT),
-    ("hears_empty_and_longest_datagrams", EMPTY_AND_LONGEST),
-    ("sends_1472_bytes_whole", WHOLE),
-    ("sends_an_empty_datagram", EMPTY),
-    ("a_send_that_the_system_refuses_is_false", REFUSED),
-    ("a_send_buffer_is_asked_for", BUFFER),
+pub const SCRIPTS: &[AtSockets<Step>] = &[
+    AtSockets("two_ends_exchange_datagrams", EXCHANGE),
+    AtSockets("hears_1472_bytes_whole_and_1473_as_oversize", AT_THE_LIMIT),
+    AtSockets("hears_empty_and_longest_datagrams", EMPTY_AND_LONGEST),
+    AtSockets("sends_1472_bytes_whole", WHOLE),
+    AtSockets("sends_an_empty_datagram", EMPTY),
+    AtSockets("a_send_that_the_system_refuses_is_false", REFUSED),
+    AtSockets("a_send_buffer_is_asked_for", BUFFER),
 ];
-
-/// The first script with a call that is answered otherwise, and that call.
-pub fn wrong(rt: &HostRuntime, packet: &mut Packet) -> Option<(&'static str, usize)> {
-    for (name, steps) in SCRIPTS {
-        if let Some(at) = wrong_step(rt, packet, steps) {
-            return Some((*name, at));
-        }
-    }
-    None
-}

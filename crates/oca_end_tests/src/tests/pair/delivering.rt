@@ -3,11 +3,12 @@ use super::rows::Row::*;
 use super::rows::{ANSWERED, EXECUTED, Each, KEPT, Row, Seen};
 use super::schedules::{Case, ONE_LINK, Ran};
 use super::{A, B, DEVICE, GET};
+use crate::tests::play;
 use oca_control::{ControlFault, Reception};
 use oca_pair::{PairFault, law_answers, law_getting_through, law_never_old, law_round_trip};
 
 /// The laws, whose functions run nothing.
-pub fn laws() {
+fn laws() {
     law_answers();
     law_never_old();
     law_round_trip();
@@ -70,7 +71,7 @@ const OF_ANOTHER: Ran = Ran {
 };
 
 /// The schedules.
-pub const CASES: &[Case] = &[
+const CASES: &[Case] = &[
     // A command that comes twice is executed once and answered twice, and its link hears the first answer.
     Case {
         name: "a_duplicate_is_answered_once",
@@ -131,3 +132,9 @@ pub const CASES: &[Case] = &[
         want: Ok(OF_ANOTHER),
     },
 ];
+
+#[test]
+fn cases(rt: HostRuntime) {
+    laws();
+    play(&rt, &rt, CASES);
+}

@@ -3,6 +3,7 @@ use super::rows::Row::*;
 use super::rows::{ANSWERED, EXECUTED, Each, Row, STATE, Seen};
 use super::schedules::{Case, Network, ONE_LINK, Ran};
 use super::{A_PORT, B, DEVICE_PORT, GET};
+use crate::tests::play;
 use oca_device::Verdict;
 use oca_pair::PairFault;
 
@@ -77,7 +78,7 @@ const SEVENTEEN: Network = Network {
 };
 
 /// The schedules.
-pub const CASES: &[Case] = &[
+const CASES: &[Case] = &[
     // A device with sessions of one peer has no room for the link once another peer has the session.
     Case {
         name: "no_room_beside_one_peer",
@@ -132,3 +133,8 @@ pub const CASES: &[Case] = &[
         }),
     },
 ];
+
+#[test]
+fn cases(rt: HostRuntime) {
+    play(&rt, &rt, CASES);
+}

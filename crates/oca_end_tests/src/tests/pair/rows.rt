@@ -1,5 +1,6 @@
 //! Steps as data, each with what it must lead to.
 use super::KEEP_ALIVE;
+use crate::tests::Wanted;
 use oca_control::{ControlFault, Reception};
 use oca_device::Verdict;
 use oca_pair::{Outcome, Step};
@@ -107,24 +108,26 @@ fn is_verdict(verdict: Verdict, want: Seen) -> bool {
     }
 }
 
-/// Whether a step led to this.
-pub fn is_seen(outcome: &Outcome, want: Seen) -> bool {
-    match (outcome, want) {
-        (Outcome::Submitted(handle), Seen::Submitted(wanted)) => handle.0 == wanted,
-        (Outcome::Refused(fault), Seen::Refused(wanted)) => *fault == wanted,
-        (Outcome::Sent(number), Seen::Sent(wanted)) => *number == wanted,
-        (Outcome::Nothing, Seen::Nothing) => true,
-        (Outcome::Lost, Seen::Lost) => true,
-        (Outcome::Device(verdict), _) => is_verdict(*verdict, want),
-        (Outcome::Link(reception), Seen::Link(wanted)) => *reception == wanted,
-        (Outcome::Ticked, Seen::Ticked) => true,
-        (Outcome::Set, Seen::Set) => true,
-        (Outcome::NotSet(fault), Seen::NotSet(wanted)) => *fault == wanted,
-        (Outcome::Answer(answer), Seen::Answer(status, count, size)) => {
-            answer.status == status && answer.count == count && answer.params.len() == size
+impl Wanted<Outcome> for Seen {
+    /// Whether a step led to this.
+    fn is(&self, outcome: &Outcome) -> bool {
+        match (outcome, *self) {
+            (Outcome::Submitted(handle), Seen::Submitted(wanted)) => handle.0 == wanted,
+            (Outcome::Refused(fault), Seen::Refused(wanted)) => *fault == wanted,
+            (Outcome::Sent(number), Seen::Sent(wanted)) => *number == wanted,
+            (Outcome::Nothing, Seen::Nothing) => true,
+            (Outcome::Lost, Seen::Lost) => true,
+            (Outcome::Device(verdict), _) => is_verdict(*verdict, *self),
+            (Outcome::Link(reception), Seen::Link(wanted)) => *reception == wanted,
+            (Outcome::Ticked, Seen::Ticked) => true,
+            (Outcome::Set, Seen::Set) => true,
+            (Outcome::NotSet(fault), Seen::NotSet(wanted)) => *fault == wanted,
+            (Outcome::Answer(answer), Seen::Answer(status, count, size)) => {
+                answer.status == status && answer.count == count && answer.params.len() == size
+            }
+            (Outcome::NoAnswer, Seen::NoAnswer) => true,
+            _ => false,
         }
-        (Outcome::NoAnswer, Seen::NoAnswer) => true,
-        _ => false,
     }
 }
 
@@ -207,51 +210,53 @@ fn step_of(each: Each, number: u32) -> (Step<'static>, Seen) {
 
 /// The steps of a schedule, and what each must lead to.
 #[derive(Drop)]
-pub struct Script {
+pub struct Steps {
     pub steps: Vec<Step<'static>>,
     pub wants: Vec<Seen>,
 }
 
 /// Adds a step.
-fn add(script: &mut Script, step: (Step<'static>, Seen)) -> Option<()> {
+fn add(script: &mut Steps, step: (Step<'static>, Seen)) -> Option<()> {
     script.steps.push(step.0).ok()?;
     script.wants.push(step.1).ok()
 }
 
 /// Adds the steps of these numbers.
-fn add_each(script: &mut Script, each: Each, first: u32, end: u32) -> Option<()> {
+fn add_each(script: &mut Steps, each: Each, first: u32, end: u32) -> Option<()> {
     for number in first..end {
         add(script, step_of(each, number))?;
     }
     Some(())
 }
 
-/// Adds the steps of a row.
-fn add_row(script: &mut Script, row: Row) -> Option<()> {
+/// The step of a row, and what it must lead to; of many steps the first one.
+fn only_step(row: Row) -> (Step<'static>, Seen) {
     match row {
-        Row::Gets(now, want) => add(script, (get_state(0, now), want)),
-        Row::Unmutes(now, want) => add(script, (unmute(now), want)),
-        Row::Due(now, want) => add(script, (Step::Due { link: 0, now }, want)),
-        Row::ToDevice(k, now, want) => add(script, (Step::ToDevice { k, now }, want)),
-        Row::ToLink(k, now, want) => add(script, (Step::ToLink { k, now }, want)),
-        Row::Other(from, bytes, now, want) => add(script, (Step::Other { from, bytes, now }, want)),
-        Row::Sets(ono, value, want) => add(
-            script,
-            (
-                Step::Local {
-                    ono: Ono(ono),
-                    value,
-                },
-                want,
-            ),
-        ),
-        Row::Takes(handle, want) => add(script, (take(handle), want)),
+        Row::Gets(now, want) => (get_state(0, now), want),
+        Row::Unmutes(now, want) => (unmute(now), want),
+        Row::Due(now, want) => (Step::Due { link: 0, now }, want),
+        Row::ToDevice(k, now, want) => (Step::ToDevice { k, now }, want),
+        Row::ToLink(k, now, want) => (Step::ToLink { k, now }, want),
+        Row::Other(from, bytes, now, want) => (Step::Other { from, bytes, now }, want),
+        Row::Sets(ono, value, want) => {
+            let ono = Ono(ono);
+            (Step::Local { ono, value }, want)
+        }
+        Row::Takes(handle, want) => (take(handle), want),
+        Row::All(each, first, _) => step_of(each, first),
+    }
+}
+
+/// Adds the steps of a row.
+fn add_row(script: &mut Steps, row: Row) -> Option<()> {
+    match row {
         Row::All(each, first, end) => add_each(script, each, first, end),
+        other => add(script, only_step(other)),
     }
 }
 
 /// Adds the steps of the rows.
-fn add_rows(script: &mut Script, rows: &[Row]) -> Option<()> {
+fn add_rows(script: &mut Steps, rows: &[Row]) -> Option<()> {
     for row in rows {
         add_row(script, *row)?;
     }
@@ -259,7 +264,7 @@ fn add_rows(script: &mut Script, rows: &[Row]) -> Option<()> {
 }
 
 /// Adds the steps of these parts.
-fn add_parts(script: &mut Script, parts: &[&[Row]]) -> bool {
+fn add_parts(script: &mut Steps, parts: &[&[Row]]) -> bool {
     for rows in parts {
         if add_rows(script, rows).is_none() {
             return false;
@@ -269,8 +274,8 @@ fn add_parts(script: &mut Script, parts: &[&[Row]]) -> bool {
 }
 
 /// The steps of these parts.
-pub fn script_of(alloc: Global, parts: &[&[Row]]) -> Option<Script> {
-    let mut script = Script {
+pub fn script_of(alloc: Global, parts: &[&[Row]]) -> Option<Steps> {
+    let mut script = Steps {
         steps: Vec::new(alloc),
         wants: Vec::new(alloc),
     };

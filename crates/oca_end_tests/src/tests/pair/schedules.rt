@@ -1,9 +1,10 @@
 //! Networks with the bench device, and what schedules over them led to.
 use super::A_PORT;
-use super::rows::{Row, Script, Seen, is_seen, script_of};
-use oca_pair::{Outcome, PairFault, Start, Step, Transcript, run_pair, run_pair_with_sizes};
+use super::rows::{Row, Seen, Steps, script_of};
+use crate::tests::{Script, first_other, wrong_unless};
+use oca_pair::{PairFault, Start, Step, Transcript, run_pair, run_pair_with_sizes};
 use oca_tree::{Tree, bench};
-use oca_types::{Handle, LOOPBACK, Peer, Peers, Sizes, Span, Window};
+use oca_types::{Handle, LOOPBACK, Packet, Peer, Peers, Sizes, Span, Window};
 use std::alloc::Global;
 
 /// The sizes and the links of a network with the bench device.
@@ -107,20 +108,6 @@ fn run(
     }
 }
 
-/// The first step that led to something else.
-fn first_wrong(log: &[Outcome], wants: &[Seen]) -> Option<usize> {
-    for (at, (outcome, want)) in log.iter().zip(wants.iter()).enumerate() {
-        if !is_seen(outcome, *want) {
-            return Some(at);
-        }
-    }
-    if log.len() == wants.len() {
-        None
-    } else {
-        Some(log.len())
-    }
-}
-
 /// The last byte of the last datagram that was sent to a link.
 fn last_byte(transcript: &Transcript) -> Option<u8> {
     let sent = transcript.to_links.last()?;
@@ -129,7 +116,7 @@ fn last_byte(transcript: &Transcript) -> Option<u8> {
 
 /// Whether a run led to this.
 fn is_ran(transcript: &Transcript, wants: &[Seen], want: Ran) -> bool {
-    first_wrong(&transcript.log, wants) == want.wrong
+    first_other(transcript.log.as_slice(), wants) == want.wrong
         && transcript.to_device.len() == want.to_device
         && transcript.to_links.len() == want.to_links
         && last_byte(transcript) == want.last_byte
@@ -155,7 +142,7 @@ fn is_led_to(
 }
 
 /// Whether the script leads to what the case says over the bench device.
-fn leads(alloc: Global, case: &Case, starts: &[Start], script: &Script) -> bool {
+fn leads(alloc: Global, case: &Case, starts: &[Start], script: &Steps) -> bool {
     let Some(chosen) = sizes_of(&case.network) else {
         return false;
     };
@@ -176,18 +163,17 @@ fn is_so_from(alloc: Global, case: &Case, starts: &[Start]) -> bool {
     }
 }
 
-/// Whether the case is so.
-fn is_so(alloc: Global, case: &Case) -> bool {
-    let mut starts = Vec::new(alloc);
-    add_starts(&mut starts, case.network.starts) && is_so_from(alloc, case, starts.as_slice())
-}
-
-/// The first case that is otherwise, and its place.
-pub fn wrong_case(alloc: Global, cases: &[Case]) -> Option<(&'static str, usize)> {
-    for (at, case) in cases.iter().enumerate() {
-        if !is_so(alloc, case) {
-            return Some((case.name, at));
-        }
+impl Script for Case {
+    /// The name.
+    fn name(&self) -> &'static str {
+        self.name
     }
-    None
+
+    /// Whether it leads to something else.
+    fn wrong_step(&self, rt: &HostRuntime, _packet: &mut Packet) -> Option<usize> {
+        let mut starts = Vec::new(rt.alloc());
+        let is_so = add_starts(&mut starts, self.network.starts)
+            && is_so_from(rt.alloc(), self, starts.as_slice());
+        wrong_unless(is_so)
+    }
 }

@@ -2,8 +2,10 @@
 use super::rows::Row::*;
 use super::rows::{EXECUTED, Each, Row, Seen};
 use super::schedules::{Case, Network, ONE_LINK, Ran};
+use crate::tests::{Row as Agrees, first_wrong, none_wrong, play};
 use oca_pair::PairFault;
 use oca_tree::{MuteState, SetFault, Value};
+use std::alloc::Global;
 
 const CHANGES: &[Row] = &[
     Sets(4097, Value::Mute(MuteState::Unmuted), Seen::Set),
@@ -27,24 +29,24 @@ const NO_LINKS: Network = Network {
 };
 
 /// A fault, and its number.
-const FAULTS: &[(PairFault, u8)] = &[
-    (PairFault::NoMemory, 1),
-    (PairFault::BadStep(7), 2),
-    (PairFault::SamePeer, 3),
-];
+struct Numbered(PairFault, u8);
 
-/// The first fault with another number.
-pub fn first_wrong() -> Option<(&'static str, usize)> {
-    for (at, (fault, number)) in FAULTS.iter().enumerate() {
-        if fault.number() != *number {
-            return Some(("numbers_of_faults", at));
-        }
+impl Agrees for Numbered {
+    /// Whether it has this number.
+    fn agrees(&self, _alloc: Global) -> bool {
+        self.0.number() == self.1
     }
-    None
 }
 
+/// The faults.
+const FAULTS: &[Numbered] = &[
+    Numbered(PairFault::NoMemory, 1),
+    Numbered(PairFault::BadStep(7), 2),
+    Numbered(PairFault::SamePeer, 3),
+];
+
 /// The schedules.
-pub const CASES: &[Case] = &[
+const CASES: &[Case] = &[
     // A change at the device's front is seen by the next command, and a refused one changes nothing.
     Case {
         name: "a_local_change",
@@ -72,3 +74,9 @@ pub const CASES: &[Case] = &[
         }),
     },
 ];
+
+#[test]
+fn cases(rt: HostRuntime) {
+    play(&rt, &rt, CASES);
+    none_wrong(&rt, "numbers_of_faults", &[first_wrong(rt.alloc(), FAULTS)]);
+}

@@ -166,17 +166,9 @@ fn wrong_at(rt: &HostRuntime, device_end: &mut SocketEnd<'_>) -> Option<usize> {
 }
 
 /// The same at new ends; the last number where there are none.
-fn wrong_step(rt: &HostRuntime) -> Option<usize> {
+pub fn wrong_step(rt: &HostRuntime) -> Option<usize> {
     match UdpEnd::bind(rt.alloc(), rt, LOCALHOST, 0) {
         Ok(mut device_end) => wrong_at(rt, &mut device_end),
         Err(_) => Some(usize::MAX),
-    }
-}
-
-/// The first step that comes out otherwise.
-pub fn wrong(rt: &HostRuntime) -> Option<(&'static str, usize)> {
-    match wrong_step(rt) {
-        Some(at) => Some(("a_device_and_a_link_turn_by_turn", at)),
-        None => None,
     }
 }

@@ -3,6 +3,7 @@ use super::A_PORT;
 use super::rows::Row::*;
 use super::rows::{ANSWERED, EXECUTED, Each, KEPT, OLD, Row, STATE, Seen};
 use super::schedules::{Case, Network, ONE_LINK, Ran};
+use crate::tests::play;
 use oca_control::ControlFault;
 
 /// A link of A with a span of 2, and a window of 3.
@@ -52,7 +53,7 @@ const SIXTEEN: &[Row] = &[
 ];
 
 /// The schedules.
-pub const CASES: &[Case] = &[
+const CASES: &[Case] = &[
     // Window 3 has the duplicate of command 2, where the span is 2.
     Case {
         name: "the_smallest_window",
@@ -93,3 +94,8 @@ pub const CASES: &[Case] = &[
         }),
     },
 ];
+
+#[test]
+fn cases(rt: HostRuntime) {
+    play(&rt, &rt, CASES);
+}

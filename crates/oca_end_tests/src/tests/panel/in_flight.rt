@@ -1,18 +1,11 @@
 //! Several commands in flight, and how they come out in the order in which they were begun.
-use super::{Answer, DEVICE, end, panel};
+use super::{Answer, Asked, Over};
 use oca_control::{ControlFault, Outcome};
 use oca_model::{MuteState, Value, set_request};
 use oca_net::MemoryEnd;
 use oca_panel::{InFlight, Panel, done_in};
-use oca_types::{Handle, Ono, Span};
+use oca_types::{Handle, Ono};
 use std::alloc::Global;
-
-/// What is answered to the first command and to the second, OK or BadONo, and the statuses with which they come out.
-const ROWS: &[(&[Answer], [u8; 2])] = &[
-    (&[(0, 0, &[]), (0, 0, &[])], [0, 0]),
-    (&[(0, 0, &[]), (5, 0, &[])], [0, 5]),
-    (&[(5, 0, &[]), (0, 0, &[])], [5, 0]),
-];
 
 /// Whether it is this command, and its answer has this status.
 fn is_answered(first: Option<(u8, Outcome)>, command: u8, status: u8) -> bool {
@@ -58,34 +51,50 @@ fn finishes(panel: &mut Panel<MemoryEnd>, in_flight: &mut InFlight<u8>, statuses
         && in_flight.finish_first(panel).is_none()
 }
 
-/// Both commands come out of a panel with these statuses.
-fn comes_out_of(panel: &mut Panel<MemoryEnd>, statuses: [u8; 2]) -> bool {
-    let mut in_flight = InFlight::new();
-    begins(panel, &mut in_flight)
-        && !panel.link().is_lost()
-        && finishes(panel, &mut in_flight, statuses)
-}
+/// The statuses with which two commands come out, OK or BadONo.
+pub struct Statuses([u8; 2]);
 
-/// The same of a panel over a new end, with this span.
-fn comes_out(alloc: Global, span: Span, answers: &[Answer], statuses: [u8; 2]) -> bool {
-    match end(alloc, answers) {
-        Some(end) => {
-            let mut panel = Panel::open(DEVICE, end, Handle(7), span, 10);
-            comes_out_of(&mut panel, statuses)
-        }
-        None => false,
+impl Asked for Statuses {
+    /// Whether both commands come out so.
+    fn comes_out(&self, _alloc: Global, panel: &mut Panel<MemoryEnd>) -> bool {
+        let mut in_flight = InFlight::new();
+        begins(panel, &mut in_flight)
+            && !panel.link().is_lost()
+            && finishes(panel, &mut in_flight, self.0)
     }
 }
 
+/// What is answered to the first command and to the second over a panel with a span of 2.
+pub const ROWS: &[Over<Statuses>] = &[
+    Over {
+        answers: &[(0, 0, &[]), (0, 0, &[])],
+        turns: 10,
+        span: Some(2),
+        asked: Statuses([0, 0]),
+    },
+    Over {
+        answers: &[(0, 0, &[]), (5, 0, &[])],
+        turns: 10,
+        span: Some(2),
+        asked: Statuses([0, 5]),
+    },
+    Over {
+        answers: &[(5, 0, &[]), (0, 0, &[])],
+        turns: 10,
+        span: Some(2),
+        asked: Statuses([5, 0]),
+    },
+];
+
 /// The example of the queue's doc comment: which of two mutes was refused last.
-fn mutes(mut panel: Panel<MemoryEnd>) -> Result<Option<u32>, ControlFault> {
+fn mutes(panel: &mut Panel<MemoryEnd>) -> Result<Option<u32>, ControlFault> {
     let mut in_flight = InFlight::new();
     let mute = set_request(Value::Mute(MuteState::Muted));
     for channel in [4097, 4098] {
-        in_flight.begin_behind(&mut panel, mute.of(Ono(channel)), channel)?;
+        in_flight.begin_behind(panel, mute.of(Ono(channel)), channel)?;
     }
     let mut refused = None;
-    while let Some((channel, outcome)) = in_flight.finish_first(&mut panel) {
+    while let Some((channel, outcome)) = in_flight.finish_first(panel) {
         if done_in(&outcome).is_err() {
             refused = Some(channel);
         }
@@ -96,27 +105,20 @@ fn mutes(mut panel: Panel<MemoryEnd>) -> Result<Option<u32>, ControlFault> {
 /// The answers to two commands, of which the second is refused.
 const SECOND_REFUSED: &[Answer] = &[(0, 0, &[]), (5, 0, &[])];
 
-/// Whether the second mute is refused where its answer says so.
-fn is_as_documented(alloc: Global) -> bool {
-    match panel(alloc, SECOND_REFUSED) {
-        Some(panel) => mutes(panel) == Ok(Some(4098)),
-        None => false,
+/// Which of the mutes is refused last.
+pub struct LastRefused(Option<u32>);
+
+impl Asked for LastRefused {
+    /// Whether it is the one that its answer refuses.
+    fn comes_out(&self, _alloc: Global, panel: &mut Panel<MemoryEnd>) -> bool {
+        mutes(panel) == Ok(self.0)
     }
 }
 
-/// The first row that comes out otherwise; the last number where the example does.
-pub fn first_wrong(alloc: Global) -> Option<(&'static str, usize)> {
-    let Some(span) = Span::new(2) else {
-        return Some(("commands in flight", usize::MAX));
-    };
-    for (at, (answers, statuses)) in ROWS.iter().enumerate() {
-        if !comes_out(alloc, span, answers, *statuses) {
-            return Some(("commands in flight", at));
-        }
-    }
-    if is_as_documented(alloc) {
-        None
-    } else {
-        Some(("commands in flight", usize::MAX))
-    }
-}
+/// The second mute is refused where its answer says so.
+pub const DOCUMENTED: &[Over<LastRefused>] = &[Over {
+    answers: SECOND_REFUSED,
+    turns: 10,
+    span: None,
+    asked: LastRefused(Some(4098)),
+}];

@@ -1,6 +1,6 @@
 //! What is asked of one object: the commands that are sent, the answers, and what is made of them.
 use super::{Answer, panel};
-use crate::tests::reads;
+use crate::tests::{Row, Wanted, Words, first_other, first_wrong, none_wrong};
 use oca_control::ControlFault;
 use oca_model::{MuteState, Ranged, Reading, Value};
 use oca_net::MemoryEnd;
@@ -11,7 +11,7 @@ use std::alloc::Global;
 const OBJECT: Ono = Ono(4097);
 
 /// What is asked, and what comes of it.
-enum Asked {
+enum Asks {
     Class(Class),
     Fields(&'static [u16]),
     Get(Value),
@@ -32,10 +32,10 @@ enum Asked {
 
 /// What is asked, the answers, and what is sent: of each command its handle, its target, its method, ParamCount and its
 /// parameters.
-struct Row {
-    asked: Asked,
+struct Exchange {
+    asked: Asks,
     answers: &'static [Answer],
-    sent: &'static [&'static [u8]],
+    sent: &'static [Sent],
 }
 
 /// The answer to GetClassIdentification of an OcaMute: 1.1.1.2, version 2.
@@ -47,114 +47,136 @@ const INT16: Answer = (0, 1, &[0, 5, 0, 1, 0, 1, 0, 1, 0, 1, 0, 3, 0, 2]);
 /// GetClassIdentification of 4097, under the handle 7.
 const CLASS_ASKED: &[u8] = &[0, 0, 0, 7, 0, 0, 0x10, 1, 0, 1, 0, 1, 0];
 
-const ROWS: &[Row] = &[
-    Row {
-        asked: Asked::Class(Class::Mute),
+/// What an object is, what it has, and what it is set to.
+const VALUES: &[Exchange] = &[
+    Exchange {
+        asked: Asks::Class(Class::Mute),
         answers: &[MUTE],
-        sent: &[CLASS_ASKED],
+        sent: &[Sent(CLASS_ASKED)],
     },
-    Row {
-        asked: Asked::Fields(&[1, 1, 1, 9]),
+    Exchange {
+        asked: Asks::Fields(&[1, 1, 1, 9]),
         answers: &[(0, 1, &[0, 4, 0, 1, 0, 1, 0, 1, 0, 9, 0, 2])],
-        sent: &[CLASS_ASKED],
+        sent: &[Sent(CLASS_ASKED)],
     },
-    Row {
-        asked: Asked::Get(Value::Mute(MuteState::Unmuted)),
+    Exchange {
+        asked: Asks::Get(Value::Mute(MuteState::Unmuted)),
         answers: &[MUTE, (0, 1, &[2])],
-        sent: &[CLASS_ASKED, &[0, 0, 0, 8, 0, 0, 0x10, 1, 0, 4, 0, 1, 0]],
+        sent: &[
+            Sent(CLASS_ASKED),
+            Sent(&[0, 0, 0, 8, 0, 0, 0x10, 1, 0, 4, 0, 1, 0]),
+        ],
     },
-    Row {
-        asked: Asked::Reads(Reading::Int16(Ranged {
+    Exchange {
+        asked: Asks::Reads(Reading::Int16(Ranged {
             setting: -60,
             least: -800,
             greatest: 100,
         })),
         answers: &[INT16, (0, 3, &[0xff, 0xc4, 0xfc, 0xe0, 0, 100])],
-        sent: &[CLASS_ASKED, &[0, 0, 0, 8, 0, 0, 0x10, 1, 0, 5, 0, 1, 0]],
-    },
-    Row {
-        asked: Asked::Set(Value::Int16(-60)),
-        answers: &[(0, 0, &[])],
-        sent: &[&[0, 0, 0, 7, 0, 0, 0x10, 1, 0, 5, 0, 2, 1, 0xff, 0xc4]],
-    },
-    Row {
-        asked: Asked::TwoSets(Value::Mute(MuteState::Muted), Value::Switch(3)),
-        answers: &[(0, 0, &[]), (0, 0, &[])],
         sent: &[
-            &[0, 0, 0, 7, 0, 0, 0x10, 1, 0, 4, 0, 2, 1, 1],
-            &[0, 0, 0, 8, 0, 0, 0x10, 1, 0, 4, 0, 2, 1, 0, 3],
+            Sent(CLASS_ASKED),
+            Sent(&[0, 0, 0, 8, 0, 0, 0x10, 1, 0, 5, 0, 1, 0]),
         ],
     },
-    Row {
-        asked: Asked::Lock,
+    Exchange {
+        asked: Asks::Set(Value::Int16(-60)),
         answers: &[(0, 0, &[])],
-        sent: &[&[0, 0, 0, 7, 0, 0, 0x10, 1, 0, 1, 0, 3, 0]],
+        sent: &[Sent(&[0, 0, 0, 7, 0, 0, 0x10, 1, 0, 5, 0, 2, 1, 0xff, 0xc4])],
     },
-    Row {
-        asked: Asked::Unlock,
+    Exchange {
+        asked: Asks::TwoSets(Value::Mute(MuteState::Muted), Value::Switch(3)),
+        answers: &[(0, 0, &[]), (0, 0, &[])],
+        sent: &[
+            Sent(&[0, 0, 0, 7, 0, 0, 0x10, 1, 0, 4, 0, 2, 1, 1]),
+            Sent(&[0, 0, 0, 8, 0, 0, 0x10, 1, 0, 4, 0, 2, 1, 0, 3]),
+        ],
+    },
+];
+
+/// Locks, and what every object has.
+const LOCKS_AND_LABELS: &[Exchange] = &[
+    Exchange {
+        asked: Asks::Lock,
         answers: &[(0, 0, &[])],
-        sent: &[&[0, 0, 0, 7, 0, 0, 0x10, 1, 0, 1, 0, 4, 0]],
+        sent: &[Sent(&[0, 0, 0, 7, 0, 0, 0x10, 1, 0, 1, 0, 3, 0])],
     },
-    Row {
-        asked: Asked::Label("Ü"),
+    Exchange {
+        asked: Asks::Unlock,
+        answers: &[(0, 0, &[])],
+        sent: &[Sent(&[0, 0, 0, 7, 0, 0, 0x10, 1, 0, 1, 0, 4, 0])],
+    },
+    Exchange {
+        asked: Asks::Label("Ü"),
         answers: &[(0, 1, &[0, 1, 0xc3, 0x9c])],
-        sent: &[&[0, 0, 0, 7, 0, 0, 0x10, 1, 0, 2, 0, 8, 0]],
+        sent: &[Sent(&[0, 0, 0, 7, 0, 0, 0x10, 1, 0, 2, 0, 8, 0])],
     },
-    Row {
-        asked: Asked::SetLabel("Mic"),
+    Exchange {
+        asked: Asks::SetLabel("Mic"),
         answers: &[(0, 0, &[])],
-        sent: &[&[
+        sent: &[Sent(&[
             0, 0, 0, 7, 0, 0, 0x10, 1, 0, 2, 0, 9, 1, 0, 3, b'M', b'i', b'c',
-        ]],
+        ])],
     },
-    Row {
-        asked: Asked::Role("A"),
+    Exchange {
+        asked: Asks::Role("A"),
         answers: &[(0, 1, &[0, 1, b'A'])],
-        sent: &[&[0, 0, 0, 7, 0, 0, 0x10, 1, 0, 1, 0, 5, 0]],
+        sent: &[Sent(&[0, 0, 0, 7, 0, 0, 0x10, 1, 0, 1, 0, 5, 0])],
     },
-    Row {
-        asked: Asked::Enabled(true),
+    Exchange {
+        asked: Asks::Enabled(true),
         answers: &[(0, 1, &[1])],
-        sent: &[&[0, 0, 0, 7, 0, 0, 0x10, 1, 0, 2, 0, 1, 0]],
+        sent: &[Sent(&[0, 0, 0, 7, 0, 0, 0x10, 1, 0, 2, 0, 1, 0])],
     },
-    Row {
-        asked: Asked::Members(&[4098]),
+];
+
+/// Lists and names of positions.
+const LISTS: &[Exchange] = &[
+    Exchange {
+        asked: Asks::Members(&[4098]),
         answers: &[(
             0,
             1,
             &[0, 1, 0, 0, 0x10, 2, 0, 4, 0, 1, 0, 1, 0, 1, 0, 2, 0, 2],
         )],
-        sent: &[&[0, 0, 0, 7, 0, 0, 0x10, 1, 0, 3, 0, 5, 0]],
+        sent: &[Sent(&[0, 0, 0, 7, 0, 0, 0x10, 1, 0, 3, 0, 5, 0])],
     },
-    Row {
-        asked: Asked::Name(258, "B"),
+    Exchange {
+        asked: Asks::Name(258, "B"),
         answers: &[(0, 1, &[0, 1, b'B'])],
-        sent: &[&[0, 0, 0, 7, 0, 0, 0x10, 1, 0, 4, 0, 3, 1, 1, 2]],
+        sent: &[Sent(&[0, 0, 0, 7, 0, 0, 0x10, 1, 0, 4, 0, 3, 1, 1, 2])],
     },
-    Row {
-        asked: Asked::Names(&["", "B"]),
+    Exchange {
+        asked: Asks::Names(&["", "B"]),
         answers: &[(0, 1, &[0, 2, 0, 0, 0, 1, b'B'])],
-        sent: &[&[0, 0, 0, 7, 0, 0, 0x10, 1, 0, 4, 0, 5, 0]],
+        sent: &[Sent(&[0, 0, 0, 7, 0, 0, 0x10, 1, 0, 4, 0, 5, 0])],
     },
-    Row {
-        asked: Asked::Fails(Trouble::Refused(3)),
+];
+
+/// Where no value is given, and why.
+const FAILURES: &[Exchange] = &[
+    Exchange {
+        asked: Asks::Fails(Trouble::Refused(3)),
         answers: &[(3, 0, &[])],
-        sent: &[CLASS_ASKED],
+        sent: &[Sent(CLASS_ASKED)],
     },
-    Row {
-        asked: Asked::Fails(Trouble::Unreadable),
+    Exchange {
+        asked: Asks::Fails(Trouble::Unreadable),
         answers: &[MUTE, (0, 1, &[9])],
-        sent: &[CLASS_ASKED, &[0, 0, 0, 8, 0, 0, 0x10, 1, 0, 4, 0, 1, 0]],
+        sent: &[
+            Sent(CLASS_ASKED),
+            Sent(&[0, 0, 0, 8, 0, 0, 0x10, 1, 0, 4, 0, 1, 0]),
+        ],
     },
-    Row {
-        asked: Asked::Fails(Trouble::NoValue),
+    Exchange {
+        asked: Asks::Fails(Trouble::NoValue),
         answers: &[(0, 1, &[0, 3, 0, 1, 0, 1, 0, 3, 0, 2])],
-        sent: &[CLASS_ASKED],
+        sent: &[Sent(CLASS_ASKED)],
     },
-    Row {
-        asked: Asked::Fails(Trouble::Unanswered),
+    Exchange {
+        asked: Asks::Fails(Trouble::Unanswered),
         answers: &[],
-        sent: &[CLASS_ASKED],
+        sent: &[Sent(CLASS_ASKED)],
     },
 ];
 
@@ -177,105 +199,133 @@ fn sets_both(panel: &mut Panel<MemoryEnd>, first: Value, second: Value) -> bool 
     panel.finish_set(one) == Ok(()) && panel.finish_set(two) == Ok(())
 }
 
-/// Whether the names are these.
-fn are_names(names: &[Text], expected: &[&str]) -> bool {
-    for (name, wanted) in names.iter().zip(expected.iter()) {
-        if name.as_str() != *wanted {
-            return false;
-        }
-    }
-    names.len() == expected.len()
-}
-
-/// Whether what is asked comes out so.
-fn comes_out(panel: &mut Panel<MemoryEnd>, asked: &Asked) -> bool {
-    match asked {
-        Asked::Class(class) => panel.class(OBJECT) == Ok(*class),
-        Asked::Fields(fields) => match panel.class_fields(OBJECT) {
-            Ok(read) => read.as_slice() == *fields,
-            Err(_) => false,
-        },
-        Asked::Get(value) => panel.get(OBJECT) == Ok(*value),
-        Asked::Reads(reading) => panel.reading(OBJECT) == Ok(*reading),
-        Asked::Set(value) => panel.set(OBJECT, *value) == Ok(()),
-        Asked::TwoSets(first, second) => sets_both(panel, *first, *second),
-        Asked::Lock => panel.lock(OBJECT) == Ok(()),
-        Asked::Unlock => panel.unlock(OBJECT) == Ok(()),
-        Asked::Label(label) => is_text(panel.label(OBJECT), label),
-        Asked::SetLabel(label) => match Text::new(label) {
-            Some(label) => panel.set_label(OBJECT, label) == Ok(()),
-            None => false,
-        },
-        Asked::Role(role) => is_text(panel.role(OBJECT), role),
-        Asked::Enabled(enabled) => panel.enabled(OBJECT) == Ok(*enabled),
-        Asked::Members(members) => match panel.members(OBJECT) {
-            Ok(read) => read.as_slice() == *members,
-            Err(_) => false,
-        },
-        Asked::Name(position, name) => is_text(panel.position_name(OBJECT, *position), name),
-        Asked::Names(names) => match panel.position_names(OBJECT) {
-            Ok(read) => are_names(read.as_slice(), names),
-            Err(_) => false,
-        },
-        Asked::Fails(trouble) => panel.get(OBJECT) == Err(*trouble),
+impl Wanted<Text> for &'static str {
+    /// Whether it is this text.
+    fn is(&self, found: &Text) -> bool {
+        found.as_str() == *self
     }
 }
 
-/// Whether just these commands were sent, each behind a head of 14 bytes.
-fn were_sent(taken: &[(Peer, Packet)], sent: &[&[u8]]) -> bool {
-    for (one, command) in taken.iter().zip(sent.iter()) {
-        let packet = one.1.as_slice();
-        if !packet.ends_with(command) || packet.len() != command.len().saturating_add(14) {
-            return false;
-        }
-    }
-    taken.len() == sent.len()
-}
-
-/// Whether the row is as expected over a panel.
-fn is_so_over(panel: &mut Panel<MemoryEnd>, row: &Row) -> bool {
-    comes_out(panel, &row.asked) && were_sent(panel.end().taken(), row.sent)
-}
-
-/// Whether the row is as expected.
-fn is_so(alloc: Global, row: &Row) -> bool {
-    match panel(alloc, row.answers) {
-        Some(mut panel) => is_so_over(&mut panel, row),
+/// Sets a label.
+fn sets_label(panel: &mut Panel<MemoryEnd>, label: &str) -> bool {
+    match Text::new(label) {
+        Some(label) => panel.set_label(OBJECT, label) == Ok(()),
         None => false,
     }
 }
 
-/// The first row that is otherwise.
-pub fn first_wrong(alloc: Global) -> Option<(&'static str, usize)> {
-    for (at, row) in ROWS.iter().enumerate() {
-        if !is_so(alloc, row) {
-            return Some(("objects", at));
+/// Whether an object has the fields of this class.
+fn has_fields(panel: &mut Panel<MemoryEnd>, fields: &[u16]) -> bool {
+    match panel.class_fields(OBJECT) {
+        Ok(read) => read.as_slice() == fields,
+        Err(_) => false,
+    }
+}
+
+/// Whether a block has these members.
+fn has_members(panel: &mut Panel<MemoryEnd>, members: &[u32]) -> bool {
+    match panel.members(OBJECT) {
+        Ok(read) => read.as_slice() == members,
+        Err(_) => false,
+    }
+}
+
+/// Whether a switch has these names.
+fn has_names(panel: &mut Panel<MemoryEnd>, names: &[&'static str]) -> bool {
+    match panel.position_names(OBJECT) {
+        Ok(read) => first_other(read.as_slice(), names).is_none(),
+        Err(_) => false,
+    }
+}
+
+/// Whether what is asked comes out so.
+fn comes_out(panel: &mut Panel<MemoryEnd>, asked: &Asks) -> bool {
+    match asked {
+        Asks::Class(class) => panel.class(OBJECT) == Ok(*class),
+        Asks::Get(value) => panel.get(OBJECT) == Ok(*value),
+        Asks::Reads(reading) => panel.reading(OBJECT) == Ok(*reading),
+        Asks::Enabled(enabled) => panel.enabled(OBJECT) == Ok(*enabled),
+        Asks::Fails(trouble) => panel.get(OBJECT) == Err(*trouble),
+        _ => is_done(panel, asked) || is_told(panel, asked),
+    }
+}
+
+/// Whether what is asked changes something, and is done.
+fn is_done(panel: &mut Panel<MemoryEnd>, asked: &Asks) -> bool {
+    match asked {
+        Asks::Set(value) => panel.set(OBJECT, *value) == Ok(()),
+        Asks::TwoSets(first, second) => sets_both(panel, *first, *second),
+        Asks::Lock => panel.lock(OBJECT) == Ok(()),
+        Asks::Unlock => panel.unlock(OBJECT) == Ok(()),
+        Asks::SetLabel(label) => sets_label(panel, label),
+        _ => false,
+    }
+}
+
+/// Whether what is asked has a text or a list as an answer, and is told so.
+fn is_told(panel: &mut Panel<MemoryEnd>, asked: &Asks) -> bool {
+    match asked {
+        Asks::Fields(fields) => has_fields(panel, fields),
+        Asks::Label(label) => is_text(panel.label(OBJECT), label),
+        Asks::Role(role) => is_text(panel.role(OBJECT), role),
+        Asks::Members(members) => has_members(panel, members),
+        Asks::Name(position, name) => is_text(panel.position_name(OBJECT, *position), name),
+        Asks::Names(names) => has_names(panel, names),
+        _ => false,
+    }
+}
+
+/// A command that is sent, behind a head of 14 bytes.
+struct Sent(&'static [u8]);
+
+impl Wanted<(Peer, Packet)> for Sent {
+    /// Whether just this was sent.
+    fn is(&self, found: &(Peer, Packet)) -> bool {
+        let packet = found.1.as_slice();
+        packet.ends_with(self.0) && packet.len() == self.0.len().saturating_add(14)
+    }
+}
+
+impl Row for Exchange {
+    /// Whether what is asked of a panel comes out so, and just this is sent.
+    fn agrees(&self, alloc: Global) -> bool {
+        match panel(alloc, self.answers, 10, None) {
+            Some(mut panel) => {
+                comes_out(&mut panel, &self.asked)
+                    && first_other(panel.end().taken(), self.sent).is_none()
+            }
+            None => false,
         }
     }
-    None
 }
 
 /// What is not done, as a text.
-const TEXTS: &[(Trouble, &str)] = &[
-    (Trouble::Refused(3), "Locked"),
-    (Trouble::Refused(200), "status 200"),
-    (Trouble::Unreadable, "unreadable answer"),
-    (Trouble::NoValue, "no value"),
-    (Trouble::NoSuchWord, "no such value"),
-    (
+const TEXTS: &[Words<Trouble>] = &[
+    Words(Trouble::Refused(3), "Locked"),
+    Words(Trouble::Refused(200), "status 200"),
+    Words(Trouble::Unreadable, "unreadable answer"),
+    Words(Trouble::NoValue, "no value"),
+    Words(Trouble::NoSuchWord, "no such value"),
+    Words(
         Trouble::NotSubmitted(ControlFault::HandlesSpent),
         "not sent: no handle is left",
     ),
-    (Trouble::Lost, "lost"),
-    (Trouble::Unanswered, "no answer"),
+    Words(Trouble::Lost, "lost"),
+    Words(Trouble::Unanswered, "no answer"),
 ];
 
-/// The first text that is another: an error names the device's status.
-pub fn first_other_text(alloc: Global) -> Option<(&'static str, usize)> {
-    for (at, (trouble, text)) in TEXTS.iter().enumerate() {
-        if !reads(alloc, trouble, text) {
-            return Some(("texts", at));
-        }
-    }
-    None
+#[test]
+fn exchanges(rt: HostRuntime) {
+    let alloc = rt.alloc();
+    none_wrong(
+        &rt,
+        "objects",
+        &[
+            first_wrong(alloc, VALUES),
+            first_wrong(alloc, LOCKS_AND_LABELS),
+            first_wrong(alloc, LISTS),
+            first_wrong(alloc, FAILURES),
+        ],
+    );
+    none_wrong(&rt, "texts", &[first_wrong(alloc, TEXTS)]);
 }

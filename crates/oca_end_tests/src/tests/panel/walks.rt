@@ -1,5 +1,5 @@
 //! A walk through a device, some of whose objects refuse, and one of whose blocks lists its own container.
-use super::{Answer, panel};
+use super::{Answer, Asked, Over};
 use oca_net::MemoryEnd;
 use oca_panel::{Found, Panel, Trouble, Walk};
 use std::alloc::Global;
@@ -55,64 +55,59 @@ fn letter(found: &Found) -> u8 {
     }
 }
 
-/// Whether a walk finds this next.
-fn finds_next(walk: &mut Walk, panel: &mut Panel<MemoryEnd>, step: (u8, u32, u32)) -> bool {
-    match walk.next(panel) {
-        Ok(Some(visit)) => {
-            letter(&visit.found) == step.0
-                && visit.place.ono.0 == step.1
-                && visit.place.container.0 == step.2
-        }
-        _ => false,
-    }
-}
+/// What stands for the end of a walk.
+const OVER: (u8, u32, u32) = (b'.', 0, 0);
 
-/// Whether a walk is over.
-fn is_over(walk: &mut Walk, panel: &mut Panel<MemoryEnd>) -> bool {
+/// What a walk finds next.
+fn next_step(walk: &mut Walk, panel: &mut Panel<MemoryEnd>) -> (u8, u32, u32) {
     match walk.next(panel) {
-        Ok(None) => !walk.is_unfinished(),
-        _ => false,
+        Ok(Some(visit)) => (
+            letter(&visit.found),
+            visit.place.ono.0,
+            visit.place.container.0,
+        ),
+        Ok(None) => OVER,
+        Err(_) => (b'?', 0, 0),
     }
 }
 
 /// Whether a walk finds just this.
 fn finds_all(walk: &mut Walk, panel: &mut Panel<MemoryEnd>, steps: &[(u8, u32, u32)]) -> bool {
     for step in steps {
-        if !finds_next(walk, panel, *step) {
+        if next_step(walk, panel) != *step {
             return false;
         }
     }
-    is_over(walk, panel)
+    next_step(walk, panel) == OVER && !walk.is_unfinished()
 }
 
-/// Whether a walk over a panel finds just this, and asks so often.
-fn finds_over(
-    alloc: Global,
-    panel: &mut Panel<MemoryEnd>,
-    steps: &[(u8, u32, u32)],
-    asked: usize,
-) -> bool {
-    match Walk::new(alloc) {
-        Ok(mut walk) => finds_all(&mut walk, panel, steps) && panel.end().taken().len() == asked,
-        Err(_) => false,
-    }
-}
+/// What a walk finds, and how many commands it asks.
+pub struct Finds(Steps, usize);
 
-/// Whether a walk finds just this, and asks each object once.
-fn finds(alloc: Global, answers: &[Answer], steps: &[(u8, u32, u32)]) -> bool {
-    match panel(alloc, answers) {
-        Some(mut panel) => finds_over(alloc, &mut panel, steps, answers.len()),
-        None => false,
+impl Asked for Finds {
+    /// Whether a walk finds just this, and asks so often.
+    fn comes_out(&self, alloc: Global, panel: &mut Panel<MemoryEnd>) -> bool {
+        match Walk::new(alloc) {
+            Ok(mut walk) => {
+                finds_all(&mut walk, panel, self.0) && panel.end().taken().len() == self.1
+            }
+            Err(_) => false,
+        }
     }
 }
 
-/// The first walk that finds something else.
-pub fn first_wrong(alloc: Global) -> Option<(&'static str, usize)> {
-    if !finds(alloc, ANSWERS, STEPS) {
-        return Some(("walks", 0));
-    }
-    if !finds(alloc, OTHERS, OTHER_STEPS) {
-        return Some(("walks", 1));
-    }
-    None
-}
+/// The walks ask each object once.
+pub const WALKS: &[Over<Finds>] = &[
+    Over {
+        answers: ANSWERS,
+        turns: 10,
+        span: None,
+        asked: Finds(STEPS, ANSWERS.len()),
+    },
+    Over {
+        answers: OTHERS,
+        turns: 10,
+        span: None,
+        asked: Finds(OTHER_STEPS, OTHERS.len()),
+    },
+];

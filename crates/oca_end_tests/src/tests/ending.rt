@@ -1,0 +1,130 @@
+//! What ends in memory deliver, and what they took.
+ghost use Rattle.std.specs.Prelude.{IsTrue};
+
+use super::Wanted;
+use super::control::{DEVICE, response};
+use oca_net::{End, MemoryEnd, Scripted};
+use oca_types::{Packet, Peer};
+use std::alloc::Global;
+
+/// An entry of what an end delivers.
+#[derive(Clone, Copy)]
+pub enum Entry {
+    /// Bytes of a peer at a moment.
+    Datagram(Peer, &'static [u8], u64),
+    /// The device's response to the command of a handle, at a moment.
+    Response(u8, u64),
+    /// Silence at a moment.
+    Quiet(u64),
+    /// A receive that fails.
+    Failed,
+}
+
+/// An end in memory.
+#[derive(Clone, Copy)]
+pub struct Ending {
+    /// It is quiet so often before all else, each 250 ms from 0 on.
+    pub quiet: u64,
+    /// What it delivers then.
+    pub entries: &'static [Entry],
+    /// How many datagrams it takes.
+    pub room: usize,
+    /// The number of a send that fails.
+    pub fail_send: Option<u64>,
+}
+
+/// The bytes of a peer at a moment, as an end takes them.
+fn datagram(alloc: Global, from: Peer, bytes: &[u8], now: u64) -> Option<Scripted> {
+    match bytes.to_vec(alloc) {
+        Ok(bytes) => Some(Scripted::Datagram { from, bytes, now }),
+        Err(_) => None,
+    }
+}
+
+/// The entry as an end takes it.
+fn scripted(alloc: Global, entry: Entry) -> Option<Scripted> {
+    match entry {
+        Entry::Datagram(from, bytes, now) => datagram(alloc, from, bytes, now),
+        Entry::Response(handle, now) => datagram(alloc, DEVICE, &response(handle), now),
+        Entry::Quiet(now) => Some(Scripted::Quiet { now }),
+        Entry::Failed => Some(Scripted::Failed),
+    }
+}
+
+/// Adds an entry.
+fn add(alloc: Global, script: &mut Vec<Scripted>, entry: Entry) -> bool {
+    match scripted(alloc, entry) {
+        Some(entry) => script.push(entry).is_ok(),
+        None => false,
+    }
+}
+
+/// Adds so many silences, each 250 ms, and then the entries.
+fn add_all(alloc: Global, script: &mut Vec<Scripted>, quiet: u64, entries: &[Entry]) -> bool {
+    for turn in 0..quiet {
+        if !add(alloc, script, Entry::Quiet(turn.saturating_mul(250))) {
+            return false;
+        }
+    }
+    for entry in entries {
+        if !add(alloc, script, *entry) {
+            return false;
+        }
+    }
+    true
+}
+
+/// Asks for an end that tells.
+fn is_given<E: End>(_end: &E) -> bool
+    requires { IsTrue (E.state _end.now).tells }
+{
+    true
+}
+
+/// An end that will deliver this, with this room, one of whose sends fails. It tells.
+fn telling(
+    alloc: Global,
+    script: Vec<Scripted>,
+    room: usize,
+    fail_send: Option<u64>,
+) -> Option<MemoryEnd> {
+    match MemoryEnd::new(alloc, script, room, fail_send) {
+        Ok(end) if is_given(&end) => Some(end),
+        _ => None,
+    }
+}
+
+/// The end.
+pub fn end_of(alloc: Global, ending: Ending) -> Option<MemoryEnd> {
+    let mut script = Vec::new(alloc);
+    if add_all(alloc, &mut script, ending.quiet, ending.entries) {
+        telling(alloc, script, ending.room, ending.fail_send)
+    } else {
+        None
+    }
+}
+
+impl Wanted<Scripted> for Entry {
+    /// Whether this was delivered for the entry.
+    fn is(&self, found: &Scripted) -> bool {
+        match (found, *self) {
+            (Scripted::Datagram { from, bytes, now }, Entry::Datagram(sender, wanted, moment)) => {
+                *from == sender && bytes.as_slice() == wanted && *now == moment
+            }
+            (Scripted::Quiet { now }, Entry::Quiet(moment)) => *now == moment,
+            (Scripted::Failed, Entry::Failed) => true,
+            _ => false,
+        }
+    }
+}
+
+/// A datagram that an end took: its receiver, and its bytes.
+#[derive(Clone, Copy)]
+pub struct Took(pub Peer, pub &'static [u8]);
+
+impl Wanted<(Peer, Packet)> for Took {
+    /// Whether this was taken.
+    fn is(&self, found: &(Peer, Packet)) -> bool {
+        found.0 == self.0 && found.1.as_slice() == self.1
+    }
+}
