@@ -129,6 +129,7 @@ def texts():
     for name, kind in (("oca_tree/src/builder.rt", "AddFault"), ("oca_tree/src/setting.rt", "SetFault"), ("oca_control/src/fault.rt", "ControlFault")):
         body = re.search(rf"pub enum {kind} \{{(.*?)\n\}}", source(name), re.S)[1]
         said.update({f"OCA_{upper(of)}": it for it, of in re.findall(r'#\[error\("([^"{]*)"\)\]\s*(\w+)', body)})
+        said.update({f"OCA_{upper(of)}": it for of, it in re.findall(rf'    {kind}::(\w+) => "([^"]*)",', source(name))})
     return said
 
 

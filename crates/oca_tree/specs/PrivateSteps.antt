@@ -15,16 +15,20 @@ use Rattle.oca_types.specs.declared.status.Status.TheVariants as status
 use Rattle.oca_types.specs.Peers.{CommandFields}
 use Rattle.oca_tree.specs.declared.lengths.Lengths.{Lengths}
 use Rattle.oca_tree.specs.declared.object.Object.{Object}
+use Rattle.oca_tree.specs.declared.object.Range.{Range}
 use Rattle.oca_tree.specs.declared.object.Value.{Value}
 use Rattle.oca_tree.specs.declared.object.Value.TheVariants as values
 use Rattle.oca_tree.specs.declared.request.Request.{Request}
 use Rattle.oca_tree.specs.declared.builder.AddFault.{AddFault}
+use Rattle.oca_tree.specs.declared.builder.Kind.{Kind}
+use Rattle.oca_tree.specs.declared.builder.Kind.TheVariants as given
 use Rattle.oca_tree.specs.declared.builder.Spec.{Spec}
 use Rattle.oca_tree.specs.declared.start.Start.{Start}
 use Rattle.oca_tree.specs.declared.start.StartFault.{StartFault}
 use Rattle.oca_tree.specs.declared.start.StartFault.TheVariants.{BadFlags}
 use Rattle.oca_model.specs.declared.value.Value.{Value as Setting}
 use Rattle.oca_tree.specs.declared.setting.SetFault.{SetFault}
+use Rattle.oca_tree.specs.Kinds.{IsOfType}
 use Rattle.oca_tree.specs.Places.{places, reaches}
 use Rattle.oca_tree.specs.Objects.{Store}
 use Rattle.oca_tree.specs.Locks.{lock_refuses}
@@ -126,6 +130,21 @@ Executes (Err s) old new out peer c = (execution old peer c ≡ refused old s) �
 abbrev pub MakesValue : Option Value → Value → Type 0
 MakesValue None value = is_bad_value value ≡ true
 MakesValue (Some v) value = (v ≡ value) × (is_bad_value value ≡ false) × IsSoundValue v
+
+-- whether a kind is an integer actuator
+abbrev pub is_number : Kind → Bool
+is_number given.Block = false
+is_number (given.Mute _) = false
+is_number (given.Polarity _) = false
+is_number (given.Switch _ _) = false
+is_number (given.Boolean _) = false
+is_number _ = true
+
+-- The setting and the limits are numbers of the type.
+pub record IsTypedRange (range : Range) : Type 0 where
+  pub setting : IsOfType range.kind range.setting
+  pub least : IsOfType range.kind range.least
+  pub greatest : IsOfType range.kind range.greatest
 
 -- An object was made for a place that is free, or the first line that applies refuses it.
 abbrev pub Makes : Result Object AddFault → Store → ℕ → ℕ → Spec → Type 0

@@ -2,14 +2,14 @@
 ghost use Rattle.std.specs.Prelude.{◌≡◌, ◌≤◌, ◌<◌, [], ◌∷◌, length, map, replicate, true, false, Some, None, IfOk};
 ghost use Rattle.std.specs.Prelude.{IfErr, OnOk, MatchOption};
 ghost use Rattle.std.specs.List.{list_any};
-ghost use Rattle.oca_tree.specs.Kinds.{IsOfType};
-ghost use Rattle.oca_tree.specs.Building.{Adds, value_of, switch, number, has_bad_name, is_long, root};
+ghost use Rattle.oca_tree.specs.Building.{Adds, value_of, switch, has_bad_name, is_long, root};
 ghost use Rattle.oca_tree.specs.Objects.{object_of};
 ghost use Rattle.oca_tree.specs.Room.{room_size};
 ghost use Rattle.oca_tree.specs.Starts.{AddsWith, BeginsWith};
 ghost use Rattle.oca_tree.specs.Places.{place_of};
 ghost use Rattle.oca_tree.specs.Trees.{IsTree, IsSound, IsSoundValue};
-ghost use Rattle.oca_tree.specs.PrivateSteps.{Makes, MakesValue};
+ghost use Rattle.oca_tree.specs.PrivateSteps.{Makes, MakesValue, is_number, IsTypedRange};
+ghost use Rattle.oca_tree.specs.declared.object.Value.TheVariants.{Number};
 ghost use Rattle.oca_tree.specs.declared.builder.AddFault.TheVariants.{NoMemory};
 
 use crate::object::{NumberKind, Object, Range, Switch, Value};
@@ -22,38 +22,56 @@ use arrayvec::ArrayVec;
 use oca_model::{MuteState, PolarityState};
 use oca_types::{Ono, Text};
 use std::alloc::Global;
+use std::error::Error;
+use std::fmt;
 use std::marker::Model;
-use thiserror::Error;
 
 /// Why an object was not added, the first in this order that applies. The numbers are promised (*profile*).
-#[derive(Clone, Copy, Debug, PartialEq, Eq, Error)]
+#[derive(Clone, Copy, Debug, PartialEq, Eq)]
 pub enum AddFault {
     /// As many objects are there as the tree has room for, the root counted.
-    #[error("there is no room for another object")]
     Full = 1,
     /// The number is below 4096.
-    #[error("the number is below 4096")]
     Reserved = 2,
     /// The number is there.
-    #[error("the number is taken")]
     Taken = 3,
     /// The container is no block of the tree.
-    #[error("the container is no block of the tree")]
     NoSuchBlock = 4,
     /// The object would stand at depth 9; the root is at depth 1.
-    #[error("the object would stand at depth 9")]
     TooDeep = 5,
     /// The role is empty, or the role or a position name has more than 64 bytes.
-    #[error("a text is empty or has more than 64 bytes")]
     BadText = 6,
     /// The least setting is above the greatest, the setting is outside them, the number of positions is
     /// not 1 to 16, or the position is not below it.
-    #[error("the setting is outside its range")]
     BadRange = 7,
     /// Memory was refused.
-    #[error("no memory")]
     NoMemory = 8,
 }
+
+impl AddFault {
+    /// What is printed of it.
+    pub(crate) fn words(self) -> &'static str {
+        match self {
+            AddFault::Full => "there is no room for another object",
+            AddFault::Reserved => "the number is below 4096",
+            AddFault::Taken => "the number is taken",
+            AddFault::NoSuchBlock => "the container is no block of the tree",
+            AddFault::TooDeep => "the object would stand at depth 9",
+            AddFault::BadText => "a text is empty or has more than 64 bytes",
+            AddFault::BadRange => "the setting is outside its range",
+            AddFault::NoMemory => "no memory",
+        }
+    }
+}
+
+impl fmt::Display for AddFault {
+    /// What it says.
+    fn fmt<W: fmt::Write>(&self, f: &mut fmt::Formatter<W>) -> fmt::Result {
+        f.write_str(self.words())
+    }
+}
+
+impl Error for AddFault {}
 
 const _: () = prove!(AddFault::Full as u8 == 1);
 
@@ -83,7 +101,7 @@ pub struct Spec<'a> {
 }
 
 /// The class of an object with its settings at first.
-#[derive(Clone, Copy, Debug)]
+#[derive(Clone, Copy)]
 pub enum Kind<'a> {
     /// OcaBlock.
     Block,
@@ -174,6 +192,47 @@ pub enum Kind<'a> {
     },
 }
 
+impl fmt::Debug for Kind<'_> {
+    /// As a derive would print it, the setting and the limits of each integer type by the same lines.
+    fn fmt<W: fmt::Write>(&self, f: &mut fmt::Formatter<W>) -> fmt::Result {
+        match self {
+            Kind::Block => f.write_str("Block"),
+            Kind::Mute(state) => f.debug_tuple("Mute").field(state).finish(),
+            Kind::Polarity(state) => f.debug_tuple("Polarity").field(state).finish(),
+            Kind::Switch { names, position } => f
+                .debug_struct("Switch")
+                .field("names", names)
+                .field("position", position)
+                .finish(),
+            Kind::Boolean(truth) => f.debug_tuple("Boolean").field(truth).finish(),
+            _ => show_range(f, &range_of(self)),
+        }
+    }
+}
+
+/// The name of an integer type, that of its kind of objects.
+fn kind_name(kind: NumberKind) -> &'static str {
+    match kind {
+        NumberKind::Int8 => "Int8",
+        NumberKind::Int16 => "Int16",
+        NumberKind::Int32 => "Int32",
+        NumberKind::Int64 => "Int64",
+        NumberKind::Uint8 => "Uint8",
+        NumberKind::Uint16 => "Uint16",
+        NumberKind::Uint32 => "Uint32",
+        NumberKind::Uint64 => "Uint64",
+    }
+}
+
+/// Prints the kind of objects of an integer type with its setting and its limits.
+fn show_range<W: fmt::Write>(f: &mut fmt::Formatter<W>, range: &Range) -> fmt::Result {
+    f.debug_struct(kind_name(range.kind))
+        .field("setting", &range.setting)
+        .field("least", &range.least)
+        .field("greatest", &range.greatest)
+        .finish()
+}
+
 /// Whether a name has more than 64 bytes.
 fn has_long(names: &[&str]) -> bool
     ensures { result ≡ list_any (λ name. is_long name.now) names.now }
@@ -235,23 +294,111 @@ fn switch_of(names: &[&str], position: u16) -> Option<Value>
     }))
 }
 
-/// A number with its limits.
-#[tactic(auto, unfolding(crate::specs::Building::is_bad_value, crate::specs::Trees::IsSoundValue))]
-fn number_of(kind: NumberKind, setting: i128, least: i128, greatest: i128) -> Option<Value>
-    requires setting { IsOfType kind setting }
-    requires least { IsOfType kind least }
-    requires greatest { IsOfType kind greatest }
-    ensures { MakesValue result (number kind setting least greatest) }
+/// The setting of an integer actuator with its limits.
+#[tactic(auto, unfolding(crate::specs::Building::value_of))]
+fn range_of(kind: &Kind<'_>) -> Range
+    requires { is_number kind.now ≡ true }
+    ensures value { value_of kind.now ≡ Number result }
+    ensures typed { IsTypedRange result }
 {
-    if greatest < least || setting < least || greatest < setting {
+    match kind {
+        Kind::Int8 {
+            setting,
+            least,
+            greatest,
+        } => Range {
+            kind: NumberKind::Int8,
+            setting: i128::from(*setting),
+            least: i128::from(*least),
+            greatest: i128::from(*greatest),
+        },
+        Kind::Int16 {
+            setting,
+            least,
+            greatest,
+        } => Range {
+            kind: NumberKind::Int16,
+            setting: i128::from(*setting),
+            least: i128::from(*least),
+            greatest: i128::from(*greatest),
+        },
+        Kind::Int32 {
+            setting,
+            least,
+            greatest,
+        } => Range {
+            kind: NumberKind::Int32,
+            setting: i128::from(*setting),
+            least: i128::from(*least),
+            greatest: i128::from(*greatest),
+        },
+        Kind::Int64 {
+            setting,
+            least,
+            greatest,
+        } => Range {
+            kind: NumberKind::Int64,
+            setting: i128::from(*setting),
+            least: i128::from(*least),
+            greatest: i128::from(*greatest),
+        },
+        Kind::Uint8 {
+            setting,
+            least,
+            greatest,
+        } => Range {
+            kind: NumberKind::Uint8,
+            setting: i128::from(*setting),
+            least: i128::from(*least),
+            greatest: i128::from(*greatest),
+        },
+        Kind::Uint16 {
+            setting,
+            least,
+            greatest,
+        } => Range {
+            kind: NumberKind::Uint16,
+            setting: i128::from(*setting),
+            least: i128::from(*least),
+            greatest: i128::from(*greatest),
+        },
+        Kind::Uint32 {
+            setting,
+            least,
+            greatest,
+        } => Range {
+            kind: NumberKind::Uint32,
+            setting: i128::from(*setting),
+            least: i128::from(*least),
+            greatest: i128::from(*greatest),
+        },
+        Kind::Uint64 {
+            setting,
+            least,
+            greatest,
+        } => Range {
+            kind: NumberKind::Uint64,
+            setting: i128::from(*setting),
+            least: i128::from(*least),
+            greatest: i128::from(*greatest),
+        },
+        _ => unreachable!(),
+    }
+}
+
+/// A number, where it is within its limits.
+#[tactic(auto, unfolding(crate::specs::Building::is_bad_value, crate::specs::Trees::IsSoundValue))]
+fn number_of(range: Range) -> Option<Value>
+    requires { IsTypedRange range }
+    ensures { MakesValue result (Number range) }
+{
+    if range.greatest < range.least
+        || range.setting < range.least
+        || range.greatest < range.setting
+    {
         return None;
     }
-    Some(Value::Number(Range {
-        kind,
-        setting,
-        least,
-        greatest,
-    }))
+    Some(Value::Number(range))
 }
 
 /// The value of a kind, where it is in range.
@@ -266,86 +413,7 @@ fn value_of(kind: &Kind<'_>) -> Option<Value>
         Kind::Polarity(state) => Some(Value::Polarity(*state)),
         Kind::Switch { names, position } => switch_of(names, *position),
         Kind::Boolean(truth) => Some(Value::Boolean(*truth)),
-        Kind::Int8 {
-            setting,
-            least,
-            greatest,
-        } => number_of(
-            NumberKind::Int8,
-            i128::from(*setting),
-            i128::from(*least),
-            i128::from(*greatest),
-        ),
-        Kind::Int16 {
-            setting,
-            least,
-            greatest,
-        } => number_of(
-            NumberKind::Int16,
-            i128::from(*setting),
-            i128::from(*least),
-            i128::from(*greatest),
-        ),
-        Kind::Int32 {
-            setting,
-            least,
-            greatest,
-        } => number_of(
-            NumberKind::Int32,
-            i128::from(*setting),
-            i128::from(*least),
-            i128::from(*greatest),
-        ),
-        Kind::Int64 {
-            setting,
-            least,
-            greatest,
-        } => number_of(
-            NumberKind::Int64,
-            i128::from(*setting),
-            i128::from(*least),
-            i128::from(*greatest),
-        ),
-        Kind::Uint8 {
-            setting,
-            least,
-            greatest,
-        } => number_of(
-            NumberKind::Uint8,
-            i128::from(*setting),
-            i128::from(*least),
-            i128::from(*greatest),
-        ),
-        Kind::Uint16 {
-            setting,
-            least,
-            greatest,
-        } => number_of(
-            NumberKind::Uint16,
-            i128::from(*setting),
-            i128::from(*least),
-            i128::from(*greatest),
-        ),
-        Kind::Uint32 {
-            setting,
-            least,
-            greatest,
-        } => number_of(
-            NumberKind::Uint32,
-            i128::from(*setting),
-            i128::from(*least),
-            i128::from(*greatest),
-        ),
-        Kind::Uint64 {
-            setting,
-            least,
-            greatest,
-        } => number_of(
-            NumberKind::Uint64,
-            i128::from(*setting),
-            i128::from(*least),
-            i128::from(*greatest),
-        ),
+        _ => number_of(range_of(kind)),
     }
 }
 

@@ -19,7 +19,7 @@ pub struct Switch {
 }
 
 /// The integer types of AES70-3, of which each has a class of actuators.
-#[derive(Clone, Copy, Debug, PartialEq, Eq)]
+#[derive(Clone, Copy, PartialEq, Eq)]
 pub enum NumberKind {
     Int8,
     Int16,
@@ -32,7 +32,7 @@ pub enum NumberKind {
 }
 
 /// The setting of an integer actuator and its limits, all of one type.
-#[derive(Clone, Copy, Debug, PartialEq, Eq)]
+#[derive(Clone, Copy, PartialEq, Eq)]
 pub struct Range {
     pub kind: NumberKind,
     pub setting: i128,

@@ -14,24 +14,42 @@ use crate::place::index_from;
 use crate::request::{Request, SwitchRequest};
 use oca_model::Value;
 use oca_types::{Class, Ono, Peer};
-use thiserror::Error;
+use std::error::Error;
+use std::fmt;
 
 /// Why an object was not set, the first in this order that applies. The numbers are promised (*profile*).
-#[derive(Clone, Copy, Debug, PartialEq, Eq, Error)]
+#[derive(Clone, Copy, Debug, PartialEq, Eq)]
 pub enum SetFault {
     /// There is no object with the number.
-    #[error("there is no such object")]
     NoObject = 1,
     /// The object is a block, which has no setting.
-    #[error("a block has no setting")]
     NoSetting = 2,
     /// The object is of another class than the value.
-    #[error("the object is set by another kind of value")]
     OtherKind = 3,
     /// The position is not there or disabled, or the number is outside its limits.
-    #[error("the value is out of range")]
     OutOfRange = 4,
 }
+
+impl SetFault {
+    /// What is printed of it.
+    fn words(self) -> &'static str {
+        match self {
+            SetFault::NoObject => "there is no such object",
+            SetFault::NoSetting => "a block has no setting",
+            SetFault::OtherKind => "the object is set by another kind of value",
+            SetFault::OutOfRange => "the value is out of range",
+        }
+    }
+}
+
+impl fmt::Display for SetFault {
+    /// What it says.
+    fn fmt<W: fmt::Write>(&self, f: &mut fmt::Formatter<W>) -> fmt::Result {
+        f.write_str(self.words())
+    }
+}
+
+impl Error for SetFault {}
 
 const _: () = prove!(SetFault::NoObject as u8 == 1);
 

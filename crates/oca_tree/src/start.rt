@@ -8,7 +8,8 @@ use crate::object::{Object, Value};
 use crate::request::positions;
 use arrayvec::ArrayVec;
 use oca_types::Text;
-use thiserror::Error;
+use std::error::Error;
+use std::fmt;
 
 /// What was stored of an object: what peers may set of it and [`Spec`](crate::Spec) does not say. The setting and the
 /// names of positions are part of `Spec`, and locks end with the sessions of their holders. The default is what an
@@ -40,18 +41,35 @@ impl Default for Start<'_> {
 }
 
 /// Why an object was not added with what was stored of it, the first in this order that applies.
-#[derive(Clone, Copy, Debug, PartialEq, Eq, Error)]
+#[derive(Clone, Copy, Debug, PartialEq, Eq)]
 pub enum StartFault {
     /// It would be refused without it too.
-    #[error("{0}")]
     Add(AddFault),
     /// The label has more than 64 bytes.
-    #[error("the label has more than 64 bytes")]
     BadLabel,
     /// The flags are not as many as the positions, of which only a switch has any.
-    #[error("the flags are not as many as the positions")]
     BadFlags,
 }
+
+impl StartFault {
+    /// What is printed of it.
+    fn words(self) -> &'static str {
+        match self {
+            StartFault::Add(fault) => fault.words(),
+            StartFault::BadLabel => "the label has more than 64 bytes",
+            StartFault::BadFlags => "the flags are not as many as the positions",
+        }
+    }
+}
+
+impl fmt::Display for StartFault {
+    /// What it says.
+    fn fmt<W: fmt::Write>(&self, f: &mut fmt::Formatter<W>) -> fmt::Result {
+        f.write_str(self.words())
+    }
+}
+
+impl Error for StartFault {}
 
 impl From<AddFault> for StartFault {
     ghost use Rattle.std.specs.Prelude.{◌≡◌};
