@@ -49,33 +49,40 @@ setter methods.SetPosition = Some methods.SetPosition
 setter methods.SetSetting = Some methods.SetSetting
 setter _ = None
 
+-- what holds of no case
+never : {A : Type 0} → false ≡ true → A
+never e = cc
+
+none : {A : Type 0} {k : Method} → Some k ≡ None → A
+none e = cc
+
 itself : (m k : Method) → Some k ≡ setter m → m ≡ k
-itself methods.GetClassIdentification k e = cc
-itself methods.GetLockable k e = cc
-itself methods.LockTotal k e = cc
-itself methods.Unlock k e = cc
-itself methods.GetRole k e = cc
-itself methods.LockReadonly k e = cc
-itself methods.GetEnabled k e = cc
-itself methods.SetEnabled k e = cc
-itself methods.GetLabel k e = cc
-itself methods.SetLabel k e = cc
-itself methods.GetOwner k e = cc
-itself methods.GetMembers k e = cc
-itself methods.GetMembersRecursive k e = cc
-itself methods.GetState k e = cc
+itself methods.GetClassIdentification k e = none e
+itself methods.GetLockable k e = none e
+itself methods.LockTotal k e = none e
+itself methods.Unlock k e = none e
+itself methods.GetRole k e = none e
+itself methods.LockReadonly k e = none e
+itself methods.GetEnabled k e = none e
+itself methods.SetEnabled k e = none e
+itself methods.GetLabel k e = none e
+itself methods.SetLabel k e = none e
+itself methods.GetOwner k e = none e
+itself methods.GetMembers k e = none e
+itself methods.GetMembersRecursive k e = none e
+itself methods.GetState k e = none e
 itself methods.SetState k e = cc
-itself methods.GetPosition k e = cc
+itself methods.GetPosition k e = none e
 itself methods.SetPosition k e = cc
-itself methods.GetPositionName k e = cc
-itself methods.SetPositionName k e = cc
-itself methods.GetPositionNames k e = cc
-itself methods.SetPositionNames k e = cc
-itself methods.GetPositionEnabled k e = cc
-itself methods.SetPositionEnabled k e = cc
-itself methods.GetPositionEnableds k e = cc
-itself methods.SetPositionEnableds k e = cc
-itself methods.GetSetting k e = cc
+itself methods.GetPositionName k e = none e
+itself methods.SetPositionName k e = none e
+itself methods.GetPositionNames k e = none e
+itself methods.SetPositionNames k e = none e
+itself methods.GetPositionEnabled k e = none e
+itself methods.SetPositionEnabled k e = none e
+itself methods.GetPositionEnableds k e = none e
+itself methods.SetPositionEnableds k e = none e
+itself methods.GetSetting k e = none e
 itself methods.SetSetting k e = cc
 
 asked_none : (q : Request) (count : ℕ) (params : List ℕ) (r : Request) → without_parameters q count params ≡ Some r → q ≡ r
@@ -256,30 +263,30 @@ value_of_request held id m a count params (requests.SetBoolean truth) kind asked
 value_of_request held id m a count params (requests.SetNumber n) kind asked sets out =
     let is = itself m methods.SetSetting (asked_by held m count params (requests.SetNumber n) asked) in
     numbers held n count params (ap (λ x. request_carried held x count params) (sym is) ∙ asked)
-value_of_request held id m a count params requests.GetClassIdentification kind asked sets out = cc
-value_of_request held id m a count params requests.GetLockable kind asked sets out = cc
-value_of_request held id m a count params requests.LockTotal kind asked sets out = cc
-value_of_request held id m a count params requests.Unlock kind asked sets out = cc
-value_of_request held id m a count params requests.GetRole kind asked sets out = cc
-value_of_request held id m a count params requests.LockReadonly kind asked sets out = cc
-value_of_request held id m a count params requests.GetEnabled kind asked sets out = cc
-value_of_request held id m a count params (requests.SetEnabled truth) kind asked sets out = cc
-value_of_request held id m a count params requests.GetLabel kind asked sets out = cc
-value_of_request held id m a count params (requests.SetLabel text) kind asked sets out = cc
-value_of_request held id m a count params requests.GetOwner kind asked sets out = cc
-value_of_request held id m a count params requests.GetMembers kind asked sets out = cc
-value_of_request held id m a count params requests.GetMembersRecursive kind asked sets out = cc
-value_of_request held id m a count params requests.GetState kind asked sets out = cc
-value_of_request held id m a count params (requests.Switch switches.GetPosition) kind asked sets out = cc
-value_of_request held id m a count params (requests.Switch (switches.GetPositionName n)) kind asked sets out = cc
-value_of_request held id m a count params (requests.Switch (switches.SetPositionName n text)) kind asked sets out = cc
-value_of_request held id m a count params (requests.Switch switches.GetPositionNames) kind asked sets out = cc
-value_of_request held id m a count params (requests.Switch (switches.SetPositionNames texts)) kind asked sets out = cc
-value_of_request held id m a count params (requests.Switch (switches.GetPositionEnabled n)) kind asked sets out = cc
-value_of_request held id m a count params (requests.Switch (switches.SetPositionEnabled n truth)) kind asked sets out = cc
-value_of_request held id m a count params (requests.Switch switches.GetPositionEnableds) kind asked sets out = cc
-value_of_request held id m a count params (requests.Switch (switches.SetPositionEnableds truths)) kind asked sets out = cc
-value_of_request held id m a count params requests.GetSetting kind asked sets out = cc
+value_of_request held id m a count params requests.GetClassIdentification kind asked sets out = never sets
+value_of_request held id m a count params requests.GetLockable kind asked sets out = never sets
+value_of_request held id m a count params requests.LockTotal kind asked sets out = never sets
+value_of_request held id m a count params requests.Unlock kind asked sets out = never sets
+value_of_request held id m a count params requests.GetRole kind asked sets out = never sets
+value_of_request held id m a count params requests.LockReadonly kind asked sets out = never sets
+value_of_request held id m a count params requests.GetEnabled kind asked sets out = never sets
+value_of_request held id m a count params (requests.SetEnabled truth) kind asked sets out = never sets
+value_of_request held id m a count params requests.GetLabel kind asked sets out = never sets
+value_of_request held id m a count params (requests.SetLabel text) kind asked sets out = never sets
+value_of_request held id m a count params requests.GetOwner kind asked sets out = never sets
+value_of_request held id m a count params requests.GetMembers kind asked sets out = never sets
+value_of_request held id m a count params requests.GetMembersRecursive kind asked sets out = never sets
+value_of_request held id m a count params requests.GetState kind asked sets out = never sets
+value_of_request held id m a count params (requests.Switch switches.GetPosition) kind asked sets out = never sets
+value_of_request held id m a count params (requests.Switch (switches.GetPositionName n)) kind asked sets out = never sets
+value_of_request held id m a count params (requests.Switch (switches.SetPositionName n text)) kind asked sets out = never sets
+value_of_request held id m a count params (requests.Switch switches.GetPositionNames) kind asked sets out = never sets
+value_of_request held id m a count params (requests.Switch (switches.SetPositionNames texts)) kind asked sets out = never sets
+value_of_request held id m a count params (requests.Switch (switches.GetPositionEnabled n)) kind asked sets out = never sets
+value_of_request held id m a count params (requests.Switch (switches.SetPositionEnabled n truth)) kind asked sets out = never sets
+value_of_request held id m a count params (requests.Switch switches.GetPositionEnableds) kind asked sets out = never sets
+value_of_request held id m a count params (requests.Switch (switches.SetPositionEnableds truths)) kind asked sets out = never sets
+value_of_request held id m a count params requests.GetSetting kind asked sets out = never sets
 
 pub each_is_a_value : EachSettingIsAValue
 each_is_a_value o c r asked sets out = by (kind_at (Some o) c) refl asked

@@ -34,9 +34,13 @@ impl<'a> HeldText<'a> {
         ensures { result ≡ whole (text_at bytes.now) }
     {
         let mut cursor = Cursor::new(bytes);
-        let _text = cursor.take_text().ok()?;
-        cursor.finish().ok()?;
-        Some(HeldText { bytes })
+        let Ok(_) = cursor.take_text() else {
+            return None;
+        };
+        match cursor.finish() {
+            Ok(()) => Some(HeldText { bytes }),
+            Err(_) => None,
+        }
     }
 
     /// The text.
@@ -81,8 +85,10 @@ impl<'a> HeldTexts<'a> {
     {
         let mut cursor = Cursor::new(bytes);
         let _texts = take_texts(&mut cursor, number)?;
-        cursor.finish().ok()?;
-        Some(HeldTexts { number, bytes })
+        match cursor.finish() {
+            Ok(()) => Some(HeldTexts { number, bytes }),
+            Err(_) => None,
+        }
     }
 
     /// The texts.

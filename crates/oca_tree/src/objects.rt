@@ -59,9 +59,9 @@ impl Objects {
     pub(crate) fn new(alloc: Global, room: usize) -> Result<Objects, AllocError>
         ensures { IfOk result (λ objects. objects ≡ record { room = room; list = [] }) }
     {
-        let map = IndexMap::with_capacity(alloc, room)?;
         let containers = Vec::with_capacity(alloc, room)?;
         let lengths = Vec::with_capacity(alloc, room)?;
+        let map = IndexMap::with_capacity(alloc, room)?;
         Ok(Objects {
             map,
             containers,
