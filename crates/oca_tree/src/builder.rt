@@ -101,7 +101,7 @@ pub struct Spec<'a> {
 }
 
 /// The class of an object with its settings at first.
-#[derive(Clone, Copy)]
+#[derive(Clone, Copy, Debug)]
 pub enum Kind<'a> {
     /// OcaBlock.
     Block,
@@ -190,47 +190,6 @@ pub enum Kind<'a> {
         /// The greatest that it can be set to.
         greatest: u64,
     },
-}
-
-impl fmt::Debug for Kind<'_> {
-    /// As a derive would print it, the setting and the limits of each integer type by the same lines.
-    fn fmt<W: fmt::Write>(&self, f: &mut fmt::Formatter<W>) -> fmt::Result {
-        match self {
-            Kind::Block => f.write_str("Block"),
-            Kind::Mute(state) => f.debug_tuple("Mute").field(state).finish(),
-            Kind::Polarity(state) => f.debug_tuple("Polarity").field(state).finish(),
-            Kind::Switch { names, position } => f
-                .debug_struct("Switch")
-                .field("names", names)
-                .field("position", position)
-                .finish(),
-            Kind::Boolean(truth) => f.debug_tuple("Boolean").field(truth).finish(),
-            _ => show_range(f, &range_of(self)),
-        }
-    }
-}
-
-/// The name of an integer type, that of its kind of objects.
-fn kind_name(kind: NumberKind) -> &'static str {
-    match kind {
-        NumberKind::Int8 => "Int8",
-        NumberKind::Int16 => "Int16",
-        NumberKind::Int32 => "Int32",
-        NumberKind::Int64 => "Int64",
-        NumberKind::Uint8 => "Uint8",
-        NumberKind::Uint16 => "Uint16",
-        NumberKind::Uint32 => "Uint32",
-        NumberKind::Uint64 => "Uint64",
-    }
-}
-
-/// Prints the kind of objects of an integer type with its setting and its limits.
-fn show_range<W: fmt::Write>(f: &mut fmt::Formatter<W>, range: &Range) -> fmt::Result {
-    f.debug_struct(kind_name(range.kind))
-        .field("setting", &range.setting)
-        .field("least", &range.least)
-        .field("greatest", &range.greatest)
-        .finish()
 }
 
 /// Whether a name has more than 64 bytes.

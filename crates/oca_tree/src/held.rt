@@ -34,13 +34,9 @@ impl<'a> HeldText<'a> {
         ensures { result ≡ whole (text_at bytes.now) }
     {
         let mut cursor = Cursor::new(bytes);
-        let Ok(_) = cursor.take_text() else {
-            return None;
-        };
-        match cursor.finish() {
-            Ok(()) => Some(HeldText { bytes }),
-            Err(_) => None,
-        }
+        let _text = cursor.take_text().ok()?;
+        cursor.finish().ok()?;
+        Some(HeldText { bytes })
     }
 
     /// The text.
@@ -85,10 +81,8 @@ impl<'a> HeldTexts<'a> {
     {
         let mut cursor = Cursor::new(bytes);
         let _texts = take_texts(&mut cursor, number)?;
-        match cursor.finish() {
-            Ok(()) => Some(HeldTexts { number, bytes }),
-            Err(_) => None,
-        }
+        cursor.finish().ok()?;
+        Some(HeldTexts { number, bytes })
     }
 
     /// The texts.

@@ -65,14 +65,10 @@ fn setting_request<'a>(value: &Value, count: u8, params: &[u8]) -> Option<Reques
     ensures { result ≡ Rattle.oca_tree.specs.Requests.setting_request value.now count params.now }
 {
     match value {
-        Value::Boolean(_) => match take::one_bool(count, params) {
-            Some(truth) => Some(Request::SetBoolean(truth)),
-            None => None,
-        },
-        Value::Number(range) => match take::one_number(range.kind, count, params) {
-            Some(setting) => Some(Request::SetNumber(setting)),
-            None => None,
-        },
+        Value::Boolean(_) => Some(Request::SetBoolean(take::one_bool(count, params)?)),
+        Value::Number(range) => {
+            Some(Request::SetNumber(take::one_number(range.kind, count, params)?))
+        }
         _ => None,
     }
 }

@@ -18,40 +18,16 @@ use oca_types::{Cursor, ReadFault, Text};
 fn take_number(cursor: &mut Cursor<'_>, kind: NumberKind) -> Result<i128, ReadFault>
     ensures { ReadsAs result (bytes_left cursor.new) (number_of_kind_at kind (bytes_left cursor.old)) }
 {
-    match kind {
-        NumberKind::Int8 => match cursor.take_i8() {
-            Ok(value) => Ok(i128::from(value)),
-            Err(fault) => Err(fault),
-        },
-        NumberKind::Int16 => match cursor.take_i16() {
-            Ok(value) => Ok(i128::from(value)),
-            Err(fault) => Err(fault),
-        },
-        NumberKind::Int32 => match cursor.take_i32() {
-            Ok(value) => Ok(i128::from(value)),
-            Err(fault) => Err(fault),
-        },
-        NumberKind::Int64 => match cursor.take_i64() {
-            Ok(value) => Ok(i128::from(value)),
-            Err(fault) => Err(fault),
-        },
-        NumberKind::Uint8 => match cursor.take_u8() {
-            Ok(value) => Ok(i128::from(value)),
-            Err(fault) => Err(fault),
-        },
-        NumberKind::Uint16 => match cursor.take_u16() {
-            Ok(value) => Ok(i128::from(value)),
-            Err(fault) => Err(fault),
-        },
-        NumberKind::Uint32 => match cursor.take_u32() {
-            Ok(value) => Ok(i128::from(value)),
-            Err(fault) => Err(fault),
-        },
-        NumberKind::Uint64 => match cursor.take_u64() {
-            Ok(value) => Ok(i128::from(value)),
-            Err(fault) => Err(fault),
-        },
-    }
+    Ok(match kind {
+        NumberKind::Int8 => i128::from(cursor.take_i8()?),
+        NumberKind::Int16 => i128::from(cursor.take_i16()?),
+        NumberKind::Int32 => i128::from(cursor.take_i32()?),
+        NumberKind::Int64 => i128::from(cursor.take_i64()?),
+        NumberKind::Uint8 => i128::from(cursor.take_u8()?),
+        NumberKind::Uint16 => i128::from(cursor.take_u16()?),
+        NumberKind::Uint32 => i128::from(cursor.take_u32()?),
+        NumberKind::Uint64 => i128::from(cursor.take_u64()?),
+    })
 }
 
 /// A Uint8.
@@ -62,13 +38,9 @@ pub(crate) fn one_u8(count: u8, params: &[u8]) -> Option<u8>
         return None;
     }
     let mut cursor = Cursor::new(params);
-    let Ok(value) = cursor.take_u8() else {
-        return None;
-    };
-    match cursor.finish() {
-        Ok(()) => Some(value),
-        Err(_) => None,
-    }
+    let value = cursor.take_u8().ok()?;
+    cursor.finish().ok()?;
+    Some(value)
 }
 
 /// A Uint16.
@@ -79,13 +51,9 @@ pub(crate) fn one_u16(count: u8, params: &[u8]) -> Option<u16>
         return None;
     }
     let mut cursor = Cursor::new(params);
-    let Ok(value) = cursor.take_u16() else {
-        return None;
-    };
-    match cursor.finish() {
-        Ok(()) => Some(value),
-        Err(_) => None,
-    }
+    let value = cursor.take_u16().ok()?;
+    cursor.finish().ok()?;
+    Some(value)
 }
 
 /// An OcaBoolean.
@@ -96,13 +64,9 @@ pub(crate) fn one_bool(count: u8, params: &[u8]) -> Option<bool>
         return None;
     }
     let mut cursor = Cursor::new(params);
-    let Ok(value) = cursor.take_bool() else {
-        return None;
-    };
-    match cursor.finish() {
-        Ok(()) => Some(value),
-        Err(_) => None,
-    }
+    let value = cursor.take_bool().ok()?;
+    cursor.finish().ok()?;
+    Some(value)
 }
 
 /// An OcaString.
@@ -124,13 +88,9 @@ pub(crate) fn one_number(kind: NumberKind, count: u8, params: &[u8]) -> Option<i
         return None;
     }
     let mut cursor = Cursor::new(params);
-    let Ok(value) = take_number(&mut cursor, kind) else {
-        return None;
-    };
-    match cursor.finish() {
-        Ok(()) => Some(value),
-        Err(_) => None,
-    }
+    let value = take_number(&mut cursor, kind).ok()?;
+    cursor.finish().ok()?;
+    Some(value)
 }
 
 /// A Uint16, and the bytes after it.
@@ -138,10 +98,8 @@ fn split_u16(bytes: &[u8]) -> Option<(u16, &[u8])>
     ensures { option_map (λ x. (x.0, x.1.now)) result ≡ unsigned_at w16 bytes.now }
 {
     let mut cursor = Cursor::new(bytes);
-    match cursor.take_u16() {
-        Ok(value) => Some((value, &bytes[2..])),
-        Err(_) => None,
-    }
+    let value = cursor.take_u16().ok()?;
+    Some((value, &bytes[2..]))
 }
 
 /// A position and a text.
@@ -164,16 +122,10 @@ pub(crate) fn position_and_bool(count: u8, params: &[u8]) -> Option<(u16, bool)>
         return None;
     }
     let mut cursor = Cursor::new(params);
-    let Ok(position) = cursor.take_u16() else {
-        return None;
-    };
-    let Ok(truth) = cursor.take_bool() else {
-        return None;
-    };
-    match cursor.finish() {
-        Ok(()) => Some((position, truth)),
-        Err(_) => None,
-    }
+    let position = cursor.take_u16().ok()?;
+    let truth = cursor.take_bool().ok()?;
+    cursor.finish().ok()?;
+    Some((position, truth))
 }
 
 /// So many texts.
@@ -232,15 +184,11 @@ pub(crate) fn bools(number: usize, count: u8, params: &[u8]) -> Option<ArrayVec<
         return None;
     }
     let mut cursor = Cursor::new(params);
-    let Ok(items) = cursor.take_u16() else {
-        return None;
-    };
+    let items = cursor.take_u16().ok()?;
     if usize::from(items) != number {
         return None;
     }
     let truths = take_bools(&mut cursor, number)?;
-    match cursor.finish() {
-        Ok(()) => Some(truths),
-        Err(_) => None,
-    }
+    cursor.finish().ok()?;
+    Some(truths)
 }

@@ -26,6 +26,6 @@ abbrev pub row_command : CommandRow → Shape
 row_command row = (row_app row).top
 
 -- the new command, where there is one, comes of the old one by this step; where there was none, there is none
-abbrev pub GoesOn : {E : Type 0} → (Command → Command → Type 0) → Result Command E → Result Command E → Type 0
-GoesOn step (Ok old) result = IfOk result (step old)
-GoesOn step (Err _) result = IfOk result (λ _. ⊥)
+abbrev pub StepsOn : {E : Type 0} → (Command → Command → Type 0) → Result Command E → Result Command E → Type 0
+StepsOn step (Ok old) result = IfOk result (step old)
+StepsOn step (Err _) result = IfOk result (λ _. ⊥)

@@ -6,7 +6,7 @@ ghost use Rattle.oca_program.specs.Commands.{flag_rule, option_rule, with_rules}
 ghost use Rattle.ocactl_cli.specs.CommandLine.{IsOwn, TakesApp, bare_program, hold_rule, own_app, with_shapes};
 ghost use Rattle.ocactl_cli.specs.CommandLine.{objects_rules, own_commands, replay_rules, run_rules, send_rules};
 ghost use Rattle.ocactl_cli.specs.CommandLine.{set_rules, words_rule};
-ghost use Rattle.ocactl_cli.specs.PrivateCommandLine.{GoesOn, row_app, row_command, row_rule};
+ghost use Rattle.ocactl_cli.specs.PrivateCommandLine.{StepsOn, row_app, row_command, row_rule};
 
 use clap::{Arg, ArgAction, Command};
 use oca_program::VERSION;
@@ -392,7 +392,7 @@ fn with_commands<'a>(
     alloc: Global,
 ) -> Result<Command<'a>, AllocError>
     requires { IfOk program IsOwn }
-    ensures { GoesOn (λ old. TakesApp (with_shapes (app_of old) (map row_command rows.now))) program.entry result }
+    ensures { StepsOn (λ old. TakesApp (with_shapes (app_of old) (map row_command rows.now))) program.entry result }
 {
     let mut so_far = program;
     for row in rows {
@@ -419,7 +419,7 @@ fn with<'a>(
     alloc: Global,
 ) -> Result<Command<'a>, AllocError>
     requires { IfOk program IsOwn }
-    ensures { GoesOn (λ old. TakesApp (with_subcommand (app_of old) (row_command row.now))) program.entry result }
+    ensures { StepsOn (λ old. TakesApp (with_subcommand (app_of old) (row_command row.now))) program.entry result }
 {
     match program {
         Ok(program) => with_command(program, row, alloc),
@@ -459,7 +459,7 @@ fn with_arguments<'a>(
     alloc: Global,
 ) -> Result<Command<'a>, AllocError>
     requires { IfOk command IsOwn }
-    ensures { GoesOn (λ old. TakesApp (with_rules (app_of old) (map row_rule rows.now))) command.entry result }
+    ensures { StepsOn (λ old. TakesApp (with_rules (app_of old) (map row_rule rows.now))) command.entry result }
 {
     let mut so_far = command;
     for row in rows {
@@ -475,7 +475,7 @@ fn with_argument<'a>(
     alloc: Global,
 ) -> Result<Command<'a>, AllocError>
     requires { IfOk command IsOwn }
-    ensures { GoesOn (λ old. TakesApp (with_rules (app_of old) (row_rule row.now ∷ []))) command.entry result }
+    ensures { StepsOn (λ old. TakesApp (with_rules (app_of old) (row_rule row.now ∷ []))) command.entry result }
 {
     match command {
         Ok(command) => command.arg(argument(row, alloc)),
