@@ -132,13 +132,13 @@ MakesValue None value = is_bad_value value ≡ true
 MakesValue (Some v) value = (v ≡ value) × (is_bad_value value ≡ false) × IsSoundValue v
 
 -- whether a kind is an integer actuator
-abbrev pub is_number : Kind → Bool
-is_number given.Block = false
-is_number (given.Mute _) = false
-is_number (given.Polarity _) = false
-is_number (given.Switch _ _) = false
-is_number (given.Boolean _) = false
-is_number _ = true
+abbrev pub is_integer_kind : Kind → Bool
+is_integer_kind given.Block = false
+is_integer_kind (given.Mute _) = false
+is_integer_kind (given.Polarity _) = false
+is_integer_kind (given.Switch _ _) = false
+is_integer_kind (given.Boolean _) = false
+is_integer_kind _ = true
 
 -- The setting and the limits are numbers of the type.
 pub record IsTypedRange (range : Range) : Type 0 where

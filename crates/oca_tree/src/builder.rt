@@ -8,7 +8,7 @@ ghost use Rattle.oca_tree.specs.Room.{room_size};
 ghost use Rattle.oca_tree.specs.Starts.{AddsWith, BeginsWith};
 ghost use Rattle.oca_tree.specs.Places.{place_of};
 ghost use Rattle.oca_tree.specs.Trees.{IsTree, IsSound, IsSoundValue};
-ghost use Rattle.oca_tree.specs.PrivateSteps.{Makes, MakesValue, is_number, IsTypedRange};
+ghost use Rattle.oca_tree.specs.PrivateSteps.{Makes, MakesValue, is_integer_kind, IsTypedRange};
 ghost use Rattle.oca_tree.specs.declared.object.Value.TheVariants.{Number};
 ghost use Rattle.oca_tree.specs.declared.builder.AddFault.TheVariants.{NoMemory};
 
@@ -256,7 +256,7 @@ fn switch_of(names: &[&str], position: u16) -> Option<Value>
 /// The setting of an integer actuator with its limits.
 #[tactic(auto, unfolding(crate::specs::Building::value_of))]
 fn range_of(kind: &Kind<'_>) -> Range
-    requires { is_number kind.now ≡ true }
+    requires { is_integer_kind kind.now ≡ true }
     ensures value { value_of kind.now ≡ Number result }
     ensures typed { IsTypedRange result }
 {
