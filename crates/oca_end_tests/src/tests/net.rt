@@ -5,7 +5,7 @@ mod moments;
 mod refusals;
 mod sockets;
 
-use super::{Script, first_wrong, none_wrong, play, wrong_unless};
+use super::Script;
 use oca_net::{End, Heard, UdpEnd};
 use oca_types::{Packet, Peer};
 use std::net::{Ipv4Addr, UdpSocket};
@@ -208,49 +208,4 @@ impl<C: Call> Script for AtSockets<C> {
             None => Some(usize::MAX),
         }
     }
-}
-
-#[test]
-fn ends_in_memory(rt: HostRuntime) {
-    play(&rt, &rt, memory::SCRIPTS);
-}
-
-#[test]
-fn ends_at_sockets(rt: HostRuntime) {
-    none_wrong(
-        &rt,
-        "standard_descriptors",
-        &[wrong_unless(refusals::are_filled(&rt))],
-    );
-    play(&rt, &rt, refusals::SCRIPTS);
-    none_wrong(
-        &rt,
-        "a_port_is_free_once_its_end_is_gone",
-        &[wrong_unless(refusals::is_free_again(&rt))],
-    );
-    none_wrong(
-        &rt,
-        "faults_in_words",
-        &[
-            first_wrong(rt.alloc(), refusals::FAULTS),
-            wrong_unless(refusals::error_reads(rt.alloc())),
-        ],
-    );
-    play(&rt, &rt, sockets::SCRIPTS);
-}
-
-#[test]
-fn moments_of_ends(rt: HostRuntime) {
-    play(&rt, &rt, moments::SCRIPTS);
-    let mut packet = Packet::new();
-    none_wrong(
-        &rt,
-        "moments_do_not_go_back",
-        &[moments::wrong_reading(&rt, &mut packet)],
-    );
-    none_wrong(
-        &rt,
-        "a_clock_that_counts_sleep_goes_on",
-        &[wrong_unless(moments::counts_sleep(&rt, &mut packet))],
-    );
 }

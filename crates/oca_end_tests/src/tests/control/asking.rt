@@ -251,8 +251,16 @@ const GIVEN: &[OverEnd] = &[
 ];
 
 #[test]
-fn scripts(rt: HostRuntime) {
+fn asked(rt: HostRuntime) {
     play(&rt, &rt, ASKED);
+}
+
+#[test]
+fn given(rt: HostRuntime) {
     play(&rt, &rt, GIVEN);
+}
+
+#[test]
+fn refusals(rt: HostRuntime) {
     none_wrong(&rt, "refusals", &[first_wrong(rt.alloc(), REFUSALS)]);
 }

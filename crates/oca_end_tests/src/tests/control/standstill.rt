@@ -255,5 +255,9 @@ const SCRIPTS: &[OverEnd] = &[
 #[test]
 fn scripts(rt: HostRuntime) {
     play(&rt, &rt, SCRIPTS);
+}
+
+#[test]
+fn rows(rt: HostRuntime) {
     none_wrong(&rt, "standstills", &[first_wrong(rt.alloc(), ROWS)]);
 }

@@ -1,7 +1,7 @@
 //! Ends in memory.
 use super::{A, B, LARGEST, heard_by_now, hold, sends};
 use crate::tests::ending::{Ending, Entry, Took, end_of};
-use crate::tests::{Script, first_other};
+use crate::tests::{Script, first_other, play};
 use oca_net::{End, Heard, MemoryEnd};
 use oca_types::{Packet, Peer};
 
@@ -134,7 +134,7 @@ const BEYOND: &[Step] = &[
 ];
 
 /// The scripts.
-pub const SCRIPTS: &[InMemory] = &[
+const SCRIPTS: &[InMemory] = &[
     InMemory {
         name: "delivers_its_script_in_order",
         ending: Ending {
@@ -186,3 +186,8 @@ pub const SCRIPTS: &[InMemory] = &[
         steps: &[HearsByNow(0, Heard::Quiet { now: 7 }, 0)],
     },
 ];
+
+#[test]
+fn scripts(rt: HostRuntime) {
+    play(&rt, &rt, SCRIPTS);
+}

@@ -3,6 +3,7 @@
 use super::{
     AtSockets, Begun, Call, HELD, LOCALHOST, SocketEnd, heard_by_now, hold, instant, sends,
 };
+use crate::tests::{none_wrong, play, wrong_unless};
 use oca_net::{CountsSleep, End, Heard, UdpEnd};
 use oca_types::Packet;
 use std::cell::Cell;
@@ -235,7 +236,7 @@ const IN_TURN: &[Step] = &[
 ];
 
 /// The scripts.
-pub const SCRIPTS: &[AtSockets<Step>] = &[
+const SCRIPTS: &[AtSockets<Step>] = &[
     AtSockets("moments_are_milliseconds_since_bind", PAUSES),
     AtSockets("an_end_at_a_socket_keeps_time", &[IsTimed]),
     AtSockets("a_quiet_receive_takes_50_milliseconds", NO_MOMENT),
@@ -329,7 +330,7 @@ fn first_wrong_reading(
 }
 
 /// The same of an end that is bound when the clock gives 1,000 ms; the last number where there is none.
-pub fn wrong_reading(rt: &HostRuntime, packet: &mut Packet) -> Option<usize> {
+fn wrong_reading(rt: &HostRuntime, packet: &mut Packet) -> Option<usize> {
     let net = SetClock {
         system: rt,
         time: Cell::new(Some(1_000)),
@@ -390,10 +391,30 @@ fn goes_on(
 }
 
 /// Whether a clock that counts sleep has the system's date, and is not behind the system's.
-pub fn counts_sleep(rt: &HostRuntime, packet: &mut Packet) -> bool {
+fn counts_sleep(rt: &HostRuntime, packet: &mut Packet) -> bool {
     let clock = CountsSleep(rt);
     match rt.monotonic() {
         Ok(before) => has_the_date(rt, &clock) && goes_on(rt, packet, &clock, before),
         Err(_) => false,
     }
+}
+
+#[test]
+fn scripts(rt: HostRuntime) {
+    play(&rt, &rt, SCRIPTS);
+}
+
+#[test]
+fn clocks(rt: HostRuntime) {
+    let mut packet = Packet::new();
+    none_wrong(
+        &rt,
+        "moments_do_not_go_back",
+        &[wrong_reading(&rt, &mut packet)],
+    );
+    none_wrong(
+        &rt,
+        "a_clock_that_counts_sleep_goes_on",
+        &[wrong_unless(counts_sleep(&rt, &mut packet))],
+    );
 }

@@ -1,6 +1,6 @@
 //! Where no end is bound, why, and the words of that; and the descriptor of one that is.
-use super::{AtSockets, Begun, Call, LOCALHOST, SocketEnd, end_here};
-use crate::tests::{Words, reads};
+use super::{AtSockets, Begun, Call, LOCALHOST, SocketEnd};
+use crate::tests::{Words, first_wrong, none_wrong, play, reads, wrong_unless};
 use oca_net::{
     BindError, BindFault, UdpEnd, fill_standard_descriptors, is_refused as host_refuses,
 };
@@ -16,19 +16,11 @@ const NO_MACHINE: Peer = Peer {
     port: 0,
 };
 
-/// Whether the system refuses an end there.
-fn is_refused(rt: &HostRuntime, at: Peer) -> bool {
-    matches!(
-        UdpEnd::bind(rt.alloc(), rt, at.ip, at.port),
-        Err(BindFault::Io)
-    )
-}
-
-/// Whether an end is bound there.
-fn is_bound(rt: &HostRuntime, at: Peer) -> bool {
+/// Where an end is that is asked for there, or why there is none.
+fn bound(rt: &HostRuntime, at: Peer) -> Result<Peer, BindFault> {
     match UdpEnd::bind(rt.alloc(), rt, at.ip, at.port) {
-        Ok(end) => end.local() == at,
-        Err(_) => false,
+        Ok(end) => Ok(end.local()),
+        Err(fault) => Err(fault),
     }
 }
 
@@ -92,7 +84,7 @@ impl Call for Step {
         _packet: &mut Packet,
     ) -> bool {
         match *self {
-            IsRefused(at) => is_refused(rt, peer(begun, at)),
+            IsRefused(at) => matches!(bound(rt, peer(begun, at)), Err(BindFault::Io)),
             IsRefusedFor(at, kind, text) => is_refused_for(rt, peer(begun, at), kind, text),
             HasAProgram => !host_refuses(rt, LOCALHOST, begun.first),
             HasADescriptor => has_a_descriptor(first),
@@ -114,7 +106,7 @@ const REASONS: &[Step] = &[
 ];
 
 /// The scripts.
-pub const SCRIPTS: &[AtSockets<Step>] = &[
+const SCRIPTS: &[AtSockets<Step>] = &[
     AtSockets(
         "a_port_in_use_is_refused",
         &[IsRefused(Place::InUse), IsRefused(Place::Nowhere)],
@@ -124,38 +116,66 @@ pub const SCRIPTS: &[AtSockets<Step>] = &[
     AtSockets("an_end_has_a_descriptor", &[HasADescriptor]),
 ];
 
-/// Where an end was bound that is gone.
-fn bound_once(rt: &HostRuntime) -> Option<Peer> {
-    match end_here(rt) {
-        Some(end) => Some(end.local()),
-        None => None,
-    }
+/// A port of this machine of the system's choice.
+const HERE: Peer = Peer {
+    ip: LOCALHOST,
+    port: 0,
+};
+
+/// Whether a port is free, and a host refuses it.
+fn is_free(rt: &HostRuntime, at: Peer) -> bool {
+    matches!(bound(rt, at), Ok(local) if local == at)
+        && host_refuses(rt, LOCALHOST, at)
+        && !host_refuses(rt, NO_MACHINE.ip, at)
 }
 
-/// Whether a port is free once its end is gone, and a host refuses it then.
-pub fn is_free_again(rt: &HostRuntime) -> bool {
-    match bound_once(rt) {
-        Some(local) => {
-            is_bound(rt, local)
-                && host_refuses(rt, LOCALHOST, local)
-                && !host_refuses(rt, NO_MACHINE.ip, local)
-        }
-        None => false,
+/// Whether a port is free once its end is gone.
+fn is_free_again(rt: &HostRuntime) -> bool {
+    match bound(rt, HERE) {
+        Ok(local) => is_free(rt, local),
+        Err(_) => false,
     }
 }
 
 /// Whether the standard descriptors are there.
-pub fn are_filled(rt: &HostRuntime) -> bool {
+fn are_filled(rt: &HostRuntime) -> bool {
     fill_standard_descriptors(rt).is_ok()
 }
 
 /// The faults in words.
-pub const FAULTS: &[Words<BindFault>] = &[
+const FAULTS: &[Words<BindFault>] = &[
     Words(BindFault::Io, "socket failed"),
     Words(BindFault::NoMemory, "no memory"),
 ];
 
 /// Whether the error has the words of its fault.
-pub fn error_reads(alloc: Global) -> bool {
+fn error_reads(alloc: Global) -> bool {
     reads(alloc, &BindError::NoMemory, "no memory")
+}
+
+#[test]
+fn scripts(rt: HostRuntime) {
+    none_wrong(
+        &rt,
+        "standard_descriptors",
+        &[wrong_unless(are_filled(&rt))],
+    );
+    play(&rt, &rt, SCRIPTS);
+}
+
+#[test]
+fn rows(rt: HostRuntime) {
+    none_wrong(
+        &rt,
+        "a_port_is_free_once_its_end_is_gone",
+        &[wrong_unless(is_free_again(&rt))],
+    );
+    none_wrong(
+        &rt,
+        "faults_in_words",
+        &[
+            first_wrong(rt.alloc(), FAULTS),
+            wrong_unless(error_reads(rt.alloc())),
+        ],
+    );
 }

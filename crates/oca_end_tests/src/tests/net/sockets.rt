@@ -2,6 +2,7 @@
 //! Each port is the system's choice. No clause says what goes through a socket, so these tests alone refuse an end that
 //! always returns Quiet or Failed, that drops datagrams, or that sends nothing and returns true.
 use super::{AtSockets, Begun, Call, HELD, LARGEST, LOCALHOST, SocketEnd, hold, sends};
+use crate::tests::play;
 use oca_net::{End, Heard};
 use oca_types::{Packet, Peer};
 use std::io::ErrorKind;
@@ -192,7 +193,7 @@ const REFUSED: &[Step] = &[
 const BUFFER: &[Step] = &[Granted(425_984)];
 
 /// The scripts.
-pub const SCRIPTS: &[AtSockets<Step>] = &[
+const SCRIPTS: &[AtSockets<Step>] = &[
     AtSockets("two_ends_exchange_datagrams", EXCHANGE),
     AtSockets("hears_1472_bytes_whole_and_1473_as_oversize", AT_THE_LIMIT),
     AtSockets("hears_empty_and_longest_datagrams", EMPTY_AND_LONGEST),
@@ -201,3 +202,8 @@ pub const SCRIPTS: &[AtSockets<Step>] = &[
     AtSockets("a_send_that_the_system_refuses_is_false", REFUSED),
     AtSockets("a_send_buffer_is_asked_for", BUFFER),
 ];
+
+#[test]
+fn scripts(rt: HostRuntime) {
+    play(&rt, &rt, SCRIPTS);
+}

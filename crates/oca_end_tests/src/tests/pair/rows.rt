@@ -255,19 +255,13 @@ fn add_row(script: &mut Steps, row: Row) -> Option<()> {
     }
 }
 
-/// Adds the steps of the rows.
-fn add_rows(script: &mut Steps, rows: &[Row]) -> Option<()> {
-    for row in rows {
-        add_row(script, *row)?;
-    }
-    Some(())
-}
-
 /// Adds the steps of these parts.
 fn add_parts(script: &mut Steps, parts: &[&[Row]]) -> bool {
     for rows in parts {
-        if add_rows(script, rows).is_none() {
-            return false;
+        for row in *rows {
+            if add_row(script, *row).is_none() {
+                return false;
+            }
         }
     }
     true

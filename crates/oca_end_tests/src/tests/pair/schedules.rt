@@ -123,21 +123,34 @@ fn is_ran(transcript: &Transcript, wants: &[Seen], want: Ran) -> bool {
         && transcript.device.sessions() == want.sessions
 }
 
-/// Whether this is what a run leads to.
+/// Whether a run is to lead to this.
+fn is_wanted(transcript: &Transcript, wants: &[Seen], want: Result<Ran, PairFault>) -> bool {
+    match want {
+        Ok(want) => is_ran(transcript, wants, want),
+        Err(_) => false,
+    }
+}
+
+/// Whether a run is to be refused for this reason.
+fn is_refused(fault: PairFault, want: Result<Ran, PairFault>) -> bool {
+    match want {
+        Ok(_) => false,
+        Err(want) => fault == want,
+    }
+}
+
+/// Whether a run over a device with these objects leads to this.
 fn is_led_to(
-    ran: Result<Transcript, PairFault>,
-    wants: &[Seen],
+    alloc: Global,
+    tree: Tree,
+    chosen: Chosen,
+    starts: &[Start],
+    script: &Steps,
     want: Result<Ran, PairFault>,
 ) -> bool {
-    match ran {
-        Ok(transcript) => match want {
-            Ok(want) => is_ran(&transcript, wants, want),
-            Err(_) => false,
-        },
-        Err(fault) => match want {
-            Ok(_) => false,
-            Err(want) => fault == want,
-        },
+    match run(alloc, tree, chosen, starts, script.steps.as_slice()) {
+        Ok(transcript) => is_wanted(&transcript, script.wants.as_slice(), want),
+        Err(fault) => is_refused(fault, want),
     }
 }
 
@@ -147,10 +160,7 @@ fn leads(alloc: Global, case: &Case, starts: &[Start], script: &Steps) -> bool {
         return false;
     };
     match bench(alloc) {
-        Ok(tree) => {
-            let ran = run(alloc, tree, chosen, starts, &script.steps);
-            is_led_to(ran, &script.wants, case.want)
-        }
+        Ok(tree) => is_led_to(alloc, tree, chosen, starts, script, case.want),
         Err(_) => false,
     }
 }

@@ -315,17 +315,32 @@ const TEXTS: &[Words<Trouble>] = &[
 ];
 
 #[test]
-fn exchanges(rt: HostRuntime) {
-    let alloc = rt.alloc();
+fn values(rt: HostRuntime) {
+    none_wrong(&rt, "objects", &[first_wrong(rt.alloc(), VALUES)]);
+}
+
+#[test]
+fn locks_and_labels(rt: HostRuntime) {
     none_wrong(
         &rt,
-        "objects",
+        "locks and labels",
+        &[first_wrong(rt.alloc(), LOCKS_AND_LABELS)],
+    );
+}
+
+#[test]
+fn lists_and_failures(rt: HostRuntime) {
+    none_wrong(
+        &rt,
+        "lists and failures",
         &[
-            first_wrong(alloc, VALUES),
-            first_wrong(alloc, LOCKS_AND_LABELS),
-            first_wrong(alloc, LISTS),
-            first_wrong(alloc, FAILURES),
+            first_wrong(rt.alloc(), LISTS),
+            first_wrong(rt.alloc(), FAILURES),
         ],
     );
-    none_wrong(&rt, "texts", &[first_wrong(alloc, TEXTS)]);
+}
+
+#[test]
+fn texts(rt: HostRuntime) {
+    none_wrong(&rt, "texts", &[first_wrong(rt.alloc(), TEXTS)]);
 }
