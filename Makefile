@@ -61,7 +61,6 @@ panel-trial:
 	@python3 tools/panel_trial.py bin
 
 bench: build
-	@$(BUILD) trials
 	python3 bench/run.py bin
 	python3 bench/core.py bin
 	python3 bench/memory.py bin

@@ -1,12 +1,13 @@
 #!/usr/bin/env python3
-"""Instructions a command of `Device::datagram` alone, datagrams made in memory (valgrind --tool=callgrind).
+"""Instructions a command of `Device::datagram` alone, as `ocadev replay` calls it (valgrind --tool=callgrind).
 
-Usage: core.py BIN     BIN is the folder with `trials`
+Usage: core.py BIN     BIN is the folder with `ocadev`
 
 single: one GetState a datagram. packed: 86 of them. copies: the same command again and again. setting: one SetState a
 datagram. others: one GetState a datagram, of another object each time. members: one GetMembers of the root a datagram,
-whose answer is too long, which one look tells. What making the datagrams costs is taken off. The goal of `single` by
-objects and by sessions is what the first row has, 1 and 10 in 100 more, and that of `members` 5 in 100 more."""
+whose answer is too long, which one look tells. Only instructions of the function and of what it calls are counted. The
+goal of `single` by objects and by sessions is what the first row has, 1 and 10 in 100 more, and that of `members` 5 in
+100 more."""
 import re
 import subprocess
 import sys
@@ -17,33 +18,62 @@ ROWS = [("single", 8, 1, "490"), ("single", 128, 1, "1%"), ("single", 4096, 1, "
         ("single", 8, 64, "10%"), ("single", 128, 16, "10%"), ("single", 4096, 64, "10%"), ("others", 128, 1, ""),
         ("others", 4096, 1, ""), ("members", 128, 1, "5%"), ("members", 4096, 1, "5%"), ("packed", 8, 1, "285"),
         ("copies", 8, 1, ""), ("setting", 8, 1, "")]
+FUNCTION = "oca_device::*::Device::datagram"
 
 
-def instructions(program, kind, objects, sessions, count, way):
+def tree(objects):
+    """The text of a tree of so many objects, mutes but for the root."""
+    return "".join(f"{4097 + number} 100 mute muted lockable mute\n" for number in range(objects - 1))
+
+
+def command(handle, target, level, index, count=0, params=b""):
+    return (17 + len(params)).to_bytes(4, "big") + b"".join(it.to_bytes(size, "big") for it, size in (
+        (handle, 4), (target, 4), (level, 2), (index, 2), (count, 1))) + params
+
+
+def message(kind, objects, number):
+    """The command of this number, counted from 1."""
+    if kind == "members":
+        return command(number, 100, 3, 5)
+    if kind == "setting":
+        return command(number, 4097, 4, 2, 1, b"\1")
+    return command(1 if kind == "copies" else number, 4097 + number % (objects - 1) if kind == "others" else 4097, 4, 1)
+
+
+def script(kind, objects, sessions, datagrams):
+    """Other peers say a keep-alive each, so that there are that many sessions with the one that is measured."""
+    for number in range(1, sessions):
+        yield f"0 127.0.0.1:{9001 + number} 3b00010000000b0400010001\n"
+    each = 86 if kind == "packed" else 1
+    for first in range(1, 1 + each * datagrams, each):
+        body = b"".join(message(kind, objects, number) for number in range(first, first + each))
+        yield f"0 127.0.0.1:9001 3b0001{9 + len(body):08x}01{each:04x}{body.hex()}\n"
+
+
+def instructions(program, kind, objects, sessions, datagrams):
     with tempfile.TemporaryDirectory() as folder:
-        tool = ["valgrind", "--tool=callgrind", f"--callgrind-out-file={folder}/out"]
-        words = [program, "bench", kind, str(objects), str(sessions), str(count), way]
-        run = subprocess.run(tool + words, stdout=subprocess.DEVNULL, stderr=subprocess.PIPE, text=True)
+        with open(f"{folder}/tree", "w") as file:
+            file.write(tree(objects))
+        tool = ["valgrind", "--tool=callgrind", f"--callgrind-out-file={folder}/out", f"--toggle-collect={FUNCTION}"]
+        words = [program, "replay", "--peers", str(max(16, sessions))] + (["--tree", f"{folder}/tree"] if objects != 8 else [])
+        run = subprocess.run(tool + words, input="".join(script(kind, objects, sessions, datagrams)), stdout=subprocess.DEVNULL,
+                             stderr=subprocess.PIPE, text=True)
     return int(re.search(r"Collected : (\d+)", run.stderr).group(1)) if run.returncode == 0 else None
 
 
 def a_command(program, kind, objects, sessions):
     """Instructions a command, or None where the program has no such size."""
     commands, count = (86, 100) if kind == "packed" else (1, 4000)
-    counts = []
-    for n in (100, 100 + count):  # from 100 datagrams on, so that the first use of the window's places is left out
-        served, made = (instructions(program, kind, objects, sessions, n, way) for way in ("served", "made"))
-        if served is None or made is None:
-            return None
-        counts.append(served - made)
-    return (counts[1] - counts[0]) / (count * commands)
+    # from 100 datagrams on, so that the first use of the window's places is left out
+    counts = [instructions(program, kind, objects, sessions, n) for n in (100, 100 + count)]
+    return None if None in counts else (counts[1] - counts[0]) / (count * commands)
 
 
 def main():
     first = None
     print("kind    objects sessions instructions-a-command  goal")
     for kind, objects, sessions, goal in ROWS:
-        cost = a_command(f"{sys.argv[1]}/trials", kind, objects, sessions)
+        cost = a_command(f"{sys.argv[1]}/ocadev", kind, objects, sessions)
         first = first or cost
         if goal.endswith("%") and first:
             goal = f"{first * (1 + int(goal[:-1]) / 100):.0f}"

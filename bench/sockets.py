@@ -1,12 +1,11 @@
 #!/usr/bin/env python3
 """Requests over loopback, in turns with bare loops, the medians of some runs.
 
-Usage: sockets.py BIN [REQUESTS] [ROUNDS]     BIN is the folder with `ocadev`, `ocactl` and `trials`
+Usage: sockets.py BIN [REQUESTS] [ROUNDS]     BIN is the folder with `ocadev` and `ocactl`
 
-servers: requests a second and a processor second of `ocadev serve`, beside a bare loop of receive and send in the same
-language (`trials echo`); `load.c` asks. clients: commands a second that `ocactl run` has answered by `ocadev serve`,
-beside a bare client in C (`load.c`), one at a time and with 16 under way; its time has the program's start and end in
-it."""
+servers: requests a second and a processor second of `ocadev serve`, beside a bare loop of receive and send in C
+(`echo.c`); `load.c` asks. clients: commands a second that `ocactl run` has answered by `ocadev serve`, beside a bare
+client in C (`load.c`), one at a time and with 16 under way; its time has the program's start and end in it."""
 import os
 import re
 import statistics
@@ -55,14 +54,14 @@ def medians(runs):
     return [statistics.median(values) for values in zip(*(run for run in runs if run))]
 
 
-def servers(folder, load, requests, rounds):
+def servers(folder, echo, load, requests, rounds):
     print("servers       outstanding  requests/s  bare loop  requests/processor-s  bare loop  ratio  goal: 0.92")
     for outstanding in (1, 16):
         device, bare = [], []
         for _ in range(rounds):
             device.append(served([f"{folder}/ocadev", "serve", "--port", "0", "--turns", FOREVER], load, requests,
                                  outstanding))
-            bare.append(served([f"{folder}/trials", "echo", FOREVER], load, requests, outstanding))
+            bare.append(served([echo, FOREVER], load, requests, outstanding))
         lost = device.count(None) + bare.count(None)
         (a, a_used), (b, b_used) = medians(device), medians(bare)
         print(f"ocadev serve  {outstanding:11}  {requests / a:10.0f}  {requests / b:9.0f}  {requests / a_used:20.0f}  "
@@ -106,9 +105,11 @@ def main():
     rounds = int(sys.argv[3]) if len(sys.argv) > 3 else 7
     here = os.path.dirname(os.path.abspath(__file__))
     with tempfile.TemporaryDirectory() as made:
-        load = os.path.join(made, "load")
-        subprocess.run(["gcc", "-O2", "-o", load, os.path.join(here, "load.c")], check=True)
-        servers(folder, load, requests, rounds)
+        echo, load = (os.path.join(made, name) for name in ("echo", "load"))
+        for program in (echo, load):
+            source = os.path.join(here, f"{os.path.basename(program)}.c")
+            subprocess.run(["gcc", "-O2", "-o", program, source], check=True)
+        servers(folder, echo, load, requests, rounds)
         clients(folder, load, made, requests, rounds)
 
 

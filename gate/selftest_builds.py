@@ -132,7 +132,7 @@ GOALS = {
     "library": [LIBRARY], "install-library": [LIBRARY, f"{INSTALL} library {KIND}"],
     "install": [LIBRARY, f"{INSTALL} library {KIND}", *BUILD, f"{INSTALL} programs"],
     "uninstall": [f"gate/install.sh uninstall {it}" for it in ("programs", f"library {KIND}")],
-    "bench": [*BUILD, TRIALS, "bench/run.py bin", "bench/core.py bin", "bench/memory.py bin", "bench/sockets.py bin"]}
+    "bench": [*BUILD, "bench/run.py bin", "bench/core.py bin", "bench/memory.py bin", "bench/sockets.py bin"]}
 
 
 def stand_in(file, text):

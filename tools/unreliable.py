@@ -7,6 +7,9 @@ Usage: unreliable.py BIN     BIN is the folder with `ocadev`, `ocactl` and `tria
   status 1 and prints nothing, or it did without that request and prints what it prints with memory. The calls of `trials calls` do
   without none: beside what every run asks for, each answers NoMemory.
 - After building: a script asks for no more requests than an empty one, and runs to its end with every later one refused.
+- Ends in memory, by `trials events`: a device that serves one on which a receive or a send fails is the device that serves it without
+  that (objects, sessions, and what is answered to copies of all commands), and a link that is driven over one has the answers that it
+  has without that; their reports count the failure and nothing else.
 - Ends: each read and each write fails in turn, in pieces of 100 bytes and, of the short scripts, in single bytes. The run then says
   `read failed` or `write failed` with status 1, and what it printed is a front of what it prints otherwise. Pieces of 1, 7 and 100
   bytes change nothing."""
@@ -16,6 +19,7 @@ import sys
 import tempfile
 
 import oca_profile as oca
+from damaged import MESSAGES
 
 PEERS = ["127.0.0.1:9001", "127.0.0.1:9002"]
 
@@ -47,10 +51,43 @@ def link_scripts():
            + "5000 submit 4097 4 1 0 -\n").encode()
 
 
+# the messages of damaged.py by their numbers: what a device is sent by three peers in turn, reads, writes, a duplicate, a reuse and
+# keep-alives, and silence at the end; what a link is sent behind a silence, answers to 1, again to 1, to 2, a keep-alive, answers to 5
+# and to 9
+TO_DEVICE = [(9001, 0), (9002, 2), (9003, 4), (9001, 0), (9002, 10), (9003, 12), (9001, 6), (9002, 14), (9003, 2), (9001, 13), None]
+TO_LINK = [None, (65000, 1), (65000, 8), (65000, 3), (65000, 15), (65000, 7), (65000, 5)]
+NO_SEND = 1000  # the number of a send that no run has
+
+
+def entries(script, moments, failed):
+    """The lines of a script, with a failed receive before its entry of the number `failed`, where there is one."""
+    for number, (entry, now) in enumerate(zip(script, moments)):
+        if number == failed:
+            yield "then failed"
+        yield f"then {now} " + ("quiet" if entry is None else f"127.0.0.1:{entry[0]} {MESSAGES[entry[1]].hex()}")
+
+
+def device_run(failed, send):
+    """A device that serves its script, and then hears each of its datagrams once more."""
+    again = [f"100 127.0.0.1:{entry[0]} {MESSAGES[entry[1]].hex()}" for entry in TO_DEVICE if entry]
+    return ["history 32 16 0", *entries(TO_DEVICE, range(11), failed), f"serve {send}", *again]
+
+
+def link_run(failed, send):
+    return ["history 32 16 0", *entries(TO_LINK, [0, 0, 1, 2, 3, 4, 5], failed), f"drive {send}"]
+
+
+# of a kind of run: the script's length, how many sends it has, and what a failed receive and a failed send change in the report, by
+# the places of its numbers (`ends.rt` of trials has their order). A failed receive is a turn more; of a device a failed send is a packet
+# less that is taken.
+IN_MEMORY = {"a device": (device_run, len(TO_DEVICE), 9, {0: 1, 9: 1}, {10: 1, 11: -1}),
+             "a link": (link_run, len(TO_LINK), 9, {0: 1, 4: 1}, {5: 1})}
+
+
 class Runs:
     def __init__(self, folder, layer):
         self.folder, self.layer = folder, layer
-        self.refused = self.without = self.ends = self.pieces = self.wrong = 0
+        self.refused = self.without = self.ends = self.in_memory = self.pieces = self.wrong = 0
 
     def run(self, words, script, **settings):
         """(standard output, standard error, status, the counts)"""
@@ -97,6 +134,24 @@ class Runs:
                 self.expect((said, code) == (fault, 1) and (got == out[:n - 1] if written else out.startswith(got)),
                             f"{words} in pieces of {piece} with {setting} {n}: {got!r} {said!r} {code}")
 
+    def ends_in_memory(self, name):
+        """A failed receive before each entry of a script, and each send failing in turn: the report counts the failure, and all else
+        is as without it. The report without a failure."""
+        made, receives, sends, by_receive, by_send = IN_MEMORY[name]
+        failures = [(None, NO_SEND)] + [(k, NO_SEND) for k in range(receives)] + [(None, k) for k in range(sends)]
+        lines = [line for failure in failures for line in made(*failure)]
+        out, err, status, _ = self.run(["trials", "events"], "".join(f"{line}\n" for line in lines).encode())
+        told = [part.partition("report")[2].partition("\n") for part in out.decode().split("history\n")[1:]]
+        self.expect((err, status, len(told)) == (b"", 0, len(failures)), f"{name}: {err!r} {status} {len(told)}")
+        reports, rests = [[int(n) for n in line.split()] for line, _, _ in told], [rest for _, _, rest in told]
+        for failure, report, rest in zip(failures[1:], reports[1:], rests[1:]):
+            changes = by_send if failure[0] is None else by_receive
+            expected = [n + changes.get(k, 0) for k, n in enumerate(reports[0])]
+            self.expect((report, rest) == (expected, rests[0]), f"{name}, {failure} failing: {report} {rest}")
+            self.in_memory += 1
+        print(f"  {name} in memory: {receives} runs with a failed receive, {sends} with a failed send")
+        return reports[0]
+
     def pieces_of(self, words, script):
         out, err, status, _ = self.run(words, script)
         for size in (1, 7, 100):
@@ -136,10 +191,13 @@ def main():
             requests, others = runs.memory(["trials", "call", name], b"")
             print(f"  {name}: {requests - start} requests for memory")
             runs.expect(len(others) == len(without), f"{name}: {len(others) - len(without)} requests are done without")
+        served, driven = runs.ends_in_memory("a device"), runs.ends_in_memory("a link")
+        runs.expect((served[11], driven[1], driven[3], runs.in_memory) == (9, 9, 4, 36), f"ends in memory: {served} {driven} {runs.in_memory}")
         runs.expect(runs.refused > 300 and runs.ends > 2000, "too few refusals and failures were tried")
         print(f"unreliable: {runs.refused} requests for memory refused and answered, {runs.without} done without; "
-              f"{runs.ends} failed reads and writes, {runs.pieces} runs in short pieces; {runs.wrong} wrong")
-    print(f"{runs.refused + runs.ends + runs.pieces} passed, {runs.wrong} failed")
+              f"{runs.ends} failed reads and writes, {runs.in_memory} failed receives and sends in memory, "
+              f"{runs.pieces} runs in short pieces; {runs.wrong} wrong")
+    print(f"{runs.refused + runs.ends + runs.in_memory + runs.pieces} passed, {runs.wrong} failed")
     return 1 if runs.wrong else 0
 
 

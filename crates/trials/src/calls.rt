@@ -1,13 +1,10 @@
 //! Calls that take memory, one at a time, for a run in which memory is refused.
-use crate::core_bench::{Size, device_of};
-use crate::devices::bench_device;
-use crate::ends::{NOWHERE, script};
-use oca_device::Outbox;
-use oca_net::{BindFault, MemoryEnd, UdpEnd};
+use oca_device::{Device, Outbox};
+use oca_net::{BindFault, MemoryEnd, Scripted, UdpEnd};
 use oca_pair::{PairFault, Start, Step, Transcript, run_pair};
 use oca_session::Sessions;
 use oca_tree::{Room, TreeBuilder, bench};
-use oca_types::{Handle, LOOPBACK, MethodId, NoMemory, Ono, Peer, Span, Window};
+use oca_types::{Handle, LOOPBACK, MethodId, NoMemory, Ono, Peer, Peers, Sizes, Span, Window};
 use std::alloc::Global;
 use std::net::Net;
 use std::rt::Clock;
@@ -64,20 +61,42 @@ fn with_room(alloc: Global) -> Answered {
 
 /// A device over the bench objects, for 64 peers.
 fn device_with_sizes(alloc: Global) -> Answered {
-    match Size::new(8, 64) {
-        Some(size) => made(device_of(alloc, size)),
-        None => Answered::Wrong,
+    let Some(peers) = Peers::new(64) else {
+        return Answered::Wrong;
+    };
+    let sizes = Sizes {
+        window: Window::default(),
+        peers,
+    };
+    match bench(alloc) {
+        Ok(tree) => made(Device::with_sizes(alloc, tree, sizes)),
+        Err(_) => Answered::NoMemory,
     }
 }
 
-/// An end with one scripted datagram.
+/// A bench device.
+fn bench_device(alloc: Global) -> Result<Device, NoMemory> {
+    match bench(alloc) {
+        Ok(tree) => Device::new(alloc, tree, Window::default()),
+        Err(_) => Err(NoMemory),
+    }
+}
+
+/// An end with one scripted datagram, a keep-alive.
 fn memory_end(alloc: Global) -> Result<MemoryEnd, NoMemory> {
-    MemoryEnd::new(
-        alloc,
-        script(alloc, &[(9001, Some(12), 0)], NOWHERE)?,
-        4,
-        None,
-    )
+    let Ok(bytes) = b"\x3b\x00\x01\x00\x00\x00\x0b\x04\x00\x01\x00\x01".to_vec(alloc) else {
+        return Err(NoMemory);
+    };
+    let datagram = Scripted::Datagram {
+        from: STARTS[0].peer,
+        bytes,
+        now: 0,
+    };
+    let mut script = Vec::new(alloc);
+    match script.push(datagram) {
+        Ok(()) => MemoryEnd::new(alloc, script, 4, None),
+        Err(_) => Err(NoMemory),
+    }
 }
 
 /// An end at 127.0.0.1 and a port of the system's choice.

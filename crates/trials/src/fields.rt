@@ -1,8 +1,9 @@
 //! The fields of the lines of schedules and of histories.
-use crate::lines::Full;
-use oca_script::field::{first_field, number, peer};
+ghost use Rattle.std.specs.Prelude.{◌≤◌};
+
+use oca_script::field::{first_field, moment, number, peer};
 use oca_tree::Value;
-use oca_types::{Class, MethodId, Ono, Peer};
+use oca_types::{Class, MethodId, Ono, Peer, Peers, Window};
 use std::alloc::Global;
 
 /// Why a line is refused.
@@ -36,129 +37,211 @@ impl LineFault {
     }
 }
 
-/// The fields of a line that were not read yet.
+/// The largest number of 32 bits.
+pub const LARGEST_32: u64 = 4_294_967_295;
+
+/// A peer in place of one that is none.
+const NOBODY: Peer = Peer { ip: 0, port: 0 };
+
+/// The fields of a line that were not read yet, and the first fault of those that were. What is read of a line with a
+/// fault is not to be used.
 #[derive(Drop)]
 pub struct Fields<'a> {
     rest: Option<&'a [u8]>,
+    fault: Option<LineFault>,
 }
 
 impl<'a> Fields<'a> {
     /// All fields of a line.
     pub fn new(line: &'a [u8]) -> Fields<'a> {
-        Fields { rest: Some(line) }
+        Fields {
+            rest: Some(line),
+            fault: None,
+        }
+    }
+
+    /// The first fault.
+    pub fn fault(&self) -> Option<LineFault> {
+        self.fault
+    }
+
+    /// Notes a fault, where it is the first.
+    pub fn refuse(&mut self, fault: LineFault) {
+        if self.fault.is_none() {
+            self.fault = Some(fault);
+        }
     }
 
     /// The next field.
-    pub fn next(&mut self) -> Result<&'a [u8], LineFault> {
-        let Some(text) = self.rest else {
-            return Err(LineFault::Form);
-        };
-        let (field, rest) = first_field(text);
-        self.rest = rest;
-        Ok(field)
+    pub fn next(&mut self) -> &'a [u8] {
+        match self.rest {
+            Some(text) => {
+                let (field, rest) = first_field(text);
+                self.rest = rest;
+                field
+            }
+            None => {
+                self.refuse(LineFault::Form);
+                &[]
+            }
+        }
+    }
+
+    /// Whether nothing is left.
+    pub fn is_at_end(&self) -> bool {
+        self.rest.is_none()
     }
 
     /// Nothing is left.
-    pub fn end(&self) -> Result<(), LineFault> {
-        match self.rest {
-            None => Ok(()),
-            Some(_) => Err(LineFault::Form),
+    pub fn end(&mut self) {
+        if self.rest.is_some() {
+            self.refuse(LineFault::Form);
+        }
+    }
+
+    /// The number of these digits, of which there are not too many, up to the largest.
+    pub fn number_of(&mut self, digits: &[u8], most: usize, largest: u64) -> u64
+        ensures { result ≤ largest }
+    {
+        match number(digits, most, largest) {
+            Some(value) => value,
+            None => {
+                self.refuse(LineFault::Number);
+                0
+            }
         }
     }
 
     /// A number of 32 bits.
-    pub fn number(&mut self) -> Result<u32, LineFault> {
-        number_32(self.next()?)
+    pub fn number(&mut self) -> u32 {
+        let digits = self.next();
+        self.number_of(digits, 10, LARGEST_32) as u32
     }
 
     /// A number of 16 bits.
-    pub fn short_number(&mut self) -> Result<u16, LineFault> {
-        match number(self.next()?, 5, 65535) {
-            Some(value) => Ok(value as u16),
-            None => Err(LineFault::Number),
-        }
+    pub fn short_number(&mut self) -> u16 {
+        let digits = self.next();
+        self.number_of(digits, 5, 65535) as u16
     }
 
     /// A number of 8 bits.
-    pub fn byte(&mut self) -> Result<u8, LineFault> {
-        match number(self.next()?, 3, 255) {
-            Some(value) => Ok(value as u8),
-            None => Err(LineFault::Number),
-        }
+    pub fn byte(&mut self) -> u8 {
+        let digits = self.next();
+        self.number_of(digits, 3, 255) as u8
     }
 
     /// A method: its level and its index.
-    pub fn method(&mut self) -> Result<MethodId, LineFault> {
-        let level = self.short_number()?;
-        match self.short_number() {
-            Ok(index) => Ok(MethodId { level, index }),
-            Err(fault) => Err(fault),
+    pub fn method(&mut self) -> MethodId {
+        let level = self.short_number();
+        let index = self.short_number();
+        MethodId { level, index }
+    }
+
+    /// A moment that this field tells.
+    pub fn moment(&mut self, text: &[u8]) -> u64 {
+        match moment(text) {
+            Some(now) => now,
+            None => {
+                self.refuse(LineFault::Moment);
+                0
+            }
         }
     }
 
-    /// The number of a link or a datagram.
-    pub fn place(&mut self) -> Result<usize, LineFault> {
-        Ok(self.number()? as usize)
-    }
-
-    /// A peer.
-    pub fn peer(&mut self) -> Result<Peer, LineFault> {
-        match peer(self.next()?) {
-            Some(peer) => Ok(peer),
-            None => Err(LineFault::Peer),
+    /// A peer that this field tells.
+    pub fn peer(&mut self, text: &[u8]) -> Peer {
+        match peer(text) {
+            Some(peer) => peer,
+            None => {
+                self.refuse(LineFault::Peer);
+                NOBODY
+            }
         }
     }
 
     /// Bytes, as their text.
-    pub fn hex(&mut self) -> Result<&'a [u8], LineFault> {
-        let text = self.next()?;
-        if text == b"-".as_slice() || is_hex(text) {
-            Ok(text)
-        } else {
-            Err(LineFault::Hex)
+    pub fn hex(&mut self) -> &'a [u8] {
+        let text = self.next();
+        if text != b"-".as_slice() && !is_hex(text) {
+            self.refuse(LineFault::Hex);
+        }
+        text
+    }
+
+    /// The window of this size.
+    pub fn window(&mut self, size: u8) -> Window {
+        match Window::new(size) {
+            Some(window) => window,
+            None => {
+                self.refuse(LineFault::Number);
+                Window::default()
+            }
+        }
+    }
+
+    /// Room for so many peers.
+    pub fn peers(&mut self, count: u8) -> Peers {
+        match Peers::new(count) {
+            Some(peers) => peers,
+            None => {
+                self.refuse(LineFault::Number);
+                Peers::default()
+            }
         }
     }
 
     /// What is set at the local front panel, and to what: `ONO CLASS VALUE`.
-    pub fn local(&mut self) -> Result<(Ono, Value), LineFault> {
-        let ono = Ono(self.number()?);
-        let word = self.next()?;
-        let Some(class) = class(word) else {
-            return Err(LineFault::Form);
-        };
-        let value = self.value(class)?;
-        self.end()?;
-        Ok((ono, value))
+    pub fn local(&mut self) -> (Ono, Value) {
+        let ono = Ono(self.number());
+        let word = self.next();
+        let class = self.class(word);
+        let value = self.value(class);
+        self.end();
+        (ono, value)
+    }
+
+    /// The class with this word.
+    fn class(&mut self, word: &[u8]) -> Class {
+        for (its, class) in CLASSES {
+            if its.as_bytes() == word {
+                return *class;
+            }
+        }
+        self.refuse(LineFault::Form);
+        Class::Block
     }
 
     /// A value of the class.
-    fn value(&mut self, class: Class) -> Result<Value, LineFault> {
+    fn value(&mut self, class: Class) -> Value {
         let found = match class {
-            Class::Mute | Class::Polarity => Value::of_state(class, self.byte()?),
-            Class::Switch => Some(Value::Switch(self.short_number()?)),
-            Class::Boolean => Some(Value::Boolean(self.truth()?)),
-            _ => Value::of_integer(class, self.integer()?),
+            Class::Mute | Class::Polarity => Value::of_state(class, self.byte()),
+            Class::Switch => Some(Value::Switch(self.short_number())),
+            Class::Boolean => Some(Value::Boolean(self.truth())),
+            _ => Value::of_integer(class, self.integer()),
         };
         match found {
-            Some(value) => Ok(value),
-            None => Err(LineFault::Number),
+            Some(value) => value,
+            None => {
+                self.refuse(LineFault::Number);
+                Value::Boolean(false)
+            }
         }
     }
 
     /// A truth: 0 or 1.
-    fn truth(&mut self) -> Result<bool, LineFault> {
-        match number(self.next()?, 1, 1) {
-            Some(value) => Ok(value == 1),
-            None => Err(LineFault::Number),
-        }
+    fn truth(&mut self) -> bool {
+        let digit = self.next();
+        self.number_of(digit, 1, 1) == 1
     }
 
-    /// An integer of 128 bits: decimal digits, behind a `-` where it is negative.
-    fn integer(&mut self) -> Result<i128, LineFault> {
-        let text = self.next()?;
-        match str::from_utf8(text) {
-            Ok(digits) if text.first() != Some(&b'+') => parsed(digits),
-            _ => Err(LineFault::Number),
+    /// An integer that a value may have: decimal digits, behind a `-` where it is negative.
+    fn integer(&mut self) -> i128 {
+        let text = self.next();
+        match text {
+            [b'-', digits @ ..] => {
+                i128::from(self.number_of(digits, 1000, u64::MAX)).wrapping_neg()
+            }
+            _ => i128::from(self.number_of(text, 1000, u64::MAX)),
         }
     }
 }
@@ -174,14 +257,12 @@ fn is_hex(text: &[u8]) -> bool {
     !text.is_empty() && text.len() % 2 == 0
 }
 
-/// The bytes of a text that was found to be of bytes.
-pub fn bytes_of(alloc: Global, text: &[u8]) -> Result<Vec<u8>, Full> {
-    if text == b"-".as_slice() {
-        return Ok(Vec::new(alloc));
-    }
-    match hex::decode(alloc, text) {
-        Ok(bytes) => Ok(bytes),
-        Err(_) => Err(Full),
+/// The bytes of a text that was found to be of bytes, where there is memory for them.
+pub fn bytes_of(alloc: Global, text: &[u8]) -> Option<Vec<u8>> {
+    let digits: &[u8] = if text == b"-".as_slice() { &[] } else { text };
+    match hex::decode(alloc, digits) {
+        Ok(bytes) => Some(bytes),
+        Err(_) => None,
     }
 }
 
@@ -200,29 +281,3 @@ const CLASSES: &[(&str, Class)] = &[
     ("uint32", Class::Uint32),
     ("uint64", Class::Uint64),
 ];
-
-/// The class with this word.
-fn class(word: &[u8]) -> Option<Class> {
-    for (its, class) in CLASSES {
-        if its.as_bytes() == word {
-            return Some(*class);
-        }
-    }
-    None
-}
-
-/// The integer that the digits write.
-fn parsed(digits: &str) -> Result<i128, LineFault> {
-    match digits.parse::<i128>() {
-        Ok(value) => Ok(value),
-        Err(_) => Err(LineFault::Number),
-    }
-}
-
-/// The number of 32 bits that the digits write.
-pub fn number_32(digits: &[u8]) -> Result<u32, LineFault> {
-    match number(digits, 10, 4294967295) {
-        Some(value) => Ok(value as u32),
-        None => Err(LineFault::Number),
-    }
-}

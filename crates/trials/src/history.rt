@@ -4,39 +4,60 @@
 //! for PEERS sessions and CHANNELS channel strips behind the bench's own objects. The lines after it are its events, in
 //! order: `N P HEX` is a datagram of the peer P at the moment N, `N quiet` a clock reading, and `set ONO CLASS VALUE` a
 //! change at the local front panel, CLASS being `mute`, `polarity`, `switch`, `boolean`, `int8` and so on to `uint64`.
+//! `again HEX` is a datagram that does not come to the device: it is only read, and written again. `then N P HEX`,
+//! `then N quiet` and `then failed` are entries of the script of an end in memory: a datagram, a receive without one,
+//! and a receive that fails. `serve K` lets the device serve that end, of which the send of the number K, from 0, fails,
+//! where there is one, and `drive K` drives a link over it (`ends` tells what is printed then). Both end the script.
 //!
 //! What is printed: `history`, and for each event its verdict; its packets, each behind `> `; `written`
-//! and the objects that a datagram wrote to, where there are any; `sessions` and how many it has; and `objects` with
-//! each object that has a setting or a lock: its number, `=`, its setting or `-`, and behind `/t` or `/r` the holder of
-//! its total or its read-only lock.
+//! and the objects that a datagram wrote to, where there are any; of a datagram that is written again its fault, or
+//! `again` and the bytes that the writer writes for its only message, `-` where it has several or a response;
+//! `sessions` and how many it has; and `objects` with each object that has a setting or a lock: its number, `=`, its
+//! setting or `-`, and behind `/t` or `/r` the holder of its total or its read-only lock.
+use crate::again::put_again;
+use crate::ends::{drive_script, serve_script};
 use crate::fields::{Fields, LineFault, bytes_of};
-use crate::lines::{
-    Full, RunFault, print_text, put, put_bytes, put_integer, put_number, put_peer, put_set_fault,
-    put_verdict,
-};
+use crate::lines::{RunFault, Told};
 use oca_device::{Device, Outbox};
-use oca_script::field::{moment, peer};
+use oca_net::Scripted;
 use oca_tree::{AddFault, Lock, LockKind, Setting, Tree, Value, bench_with_channels};
-use oca_types::{NoMemory, Ono, Peer, Peers, Sizes, Window};
+use oca_types::{NoMemory, Ono, Peer, Sizes};
 use std::alloc::Global;
 
 /// The device of the present history, where one has begun, and what is to be printed of it.
 #[derive(Drop)]
 struct Present {
+    alloc: Global,
     device: Option<Device>,
     outbox: Outbox,
-    out: String,
+    out: Told,
+    script: Vec<Scripted>,
+}
+
+/// What happens at a moment.
+#[derive(Clone, Copy)]
+enum Timed<'a> {
+    /// A datagram comes.
+    Datagram(Peer, &'a [u8], u64),
+    /// The clock is read.
+    Quiet(u64),
 }
 
 /// What happens to a device.
 #[derive(Clone, Copy)]
 enum Happens<'a> {
-    /// A datagram comes.
-    Datagram(Peer, &'a [u8], u64),
-    /// The clock is read.
-    Quiet(u64),
+    /// Something at a moment.
+    Timed(Timed<'a>),
     /// An object is set at the front.
     Set(Ono, Value),
+    /// A datagram is read and written again.
+    Again(&'a [u8]),
+    /// An entry of the script, or a receive that fails.
+    Then(Option<Timed<'a>>),
+    /// The device serves the script, of which the send of this number fails.
+    Serve(u64),
+    /// A link is driven over the script, of which the send of this number fails.
+    Drive(u64),
 }
 
 /// A line.
@@ -54,9 +75,11 @@ pub fn histories<R: Print + AllocGlobal>(rt: &R, text: &str) -> Result<(), RunFa
         return Err(RunFault::NoMemory);
     };
     let mut present = Present {
+        alloc: rt.alloc(),
         device: None,
         outbox,
-        out: String::new(rt.alloc()),
+        out: Told::new(rt.alloc()),
+        script: Vec::new(rt.alloc()),
     };
     let run = run_lines(rt, text, &mut present);
     drop(present);
@@ -64,11 +87,7 @@ pub fn histories<R: Print + AllocGlobal>(rt: &R, text: &str) -> Result<(), RunFa
 }
 
 /// Runs the lines of the text.
-fn run_lines<R: Print + AllocGlobal>(
-    rt: &R,
-    text: &str,
-    present: &mut Present,
-) -> Result<(), RunFault> {
+fn run_lines<R: Print>(rt: &R, text: &str, present: &mut Present) -> Result<(), RunFault> {
     let mut count = 0u64;
     for line in text.lines() {
         count = count.saturating_add(1);
@@ -77,43 +96,44 @@ fn run_lines<R: Print + AllocGlobal>(
         }
         run_line(rt, line.as_bytes(), count, present)?;
     }
-    print_text(rt, present.out.as_str())
+    present.out.print(rt)
 }
 
 /// Runs the line of this number.
-fn run_line<R: Print + AllocGlobal>(
+fn run_line<R: Print>(
     rt: &R,
     text: &[u8],
     number: u64,
     present: &mut Present,
 ) -> Result<(), RunFault> {
-    match read_line(text) {
-        Ok(Line::Begins(sizes, channels)) => begin(rt, sizes, channels, number, present),
-        Ok(Line::Happens(happens)) => go_on(rt.alloc(), happens, number, present),
-        Err(fault) => Err(RunFault::Line(number, fault)),
+    let mut fields = Fields::new(text);
+    let line = read_line(&mut fields);
+    if let Some(fault) = fields.fault() {
+        return Err(RunFault::Line(number, fault));
+    }
+    match line {
+        Line::Begins(sizes, channels) => begin(rt, sizes, channels, number, present),
+        Line::Happens(happens) => go_on(happens, number, present),
     }
 }
 
 /// Begins a history, once what is known of the present one was printed.
-fn begin<R: Print + AllocGlobal>(
+fn begin<R: Print>(
     rt: &R,
     sizes: Sizes,
     channels: u16,
     number: u64,
     present: &mut Present,
 ) -> Result<(), RunFault> {
-    let device = match new_device(rt.alloc(), sizes, channels) {
+    let device = match new_device(present.alloc, sizes, channels) {
         Ok(device) => device,
         Err(LineFault::NoMemory) => return Err(RunFault::NoMemory),
         Err(fault) => return Err(RunFault::Line(number, fault)),
     };
     drop(present.device.replace(device));
-    let printed = print_text(rt, present.out.as_str());
-    present.out.clear();
-    match put(&mut present.out, "history\n") {
-        Ok(()) => printed,
-        Err(Full) => Err(RunFault::NoMemory),
-    }
+    let printed = present.out.print(rt);
+    present.out.put("history\n");
+    printed
 }
 
 /// A device to which nothing happened.
@@ -128,105 +148,127 @@ fn new_device(alloc: Global, sizes: Sizes, channels: u16) -> Result<Device, Line
     }
 }
 
-/// Lets an event of the present history happen.
-fn go_on(
-    alloc: Global,
-    happens: Happens<'_>,
-    number: u64,
-    present: &mut Present,
-) -> Result<(), RunFault> {
+/// Lets an event of the present history happen, and notes what the device is then.
+fn go_on(happens: Happens<'_>, number: u64, present: &mut Present) -> Result<(), RunFault> {
     let Present {
+        alloc,
         device,
         outbox,
         out,
+        script,
     } = present;
-    match device {
-        Some(device) => match take(alloc, happens, device, outbox, out) {
-            Ok(()) => Ok(()),
-            Err(Full) => Err(RunFault::NoMemory),
-        },
-        None => Err(RunFault::Line(number, LineFault::Form)),
+    let Some(device) = device else {
+        return Err(RunFault::Line(number, LineFault::Form));
+    };
+    match happens {
+        Happens::Timed(Timed::Datagram(from, text, now)) => {
+            hear(*alloc, device, outbox, out, (from, text, now));
+        }
+        Happens::Timed(Timed::Quiet(now)) => {
+            device.tick(now);
+            out.put("quiet\n");
+        }
+        Happens::Set(ono, value) => set(device, out, ono, value),
+        Happens::Again(text) => put_again(*alloc, out, text),
+        Happens::Then(entry) => add_entry(*alloc, script, entry, out),
+        Happens::Serve(failing) => {
+            let script = std::mem::replace(script, Vec::new(*alloc));
+            serve_script(*alloc, device, outbox, out, script, failing);
+        }
+        Happens::Drive(failing) => {
+            let script = std::mem::replace(script, Vec::new(*alloc));
+            drive_script(*alloc, out, script, failing);
+        }
     }
+    out.put_number("sessions ", device.sessions() as u64);
+    put_objects(out, device.tree());
+    Ok(())
 }
 
-/// What a line says.
-fn read_line(text: &[u8]) -> Result<Line<'_>, LineFault> {
-    let mut fields = Fields::new(text);
-    let first = fields.next()?;
+/// What a line says, where it has no fault.
+fn read_line<'a>(fields: &mut Fields<'a>) -> Line<'a> {
+    let first = fields.next();
     if first == b"history".as_slice() {
-        return begun(&mut fields);
+        return begun(fields);
     }
-    let happens = read_event(first, &mut fields)?;
-    fields.end()?;
-    Ok(Line::Happens(happens))
+    let happens = read_event(first, fields);
+    fields.end();
+    Line::Happens(happens)
 }
 
 /// The event of a line of which the first field was read.
-fn read_event<'a>(first: &[u8], fields: &mut Fields<'a>) -> Result<Happens<'a>, LineFault> {
+fn read_event<'a>(first: &[u8], fields: &mut Fields<'a>) -> Happens<'a> {
     if first == b"set".as_slice() {
-        return set_at_front(fields);
+        let (ono, value) = fields.local();
+        return Happens::Set(ono, value);
     }
-    match moment(first) {
-        Some(now) => timed(now, fields),
-        None => Err(LineFault::Moment),
+    if first == b"again".as_slice() {
+        return Happens::Again(fields.hex());
     }
+    if first == b"then".as_slice() {
+        return Happens::Then(entry(fields));
+    }
+    if first == b"serve".as_slice() {
+        return Happens::Serve(u64::from(fields.number()));
+    }
+    if first == b"drive".as_slice() {
+        return Happens::Drive(u64::from(fields.number()));
+    }
+    Happens::Timed(read_timed(first, fields))
 }
 
-/// A change at the front.
-fn set_at_front<'a>(fields: &mut Fields<'_>) -> Result<Happens<'a>, LineFault> {
-    match fields.local() {
-        Ok((ono, value)) => Ok(Happens::Set(ono, value)),
-        Err(fault) => Err(fault),
+/// An entry of the script, or a receive that fails.
+fn entry<'a>(fields: &mut Fields<'a>) -> Option<Timed<'a>> {
+    let first = fields.next();
+    if first == b"failed".as_slice() {
+        return None;
     }
+    Some(read_timed(first, fields))
 }
 
-/// An event of which the moment was read.
-fn timed<'a>(now: u64, fields: &mut Fields<'a>) -> Result<Happens<'a>, LineFault> {
-    let second = fields.next()?;
+/// What happens at the moment that this field tells.
+fn read_timed<'a>(first: &[u8], fields: &mut Fields<'a>) -> Timed<'a> {
+    let now = fields.moment(first);
+    let second = fields.next();
     if second == b"quiet".as_slice() {
-        return Ok(Happens::Quiet(now));
+        return Timed::Quiet(now);
     }
-    let Some(from) = peer(second) else {
-        return Err(LineFault::Peer);
-    };
-    match fields.hex() {
-        Ok(text) => Ok(Happens::Datagram(from, text, now)),
-        Err(fault) => Err(fault),
-    }
+    let from = fields.peer(second);
+    Timed::Datagram(from, fields.hex(), now)
 }
 
 /// What begins a history.
-fn begun<'a>(fields: &mut Fields<'_>) -> Result<Line<'a>, LineFault> {
-    let window = fields.byte()?;
-    let peers = fields.byte()?;
-    let channels = fields.short_number()?;
-    fields.end()?;
-    match (Window::new(window), Peers::new(peers)) {
-        (Some(window), Some(peers)) => Ok(Line::Begins(Sizes { window, peers }, channels)),
-        _ => Err(LineFault::Number),
+fn begun<'a>(fields: &mut Fields<'_>) -> Line<'a> {
+    let window = fields.byte();
+    let peers = fields.byte();
+    let channels = fields.short_number();
+    fields.end();
+    let window = fields.window(window);
+    let peers = fields.peers(peers);
+    Line::Begins(Sizes { window, peers }, channels)
+}
+
+/// Adds an entry to the script, and notes that.
+fn add_entry(alloc: Global, script: &mut Vec<Scripted>, entry: Option<Timed<'_>>, out: &mut Told) {
+    let Some(entry) = scripted(alloc, entry) else {
+        return out.refuse();
+    };
+    match script.push(entry) {
+        Ok(()) => out.put("then\n"),
+        Err(_) => out.refuse(),
     }
 }
 
-/// Lets an event happen, and notes what the device is then.
-fn take(
-    alloc: Global,
-    happens: Happens<'_>,
-    device: &mut Device,
-    outbox: &mut Outbox,
-    out: &mut String,
-) -> Result<(), Full> {
-    match happens {
-        Happens::Datagram(from, text, now) => {
-            hear(alloc, device, outbox, out, (from, text, now))?;
-        }
-        Happens::Quiet(now) => {
-            device.tick(now);
-            put(out, "quiet\n")?;
-        }
-        Happens::Set(ono, value) => set(device, out, ono, value)?,
+/// An entry as an end takes it, where there is memory for it.
+fn scripted(alloc: Global, entry: Option<Timed<'_>>) -> Option<Scripted> {
+    match entry {
+        Some(Timed::Datagram(from, text, now)) => match bytes_of(alloc, text) {
+            Some(bytes) => Some(Scripted::Datagram { from, bytes, now }),
+            None => None,
+        },
+        Some(Timed::Quiet(now)) => Some(Scripted::Quiet { now }),
+        None => Some(Scripted::Failed),
     }
-    put_number(out, "sessions ", device.sessions() as u64)?;
-    put_objects(out, device.tree())
 }
 
 /// Hands the device a datagram, and notes the verdict, its packets and what it wrote to.
@@ -234,96 +276,91 @@ fn hear(
     alloc: Global,
     device: &mut Device,
     outbox: &mut Outbox,
-    out: &mut String,
+    out: &mut Told,
     datagram: (Peer, &[u8], u64),
-) -> Result<(), Full> {
+) {
     let (from, text, now) = datagram;
     outbox.clear();
-    let bytes = bytes_of(alloc, text)?;
+    let Some(bytes) = bytes_of(alloc, text) else {
+        return out.refuse();
+    };
     let verdict = device.datagram(from, bytes.as_slice(), now, outbox);
     drop(bytes);
-    put_verdict(out, verdict)?;
-    put_packets(alloc, out, outbox)?;
-    put_written(out, device.written())
+    out.put_verdict(verdict);
+    put_packets(alloc, out, outbox);
+    put_written(out, device.written());
 }
 
 /// Sets an object at the front, and notes what came of it.
-fn set(device: &mut Device, out: &mut String, ono: Ono, value: Value) -> Result<(), Full> {
+fn set(device: &mut Device, out: &mut Told, ono: Ono, value: Value) {
     match device.set(ono, value) {
-        Ok(()) => put(out, "set\n"),
-        Err(fault) => put_set_fault(out, fault),
+        Ok(()) => out.put("set\n"),
+        Err(fault) => out.put_set_fault(fault),
     }
 }
 
 /// The lines of the packets.
-fn put_packets(alloc: Global, out: &mut String, outbox: &Outbox) -> Result<(), Full> {
+fn put_packets(alloc: Global, out: &mut Told, outbox: &Outbox) {
     for packet in outbox.packets() {
-        put(out, "> ")?;
-        put_bytes(alloc, out, packet.as_slice())?;
+        out.put("> ");
+        out.put_bytes(alloc, packet.as_slice());
     }
-    Ok(())
 }
 
 /// The line of the objects that a datagram wrote to, where there are any.
-fn put_written(out: &mut String, written: &[Ono]) -> Result<(), Full> {
+fn put_written(out: &mut Told, written: &[Ono]) {
     if written.is_empty() {
-        return Ok(());
+        return;
     }
-    put(out, "written")?;
+    out.put("written");
     for ono in written {
-        put_number(out, " ", u64::from(ono.0))?;
+        out.put_number(" ", u64::from(ono.0));
     }
-    put(out, "\n")
+    out.put("\n");
 }
 
 /// The line of the objects that have a setting or a lock, behind another line.
-fn put_objects(out: &mut String, tree: &Tree) -> Result<(), Full> {
-    put(out, "\nobjects")?;
+fn put_objects(out: &mut Told, tree: &Tree) {
+    out.put("\nobjects");
     for index in 0..tree.len() {
         if let Some(object) = tree.object_at(index) {
             let ono = object.ono;
-            put_object(out, ono, tree.setting_of(ono), tree.lock_of(ono))?;
+            put_object(out, ono, tree.setting_of(ono), tree.lock_of(ono));
         }
     }
-    put(out, "\n")
+    out.put("\n");
 }
 
 /// An object, where it has a setting or a lock.
-fn put_object(
-    out: &mut String,
-    ono: Ono,
-    setting: Option<Setting>,
-    lock: Option<Lock>,
-) -> Result<(), Full> {
+fn put_object(out: &mut Told, ono: Ono, setting: Option<Setting>, lock: Option<Lock>) {
     if setting.is_none() && lock.is_none() {
-        return Ok(());
+        return;
     }
-    put_number(out, " ", u64::from(ono.0))?;
-    put_setting(out, setting)?;
-    match lock {
-        None => Ok(()),
-        Some(lock) => put_lock(out, lock),
+    out.put_number(" ", u64::from(ono.0));
+    put_setting(out, setting);
+    if let Some(lock) = lock {
+        put_lock(out, lock);
     }
 }
 
 /// A setting, or `-`, behind `=`.
-fn put_setting(out: &mut String, setting: Option<Setting>) -> Result<(), Full> {
+fn put_setting(out: &mut Told, setting: Option<Setting>) {
     let setting = match setting {
-        None => return put(out, "=-"),
+        None => return out.put("=-"),
         Some(Setting::State(state)) => i128::from(state),
         Some(Setting::Position(position)) => i128::from(position),
         Some(Setting::Truth(truth)) => i128::from(truth),
         Some(Setting::Number { setting, .. }) => setting,
     };
-    put_integer(out, "=", setting)
+    out.put_integer("=", setting);
 }
 
 /// A lock: its kind and its holder.
-fn put_lock(out: &mut String, lock: Lock) -> Result<(), Full> {
+fn put_lock(out: &mut Told, lock: Lock) {
     let kind = match lock.kind {
         LockKind::Total => "/t",
         LockKind::Readonly => "/r",
     };
-    put(out, kind)?;
-    put_peer(out, lock.holder)
+    out.put(kind);
+    out.put_peer(lock.holder);
 }

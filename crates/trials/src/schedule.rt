@@ -12,10 +12,10 @@
 //!
 //! The last sets an object at the local front panel: CLASS is `mute`, `polarity`, `switch`, `boolean`, `int8` and so on
 //! to `uint64`, and VALUE the number of a state, a position, 0 or 1, or an integer of the type.
-use crate::fields::{Fields, LineFault, number_32};
+use crate::fields::{Fields, LARGEST_32, LineFault};
 use oca_pair::{Start, Step};
-use oca_script::field::{moment, number, peer, split_at_byte};
-use oca_types::{Handle, MethodId, Ono, Peers, Sizes, Span, Window};
+use oca_script::field::split_at_byte;
+use oca_types::{Handle, Ono, Peers, Sizes, Span};
 
 /// The text of no bytes.
 const NO_BYTES: &[u8] = b"-";
@@ -29,185 +29,127 @@ pub enum Line<'a> {
     Step(Step<'static>, &'a [u8]),
 }
 
-/// What a line says. The links of a schedule that begins are put behind `starts`.
-pub fn read_line<'a>(text: &'a [u8], starts: &mut Vec<Start>) -> Result<Line<'a>, LineFault> {
-    let mut fields = Fields::new(text);
-    let first = fields.next()?;
+/// What a line says, where it has no fault. The links of a schedule that begins are put behind `starts`.
+pub fn read_line<'a>(fields: &mut Fields<'a>, starts: &mut Vec<Start>) -> Line<'a> {
+    let first = fields.next();
     if first == b"schedule".as_slice() {
-        return begun(&mut fields, starts);
+        return begun(fields, starts);
     }
-    let (step, bytes) = step(first, &mut fields)?;
-    fields.end()?;
-    Ok(Line::Step(step, bytes))
+    let (step, bytes) = step(first, fields);
+    fields.end();
+    Line::Step(step, bytes)
 }
 
 /// What begins a schedule.
-fn begun<'a>(fields: &mut Fields<'_>, starts: &mut Vec<Start>) -> Result<Line<'a>, LineFault> {
-    let window = fields.byte()?;
-    let span = fields.byte()?;
-    let (Some(window), Some(span)) = (Window::new(window), Span::new(span)) else {
-        return Err(LineFault::Number);
+fn begun<'a>(fields: &mut Fields<'_>, starts: &mut Vec<Start>) -> Line<'a> {
+    let window = fields.byte();
+    let span = fields.byte();
+    let window = fields.window(window);
+    let span = match Span::new(span) {
+        Some(span) => span,
+        None => {
+            fields.refuse(LineFault::Number);
+            Span::default()
+        }
     };
-    match peers_and_starts(fields, starts) {
-        Ok(peers) => Ok(Line::Begins(Sizes { window, peers }, span)),
-        Err(fault) => Err(fault),
-    }
+    let peers = peers_and_starts(fields, starts);
+    Line::Begins(Sizes { window, peers }, span)
 }
 
 /// How many peers have room, where that is said, and the links, which are put behind `starts`.
-fn peers_and_starts(fields: &mut Fields<'_>, starts: &mut Vec<Start>) -> Result<Peers, LineFault> {
+fn peers_and_starts(fields: &mut Fields<'_>, starts: &mut Vec<Start>) -> Peers {
     let mut peers = Peers::default();
     for place in 0..66 {
-        if fields.end().is_ok() {
-            return Ok(peers);
+        if fields.is_at_end() || fields.fault().is_some() {
+            return peers;
         }
-        let text = fields.next()?;
+        let text = fields.next();
         if place == 0 && !text.is_empty() && !text.contains(&b'/') && !text.contains(&b':') {
-            peers = peers_of(text)?;
+            let count = fields.number_of(text, 3, 255) as u8;
+            peers = fields.peers(count);
         } else {
-            add_start(starts, text)?;
+            add_start(fields, starts, text);
         }
     }
-    Err(LineFault::Form)
-}
-
-/// How many peers have room.
-fn peers_of(text: &[u8]) -> Result<Peers, LineFault> {
-    let Some(count) = number(text, 3, 255) else {
-        return Err(LineFault::Number);
-    };
-    match Peers::new(count as u8) {
-        Some(peers) => Ok(peers),
-        None => Err(LineFault::Number),
-    }
+    fields.refuse(LineFault::Form);
+    peers
 }
 
 /// Adds a link: `P/H`.
-fn add_start(starts: &mut Vec<Start>, text: &[u8]) -> Result<(), LineFault> {
+fn add_start(fields: &mut Fields<'_>, starts: &mut Vec<Start>, text: &[u8]) {
     let Some((from, first)) = split_at_byte(text, b'/') else {
-        return Err(LineFault::Form);
+        fields.refuse(LineFault::Form);
+        return;
     };
-    let Some(peer) = peer(from) else {
-        return Err(LineFault::Peer);
-    };
-    let first_handle = Handle(number_32(first)?);
-    match starts.push(Start { peer, first_handle }) {
-        Ok(()) => Ok(()),
-        Err(_) => Err(LineFault::NoMemory),
+    let peer = fields.peer(from);
+    let first_handle = Handle(fields.number_of(first, 10, LARGEST_32) as u32);
+    if starts.push(Start { peer, first_handle }).is_err() {
+        fields.refuse(LineFault::NoMemory);
     }
 }
 
 /// A step of which the first field was read, and the text of its bytes.
-fn step<'a>(first: &[u8], fields: &mut Fields<'a>) -> Result<(Step<'static>, &'a [u8]), LineFault> {
+fn step<'a>(first: &[u8], fields: &mut Fields<'a>) -> (Step<'static>, &'a [u8]) {
     if first == b"take".as_slice() {
-        return with_no_bytes(taken(fields));
+        return (taken(fields), NO_BYTES);
     }
     if first == b"set".as_slice() {
-        return with_no_bytes(set_at_front(fields));
+        let (ono, value) = fields.local();
+        return (Step::Local { ono, value }, NO_BYTES);
     }
-    let word = fields.next()?;
-    match moment(first) {
-        Some(now) => timed(now, word, fields),
-        None => Err(LineFault::Moment),
-    }
-}
-
-/// A step without bytes.
-fn with_no_bytes<'a>(
-    step: Result<Step<'static>, LineFault>,
-) -> Result<(Step<'static>, &'a [u8]), LineFault> {
-    match step {
-        Ok(step) => Ok((step, NO_BYTES)),
-        Err(fault) => Err(fault),
-    }
-}
-
-/// An answer that is taken.
-fn taken(fields: &mut Fields<'_>) -> Result<Step<'static>, LineFault> {
-    let link = fields.place()?;
-    match fields.number() {
-        Ok(handle) => Ok(Step::Take {
-            link,
-            handle: Handle(handle),
-        }),
-        Err(fault) => Err(fault),
-    }
-}
-
-/// A change at the front.
-fn set_at_front(fields: &mut Fields<'_>) -> Result<Step<'static>, LineFault> {
-    match fields.local() {
-        Ok((ono, value)) => Ok(Step::Local { ono, value }),
-        Err(fault) => Err(fault),
-    }
-}
-
-/// A step with a moment, of which the word was read, and the text of its bytes.
-fn timed<'a>(
-    now: u64,
-    word: &[u8],
-    fields: &mut Fields<'a>,
-) -> Result<(Step<'static>, &'a [u8]), LineFault> {
+    let word = fields.next();
+    let now = fields.moment(first);
     if word == b"submit".as_slice() {
         return submitted(now, fields);
     }
     if word == b"other".as_slice() {
         return other(now, fields);
     }
+    (placed(now, word, fields), NO_BYTES)
+}
+
+/// An answer that is taken.
+fn taken(fields: &mut Fields<'_>) -> Step<'static> {
+    let link = fields.number() as usize;
+    let handle = Handle(fields.number());
+    Step::Take { link, handle }
+}
+
+/// A step that names a link or a datagram, or none, of which the word was read.
+fn placed(now: u64, word: &[u8], fields: &mut Fields<'_>) -> Step<'static> {
     if word == b"tick".as_slice() {
-        return Ok((Step::Tick { now }, NO_BYTES));
+        return Step::Tick { now };
     }
-    with_no_bytes(placed(now, word, fields))
-}
-
-/// A step that names a link or a datagram, of which the word was read.
-fn placed(now: u64, word: &[u8], fields: &mut Fields<'_>) -> Result<Step<'static>, LineFault> {
     if word == b"due".as_slice() {
-        let link = fields.place()?;
-        return Ok(Step::Due { link, now });
+        let link = fields.number() as usize;
+        return Step::Due { link, now };
     }
-    if word == b"to-device".as_slice() {
-        let k = fields.place()?;
-        return Ok(Step::ToDevice { k, now });
+    if word != b"to-device".as_slice() && word != b"to-link".as_slice() {
+        fields.refuse(LineFault::Form);
     }
+    let k = fields.number() as usize;
     if word == b"to-link".as_slice() {
-        let k = fields.place()?;
-        return Ok(Step::ToLink { k, now });
+        return Step::ToLink { k, now };
     }
-    Err(LineFault::Form)
+    Step::ToDevice { k, now }
 }
 
-/// A datagram of another peer.
-fn other<'a>(now: u64, fields: &mut Fields<'a>) -> Result<(Step<'static>, &'a [u8]), LineFault> {
-    let from = fields.peer()?;
-    let text = fields.hex()?;
+/// A datagram of another peer, and its text.
+fn other<'a>(now: u64, fields: &mut Fields<'a>) -> (Step<'static>, &'a [u8]) {
+    let peer = fields.next();
+    let from = fields.peer(peer);
+    let text = fields.hex();
     let bytes = &[];
-    Ok((Step::Other { from, bytes, now }, text))
+    (Step::Other { from, bytes, now }, text)
 }
 
 /// A command that is submitted, and the text of its parameters.
-fn submitted<'a>(
-    now: u64,
-    fields: &mut Fields<'a>,
-) -> Result<(Step<'static>, &'a [u8]), LineFault> {
-    let link = fields.place()?;
-    let target = Ono(fields.number()?);
-    match fields.method() {
-        Ok(method) => submitted_to(now, link, target, method, fields),
-        Err(fault) => Err(fault),
-    }
-}
-
-/// A command for an object that is submitted to a link, and the text of its parameters.
-fn submitted_to<'a>(
-    now: u64,
-    link: usize,
-    target: Ono,
-    method: MethodId,
-    fields: &mut Fields<'a>,
-) -> Result<(Step<'static>, &'a [u8]), LineFault> {
-    let count = fields.byte()?;
-    let text = fields.hex()?;
+fn submitted<'a>(now: u64, fields: &mut Fields<'a>) -> (Step<'static>, &'a [u8]) {
+    let link = fields.number() as usize;
+    let target = Ono(fields.number());
+    let method = fields.method();
+    let count = fields.byte();
+    let text = fields.hex();
     let step = Step::Submit {
         link,
         target,
@@ -216,5 +158,5 @@ fn submitted_to<'a>(
         params: &[],
         now,
     };
-    Ok((step, text))
+    (step, text)
 }

@@ -1,8 +1,6 @@
 //! Schedules over a device and links, read as lines and run one after another.
-use crate::fields::{LineFault, bytes_of};
-use crate::lines::{
-    Full, RunFault, print_text, put, put_bytes, put_number, put_peer, put_set_fault, put_verdict,
-};
+use crate::fields::{Fields, LineFault, bytes_of};
+use crate::lines::{RunFault, Told};
 use crate::schedule::{Line, read_line};
 use oca_control::{Answer, ControlFault, Reception};
 use oca_pair::{Outcome, PairFault, Sent, Start, Step, Transcript, run_pair_with_sizes};
@@ -53,6 +51,7 @@ impl HeldStep {
 /// The schedule that began last, where one has: its sizes, its links and its steps; and the links of the next one.
 #[derive(Drop)]
 struct Pending {
+    alloc: Global,
     begun: Option<(Sizes, Span)>,
     starts: Vec<Start>,
     steps: Vec<HeldStep>,
@@ -64,6 +63,7 @@ struct Pending {
 /// `schedule`, why it does not run.
 pub fn worlds<R: Print + AllocGlobal>(rt: &R, text: &str) -> Result<(), RunFault> {
     let mut pending = Pending {
+        alloc: rt.alloc(),
         begun: None,
         starts: Vec::new(rt.alloc()),
         steps: Vec::new(rt.alloc()),
@@ -75,27 +75,35 @@ pub fn worlds<R: Print + AllocGlobal>(rt: &R, text: &str) -> Result<(), RunFault
 }
 
 /// Runs the lines of the text.
-fn run_lines<R: Print + AllocGlobal>(
-    rt: &R,
-    text: &str,
-    pending: &mut Pending,
-) -> Result<(), RunFault> {
+fn run_lines<R: Print>(rt: &R, text: &str, pending: &mut Pending) -> Result<(), RunFault> {
     let mut count = 0u64;
     for line in text.lines() {
         count = count.saturating_add(1);
         if line.is_empty() || line.as_bytes().first() == Some(&b'#') {
             continue;
         }
-        match read_line(line.as_bytes(), &mut pending.next_starts) {
-            Ok(line) => take_line(rt, line, count, pending)?,
-            Err(fault) => return Err(RunFault::Line(count, fault)),
-        }
+        run_line(rt, line.as_bytes(), count, pending)?;
     }
     finish(rt, pending)
 }
 
+/// Runs the line of this number.
+fn run_line<R: Print>(
+    rt: &R,
+    text: &[u8],
+    number: u64,
+    pending: &mut Pending,
+) -> Result<(), RunFault> {
+    let mut fields = Fields::new(text);
+    let line = read_line(&mut fields, &mut pending.next_starts);
+    match fields.fault() {
+        Some(fault) => Err(RunFault::Line(number, fault)),
+        None => take_line(rt, line, number, pending),
+    }
+}
+
 /// Begins a schedule, once the pending one was run, or adds a step to that.
-fn take_line<R: Print + AllocGlobal>(
+fn take_line<R: Print>(
     rt: &R,
     line: Line<'_>,
     number: u64,
@@ -103,32 +111,24 @@ fn take_line<R: Print + AllocGlobal>(
 ) -> Result<(), RunFault> {
     match line {
         Line::Begins(sizes, span) => begin(rt, sizes, span, pending),
-        Line::Step(step, text) if pending.begun.is_some() => {
-            match add_step(rt.alloc(), &mut pending.steps, step, text) {
-                Ok(()) => Ok(()),
-                Err(Full) => Err(RunFault::NoMemory),
-            }
-        }
+        Line::Step(step, text) if pending.begun.is_some() => add_step(pending, step, text),
         Line::Step(..) => Err(RunFault::Line(number, LineFault::Form)),
     }
 }
 
 /// Adds a step whose bytes have this text.
-fn add_step(
-    alloc: Global,
-    steps: &mut Vec<HeldStep>,
-    step: Step<'static>,
-    text: &[u8],
-) -> Result<(), Full> {
-    let bytes = bytes_of(alloc, text)?;
-    match steps.push(HeldStep { step, bytes }) {
+fn add_step(pending: &mut Pending, step: Step<'static>, text: &[u8]) -> Result<(), RunFault> {
+    let Some(bytes) = bytes_of(pending.alloc, text) else {
+        return Err(RunFault::NoMemory);
+    };
+    match pending.steps.push(HeldStep { step, bytes }) {
         Ok(()) => Ok(()),
-        Err(_) => Err(Full),
+        Err(_) => Err(RunFault::NoMemory),
     }
 }
 
 /// Runs the pending schedule, and begins another one.
-fn begin<R: Print + AllocGlobal>(
+fn begin<R: Print>(
     rt: &R,
     sizes: Sizes,
     span: Span,
@@ -143,40 +143,32 @@ fn begin<R: Print + AllocGlobal>(
 }
 
 /// Runs the pending schedule, where there is one, and prints what it led to.
-fn finish<R: Print + AllocGlobal>(rt: &R, pending: &Pending) -> Result<(), RunFault> {
+fn finish<R: Print>(rt: &R, pending: &Pending) -> Result<(), RunFault> {
     let Some((sizes, span)) = pending.begun else {
         return Ok(());
     };
-    let mut out = String::new(rt.alloc());
-    let ran = run(rt.alloc(), sizes, span, pending);
-    let printed = match put_run(rt.alloc(), &mut out, &ran) {
-        Ok(()) => print_text(rt, out.as_str()),
-        Err(Full) => Err(RunFault::NoMemory),
-    };
-    drop((ran, out));
+    let mut out = Told::new(pending.alloc);
+    let ran = run(sizes, span, pending);
+    put_run(pending.alloc, &mut out, &ran);
+    drop(ran);
+    let printed = out.print(rt);
+    drop(out);
     printed
 }
 
 /// Runs the pending schedule over the bench device.
-fn run(
-    alloc: Global,
-    sizes: Sizes,
-    span: Span,
-    pending: &Pending,
-) -> Result<Transcript, PairFault> {
-    let mut steps = Vec::new(alloc);
+fn run(sizes: Sizes, span: Span, pending: &Pending) -> Result<Transcript, PairFault> {
+    let mut steps = Vec::new(pending.alloc);
+    let mut is_whole = true;
     for held in pending.steps.as_slice() {
-        if steps.push(held.step()).is_err() {
-            return Err(PairFault::NoMemory);
-        }
+        is_whole &= steps.push(held.step()).is_ok();
     }
-    let ran = run_steps(
-        alloc,
-        sizes,
-        span,
-        pending.starts.as_slice(),
-        steps.as_slice(),
-    );
+    let starts = pending.starts.as_slice();
+    let ran = if is_whole {
+        run_steps(pending.alloc, sizes, span, starts, steps.as_slice())
+    } else {
+        Err(PairFault::NoMemory)
+    };
     drop(steps);
     ran
 }
@@ -195,62 +187,52 @@ fn run_steps(
     }
 }
 
-/// The line of a text and a number.
-fn put_counted(out: &mut String, text: &str, number: u64) -> Result<(), Full> {
-    put_number(out, text, number)?;
-    put(out, "\n")
-}
-
 /// The lines of a run.
-fn put_run(
-    alloc: Global,
-    out: &mut String,
-    ran: &Result<Transcript, PairFault>,
-) -> Result<(), Full> {
-    put(out, "schedule\n")?;
+fn put_run(alloc: Global, out: &mut Told, ran: &Result<Transcript, PairFault>) {
+    out.put("schedule\n");
     match ran {
         Ok(transcript) => put_transcript(alloc, out, transcript),
-        Err(PairFault::NoMemory) => Err(Full),
-        Err(PairFault::BadStep(number)) => put_counted(out, "bad step ", *number as u64),
-        Err(PairFault::SamePeer) => put(out, "same peer\n"),
+        Err(PairFault::NoMemory) => out.refuse(),
+        Err(PairFault::BadStep(number)) => out.put_counted("bad step ", *number as u64),
+        Err(PairFault::SamePeer) => out.put("same peer\n"),
     }
 }
 
 /// The lines of a transcript.
-fn put_transcript(alloc: Global, out: &mut String, transcript: &Transcript) -> Result<(), Full> {
+fn put_transcript(alloc: Global, out: &mut Told, transcript: &Transcript) {
     for outcome in transcript.log.as_slice() {
-        put_outcome(alloc, out, outcome)?;
+        put_outcome(alloc, out, outcome);
     }
-    put_sent(alloc, out, "to-device", transcript.to_device.as_slice())?;
-    put_sent(alloc, out, "to-link", transcript.to_links.as_slice())?;
-    put_counted(out, "sessions ", transcript.device.sessions() as u64)
+    put_sent(alloc, out, "to-device ", transcript.to_device.as_slice());
+    put_sent(alloc, out, "to-link ", transcript.to_links.as_slice());
+    out.put_counted("sessions ", transcript.device.sessions() as u64);
 }
 
 /// The line of a step.
-fn put_outcome(alloc: Global, out: &mut String, outcome: &Outcome) -> Result<(), Full> {
+fn put_outcome(alloc: Global, out: &mut Told, outcome: &Outcome) {
     match outcome {
-        Outcome::Submitted(handle) => put_counted(out, "handle ", u64::from(handle.0)),
-        Outcome::Refused(fault) => put(out, refusal(*fault)),
-        Outcome::Sent(number) => put_counted(out, "sent ", *number as u64),
-        Outcome::Nothing => put(out, "nothing\n"),
-        Outcome::Lost => put(out, "lost\n"),
-        Outcome::Device(verdict) => put_verdict(out, *verdict),
+        Outcome::Submitted(handle) => out.put_counted("handle ", u64::from(handle.0)),
+        Outcome::Refused(fault) => out.put(refusal(*fault)),
+        Outcome::Sent(number) => out.put_counted("sent ", *number as u64),
+        Outcome::Nothing => out.put("nothing\n"),
+        Outcome::Lost => out.put("lost\n"),
+        Outcome::Device(verdict) => out.put_verdict(*verdict),
         Outcome::Link(reception) => put_reception(out, *reception),
-        Outcome::Ticked => put(out, "quiet\n"),
-        Outcome::Set => put(out, "set\n"),
-        Outcome::NotSet(fault) => put_set_fault(out, *fault),
+        Outcome::Ticked => out.put("quiet\n"),
+        Outcome::Set => out.put("set\n"),
+        Outcome::NotSet(fault) => out.put_set_fault(*fault),
         Outcome::Answer(answer) => put_answer(alloc, out, answer),
-        Outcome::NoAnswer => put(out, "none\n"),
+        Outcome::NoAnswer => out.put("none\n"),
     }
 }
 
 /// The line of what a link made of a datagram.
-fn put_reception(out: &mut String, reception: Reception) -> Result<(), Full> {
+fn put_reception(out: &mut Told, reception: Reception) {
     match reception {
-        Reception::Answered(count) => put_counted(out, "answered ", count as u64),
-        Reception::Stranger => put(out, "stranger\n"),
-        Reception::Malformed => put(out, "malformed\n"),
-        Reception::NothingNew => put(out, "nothing new\n"),
+        Reception::Answered(count) => out.put_counted("answered ", count as u64),
+        Reception::Stranger => out.put("stranger\n"),
+        Reception::Malformed => out.put("malformed\n"),
+        Reception::NothingNew => out.put("nothing new\n"),
     }
 }
 
@@ -265,26 +247,19 @@ fn refusal(fault: ControlFault) -> &'static str {
 }
 
 /// The line of an answer.
-fn put_answer(alloc: Global, out: &mut String, answer: &Answer) -> Result<(), Full> {
-    put_number(out, "answer ", u64::from(answer.status))?;
-    put_number(out, " ", u64::from(answer.count))?;
-    put(out, " ")?;
-    put_bytes(alloc, out, answer.params.as_slice())
+pub fn put_answer(alloc: Global, out: &mut Told, answer: &Answer) {
+    out.put_number("answer ", u64::from(answer.status));
+    out.put_number(" ", u64::from(answer.count));
+    out.put(" ");
+    out.put_bytes(alloc, answer.params.as_slice());
 }
 
 /// The lines of the datagrams that were sent one way.
-fn put_sent(alloc: Global, out: &mut String, way: &str, sent: &[Sent]) -> Result<(), Full> {
+fn put_sent(alloc: Global, out: &mut Told, way: &str, sent: &[Sent]) {
     for datagram in sent {
-        put_datagram(alloc, out, way, datagram)?;
+        out.put(way);
+        out.put_peer(datagram.peer);
+        out.put(" ");
+        out.put_bytes(alloc, datagram.bytes.as_slice());
     }
-    Ok(())
-}
-
-/// The line of a datagram that was sent one way.
-fn put_datagram(alloc: Global, out: &mut String, way: &str, datagram: &Sent) -> Result<(), Full> {
-    put(out, way)?;
-    put(out, " ")?;
-    put_peer(out, datagram.peer)?;
-    put(out, " ")?;
-    put_bytes(alloc, out, datagram.bytes.as_slice())
 }

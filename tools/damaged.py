@@ -1,0 +1,156 @@
+#!/usr/bin/env python3
+"""Damaged datagrams: what a device refuses leaves it as it was, and what it accepts is what the writer writes.
+
+Usage: damaged.py BIN     BIN is the folder with `trials`
+
+Each byte of 16 messages is replaced by each other value, each of them is cut off behind each of its bytes, and each is
+followed by each. `trials events` says of each datagram what the checks find and, where it is one command or one
+keep-alive, which bytes the writer writes for that; both are as the second implementation has them (oca_profile.py).
+
+A datagram that is refused comes to a device from a peer with a session and from one without. Then another peer reads
+what no line of objects shows (labels, enabled flags, names and flags of positions), and the peer with a session sends
+again each command for which a reply is retained. A second device hears all but the damaged datagrams: both answer alike,
+and have the same objects, locks and number of sessions."""
+import subprocess
+import sys
+
+import oca_profile as oca
+
+# the examples of docs/PROTOCOL.md and some more: commands of all sizes, responses, keep-alives of both forms, two
+# commands in a PDU
+MESSAGES = [bytes.fromhex(text) for text in (
+    "3b00010000001a01000100000011000000010000100100040001"
+    "00",
+    "3b000100000014030001" "0000000b00000001000101",
+    "3b00010000001b010001" "000000120000000200001001000400020101",
+    "3b000100000013030001" "0000000a000000020000",
+    "3b00010000001c010001" "00000013000000070000100400050002" "01fda8",
+    "3b000100000019030001" "00000010000000090003" "fda8fda80258",
+    "3b00010000001a010001" "0000001100000005000000640003000500",
+    "3b000100000023030001" "0000001a000000050001" "00010000100000030001000100030002",
+    "3b000100000013030001" "0000000a000000010300",
+    "3b000100000019030001" "00000010000000020001" "00046d757465",
+    "3b000100000022010001" "00000019000000010000100100020009" "01000542c3bc686e65",
+    "3b00010000001b030001" "00000012000000020001" "000542c3bc686e65",
+    "3b00010000000b040001" "0001",
+    "3b00010000000d040001" "000005dc",
+    "3b00010000002b010002" "0000001100000001000010010004000100" "0000001100000002000010020004000100",
+    "3b00010000000b040001" "0005")]
+SENDER, STRANGER, READER = "127.0.0.1:9001", "127.0.0.1:9002", "127.0.0.1:9003"
+BEFORE, AGAIN = (2, 4, 10, 12), (2, 4, 10)  # what the sender sends first, and of that what is sent again
+# GetEnabled and GetLabel of each object of the bench, and GetPositionNames and GetPositionEnableds of its switch
+READINGS = [(ono, level, index) for ono in (100, *range(4096, 4103))
+            for level, index in ((2, 1), (2, 8)) + (((4, 5), (4, 9)) if ono == 4099 else ())]
+
+
+def damaged(message):
+    """Each byte replaced by each other value, each prefix, and the message followed by each."""
+    for at in range(len(message)):
+        for value in range(256):
+            if value != message[at]:
+                yield message[:at] + bytes([value]) + message[at + 1:]
+    for end in range(len(message)):
+        yield message[:end]
+    for other in MESSAGES:
+        yield message + other
+
+
+def readings(first):
+    """The datagram of all readings, under this handle and those that follow it."""
+    return oca.pdu(1, [oca.Command(first + k, *of, 0, b"").body() for k, of in enumerate(READINGS)])
+
+
+def event(peer, data):
+    return f"0 {peer} {oca.hex_text(data)}"
+
+
+def probes(number):
+    """The events of the probe of this number."""
+    yield event(READER, readings(1 + number * len(READINGS)))
+    for k in AGAIN:
+        yield event(SENDER, MESSAGES[k])
+
+
+def found(data):
+    """The line of what the checks and the writer make of a datagram, and whether it is refused."""
+    try:
+        messages = oca.check(data)
+    except oca.Fault as fault:
+        return f"malformed {fault.kind} at {fault.at}", True
+    written = data if len(messages) == 1 and messages[0][0] != "response" else b""
+    return f"again {oca.hex_text(written)}", False
+
+
+def blocks(folder, events):
+    """What `trials events` says of each event of a history: its lines but the last two, and those."""
+    text = "".join(line + "\n" for line in ["history 32 16 0", *events])
+    done = subprocess.run([f"{folder}/trials", "events"], input=text.encode(), capture_output=True, timeout=300)
+    said = done.stdout.decode().removeprefix("history\n").split("\nobjects")
+    if done.returncode != 0 or len(said) != len(events) + 1:
+        raise RuntimeError(f"status {done.returncode}: {done.stderr.decode()!r}")
+    heads = [said[0]] + [part.partition("\n")[2] for part in said[1:-1]]
+    states = [part.partition("\n")[0] for part in said[1:]]
+    return [(head.rpartition("\nsessions ")[0], head.rpartition("\nsessions ")[2] + state)
+            for head, state in zip(heads, states)]
+
+
+class Trial:
+    def __init__(self, folder):
+        self.folder = folder
+        self.tried = self.refused = self.again = self.wrong = 0
+
+    def expect(self, good, what, data):
+        if not good:
+            self.wrong += 1
+            print("WRONG:", what, oca.hex_text(data))
+        return good
+
+    def message(self, message):
+        """All that becomes of one message."""
+        begin = [event(SENDER, MESSAGES[k]) for k in BEFORE]
+        events, untouched, tried, refused = list(begin), list(begin), [], 0
+        for data in damaged(message):
+            line, is_refused = found(data)
+            tried.append((data, line, is_refused))
+            events.append("again " + oca.hex_text(data))
+            if is_refused:
+                asked = list(probes(refused))
+                events += [event(SENDER, data), event(STRANGER, data), *asked]
+                untouched += asked
+                refused += 1
+        self.compare(tried, iter(blocks(self.folder, events)), iter(blocks(self.folder, untouched)))
+
+    def compare(self, tried, touched, untouched):
+        """Holds what the device said that heard the datagrams to the lines and to what the other device said."""
+        for _ in BEFORE:
+            state = self.told(touched, untouched)[1]
+        for data, line, is_refused in tried:
+            self.tried += 1
+            good = next(touched) == (line, state)
+            if is_refused:
+                good &= [next(touched) for _ in range(2)] == [(line, state)] * 2
+                for _ in range(1 + len(AGAIN)):
+                    had, state = self.told(touched, untouched)
+                    good &= had
+                self.refused += good
+            self.again += line.startswith("again 3b")
+            self.expect(good, line, data)
+
+    def told(self, touched, untouched):
+        """Whether both devices say the same, and the state in which they are then."""
+        one, other = next(touched), next(untouched)
+        return one == other, other[1]
+
+
+def main():
+    trial = Trial(sys.argv[1])
+    for message in MESSAGES:
+        trial.message(message)
+    print(f"damaged datagrams: {trial.tried} tried, {trial.refused} refused with nothing changed, {trial.again} of the others "
+          f"written back alike, {trial.wrong} wrong")
+    print(f"{trial.tried - trial.wrong} passed, {trial.wrong} failed")
+    return 1 if trial.wrong else 0
+
+
+if __name__ == "__main__":
+    sys.exit(main())
