@@ -20,16 +20,22 @@ const DEVICE: Peer = Peer {
     port: 65000,
 };
 
+/// An end with this script, of which the send of the number `failing` fails. No script is left.
+fn end_of(alloc: Global, script: &mut Vec<Scripted>, failing: u64) -> Result<MemoryEnd, NoMemory> {
+    let whole = std::mem::replace(script, Vec::new(alloc));
+    MemoryEnd::new(alloc, whole, 100, Some(failing))
+}
+
 /// Lets the device serve an end with this script, of which the send of the number `failing` fails.
 pub fn serve_script(
     alloc: Global,
     device: &mut Device,
     outbox: &mut Outbox,
     out: &mut Told,
-    script: Vec<Scripted>,
+    script: &mut Vec<Scripted>,
     failing: u64,
 ) {
-    match MemoryEnd::new(alloc, script, 100, Some(failing)) {
+    match end_of(alloc, script, failing) {
         Ok(mut end) => {
             let report = serve(device, &mut end, outbox, 1000);
             put_report(out, report, end.taken().len() as u64);
@@ -61,8 +67,8 @@ fn put_report(out: &mut Told, report: Report, taken: u64) {
 }
 
 /// Drives a link over an end with this script, of which the send of the number `failing` fails.
-pub fn drive_script(alloc: Global, out: &mut Told, script: Vec<Scripted>, failing: u64) {
-    match MemoryEnd::new(alloc, script, 100, Some(failing)) {
+pub fn drive_script(alloc: Global, out: &mut Told, script: &mut Vec<Scripted>, failing: u64) {
+    match end_of(alloc, script, failing) {
         Ok(mut end) => {
             drive_new_link(alloc, out, &mut end);
             drop(end);

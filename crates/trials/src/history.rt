@@ -171,14 +171,8 @@ fn go_on(happens: Happens<'_>, number: u64, present: &mut Present) -> Result<(),
         Happens::Set(ono, value) => set(device, out, ono, value),
         Happens::Again(text) => put_again(*alloc, out, text),
         Happens::Then(entry) => add_entry(*alloc, script, entry, out),
-        Happens::Serve(failing) => {
-            let script = std::mem::replace(script, Vec::new(*alloc));
-            serve_script(*alloc, device, outbox, out, script, failing);
-        }
-        Happens::Drive(failing) => {
-            let script = std::mem::replace(script, Vec::new(*alloc));
-            drive_script(*alloc, out, script, failing);
-        }
+        Happens::Serve(failing) => serve_script(*alloc, device, outbox, out, script, failing),
+        Happens::Drive(failing) => drive_script(*alloc, out, script, failing),
     }
     out.put_number("sessions ", device.sessions() as u64);
     put_objects(out, device.tree());
