@@ -1,8 +1,12 @@
 //! A module for each crate, and what they share.
+mod device;
 mod model;
 mod pdu;
+mod session;
+mod tree;
 mod types;
 
+use oca_types::{Peer, Peers, Sizes, Window};
 use std::alloc::Global;
 use std::fmt::Display;
 use std::process::Abort;
@@ -21,6 +25,11 @@ fn first_wrong<R: Row>(alloc: Global, rows: &[R]) -> Option<usize> {
         }
     }
     None
+}
+
+/// What stands for a row that is wrong where this does not hold.
+fn wrong_unless(holds: bool) -> Option<usize> {
+    if holds { None } else { Some(0) }
 }
 
 /// In no table of the group of this name a row comes out otherwise.
@@ -47,5 +56,21 @@ impl<T: Display> Row for Words<T> {
     /// Whether it prints them.
     fn agrees(&self, alloc: Global) -> bool {
         prints(alloc, &self.0, self.1)
+    }
+}
+
+/// 127.0.0.1 with this port.
+fn peer(port: u16) -> Peer {
+    Peer {
+        ip: 0x7f00_0001,
+        port,
+    }
+}
+
+/// Windows of one command, and sessions of at most so many peers.
+fn sizes(count: u8) -> Option<Sizes> {
+    match (Window::new(1), Peers::new(count)) {
+        (Some(window), Some(peers)) => Some(Sizes { window, peers }),
+        _ => None,
     }
 }
