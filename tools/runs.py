@@ -201,6 +201,266 @@ served 1 0 0
 """),
 ]
 
+
+def pdu(kind, *messages):
+    """A PDU of these messages."""
+    body = b"".join(messages)
+    return struct.pack(">BHIBH", 0x3b, 1, 9 + len(body), kind, len(messages)) + body
+
+
+def asked(handle, target, method, params=b"", count=None):
+    """The message of a command, by default with as many parameters as there are bytes, and no more than one."""
+    count = min(len(params), 1) if count is None else count
+    return struct.pack(">IIIHHB", 17 + len(params), handle, target, *method, count) + params
+
+
+def told(handle, status, count, params=b""):
+    """The message of a response."""
+    return struct.pack(">IIBB", 10 + len(params), handle, status, count) + params
+
+
+def command(handle, target, method, params=b""):
+    """A PDU of one command that asks for a response."""
+    return pdu(1, asked(handle, target, method, params))
+
+
+def quiet_command(handle, target, method, params=b""):
+    """A PDU of one command that asks for none."""
+    return pdu(0, asked(handle, target, method, params))
+
+
+def response(handle, status, count, params=b""):
+    """A PDU of one response."""
+    return pdu(3, told(handle, status, count, params))
+
+
+def get_state(handle):
+    """GetState of 4097."""
+    return command(handle, 4097, (4, 1))
+
+
+def state(handle, value):
+    """The response to it."""
+    return response(handle, 0, 1, bytes([value]))
+
+
+def set_state(handle, value):
+    """SetState of 4097."""
+    return command(handle, 4097, (4, 2), bytes([value]))
+
+
+def lock(handle):
+    """LockTotal of 4097."""
+    return command(handle, 4097, (1, 3))
+
+
+def done(handle):
+    """The response with the status OK to a command that answers no parameter."""
+    return response(handle, 0, 0)
+
+
+A, B = 9001, 9002  # the ports of two peers
+EXECUTED, EXECUTED_2, KEPT = b"served 1 0 0", b"served 2 0 0", b"served 0 1 0"
+OLD, REUSED, NOTHING = b"served 0 0 1", b"served 0 0 0 reused 1", b"served 0 0 0"
+# GetState of 4097 under handle 1, and its response, Muted.
+GET = bytes.fromhex("3b00010000001a0100010000001100000001000010010004000100")
+MUTED = bytes.fromhex("3b0001000000140300010000000b00000001000101")
+# A keep-alive of 1 second, of 0 seconds and of 1,500 ms.
+ONE_SECOND = bytes.fromhex("3b00010000000b0400010001")
+NO_SECONDS = bytes.fromhex("3b00010000000b0400010000")
+MILLIS = bytes.fromhex("3b00010000000d040001000005dc")
+# SetState of 4097 that asks for no response.
+QUIET_SET = quiet_command(1, 4097, (4, 2), b"\2")
+# GetState of 4097 and 4098 in one PDU, and the answer in one.
+TWO_GETS = bytes.fromhex("3b00010000002b01000200000011000000010000100100040001000000001100000002000010020004000100")
+TWO_STATES = bytes.fromhex("3b00010000001f0300020000000b000000010001010000000b00000002000101")
+# The response Muted under handle 1, twice in one PDU of 32 bytes.
+TWICE = pdu(3, *2 * [told(1, 0, 1, b"\1")])
+# GetState of 4097 under the handles 1 to 86 in one PDU of 1,472 bytes, and the responses, of 956.
+FULL_OF_GETS = pdu(1, *(asked(handle, 4097, (4, 1)) for handle in range(1, 87)))
+FULL_OF_STATES = pdu(3, *(told(handle, 0, 1, b"\1") for handle in range(1, 87)))
+# 146 responses in one PDU, of 1,470 bytes, and 122 keep-alives of 1 second, of 1,464.
+FULL_OF_RESPONSES = pdu(3, *146 * [told(1, 0, 0)])
+FULL_OF_KEEP_ALIVES = 122 * ONE_SECOND
+# GetMembers of the root under handle 5, and its response over the bench: block 4096 alone.
+MEMBERS = bytes.fromhex("3b00010000001a01000100000011000000050000006400030005 00")
+THE_DESK = bytes.fromhex("3b0001000000230300010000001a0000000500010001 00001000 0003000100010003 0002")
+# What GetMembersRecursive of the root tells over the bench: 146 bytes of parameters.
+ALL_BELOW = bytes.fromhex("""
+    0007
+    00001000 0003 0001 0001 0003 0002 00000064
+    00001001 0004 0001 0001 0001 0002 0002 00001000
+    00001002 0004 0001 0001 0001 0003 0002 00001000
+    00001003 0004 0001 0001 0001 0004 0002 00001000
+    00001004 0005 0001 0001 0001 0001 0003 0002 00001000
+    00001005 0005 0001 0001 0001 0001 0001 0002 00001000
+    00001006 0005 0001 0001 0001 0001 0006 0002 00001000""")
+# Block 4096 and mute 4097 in the root, and mute 4098 in the block; what is told of the root's members, of all below the root and of all
+# below the block.
+TWO_LEVELS = b"""\
+root on ""
+object 4096 100 block lockable "block" on ""
+object 4097 100 mute muted lockable "mute" on ""
+object 4098 4096 mute muted lockable "mute" on ""
+"""
+DIRECT = bytes.fromhex("0002 00001000 0003 0001 0001 0003 0002 00001001 0004 0001 0001 0001 0002 0002")
+BELOW = bytes.fromhex("0003 00001000 0003 0001 0001 0003 0002 00000064 00001001 0004 0001 0001 0001 0002 0002 00000064"
+                      "00001002 0004 0001 0001 0001 0002 0002 00001000")
+BELOW_THE_BLOCK = bytes.fromhex("0001 00001002 0004 0001 0001 0001 0002 0002 00001000")
+
+
+def actuators(end):
+    """A tree with an Int16 actuator under each number from 4096 on, below the end."""
+    return b'root on ""\n' + b"".join(b'object %d 100 int16 0 0 0 lockable "one" on ""\n' % number for number in range(4096, end))
+
+
+# What is told of 65 actuators, under handle 1, in 1,452 bytes.
+SIXTY_FIVE = bytes.fromhex("3b00010000 05ab 030001 000005a2 00000001 00 01 0041") + b"".join(
+    struct.pack(">I", number) + bytes.fromhex("0005 0001 0001 0001 0001 0003 0002 00000064") for number in range(4096, 4161))
+# Nine times the members of the root with all below, under the handles 1 to 9 (156 bytes of response each), three times the position of the
+# switch, under 10 to 12 (16 bytes each), and the state set, under 13 (10 bytes); the responses, 1,472 bytes with their header.
+THIRTEEN = [*(asked(handle, 100, (3, 6)) for handle in range(1, 10)), *(asked(handle, 4099, (4, 1)) for handle in range(10, 13)),
+            asked(13, 4097, (4, 2), b"\1")]
+OF_THIRTEEN = pdu(3, *(told(handle, 0, 1, ALL_BELOW) for handle in range(1, 10)),
+                  *(told(handle, 0, 3, b"\0\0\0\0\0\2") for handle in range(10, 13)), told(13, 0, 0))
+
+
+def muted(first, end):
+    """GetState of 4097 at 0 under each handle from the first on, below the end: each is executed and answered as Muted."""
+    return [(0, A, get_state(handle), EXECUTED, [state(handle, 1)]) for handle in range(first, end)]
+
+
+# What a device makes of datagrams: its options, the text of its objects, or none of the bench's, and for each datagram the moment, the port
+# of its peer, its bytes, the verdict and the packets that leave.
+DEVICE_SCRIPTS = {
+    # Settings from -600 to 600 are taken, 601 is refused, and the setting stays.
+    "refuses_out_of_range": ("", None, [
+        (0, A, command(6, 4100, (5, 2), b"\x02\x58"), EXECUTED, [done(6)]),
+        (0, A, command(7, 4100, (5, 2), b"\xfd\xa8"), EXECUTED, [done(7)]),
+        (0, A, command(8, 4100, (5, 2), b"\x02\x59"), EXECUTED, [response(8, 7, 0)]),
+        (0, A, command(9, 4100, (5, 1)), EXECUTED,
+         [bytes.fromhex("3b00010000001903000100000010000000090003fda8fda80258")]),
+    ]),
+    # Of commands that overtake one another the one that came last counts.
+    "executes_in_order_of_arrival": ("", None, [
+        (0, A, set_state(1, 2), EXECUTED, [done(1)]),
+        (0, A, set_state(2, 1), EXECUTED, [done(2)]),
+        (0, A, set_state(4, 2), EXECUTED, [done(4)]),
+        (0, A, set_state(3, 1), EXECUTED, [done(3)]),
+        (0, A, get_state(5), EXECUTED, [state(5, 1)]),
+    ]),
+    # A locks an object at 0. A malformed datagram of B at 3,001 raises the moment past three heartbeats of A, so that the lock is off for
+    # what B sends after it, though that is marked with an earlier moment.
+    "malformed_datagrams_move_the_clock": ("", None, [
+        (0, A, ONE_SECOND, NOTHING, [ONE_SECOND]),
+        (0, A, lock(1), EXECUTED, [done(1)]),
+        (3000, B, set_state(1, 2), EXECUTED, [response(1, 3, 0)]),
+        (3001, B, b"", b"malformed 1 at 0", []),
+        (0, B, set_state(2, 2), EXECUTED, [done(2)]),
+    ]),
+    # Keep-alives come back as they were sent, and the last sets the heartbeat, here to the least of 250 ms.
+    "returns_keep_alives": ("", None, [
+        (0, A, ONE_SECOND, NOTHING, [ONE_SECOND]),
+        (0, A, MILLIS, NOTHING, [MILLIS]),
+        (0, A, NO_SECONDS, NOTHING, [NO_SECONDS]),
+        (0, A, lock(1), EXECUTED, [done(1)]),
+        (750, B, set_state(1, 2), EXECUTED, [response(1, 3, 0)]),
+        (751, B, set_state(2, 2), EXECUTED, [done(2)]),
+    ]),
+    # The grammar has no rule for ParamCount: a wrong one is answered with the status ParameterError.
+    "a_wrong_count_of_parameters": ("", None, [(0, A, GET[:-1] + b"\5", EXECUTED, [response(1, 6, 0)])]),
+    # A window of 32 after 33 commands: the first is old, the second a duplicate, and a lower one is old.
+    "keeps_the_last_replies": ("", None, [
+        *muted(1, 34),
+        (0, A, get_state(1), OLD, []),
+        (0, A, get_state(2), KEPT, [state(2, 1)]),
+        (0, A, get_state(0), OLD, []),
+    ]),
+    # A handle that never came is old below the floor, and above the window one is fresh.
+    "executes_nothing_below_the_floor": ("", None, [
+        *muted(6, 39),
+        (0, A, set_state(5, 2), OLD, []),
+        (0, A, get_state(39), EXECUTED, [state(39, 1)]),
+    ]),
+    # A window of one command.
+    "keeps_as_few_as_one": ("--window 1", None, [
+        (0, A, get_state(5), EXECUTED, [state(5, 1)]),
+        (0, A, get_state(6), EXECUTED, [state(6, 1)]),
+        (0, A, get_state(6), KEPT, [state(6, 1)]),
+        (0, A, get_state(5), OLD, []),
+        (0, A, get_state(4), OLD, []),
+        (0, A, get_state(7), EXECUTED, [state(7, 1)]),
+    ]),
+    # A window of 64 commands.
+    "keeps_as_many_as_64": ("--window 64", None, [
+        *muted(1, 66),
+        (0, A, get_state(1), OLD, []),
+        (0, A, get_state(2), KEPT, [state(2, 1)]),
+    ]),
+    # Another command under the handle of a retained one is not executed and gets nothing, and the retained one stays.
+    "ignores_another_command_under_a_kept_handle": ("", None, [
+        (0, A, GET, EXECUTED, [MUTED]),
+        (0, A, set_state(1, 2), REUSED, []),
+        (0, A, GET, KEPT, [MUTED]),
+        (0, A, quiet_command(1, 4097, (4, 1)), KEPT, []),
+        *muted(2, 34),
+        (0, A, set_state(1, 2), OLD, []),
+    ]),
+    # A lock goes after three heartbeats of silence, and the reply that took it stays. B asks for the role: mute.
+    "releases_locks_and_keeps_replies": ("", None, [
+        (0, A, ONE_SECOND, NOTHING, [ONE_SECOND]),
+        (0, A, lock(1), EXECUTED, [done(1)]),
+        (3000, B, command(1, 4097, (1, 5)), EXECUTED, [response(1, 3, 0)]),
+        (3001, B, command(2, 4097, (1, 5)), EXECUTED, [response(2, 0, 1, b"\0\4mute")]),
+        (3002, A, lock(1), KEPT, [done(1)]),
+        (3003, B, get_state(3), EXECUTED, [state(3, 1)]),
+    ]),
+    # The reply of a command that asked for none is retained.
+    "retains_replies_that_were_not_sent": ("", None, [
+        (0, A, QUIET_SET, EXECUTED, []),
+        (0, A, QUIET_SET, KEPT, []),
+        (0, A, set_state(1, 2), KEPT, [done(1)]),
+        (0, A, get_state(2), EXECUTED, [state(2, 2)]),
+    ]),
+    # As many commands as fit are answered in one packet; a byte more is too long.
+    "takes_a_datagram_full_of_commands": ("", None, [(0, A, FULL_OF_GETS, b"served 86 0 0", [FULL_OF_STATES])]),
+    "refuses_a_byte_too_many": ("", None, [(0, A, FULL_OF_GETS + b"\0", b"malformed 2 at 1472", [])]),
+    # As many responses as fit are ignored; as many keep-alives come back, each in a packet of its own.
+    "ignores_a_datagram_full_of_responses": ("", None, [(0, A, FULL_OF_RESPONSES, NOTHING, [])]),
+    "returns_a_datagram_full_of_keep_alives": ("", None, [(0, A, FULL_OF_KEEP_ALIVES, NOTHING, 122 * [ONE_SECOND])]),
+    # Two responses leave in one PDU; a keep-alive between two leaves in a packet of its own, and so do they.
+    "neighbours_leave_in_one_pdu": ("", None, [(0, A, TWO_GETS, EXECUTED_2, [TWO_STATES])]),
+    "a_keep_alive_leaves_alone": ("", None, [
+        (0, A, GET + ONE_SECOND + command(2, 4098, (4, 1)), EXECUTED_2, [MUTED, ONE_SECOND, state(2, 1)]),
+    ]),
+    # A duplicate in the same datagram, and a command that asks for no response between the two, end no group.
+    "other_commands_end_no_group": ("", None, [
+        (0, A, GET + quiet_command(2, 4097, (4, 1)) + GET, b"served 2 1 0", [TWICE]),
+    ]),
+    # The same command twice in one datagram is executed once, and its response leaves twice in one PDU.
+    "a_duplicate_beside_its_command": ("", None, [(0, A, GET + GET, b"served 1 1 0", [TWICE])]),
+    # Responses of exactly 1,472 bytes with their header are one packet, and one response more begins another.
+    "a_group_has_1472_bytes": ("", None, [(0, A, pdu(1, *THIRTEEN), b"served 13 0 0", [OF_THIRTEEN])]),
+    "a_group_has_at_most_1472_bytes": ("", None, [
+        (0, A, pdu(1, *THIRTEEN, asked(14, 4097, (4, 1))), b"served 14 0 0", [OF_THIRTEEN, state(14, 1)]),
+    ]),
+    # The member of the root is listed, and all that is below the root.
+    "tells_the_members_of_a_block": ("", None, [(0, A, MEMBERS, EXECUTED, [THE_DESK])]),
+    "tells_all_below_a_block": ("", None, [(0, A, command(1, 100, (3, 6)), EXECUTED, [response(1, 0, 1, ALL_BELOW)])]),
+    # Direct members are listed without those below them, and all below a block without what stands beside it.
+    "tells_members_level_by_level": ("", TWO_LEVELS, [
+        (0, A, command(1, 100, (3, 5)), EXECUTED, [response(1, 0, 1, DIRECT)]),
+        (0, A, command(2, 100, (3, 6)), EXECUTED, [response(2, 0, 1, BELOW)]),
+        (0, A, command(3, 4096, (3, 6)), EXECUTED, [response(3, 0, 1, BELOW_THE_BLOCK)]),
+    ]),
+    # 65 actuators are listed in a datagram of 1,452 bytes, and 66 are too many for one.
+    "tells_as_many_as_fit": ("", actuators(4161), [(0, A, command(1, 100, (3, 6)), EXECUTED, [SIXTY_FIVE])]),
+    "tells_no_more_than_fit": ("", actuators(4162), [(0, A, command(1, 100, (3, 6)), EXECUTED, [response(1, 14, 0)])]),
+}
+
+# How many bytes these have.
+LENGTHS = [(FULL_OF_GETS, 1472), (FULL_OF_STATES, 956), (FULL_OF_RESPONSES, 1470), (TWICE, 32), (SIXTY_FIVE, 1452), (OF_THIRTEEN, 1472)]
+
 # A script for `ocadev replay` with a line that has a fault: what is printed before, and the fault.
 DEVICE_LINES = [
     (b"0 127.0.0.1:9001 3b0", b"", b"line 1: hex\n"),
@@ -405,6 +665,7 @@ def device(runs):
     """`ocadev`."""
     for words, given, output in DEVICE_PRINTS:
         runs.gives(words.split(), given, 0, output)
+    device_scripts(runs)
     for script, output, fault in DEVICE_LINES:
         runs.gives(["ocadev", "replay"], script, 2, output, fault)
     for head, length, status, output, fault in DEVICE_LONG_LINES:
@@ -426,6 +687,30 @@ def device(runs):
     fails_to_write(runs, ["ocadev", "--help"], b"", 10, b"")
     refuses_no_word(runs, "ocadev", UNMUTES)
     serves_nobody(runs)
+
+
+def line_of(moment, port, sent):
+    """The line of a script with a datagram."""
+    return b"%d 127.0.0.1:%d %s\n" % (moment, port, sent.hex().encode() or b"-")
+
+
+def printed(verdict, packets):
+    """What is printed of a datagram."""
+    return verdict + b"\n" + b"".join(b"> %s\n" % packet.hex().encode() for packet in packets)
+
+
+def device_scripts(runs):
+    """The scripts of datagrams, each over a device of its own."""
+    for length in LENGTHS:
+        runs.check(["length"], len(length[0]) == length[1], length)
+    with tempfile.TemporaryDirectory() as room:
+        for options, objects, steps in DEVICE_SCRIPTS.values():
+            words = ["ocadev", "replay", *options.split()]
+            if objects is not None:
+                words += ["--tree", f"{room}/objects.tree"]
+                with open(words[-1], "wb") as file:
+                    file.write(objects)
+            runs.gives(words, b"".join(line_of(*step[:3]) for step in steps), 0, b"".join(printed(*step[3:]) for step in steps))
 
 
 def serves_nobody(runs):

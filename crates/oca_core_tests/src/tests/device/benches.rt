@@ -1,8 +1,7 @@
 //! The devices that scripts run on.
-use super::super::tree::script::{Addition, Over, tree_of};
 use super::super::{none_wrong, sizes};
 use oca_device::{Device, Outbox};
-use oca_tree::Tree;
+use oca_tree::{Tree, bench};
 use oca_types::Window;
 use std::alloc::Global;
 use std::process::Abort;
@@ -14,8 +13,6 @@ pub enum Setup {
     Window(u8),
     /// The bench objects, with windows of one command and sessions of at most so many peers.
     Peers(u8),
-    /// The root and these additions, with windows of 32 commands.
-    Built(&'static [Addition]),
 }
 
 /// The device over this tree, with windows of so many commands.
@@ -34,28 +31,19 @@ fn with_peers(alloc: Global, tree: Tree, count: u8) -> Option<Device> {
     }
 }
 
-/// What the tree of a setup is made of.
-fn tree_under(setup: Setup) -> Over {
-    match setup {
-        Setup::Built(additions) => Over::Built(additions),
-        _ => Over::Bench,
-    }
-}
-
 /// The device of this setup over this tree.
 fn device_over(alloc: Global, tree: Tree, setup: Setup) -> Option<Device> {
     match setup {
         Setup::Window(size) => with_window(alloc, tree, size),
         Setup::Peers(count) => with_peers(alloc, tree, count),
-        Setup::Built(_) => with_window(alloc, tree, 32),
     }
 }
 
 /// The device of this setup.
 pub fn device_of(alloc: Global, setup: Setup) -> Option<Device> {
-    match tree_of(alloc, tree_under(setup)) {
-        Some(tree) => device_over(alloc, tree, setup),
-        None => None,
+    match bench(alloc) {
+        Ok(tree) => device_over(alloc, tree, setup),
+        Err(_) => None,
     }
 }
 

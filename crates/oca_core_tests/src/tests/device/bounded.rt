@@ -2,7 +2,6 @@
 //! answers into one stands a device with an outbox for all packets, which takes the same datagrams.
 use super::super::peer;
 use super::benches::{Played, Setup, device_of, play};
-use super::grouping::{BEATS, TWO_GETS, TWO_STATES};
 use super::parts::{Part, bytes_of, is_of};
 use super::play::hears;
 use super::*;
@@ -192,6 +191,21 @@ impl Played for Script {
         wrong_beside(alloc, device, outbox, self)
     }
 }
+
+/// 122 keep-alives of 1 second.
+const BEATS: Part = Times(122, &[0x3b, 0, 1, 0, 0, 0, 0x0b, 4, 0, 1, 0, 1]);
+
+/// GetState of 4097 and 4098 in one PDU.
+const TWO_GETS: Part = Bytes(&[
+    0x3b, 0, 1, 0, 0, 0, 0x2b, 1, 0, 2, 0, 0, 0, 0x11, 0, 0, 0, 1, 0, 0, 0x10, 1, 0, 4, 0, 1, 0, 0,
+    0, 0, 0x11, 0, 0, 0, 2, 0, 0, 0x10, 2, 0, 4, 0, 1, 0,
+]);
+
+/// Its answer in one.
+const TWO_STATES: Part = Bytes(&[
+    0x3b, 0, 1, 0, 0, 0, 0x1f, 3, 0, 2, 0, 0, 0, 0x0b, 0, 0, 0, 1, 0, 1, 1, 0, 0, 0, 0x0b, 0, 0, 0,
+    2, 0, 1, 1,
+]);
 
 /// GetState of 4097, a keep-alive, and GetState of 4098: each is answered in a packet of its own.
 const THREE: &[Part] = &[GET, ONE_SECOND, SECOND];

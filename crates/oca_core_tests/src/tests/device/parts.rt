@@ -11,8 +11,6 @@ pub enum Part {
     Bytes(&'static [u8]),
     /// These bytes so many times.
     Times(u32, &'static [u8]),
-    /// For each number from the first on and before the second: bytes, the number in four bytes, and bytes.
-    Each(u32, u32, &'static [u8], &'static [u8]),
     /// A command PDU of this type: its handle, target, DefLevel and MethodIndex, and the bytes of at most one
     /// parameter.
     Command(u8, u32, u32, (u8, u8), &'static [u8]),
@@ -41,15 +39,6 @@ fn put(bytes: &mut Bytes, more: &[u8]) {
 fn put_times(bytes: &mut Bytes, count: u32, more: &[u8]) {
     for _at in 0..count {
         put(bytes, more);
-    }
-}
-
-/// Adds the numbers from the first on and before the second, each between these bytes.
-fn put_each(bytes: &mut Bytes, first: u32, after: u32, before: &[u8], behind: &[u8]) {
-    for number in first..after {
-        put(bytes, before);
-        put(bytes, &number.to_be_bytes());
-        put(bytes, behind);
     }
 }
 
@@ -122,7 +111,6 @@ fn put_part(bytes: &mut Bytes, part: Part) {
     match part {
         Part::Bytes(more) => put(bytes, more),
         Part::Times(count, more) => put_times(bytes, count, more),
-        Part::Each(first, after, before, behind) => put_each(bytes, first, after, before, behind),
         other => put_pdu(bytes, other),
     }
 }

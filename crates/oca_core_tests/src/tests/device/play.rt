@@ -1,6 +1,5 @@
 //! The steps of a script, and the loop that plays it.
 use super::super::peer;
-use super::EXECUTED;
 use super::benches::{Played, Setup};
 use super::parts::{Part, bytes_of, is_of};
 use oca_device::{Device, Outbox, Verdict, law_by_events, law_of_groups};
@@ -16,11 +15,6 @@ pub enum Step {
     Ignores(u16, u64, Part, Verdict),
     /// A peer sends a datagram at a moment, and gets these packets.
     Groups(u16, u64, &'static [Part], Verdict, &'static [&'static [Part]]),
-    /// A peer sends a datagram at a moment; later steps look at the packets.
-    Hears(u16, u64, &'static [Part], Verdict),
-    /// A sends GetState of 4097 under each handle from the first on and before the second at 0. Each is executed and
-    /// answered as Muted.
-    TellsMuted(u32, u32),
     /// Each peer from the first on and before the second sends this at a moment, and gets the packet.
     EachAnswers(u16, u16, u64, Part, Verdict, Part),
     /// The clock is read at a moment.
@@ -37,14 +31,8 @@ pub enum Step {
     NextLapse(Option<u64>),
     /// The outbox is empty, or not.
     NoPackets(bool),
-    /// The outbox holds so many packets.
-    Packets(usize),
-    /// The packet of this number has so many bytes.
-    PacketBytes(usize, usize),
     /// The packet of this number is of these parts.
     PacketIs(usize, &'static [Part]),
-    /// These parts have so many bytes.
-    Length(&'static [Part], usize),
 }
 
 /// A script by its name, and the device that it is played on.
@@ -110,25 +98,6 @@ fn answers(
     groups(device, outbox, port, now, &[part], verdict, &[&[reply]])
 }
 
-/// Whether GetState of A under each of these handles is executed and answered as Muted.
-fn tells_muted(device: &mut Device, outbox: &mut Outbox, first: u32, after: u32) -> bool {
-    for handle in first..after {
-        let reply = Part::State(handle, 1);
-        if !answers(
-            device,
-            outbox,
-            super::A,
-            0,
-            Part::GetState(handle),
-            EXECUTED,
-            reply,
-        ) {
-            return false;
-        }
-    }
-    true
-}
-
 /// Whether each of these peers is answered so.
 fn each_answers(
     device: &mut Device,
@@ -166,10 +135,6 @@ fn agrees(device: &mut Device, outbox: &mut Outbox, step: Step) -> bool {
 /// Whether this comes of one of the other events.
 fn comes(device: &mut Device, outbox: &mut Outbox, step: Step) -> bool {
     match step {
-        Step::Hears(port, now, parts, verdict) => {
-            hears(device, outbox, port, now, parts, verdict)
-        }
-        Step::TellsMuted(first, after) => tells_muted(device, outbox, first, after),
         Step::EachAnswers(first, after, now, part, verdict, reply) => {
             each_answers(device, outbox, (first, after), now, part, verdict, reply)
         }
@@ -201,13 +166,7 @@ fn is_sent(outbox: &Outbox, step: Step) -> bool {
             true
         }
         Step::NoPackets(empty) => outbox.is_empty() == empty,
-        Step::Packets(count) => outbox.len() == count,
-        Step::PacketBytes(at, count) => match outbox.get(at) {
-            Some(packet) => packet.len() == count,
-            None => false,
-        },
         Step::PacketIs(at, parts) => is_packet(outbox, at, parts),
-        Step::Length(parts, count) => bytes_of(parts).len() == count,
         _ => false,
     }
 }
