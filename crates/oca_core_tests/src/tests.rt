@@ -1,4 +1,5 @@
 //! A module for each crate, and what they share.
+mod answers;
 mod device;
 mod model;
 mod pdu;
@@ -32,11 +33,16 @@ fn wrong_unless(holds: bool) -> Option<usize> {
     if holds { None } else { Some(0) }
 }
 
+/// A row of a table of the group of this name came out otherwise.
+fn fail(rt: &impl Abort, group: &str, table: usize, row: usize) {
+    panic!(rt; "{group}: table {table}, row {row}");
+}
+
 /// In no table of the group of this name a row comes out otherwise.
 fn none_wrong(rt: &impl Abort, group: &str, tables: &[Option<usize>]) {
     for (table, wrong) in tables.iter().enumerate() {
         if let Some(row) = wrong {
-            panic!(rt; "{group}: table {table}, row {row}");
+            fail(rt, group, table, *row);
         }
     }
 }

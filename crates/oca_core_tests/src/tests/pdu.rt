@@ -1,5 +1,4 @@
 //! What no clause says: datagrams from outside, and each call once.
-mod answers;
 mod building;
 mod examples;
 mod extending;

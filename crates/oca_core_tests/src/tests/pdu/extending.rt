@@ -2,9 +2,9 @@
 ghost use Rattle.std.specs.Prelude.{IfSome};
 ghost use Rattle.oca_pdu.specs.Writing.{HoldsResponses};
 
-use super::answers::{Answer, reply};
 use super::building::messages_in;
 use crate::tests::Row;
+use crate::tests::answers::{Answer, reply};
 use oca_pdu::{WriteFault, extend_response, write_response};
 use oca_types::{Handle, Packet, Reply, Status};
 use std::alloc::Global;
@@ -61,7 +61,9 @@ fn is_added(packet: &mut Packet, handle: u32, more: More) -> bool
     ensures { HoldsResponses packet.new.items }
 {
     let before = copied(packet);
-    let added = one_more(packet, handle, &reply(more.answer));
+    let answer = more.answer;
+    let reply = reply(answer.status, answer.count, answer.params);
+    let added = one_more(packet, handle, &reply);
     added == more.added && (added.is_ok() || packet.as_slice() == before.as_slice())
 }
 
@@ -107,7 +109,9 @@ fn goes_over(packet: &mut Packet, script: &Script) -> bool
 impl Row for Script {
     /// Whether the script goes so over a packet of its own.
     fn agrees(&self, _alloc: Global) -> bool {
-        match one_response(Handle(self.handle), &reply(self.answer)) {
+        let answer = self.answer;
+        let reply = reply(answer.status, answer.count, answer.params);
+        match one_response(Handle(self.handle), &reply) {
             Some(mut packet) => goes_over(&mut packet, self),
             None => false,
         }

@@ -1,21 +1,15 @@
 //! Messages that are read and written again, of the worked examples and of these with one byte changed.
 use super::building::{Bytes, put_changed};
+use crate::tests::answers::reply;
 use oca_pdu::{Datagram, Message, check, write_command, write_keepalive, write_response};
-use oca_types::{Packet, Params, Reply, Status};
+use oca_types::{Packet, Status};
 
-/// A reply that is Locked at 3 and else OK.
-fn reply_of(status: u8, count: u8, bytes: &[u8]) -> Reply {
-    let mut params = Params::new();
-    let _ = params.try_extend_from_slice(bytes);
-    let status = if status == 3 {
+/// The status Locked at 3 and else OK.
+fn status_of(number: u8) -> Status {
+    if number == 3 {
         Status::Locked
     } else {
         Status::Ok
-    };
-    Reply {
-        status,
-        count,
-        params,
     }
 }
 
@@ -28,7 +22,7 @@ fn write_again(packet: &mut Packet, message: &Message<'_>) {
             status,
             count,
             params,
-        } => write_response(packet, handle, &reply_of(status, count, params)),
+        } => write_response(packet, handle, &reply(status_of(status), count, params)),
         Message::KeepAlive { form } => write_keepalive(packet, form),
     };
 }

@@ -1,8 +1,8 @@
 //! Packets that are full, and packets that are written over.
-use super::answers::{Answer, reply};
 use super::building::messages_in;
 use super::examples::{GET_STATE, MUTED, ONE_SECOND, SETTING};
 use crate::tests::Row;
+use crate::tests::answers::{Answer, reply};
 use oca_pdu::{
     Form, WriteFault, holds_responses, replace_response, write_command, write_keepalive,
     write_response,
@@ -56,12 +56,20 @@ fn writes_commands(packet: &mut Packet, times: u16, answer: Result<(), WriteFaul
 
 /// Writes a response of these parts.
 fn write_answer(packet: &mut Packet, handle: u32, answer: Answer) -> Result<(), WriteFault> {
-    write_response(packet, Handle(handle), &reply(answer))
+    write_response(
+        packet,
+        Handle(handle),
+        &reply(answer.status, answer.count, answer.params),
+    )
 }
 
 /// Replaces by a response of these parts.
 fn replace(packet: &mut Packet, handle: u32, answer: Answer) -> bool {
-    replace_response(packet, Handle(handle), &reply(answer));
+    replace_response(
+        packet,
+        Handle(handle),
+        &reply(answer.status, answer.count, answer.params),
+    );
     true
 }
 

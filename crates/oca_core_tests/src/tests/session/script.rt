@@ -1,6 +1,7 @@
 //! Scripts of events, each with what it must answer, and how they are run.
 use super::super::{none_wrong, peer, sizes};
-use super::serving::{Answer, Served, command, executes_with, retains, serve};
+use super::serving::{Served, command, executes_with, retains, serve};
+use crate::tests::answers::Answer;
 use arrayvec::ArrayVec;
 use oca_session::{Admission, Sessions};
 use oca_types::{Command, MOST_PEERS, Peer, Window};

@@ -1,6 +1,7 @@
 //! Commands, and what a device does with them by what its sessions say.
+use crate::tests::answers::{Answer, reply};
 use oca_session::{Judged, Sessions};
-use oca_types::{Command, Handle, MethodId, Ono, Params, Peer, Reply, Status};
+use oca_types::{Command, Handle, MethodId, Ono, Peer, Reply, Status};
 
 /// What a device does with a command.
 #[derive(Clone, Copy, PartialEq, Eq)]
@@ -18,14 +19,6 @@ pub enum Served {
     TooLong,
 }
 
-/// The parts of a reply.
-#[derive(Clone, Copy)]
-pub struct Answer {
-    pub status: Status,
-    pub count: u8,
-    pub params: &'static [u8],
-}
-
 /// SetState of 4097, with one parameter byte.
 pub fn command(handle: u32) -> Command<'static> {
     Command {
@@ -34,17 +27,6 @@ pub fn command(handle: u32) -> Command<'static> {
         method: MethodId { level: 4, index: 2 },
         count: 1,
         params: &[1],
-    }
-}
-
-/// A reply of these parts.
-fn reply(status: Status, count: u8, bytes: &[u8]) -> Reply {
-    let mut params = Params::new();
-    let _ = params.try_extend_from_slice(bytes);
-    Reply {
-        status,
-        count,
-        params,
     }
 }
 

@@ -2,8 +2,8 @@
 use super::script::Made::{Plain, WindowsOf};
 use super::script::Step::{Executes, Hears, Known, Retains, Serves, ServesAll};
 use super::script::{A, Handles, Script, Step, play};
-use super::serving::Answer;
 use super::serving::Served::{Executed, Kept, Old};
+use crate::tests::answers::Answer;
 use oca_session::Admission::Opened;
 use oca_types::Status;
 

@@ -144,9 +144,12 @@ fn fault_of_more(builder: &mut TreeBuilder) -> Option<AddFault> {
 
 /// How many objects there are once this builder is full, the root counted; none where there is another fault.
 fn most_of(mut builder: TreeBuilder) -> Option<usize> {
-    match fault_of_more(&mut builder) {
-        Some(AddFault::Full) => Some(builder.finish().len()),
-        _ => None,
+    let fault = fault_of_more(&mut builder);
+    let count = builder.finish().len();
+    if fault == Some(AddFault::Full) {
+        Some(count)
+    } else {
+        None
     }
 }
 

@@ -1,4 +1,5 @@
 //! Trees that are built by a table, and scripts of commands over them.
+use super::super::fail;
 use super::words::{A, BLOCK, Called};
 use oca_tree::{
     AddFault, Lock, Room, SetFault, Setting, Spec, Start, StartFault, Tree, TreeBuilder, Value,
@@ -328,7 +329,7 @@ fn wrong_in(alloc: Global, script: &Script) -> Option<Wrong> {
 pub fn play(rt: &impl Abort, alloc: Global, scripts: &[Script]) {
     for script in scripts {
         if let Some((part, row)) = wrong_in(alloc, script) {
-            panic!(rt; "{}: part {part}, row {row}", script.name);
+            fail(rt, script.name, part, row);
         }
     }
 }

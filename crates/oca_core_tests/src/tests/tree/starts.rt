@@ -199,11 +199,12 @@ const STORED_TREE: Over = Root(GREETING, SWITCH_AND_LAMP);
 /// Whether these are the names of its positions.
 fn are_names(tree: &Tree, row: &Described) -> bool {
     let names = tree.position_names_of(Ono(row.ono));
+    for (name, wanted) in names.iter().zip(row.names.iter()) {
+        if name.as_str() != *wanted {
+            return false;
+        }
+    }
     names.len() == row.names.len()
-        && names
-            .iter()
-            .zip(row.names.iter())
-            .all(|(name, wanted)| name.as_str() == *wanted)
 }
 
 /// Whether this is what begins.

@@ -10,12 +10,12 @@ pub struct Answer {
 }
 
 /// A reply of these parts.
-pub fn reply(answer: Answer) -> Reply {
+pub fn reply(status: Status, count: u8, bytes: &[u8]) -> Reply {
     let mut params = Params::new();
-    let _ = params.try_extend_from_slice(answer.params);
+    let _ = params.try_extend_from_slice(bytes);
     Reply {
-        status: answer.status,
-        count: answer.count,
+        status,
+        count,
         params,
     }
 }
