@@ -14,7 +14,7 @@ import sys
 import tempfile
 
 # kind, objects, sessions, the most instructions wanted, or in how many parts of a hundred more than the first row
-ROWS = [("single", 8, 1, "490"), ("single", 128, 1, "1%"), ("single", 4096, 1, "1%"), ("single", 8, 16, "10%"),
+ROWS = [("single", 8, 1, "476"), ("single", 128, 1, "1%"), ("single", 4096, 1, "1%"), ("single", 8, 16, "10%"),
         ("single", 8, 64, "10%"), ("single", 128, 16, "10%"), ("single", 4096, 64, "10%"), ("others", 128, 1, ""),
         ("others", 4096, 1, ""), ("members", 128, 1, "5%"), ("members", 4096, 1, "5%"), ("packed", 8, 1, "285"),
         ("copies", 8, 1, ""), ("setting", 8, 1, "")]

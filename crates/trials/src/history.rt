@@ -157,26 +157,45 @@ fn go_on(happens: Happens<'_>, number: u64, present: &mut Present) -> Result<(),
         out,
         script,
     } = present;
-    let Some(device) = device else {
-        return Err(RunFault::Line(number, LineFault::Form));
-    };
+    match device {
+        Some(device) => {
+            take(*alloc, happens, device, outbox, out, script);
+            put_state(out, device);
+            Ok(())
+        }
+        None => Err(RunFault::Line(number, LineFault::Form)),
+    }
+}
+
+/// Lets an event happen, and notes what came of it.
+fn take(
+    alloc: Global,
+    happens: Happens<'_>,
+    device: &mut Device,
+    outbox: &mut Outbox,
+    out: &mut Told,
+    script: &mut Vec<Scripted>,
+) {
     match happens {
         Happens::Timed(Timed::Datagram(from, text, now)) => {
-            hear(*alloc, device, outbox, out, (from, text, now));
+            hear(alloc, device, outbox, out, (from, text, now));
         }
         Happens::Timed(Timed::Quiet(now)) => {
             device.tick(now);
             out.put("quiet\n");
         }
         Happens::Set(ono, value) => set(device, out, ono, value),
-        Happens::Again(text) => put_again(*alloc, out, text),
-        Happens::Then(entry) => add_entry(*alloc, script, entry, out),
-        Happens::Serve(failing) => serve_script(*alloc, device, outbox, out, script, failing),
-        Happens::Drive(failing) => drive_script(*alloc, out, script, failing),
+        Happens::Again(text) => put_again(alloc, out, text),
+        Happens::Then(entry) => add_entry(alloc, script, entry, out),
+        Happens::Serve(failing) => serve_script(alloc, device, outbox, out, script, failing),
+        Happens::Drive(failing) => drive_script(alloc, out, script, failing),
     }
+}
+
+/// The lines of what a device is.
+fn put_state(out: &mut Told, device: &Device) {
     out.put_number("sessions ", device.sessions() as u64);
     put_objects(out, device.tree());
-    Ok(())
 }
 
 /// What a line says, where it has no fault.
