@@ -156,6 +156,20 @@ FAULTS = [
     (b"0 du\xe9", b"form"),
 ]
 
+# A line that `run --ahead 1` reads alone, and the word for its fault.
+BAD_LINES = [
+    (b"4097 4 1 0", b"form"),
+    (b"4097 4 1 0 - -", b"form"),
+    (b"x 4 1 0 z", b"number"),
+    (b"4097 65536 1 0 -", b"number"),
+    (b"4097 4 65536 0 -", b"number"),
+    (b"4097 4 1 256 -", b"number"),
+    (b"4097 4 1 0 z", b"hex"),
+    (b"take 1", b"form"),
+    (b"wait 1", b"form"),
+    (b"Wait", b"form"),
+]
+
 # Words that ask for nothing: those of a program, of a replay and of `send`.
 BAD_WORDS = [
     ["ocactl"],
@@ -285,10 +299,8 @@ def handles_heard(end, run, least):
 
 def lets_ahead(runs, host, more, ahead):
     """As many commands are under way as the words say, of more than that."""
-    with silent() as end, silent() as own:
-        port = own.getsockname()[1]
-        own.close()
-        words = ["ocactl", "run", "--device", f"{host}:{end.getsockname()[1]}", *more.split(), "--first-handle", "1", "--port", str(port)]
+    with silent() as end:
+        words = ["ocactl", "run", "--device", f"{host}:{end.getsockname()[1]}", *more.split(), "--first-handle", "1", "--port", str(own_port())]
         if ahead is None:
             runs.gives(words, b"", 2, b"", b"bad words\n")
             return
@@ -302,9 +314,25 @@ def lets_ahead(runs, host, more, ahead):
         runs.check(words, len(handles) == ahead, (sorted(handles), said))
 
 
+def own_port():
+    """A port of this machine that nobody has just now."""
+    with silent() as own:
+        return own.getsockname()[1]
+
+
+def refuses_lines(runs):
+    """Lines of `run` that have a fault: nothing is sent."""
+    for line, fault in BAD_LINES:
+        with silent() as end:
+            words = ["ocactl", "run", "--device", at(end), "--ahead", "1", "--first-handle", "1", "--port", str(own_port())]
+            runs.gives(words, line, 2, b"", b"line 1: " + fault + b"\n")
+            runs.check(words, not select.select([end], [], [], 0)[0], f"{line!r} is sent")
+
+
 def main(folder):
     runs = Runs(folder)
     replays(runs)
+    refuses_lines(runs)
     asks_for_nothing(runs)
     fails_to_read(runs)
     fails_to_write(runs, REPLAY_1, b"0 due\n0 due\n", 3, b"not")

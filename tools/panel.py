@@ -905,6 +905,137 @@ def bound_for(folder):
         panel.__exit__()
 
 
+# What a device with one mute answers, each with ParamCount and parameters and status 0, in the order in which it is asked:
+# of the root its members, role, label, whether it can be locked and whether it is enabled; of the mute the same but for the
+# members, and its state; and then to the order that sets the mute, and to the order that locks it.
+TEXT, TRUE, DONE = (1, b"\0\1A"), (1, b"\1"), (0, b"")
+MEMBERS = (1, bytes([0, 1, 0, 0, 0x10, 1, 0, 4, 0, 1, 0, 1, 0, 1, 0, 2, 0, 2]))
+MUTED, UNMUTED = (1, b"\1"), (1, b"\2")
+FOUND = {(100, 3, 5): MEMBERS, (100, 1, 5): TEXT, (100, 2, 8): TEXT, (100, 1, 2): TRUE, (100, 2, 1): TRUE,
+         (4097, 1, 5): TEXT, (4097, 2, 8): TEXT, (4097, 1, 2): TRUE, (4097, 2, 1): TRUE, (4097, 4, 1): MUTED}
+ORDERED = {(4097, 4, 2): DONE, (4097, 1, 3): DONE}
+
+# Requests to a panel of this device, each on a connection of its own, which is named here as at 127.0.0.1:8080: how the answer
+# begins and ends. The two orders that are taken have the first tickets.
+REQUESTS = [
+    (b"GET / HTTP/1.1\r\nHost: 127.0.0.1:8080\r\n\r\n", b"HTTP/1.1 200 ", b""),
+    (b"GET / HTTP/1.1\r\nHost: evil.example\r\n\r\n", b"HTTP/1.1 421 ", b""),
+    (b"POST /set HTTP/1.1\r\nHost: 127.0.0.1:8080\r\nOrigin: http://127.0.0.1:8080\r\nContent-Type: application/json\r\n"
+     b'Content-Length: 30\r\n\r\n{"ono":4097,"value":"unmuted"}', b"HTTP/1.1 202 ", b"\r\n\r\n1"),
+    (b"POST /lock HTTP/1.1\r\nHost: 127.0.0.1:8080\r\nOrigin: http://127.0.0.1:8080\r\nContent-Type: application/json\r\n"
+     b'Content-Length: 12\r\n\r\n{"ono":4097}', b"HTTP/1.1 202 ", b"\r\n\r\n2"),
+    (b"POST /unlock HTTP/1.1\r\nHost: 127.0.0.1:8080\r\nOrigin: http://evil.example\r\nContent-Type: application/json\r\n"
+     b'Content-Length: 12\r\n\r\n{"ono":4097}', b"HTTP/1.1 403 ", b""),
+    (b"POST /unlock HTTP/1.1\r\nHost: 127.0.0.1:8080\r\nOrigin: http://127.0.0.1:8080\r\nContent-Type: text/plain\r\n"
+     b'Content-Length: 12\r\n\r\n{"ono":4097}', b"HTTP/1.1 415 ", b""),
+    (b"POST /set HTTP/1.1\r\nHost: 127.0.0.1:8080\r\nOrigin: http://127.0.0.1:8080\r\nContent-Type: application/json\r\n"
+     b'Content-Length: 27\r\n\r\n{"ono":4097,"value":"loud"}', b"HTTP/1.1 422 ", b""),
+    (b"GET /set HTTP/1.1\r\nHost: 127.0.0.1:8080\r\n\r\n", b"HTTP/1.1 405 ", b""),
+    (b"GET /tree HTTP/1.1\r\nHost: 127.0.0.1:8080\r\n\r\n", b"HTTP/1.1 200 ", b"}"),
+    (b"GET /values?since=0&first=0&count=2 HTTP/1.1\r\nHost: 127.0.0.1:8080\r\n\r\n", b"HTTP/1.1 200 ", b"}"),
+]
+
+
+class OneMute(Served):
+    """The device with one mute. `asked` has what each handle asks, and `answered` the moment of the first answer to each."""
+
+    def __init__(self):
+        super().__init__()
+        self.answers, self.asked, self.answered = FOUND | ORDERED, {}, {}
+        self.device.datagram = self.datagram
+
+    def datagram(self, peer, data, now):
+        packets = []
+        for kind, given, *command in oca.check(data):
+            if kind == "keep-alive":
+                packets.append(oca.pdu(4, [given]))
+                continue
+            handle, asked = command[0].handle, (command[0].target, command[0].level, command[0].index)
+            self.asked[handle] = asked
+            if asked == (4097, 4, 2):
+                self.answers |= {(4097, 4, 1): UNMUTED}
+            self.answered.setdefault(handle, time.monotonic())
+            packets.append(oca.pdu(3, [oca.response_body(handle, 0, *self.answers[asked])]))
+        return "", packets
+
+
+def exchange(panel, data):
+    """The whole answer to these bytes: its head, and as many bytes behind it as that says."""
+    answer = b""
+    with socket.create_connection((panel.ip, panel.port), timeout=20) as s:
+        s.sendall(data)
+        while b"\r\n\r\n" not in answer and (piece := s.recv(65536)):
+            answer += piece
+        length = re.search(rb"\r\ncontent-length: (\d+)\r\n", answer, re.IGNORECASE)
+        size = answer.find(b"\r\n\r\n") + 4 + int(length[1] if length else 0)
+        while len(answer) < size and (piece := s.recv(65536)):
+            answer += piece
+    return answer
+
+
+def finds_a_mute(device, panel):
+    """What a panel tells of a device before it is asked again: None where its last answer was not learned so early."""
+    until = time.monotonic() + 20
+    while len(device.answered) < len(FOUND) and time.monotonic() < until:
+        time.sleep(0.01)
+    time.sleep(0.1)
+    panel.epoch = 1  # of the first walk: else a page would look twice
+    values = panel.look()
+    if not values["walked"]:
+        return None
+    link, ago = values["link"], 1000 * (time.monotonic() - list(device.answered.values())[len(FOUND) - 1]) + 1
+    check(list(device.asked.values())[:len(FOUND)] == list(FOUND), f"what is asked of a device with one mute: {device.asked}")
+    check((values["epoch"], link["commands"], link["in_flight"]) == (1, len(FOUND), 0), f"what is told of it: {values}")
+    check(link["heard"] is not None and link["heard"] <= ago, f"the device is heard {link['heard']} ms ago, and answered {ago:.0f} ms ago")
+    check(panel.value(4097) == "muted", f"the mute is shown as {panel.value(4097)}")
+    told = {o["ono"]: o["lockable"] for o in panel.get("/tree")["objects"]}
+    return check(told == {100: True, 4097: True}, f"what can be locked: {told}")
+
+
+def a_mute(folder):
+    """A device with one mute is found by one question for each thing, and the orders about the mute fare one after the other as
+    the device answers. It is tried again where the machine was so busy that a page asked too early."""
+    for _ in range(9):
+        with OneMute() as device, Panel(folder, device.port) as panel:
+            if finds_a_mute(device, panel) is None:
+                continue
+            for data, begins, ends in REQUESTS:
+                answer = exchange(panel, data.replace(b"127.0.0.1:8080", panel.host.encode()))
+                check(answer.startswith(begins) and answer.endswith(ends), f"{data!r} is answered {answer[:300]!r}")
+            panel.wait(lambda _: 1 in panel.told and 2 in panel.told)
+            check(panel.told == {1: None, 2: None}, f"how two orders fared: {panel.told}")
+            is_shown = panel.wait(lambda _: (panel.value(4097), panel.shown[4097]["lock"]) == ("unmuted", "own")) is not None
+            check(is_shown, f"the mute is shown as {panel.shown[4097]}")
+            ordered = [asked for asked in device.asked.values() if asked in ORDERED]
+            check(ordered == list(ORDERED), f"the orders that came: {ordered}")
+            check(panel.look()["epoch"] == 1, "the device is not walked again")
+            status, headers, body = panel.ask("GET", "/")
+            policy = headers["content-security-policy"]
+            check(body.startswith(b"<!doctype html>") and policy.startswith("default-src 'none'"), f"the page: {status}, {policy}, {body[:60]}")
+            return
+    check(False, "a device with one mute is found")
+
+
+def limits_of_orders(folder):
+    """The last 128 orders are told. Of a mute 64 orders wait behind one in flight, and one more is not taken; that is tried again
+    where the machine was so busy that the link was lost meanwhile."""
+    with Served(oca.bench()) as device, Panel(folder, device.port) as panel:
+        panel.wait(lambda v: v["walked"])
+        fared = [panel.fare("/set", 4097, "unmuted") for _ in range(130)]
+        told = [t["ticket"] for t in panel.get("/values?since=0")["told"]]
+        check((set(fared), told) == ({None}, list(range(3, 131))), f"of 130 orders are told: {told}, {set(fared)}")
+    for _ in range(9):
+        with Deaf(oca.bench(), SETS) as device, Panel(folder, device.port) as panel:
+            panel.wait(lambda v: v["walked"])
+            statuses = [panel.order("/set", 4097, "unmuted")[0]]
+            panel.wait(lambda v: any(b"\0\0\x10\1\0\4\0\2" in data for data, _ in list(device.heard)))
+            statuses += [panel.order("/set", 4097, "unmuted")[0] for _ in range(65)]
+            if not panel.look()["told"]:
+                check(statuses == 65 * [202] + [503], f"orders behind one without an answer: {statuses}")
+                return
+    check(False, "orders behind one without an answer are all lost")
+
+
 # What the page's script does when its controls are used, with what stands for a document; a line for each order.
 PAGE_SCRIPT = r"""
 const orders=[],made=()=>new Proxy(function(){},{get:(t,k)=>k in t?t[k]:k===Symbol.toPrimitive?()=>"":made(),set:(t,k,v)=>(t[k]=v,true),apply:()=>made()});
@@ -1123,7 +1254,7 @@ def main():
     spans(folder)
     for part in (bound_for, classes, seldom, of_other_classes, visible_first, often, newer_than_an_answer,
                  beside_an_order, asleep, failing, unwatched, troubled, ailing, counted, without_a_page, at_its_port,
-                 by_its_names):
+                 by_its_names, a_mute, limits_of_orders):
         part(folder)
     with Device(folder) as device, Panel(folder, device.port) as panel:
         page(panel)

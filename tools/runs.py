@@ -5,7 +5,7 @@ Usage: runs.py BIN     BIN is the folder with `ocadev`
 
 A row is a run. What notes stand before a fault, lines that begin with `note: `, is left open. Readers and writers that fail at each place,
 and writers that take a little at a time, are tried in `oca_program_tests`; here the input comes in pieces of each size below 100 bytes, and
-a read or a write of the system fails. The last line is 'N passed, M failed'."""
+a read or a write of the system fails. Texts of objects are rows of `tree_texts.py`. The last line is 'N passed, M failed'."""
 import array
 import fcntl
 import os
@@ -19,6 +19,8 @@ import sys
 import tempfile
 import termios
 import time
+
+import tree_texts
 
 # GetState of 4097 under handle 1.
 GET_1 = b"0 127.0.0.1:9001 3b00010000001a0100010000001100000001000010010004000100\n"
@@ -687,6 +689,8 @@ def device(runs):
     fails_to_write(runs, ["ocadev", "--help"], b"", 10, b"")
     refuses_no_word(runs, "ocadev", UNMUTES)
     serves_nobody(runs)
+    with tempfile.TemporaryDirectory() as folder:
+        objects(runs, f"{folder}/objects.tree")
 
 
 def line_of(moment, port, sent):
@@ -720,6 +724,43 @@ def serves_nobody(runs):
     run = runs.ran(words)
     is_told = run.stderr.startswith(b"listening 127.0.0.1:") and run.stderr.endswith(b"\n")
     runs.check(words, run.returncode == 0 and run.stdout == counts and is_told, run)
+
+
+def objects(runs, path):
+    """What `ocadev` makes of texts of objects, each in the file at this path."""
+    def on(text, *words):
+        with open(path, "wb") as file:
+            file.write(text)
+        return ["ocadev", *words, "--tree", path]
+    for text, wanted in tree_texts.LISTED:
+        lists(runs, on(text, "show"), wanted)
+    for line, fault in tree_texts.FOURTH:
+        lists(runs, on(tree_texts.FRONT + line, "show"), f"line 4: {fault}")
+    for line, fault in tree_texts.STORED_FAULTS:
+        lists(runs, on(line, "show"), f"line 1: {fault}")
+    lists(runs, on(tree_texts.most_objects(), "show"), 4096)
+    lists(runs, on(tree_texts.most_objects() + b"9000 100 block lockable a", "show"), "line 4096: full")
+    for text, output in tree_texts.REWRITTEN:
+        runs.gives(on(text, "show", "--text"), b"", 0, output)
+    for ono, label, enabled in tree_texts.LABELLED:
+        words, asked = on(tree_texts.STORED, "replay"), tree_texts.asks
+        runs.gives(words, asked(ono, 2, 8), 0, tree_texts.answered([tree_texts.text(label)]))
+        runs.gives(words, asked(ono, 2, 1), 0, tree_texts.answered([tree_texts.truth(enabled)]))
+    for ono, level, values in tree_texts.READ:
+        runs.gives(on(tree_texts.ALL, "replay"), tree_texts.asks(ono, level, 1), 0, tree_texts.read(values))
+    lists(runs, on(tree_texts.ALL, "show"), tree_texts.COUNT)
+    for place, line in tree_texts.PLACES:
+        run = runs.ran(on(tree_texts.ALL, "show"))
+        runs.check([f"place {place}"], (run.returncode, run.stdout.split(b"\n")[place]) == (0, line), run)
+
+
+def lists(runs, words, wanted):
+    """The run prints so many lines, or has this fault and prints nothing."""
+    if isinstance(wanted, str):
+        runs.gives(words, b"", 2, b"", wanted.encode() + b"\n")
+        return
+    run = runs.ran(words)
+    runs.check(words, (run.returncode, run.stdout.count(b"\n"), run.stderr) == (0, wanted, b""), run)
 
 
 def comments(length, count):
