@@ -1,11 +1,11 @@
 //! A module for each crate or program, readers and writers in memory for them, and what they share.
+mod coming;
 mod fakes;
 mod ocactl;
 mod ocadev;
 mod program;
 mod script;
 mod textree;
-mod web;
 
 use std::alloc::Global;
 use std::fmt::Display;
@@ -22,6 +22,22 @@ fn first_wrong<R: Row>(alloc: Global, rows: &[R]) -> Option<usize> {
     for (at, row) in rows.iter().enumerate() {
         if !row.agrees(alloc) {
             return Some(at);
+        }
+    }
+    None
+}
+
+/// What must hold at each of many places.
+trait AtPlace {
+    /// Whether it holds at this one.
+    fn holds(&self, alloc: Global, place: usize) -> bool;
+}
+
+/// The first place below the end, from the first one on, at which it does not hold.
+fn first_place<P: AtPlace>(alloc: Global, at: &P, first: usize, end: usize) -> Option<usize> {
+    for place in first..end {
+        if !at.holds(alloc, place) {
+            return Some(place);
         }
     }
     None

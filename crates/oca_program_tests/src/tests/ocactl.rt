@@ -1,14 +1,18 @@
 //! What the clauses leave open: commands that are sent over an end in memory, and readers and writers that give and
 //! take a little at a time or fail. Whole runs of the program are rows of `tools/ctl_runs.py`.
-use super::{first_wrong, none_wrong};
+use super::{first_place, first_wrong, none_wrong};
+use oca_types::Peer;
 
 mod commands;
 mod objects;
 mod probes;
 mod replay;
 
-/// The answer to GetState of 4097 under handle 1: Muted.
-const MUTED_1: &[u8] = b"3b0001000000140300010000000b00000001000101";
+/// The device.
+const DEVICE: Peer = Peer {
+    ip: 0x7f00_0001,
+    port: 65000,
+};
 
 /// Whatever a reader may give or a writer may take.
 const NO_LIMIT: usize = usize::MAX;
@@ -37,7 +41,6 @@ fn idle_and_bad_lines(rt: HostRuntime) {
         &[
             first_wrong(alloc, commands::IDLE),
             first_wrong(alloc, commands::IDLE_THEN_READ),
-            first_wrong(alloc, commands::BAD),
         ],
     );
 }
@@ -53,7 +56,7 @@ fn commands_over_an_end(rt: HostRuntime) {
             first_wrong(alloc, commands::BEHIND),
             first_wrong(alloc, objects::SETTINGS),
             first_wrong(alloc, probes::FOUND),
-            commands::first_uncut(alloc),
+            first_place(alloc, &commands::Cut, 0, 14),
         ],
     );
 }
@@ -67,8 +70,8 @@ fn replays_of_links(rt: HostRuntime) {
         &[
             first_wrong(alloc, replay::PIECES),
             first_wrong(alloc, replay::FAULTS),
-            replay::first_unread(),
-            replay::first_unwritten(),
+            first_place(alloc, &replay::Reads, 0, replay::EXCHANGE.len()),
+            first_place(alloc, &replay::Writes, 0, replay::EXCHANGED.len()),
         ],
     );
 }

@@ -1,7 +1,7 @@
 //! What the clauses leave open: replays between ends that cut what they give and take, or fail at each place, and what
 //! goes over sockets. Whole runs of the program are rows of `tools/runs.py`.
-use super::{first_wrong, none_wrong, wrong_unless};
-use oca_device::Device;
+use super::{first_place, first_wrong, none_wrong};
+use oca_device::{Device, Outbox};
 use oca_tree::{Tree, bench};
 use oca_types::Window;
 use std::alloc::Global;
@@ -43,16 +43,33 @@ const WHOLE: Cuts = Cuts {
     taken: usize::MAX,
 };
 
-/// The device of a tree.
-fn device_of(alloc: Global, tree: Tree) -> Option<Device> {
-    Device::new(alloc, tree, Window::default()).ok()
+/// What is tried on a device.
+trait Trial {
+    /// The first place at which it goes otherwise on a device and with its outbox.
+    fn first_wrong(&mut self, device: &mut Device, outbox: &mut Outbox) -> Option<usize>;
 }
 
-/// The bench device before any event.
-fn bench_device(alloc: Global) -> Option<Device> {
+/// The first place at which it goes otherwise on a device; the last number where there is no outbox.
+fn first_wrong_on<T: Trial>(alloc: Global, trial: &mut T, device: &mut Device) -> Option<usize> {
+    match Outbox::new(alloc) {
+        Ok(mut outbox) => trial.first_wrong(device, &mut outbox),
+        Err(_) => Some(usize::MAX),
+    }
+}
+
+/// The same on the device of a tree.
+fn first_wrong_of<T: Trial>(alloc: Global, trial: &mut T, tree: Tree) -> Option<usize> {
+    match Device::new(alloc, tree, Window::default()) {
+        Ok(mut device) => first_wrong_on(alloc, trial, &mut device),
+        Err(_) => Some(usize::MAX),
+    }
+}
+
+/// The same on the bench device before any event.
+fn on_bench<T: Trial>(alloc: Global, trial: &mut T) -> Option<usize> {
     match bench(alloc) {
-        Ok(tree) => device_of(alloc, tree),
-        Err(_) => None,
+        Ok(tree) => first_wrong_of(alloc, trial, tree),
+        Err(_) => Some(usize::MAX),
     }
 }
 
@@ -63,9 +80,9 @@ fn ends_that_fail(rt: HostRuntime) {
         &rt,
         "ends that fail",
         &[
-            ends::first_wrong_piece(alloc),
-            ends::first_wrong_read(alloc),
-            ends::first_wrong_write(alloc),
+            first_place(alloc, &ends::Pieces, 1, 100),
+            first_place(alloc, &ends::Reads, 0, UNMUTES.len()),
+            first_place(alloc, &ends::Writes, 0, UNMUTED.len()),
         ],
     );
 }
@@ -76,7 +93,7 @@ fn more_peers_than_sessions(rt: HostRuntime) {
     none_wrong(
         &rt,
         "more peers than sessions",
-        &[replay::first_wrong_script(alloc)],
+        &[on_bench(alloc, &mut replay::KeepAlives)],
     );
 }
 
@@ -88,7 +105,7 @@ fn at_sockets(rt: HostRuntime) {
         "at sockets",
         &[
             first_wrong(alloc, sockets::REPORTS),
-            sockets::first_wrong_step(&rt, alloc),
+            on_bench(alloc, &mut sockets::AtSockets { alloc, system: &rt }),
         ],
     );
 }
@@ -100,8 +117,8 @@ fn traced_datagrams(rt: HostRuntime) {
         &rt,
         "traced datagrams",
         &[
-            wrong_unless(traces::serves_to_the_close(alloc)),
-            wrong_unless(traces::prints_each_datagram(alloc, &rt)),
+            on_bench(alloc, &mut traces::Serving { alloc }),
+            on_bench(alloc, &mut traces::Printing { alloc, files: &rt }),
         ],
     );
 }

@@ -1,11 +1,12 @@
 //! What the clauses leave open: printed texts, and faults where memory or the writer refuses.
-use super::{Row, displays, first_wrong, none_wrong, wrong_unless};
+use super::{AtPlace, Row, displays, first_place, first_wrong, none_wrong};
 use crate::tests::fakes::ShortWriter;
 use oca_net::BindFault;
 use oca_program::{Failure, Form, RunFault, report};
 use oca_script::{LineFault, Printer, ReplayFault};
 use oca_textree::ObjectFault;
 use std::alloc::Global;
+use std::str::from_utf8;
 
 /// Where a run's failure comes from.
 #[derive(Clone, Copy)]
@@ -135,78 +136,60 @@ const LINES_AND_SOCKETS: &[Reported] = &[
     Reported(Bind(BindFault::NoMemory), 1, "no memory\n"),
 ];
 
-/// A failure with a note.
-fn noted(alloc: Global, fault: RunFault, note: &str) -> Option<Failure> {
-    Some(Failure::noted(fault, String::from_str(alloc, note).ok()?))
-}
+/// A fault with a note of these bytes; the status with which it ends a run, how what is printed begins, and of how many
+/// bytes it is.
+struct Noted(RunFault, &'static [u8], u8, &'static [u8], usize);
 
-/// Whether the fault with this note ends a run with this status, and prints just that.
-fn prints_note(alloc: Global, fault: RunFault, note: &str, status: u8, text: &[u8]) -> bool {
-    match noted(alloc, fault, note) {
-        Some(failure) => reports_as(&failure, status, text),
-        None => false,
-    }
-}
-
-/// Whether so many bytes are printed of a refused socket with this note, whose status is 1.
-fn prints_length(failure: &Failure, length: usize) -> bool {
+/// Whether the failure ends a run so.
+fn is_told(failure: &Failure, row: &Noted) -> bool {
     let mut faults = Printer::new(ShortWriter::new(9, usize::MAX));
-    report(failure, &mut faults) == 1 && faults.sink().taken.len() == length
+    report(failure, &mut faults) == row.2
+        && faults.sink().taken.starts_with(row.3)
+        && faults.sink().taken.len() == row.4
 }
 
-/// Adds a note of so many bytes.
-fn add_note(note: &mut String, count: usize) -> bool {
-    for _ in 0..count {
-        if note.push('x').is_err() {
+impl Row for Noted {
+    /// Whether the fault with this note ends a run so.
+    fn agrees(&self, alloc: Global) -> bool {
+        let Ok(note) = from_utf8(self.1) else {
             return false;
+        };
+        match String::from_str(alloc, note) {
+            Ok(note) => is_told(&Failure::noted(self.0, note), self),
+            Err(_) => false,
         }
     }
-    true
 }
 
-/// A note of so many bytes.
-fn note_of(alloc: Global, count: usize) -> Option<String> {
-    let mut note = String::new(alloc);
-    if add_note(&mut note, count) {
-        Some(note)
-    } else {
-        None
+// A note is one line behind its word, and stands before the fault's line, and one of more than 1,000 bytes is left out.
+const NOTES: &[Noted] = &[
+    Noted(
+        RunFault::BadWords,
+        b"error: no\n\nmore",
+        2,
+        b"note: error: no\nbad words\n",
+        26,
+    ),
+    Noted(
+        RunFault::Socket,
+        &[b'x'; 1000],
+        1,
+        b"note: xxxxxxxx",
+        6 + 1000 + 1 + 14,
+    ),
+    Noted(RunFault::Socket, &[b'x'; 1001], 1, b"socket failed\n", 14),
+];
+
+/// A fault that can't be written ends the run with its status all the same.
+struct Filled;
+
+impl AtPlace for Filled {
+    /// Whether a writer with so much room is filled by a fault, where the status is 2.
+    fn holds(&self, _alloc: Global, room: usize) -> bool {
+        let mut faults = Printer::new(ShortWriter::new(3, room));
+        report(&Failure::from(RunFault::BadWords), &mut faults) == 2
+            && faults.sink().taken.len() == room
     }
-}
-
-/// Whether so many bytes are printed of a refused socket with a note of so many.
-fn prints_note_of(alloc: Global, count: usize, length: usize) -> bool {
-    match note_of(alloc, count) {
-        Some(note) => prints_length(&Failure::noted(RunFault::Socket, note), length),
-        None => false,
-    }
-}
-
-/// Whether a note is one line behind its word, and stands before the fault's line, and one of more than 1,000 bytes is
-/// left out.
-fn are_notes(alloc: Global) -> bool {
-    let text = b"note: error: no\nbad words\n";
-    prints_note(alloc, RunFault::BadWords, "error: no\n\nmore", 2, text)
-        && prints_note_of(alloc, 1_000, 6 + 1_000 + 1 + 14)
-        && prints_note_of(alloc, 1_001, 14)
-}
-
-/// Whether a writer with so much room is filled by a fault, where the status is 2.
-fn is_filled(room: usize) -> bool {
-    let mut faults = Printer::new(ShortWriter::new(3, room));
-    report(&Failure::from(RunFault::BadWords), &mut faults) == 2
-        && faults.sink().taken.len() == room
-}
-
-/// The first of these rooms that is not filled: a fault that can't be written ends the run with its status all the
-/// same.
-fn first_unfilled(rooms: usize) -> Option<usize> {
-    for room in 0..rooms {
-        if !is_filled(room) {
-            return Some(room);
-        }
-    }
-    None
 }
 
 #[test]
@@ -219,8 +202,8 @@ fn faults_and_forms_of_runs(rt: HostRuntime) {
             first_wrong(alloc, FAULTS),
             first_wrong(alloc, LINES_AND_SOCKETS),
             first_wrong(alloc, FORMS),
-            first_unfilled(10),
-            wrong_unless(are_notes(alloc)),
+            first_place(alloc, &Filled, 0, 10),
+            first_wrong(alloc, NOTES),
         ],
     );
 }

@@ -5,7 +5,7 @@ mod printing;
 mod replays;
 mod waits;
 
-use super::{first_wrong, none_wrong, wrong_unless};
+use super::{first_place, first_wrong, none_wrong, wrong_unless};
 
 #[test]
 fn numbers_and_moments(rt: HostRuntime) {
@@ -86,25 +86,27 @@ fn lengths_of_lines(rt: HostRuntime) {
 
 #[test]
 fn replays_in_pieces(rt: HostRuntime) {
+    let alloc = rt.alloc();
     none_wrong(
         &rt,
         "replays in pieces",
         &[
-            replays::first_broken(),
-            replays::first_misread(),
-            replays::first_miswritten(),
+            first_place(alloc, &replays::Pieces, 1, 30),
+            first_place(alloc, &replays::Reads, 0, replays::SCRIPT.len()),
+            first_place(alloc, &replays::Writes, 0, replays::TEXT.len()),
         ],
     );
 }
 
 #[test]
 fn readers_and_writers(rt: HostRuntime) {
+    let alloc = rt.alloc();
     none_wrong(
         &rt,
         "readers and writers",
         &[
-            replays::first_mistaken(false),
-            replays::first_mistaken(true),
+            first_place(alloc, &replays::FAILING, 0, replays::TEXT.len() + 1),
+            first_place(alloc, &replays::FULL, 0, replays::TEXT.len() + 1),
             wrong_unless(replays::ends_through_reader()),
             wrong_unless(replays::is_written_before_a_read()),
         ],

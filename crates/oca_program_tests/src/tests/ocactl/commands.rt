@@ -1,20 +1,17 @@
 //! Commands that are sent, over an end in memory.
-use super::{MUTED_1, NO_LIMIT};
-use crate::tests::Row;
+use super::{DEVICE, NO_LIMIT};
+use crate::tests::coming::Coming::{self, Datagram, Quiet};
+use crate::tests::coming::end;
 use crate::tests::fakes::{PausedReader, PieceReader, ShortWriter};
+use crate::tests::{AtPlace, Row};
 use oca_control::Link;
-use oca_net::{MemoryEnd, Scripted};
+use oca_net::MemoryEnd;
 use oca_script::{LineFault, Printer, ReplayFault, WriteFailed};
-use oca_types::{Handle, MethodId, Ono, Peer, Request, Span};
+use oca_types::{Handle, MethodId, Ono, Request, Span};
 use ocactl_cli::commands::send_all;
 use ocactl_cli::exchange::ask_once;
 use ocactl_cli::session::Session;
 use std::alloc::Global;
-
-const DEVICE: Peer = Peer {
-    ip: 0x7f00_0001,
-    port: 65000,
-};
 
 /// GetState of 4097.
 const GET: Request<'static> = Request {
@@ -24,97 +21,76 @@ const GET: Request<'static> = Request {
     params: &[],
 };
 
-/// What an end delivers.
-#[derive(Clone, Copy)]
-enum Delivery {
-    /// Nothing, at a moment.
-    Quiet(u64),
-    /// Nothing, 30 times, 250 ms apart from 0 on.
-    Silence,
-    /// The answer to the command of a handle, of this status and one parameter byte, at a moment.
-    Answer(u8, u8, u64),
-}
+/// The answer of status 0 to the command under handle 1, with one parameter byte.
+const ANSWER_1_0: &[u8] =
+    b"\x3b\x00\x01\x00\x00\x00\x14\x03\x00\x01\x00\x00\x00\x0b\x00\x00\x00\x01\x00\x01\x01";
 
-use Delivery::*;
+/// The answer of status 1 to the command under handle 1, with one parameter byte.
+const ANSWER_1_1: &[u8] =
+    b"\x3b\x00\x01\x00\x00\x00\x14\x03\x00\x01\x00\x00\x00\x0b\x00\x00\x00\x01\x01\x01\x01";
 
-/// The bytes of the answer of a status to the command of a handle.
-fn answer(handle: u8, status: u8) -> Option<[u8; 21]> {
-    let mut bytes = [0u8; 21];
-    hex::decode_to_slice(MUTED_1, &mut bytes).ok()?;
-    bytes[17] = handle;
-    bytes[18] = status;
-    Some(bytes)
-}
+/// The answer of status 3 to the command under handle 1, with one parameter byte.
+const ANSWER_1_3: &[u8] =
+    b"\x3b\x00\x01\x00\x00\x00\x14\x03\x00\x01\x00\x00\x00\x0b\x00\x00\x00\x01\x03\x01\x01";
 
-/// Adds a datagram of the device, at a moment.
-fn put_datagram(script: &mut Vec<Scripted>, bytes: Vec<u8>, now: u64) -> bool {
-    let from = DEVICE;
-    script.push(Scripted::Datagram { from, bytes, now }).is_ok()
-}
+/// The answer of status 255 to the command under handle 1, with one parameter byte.
+const ANSWER_1_255: &[u8] =
+    b"\x3b\x00\x01\x00\x00\x00\x14\x03\x00\x01\x00\x00\x00\x0b\x00\x00\x00\x01\xff\x01\x01";
 
-/// Adds that answer, at a moment.
-fn put_answer(alloc: Global, script: &mut Vec<Scripted>, handle: u8, status: u8, now: u64) -> bool {
-    let Some(bytes) = answer(handle, status) else {
-        return false;
-    };
-    match bytes.to_vec(alloc) {
-        Ok(bytes) => put_datagram(script, bytes, now),
-        Err(_) => false,
-    }
-}
+/// The answer of status 2 to the command under handle 2, with one parameter byte.
+const ANSWER_2_2: &[u8] =
+    b"\x3b\x00\x01\x00\x00\x00\x14\x03\x00\x01\x00\x00\x00\x0b\x00\x00\x00\x02\x02\x01\x01";
 
-/// Adds nothing, at a moment.
-fn put_quiet(script: &mut Vec<Scripted>, now: u64) -> bool {
-    script.push(Scripted::Quiet { now }).is_ok()
-}
+/// The answer of status 7 to the command under handle 2, with one parameter byte.
+const ANSWER_2_7: &[u8] =
+    b"\x3b\x00\x01\x00\x00\x00\x14\x03\x00\x01\x00\x00\x00\x0b\x00\x00\x00\x02\x07\x01\x01";
 
-/// Nothing for 7,500 ms.
-fn put_silence(script: &mut Vec<Scripted>) -> bool {
-    for i in 0..30u64 {
-        if !put_quiet(script, 250 * i) {
-            return false;
-        }
-    }
-    true
-}
+/// The answer of status 3 to the command under handle 3, with one parameter byte.
+const ANSWER_3_3: &[u8] =
+    b"\x3b\x00\x01\x00\x00\x00\x14\x03\x00\x01\x00\x00\x00\x0b\x00\x00\x00\x03\x03\x01\x01";
 
-/// One delivery.
-fn put(alloc: Global, script: &mut Vec<Scripted>, delivery: Delivery) -> bool {
-    match delivery {
-        Quiet(now) => put_quiet(script, now),
-        Silence => put_silence(script),
-        Answer(handle, status, now) => put_answer(alloc, script, handle, status, now),
-    }
-}
-
-/// These deliveries.
-fn put_all(alloc: Global, script: &mut Vec<Scripted>, deliveries: &[Delivery]) -> bool {
-    for delivery in deliveries {
-        if !put(alloc, script, *delivery) {
-            return false;
-        }
-    }
-    true
-}
-
-/// An end that delivers this, and takes 30 datagrams.
-fn end(alloc: Global, deliveries: &[Delivery]) -> Option<MemoryEnd> {
-    let mut script = Vec::new(alloc);
-    if put_all(alloc, &mut script, deliveries) {
-        MemoryEnd::new(alloc, script, 30, None).ok()
-    } else {
-        None
-    }
-}
+/// Nothing, 30 times, 250 ms apart from 0 on.
+const SILENCE: &[Coming] = &[
+    Quiet(0),
+    Quiet(250),
+    Quiet(500),
+    Quiet(750),
+    Quiet(1000),
+    Quiet(1250),
+    Quiet(1500),
+    Quiet(1750),
+    Quiet(2000),
+    Quiet(2250),
+    Quiet(2500),
+    Quiet(2750),
+    Quiet(3000),
+    Quiet(3250),
+    Quiet(3500),
+    Quiet(3750),
+    Quiet(4000),
+    Quiet(4250),
+    Quiet(4500),
+    Quiet(4750),
+    Quiet(5000),
+    Quiet(5250),
+    Quiet(5500),
+    Quiet(5750),
+    Quiet(6000),
+    Quiet(6250),
+    Quiet(6500),
+    Quiet(6750),
+    Quiet(7000),
+    Quiet(7250),
+];
 
 /// A new link, whose first handle is 1.
 fn link() -> Link {
     Link::new(DEVICE, Handle(1), 0, Span::default())
 }
 
-/// One command: the status of the answer behind one quiet receive, the turns, the exit status, and what is printed.
+/// One command: what comes, the turns, the exit status, and what is printed.
 pub struct Asking {
-    answer: u8,
+    coming: &'static [Coming],
     turns: u32,
     exit: u8,
     output: &'static [u8],
@@ -122,31 +98,31 @@ pub struct Asking {
 
 pub const ASKINGS: &[Asking] = &[
     Asking {
-        answer: 0,
+        coming: &[Quiet(0), Datagram(DEVICE, ANSWER_1_0, 10)],
         turns: 2,
         exit: 0,
         output: b"answer 0 1 01\n",
     },
     Asking {
-        answer: 3,
+        coming: &[Quiet(0), Datagram(DEVICE, ANSWER_1_3, 10)],
         turns: 2,
         exit: 4,
         output: b"answer 3 1 01\n",
     },
     Asking {
-        answer: 255,
+        coming: &[Quiet(0), Datagram(DEVICE, ANSWER_1_255, 10)],
         turns: 2,
         exit: 4,
         output: b"answer 255 1 01\n",
     },
     Asking {
-        answer: 0,
+        coming: &[Quiet(0), Datagram(DEVICE, ANSWER_1_0, 10)],
         turns: 1,
         exit: 3,
         output: b"no answer\n",
     },
     Asking {
-        answer: 0,
+        coming: &[Quiet(0), Datagram(DEVICE, ANSWER_1_0, 10)],
         turns: 0,
         exit: 3,
         output: b"no answer\n",
@@ -166,7 +142,7 @@ fn ends_over(end: &mut MemoryEnd, asking: &Asking) -> bool {
 impl Row for Asking {
     /// Whether the command ends so.
     fn agrees(&self, alloc: Global) -> bool {
-        match end(alloc, &[Quiet(0), Answer(1, self.answer, 10)]) {
+        match end(alloc, self.coming, 30, None) {
             Some(mut end) => ends_over(&mut end, self),
             None => false,
         }
@@ -181,22 +157,18 @@ fn is_cut_over(end: &mut MemoryEnd, room: usize) -> bool {
     exit == Err(WriteFailed) && text.len() == room && b"answer 0 1 01\n".starts_with(text)
 }
 
-/// Whether an answer for which there is only so much room is a failed write.
-fn is_cut(alloc: Global, room: usize) -> bool {
-    match end(alloc, &[Answer(1, 0, 10)]) {
-        Some(mut end) => is_cut_over(&mut end, room),
-        None => false,
-    }
-}
+/// An answer for which there are fewer than 14 bytes of room: what can't be written is a failed write, whatever the
+/// answer.
+pub struct Cut;
 
-/// The first room of fewer than 14 bytes where it is not: what can't be written is a failed write, whatever the answer.
-pub fn first_uncut(alloc: Global) -> Option<usize> {
-    for room in 0..14 {
-        if !is_cut(alloc, room) {
-            return Some(room);
+impl AtPlace for Cut {
+    /// Whether it is where there is only so much room.
+    fn holds(&self, alloc: Global, room: usize) -> bool {
+        match end(alloc, &[Datagram(DEVICE, ANSWER_1_0, 10)], 30, None) {
+            Some(mut end) => is_cut_over(&mut end, room),
+            None => false,
         }
     }
-    None
 }
 
 /// Lines, so many in flight at once, over an end that delivers this; the reader gives pieces of at most `piece` bytes,
@@ -206,7 +178,7 @@ pub fn first_uncut(alloc: Global) -> Option<usize> {
 #[derive(Clone, Copy)]
 pub struct Lines {
     ahead: u8,
-    deliveries: &'static [Delivery],
+    deliveries: &'static [Coming],
     lines: &'static [u8],
     piece: usize,
     pauses: u32,
@@ -237,7 +209,7 @@ const NO_LINES: Lines = Lines {
 
 /// Two commands, behind the first of which the reader fails.
 const FIRST_OF_TWO: Lines = Lines {
-    deliveries: &[Answer(1, 1, 10)],
+    deliveries: &[Datagram(DEVICE, ANSWER_1_1, 10)],
     lines: TWO,
     piece: 13,
     given: 13,
@@ -259,7 +231,7 @@ const CUT: Lines = Lines {
 
 /// While no more is there to be read the first answer is written, which fails.
 const BEFORE_A_READ: Lines = Lines {
-    deliveries: &[Answer(1, 1, 10)],
+    deliveries: &[Datagram(DEVICE, ANSWER_1_1, 10)],
     pauses: 4,
     fails_at_end: true,
     room: 0,
@@ -279,9 +251,9 @@ const THEN_A_READ: Lines = Lines {
 };
 
 /// A session with so many in flight at once, over an end that delivers this.
-fn session(alloc: Global, ahead: u8, deliveries: &[Delivery]) -> Option<Session<MemoryEnd>> {
+fn session(alloc: Global, ahead: u8, deliveries: &[Coming]) -> Option<Session<MemoryEnd>> {
     let ahead = Span::new(ahead)?;
-    match end(alloc, deliveries) {
+    match end(alloc, deliveries, 30, None) {
         Some(end) => Some(Session::new(link(), end, ahead, None)),
         None => None,
     }
@@ -307,23 +279,22 @@ fn sends_over(session: &mut Session<MemoryEnd>, row: &Lines) -> bool {
         && to.sink().taken.as_slice() == row.output
 }
 
-/// Whether the lines end so.
-fn sends_so(alloc: Global, row: &Lines) -> bool {
-    match session(alloc, row.ahead, row.deliveries) {
-        Some(mut session) => sends_over(&mut session, row),
-        None => false,
-    }
-}
-
 impl Row for Lines {
     /// Whether the lines end so.
     fn agrees(&self, alloc: Global) -> bool {
-        sends_so(alloc, self)
+        match session(alloc, self.ahead, self.deliveries) {
+            Some(mut session) => sends_over(&mut session, self),
+            None => false,
+        }
     }
 }
 
 /// The answers to three commands, the last one's first.
-const BACKWARDS: &[Delivery] = &[Answer(3, 3, 10), Answer(2, 2, 20), Answer(1, 1, 30)];
+const BACKWARDS: &[Coming] = &[
+    Datagram(DEVICE, ANSWER_3_3, 10),
+    Datagram(DEVICE, ANSWER_2_2, 20),
+    Datagram(DEVICE, ANSWER_1_1, 30),
+];
 
 /// Two commands, three with an empty line between them, and three.
 const TWO: &[u8] = b"4097 4 1 0 -\n4097 4 1 0 -\n";
@@ -342,10 +313,10 @@ pub const ONE_AT_A_TIME: &[Lines] = &[
         ahead: 1,
         deliveries: &[
             Quiet(0),
-            Answer(1, 0, 10),
+            Datagram(DEVICE, ANSWER_1_0, 10),
             Quiet(20),
-            Answer(1, 0, 25),
-            Answer(2, 7, 30),
+            Datagram(DEVICE, ANSWER_1_0, 25),
+            Datagram(DEVICE, ANSWER_2_7, 30),
         ],
         lines: b"4097 4 1 0 -\n# another\n4097 4 2 1 02\n",
         output: b"answer 0 1 01\nanswer 7 1 01\n",
@@ -354,7 +325,7 @@ pub const ONE_AT_A_TIME: &[Lines] = &[
     // a link that is lost
     Lines {
         ahead: 1,
-        deliveries: &[Silence],
+        deliveries: SILENCE,
         lines: TWO,
         unanswered: true,
         output: b"lost\nlost\n",
@@ -395,7 +366,11 @@ pub const AT_ONCE: &[Lines] = &[
     // `wait` lets no command go before the answers to all before it are there
     Lines {
         ahead: 16,
-        deliveries: &[Answer(2, 2, 10), Answer(1, 1, 20), Answer(3, 3, 30)],
+        deliveries: &[
+            Datagram(DEVICE, ANSWER_2_2, 10),
+            Datagram(DEVICE, ANSWER_1_1, 20),
+            Datagram(DEVICE, ANSWER_3_3, 30),
+        ],
         lines: b"wait\n4097 4 1 0 -\n4097 4 1 0 -\nwait\n4097 4 1 0 -\nwait\nwait",
         output: IN_ORDER,
         ..NO_LINES
@@ -445,7 +420,10 @@ pub const CUT_LINES: &[Lines] = &[
 ];
 
 /// The answers to two commands, the last one's first.
-const TWO_BACKWARDS: &[Delivery] = &[Answer(2, 2, 10), Answer(1, 1, 20)];
+const TWO_BACKWARDS: &[Coming] = &[
+    Datagram(DEVICE, ANSWER_2_2, 10),
+    Datagram(DEVICE, ANSWER_1_1, 20),
+];
 
 /// Lines, behind which no more is there to be read while the first answer is written, which fails.
 pub struct BeforeARead(&'static [u8]);
@@ -457,7 +435,7 @@ impl Row for BeforeARead {
             lines: self.0,
             ..BEFORE_A_READ
         };
-        sends_so(alloc, &row)
+        row.agrees(alloc)
     }
 }
 
@@ -488,13 +466,13 @@ pub const IDLE_THEN_READ: &[Lines] = &[
 ];
 
 /// A device that is silent for a while, answers, and then hears nothing for 2,500 ms.
-const SLOW: &[Delivery] = &[
+const SLOW: &[Coming] = &[
     Quiet(0),
     Quiet(100),
     Quiet(250),
     Quiet(499),
     Quiet(500),
-    Answer(1, 1, 600),
+    Datagram(DEVICE, ANSWER_1_1, 600),
     Quiet(2999),
     Quiet(3000),
 ];
@@ -543,32 +521,3 @@ impl Row for Behind {
         true
     }
 }
-
-/// A line that is sent alone and is refused, and why.
-pub struct Bad(&'static [u8], LineFault);
-
-impl Row for Bad {
-    /// Whether it is refused so.
-    fn agrees(&self, alloc: Global) -> bool {
-        let row = Lines {
-            ahead: 1,
-            lines: self.0,
-            ended: Err(ReplayFault::Line(1, self.1)),
-            ..NO_LINES
-        };
-        sends_so(alloc, &row)
-    }
-}
-
-pub const BAD: &[Bad] = &[
-    Bad(b"4097 4 1 0", LineFault::Form),
-    Bad(b"4097 4 1 0 - -", LineFault::Form),
-    Bad(b"x 4 1 0 z", LineFault::Number),
-    Bad(b"4097 65536 1 0 -", LineFault::Number),
-    Bad(b"4097 4 65536 0 -", LineFault::Number),
-    Bad(b"4097 4 1 256 -", LineFault::Number),
-    Bad(b"4097 4 1 0 z", LineFault::Hex),
-    Bad(b"take 1", LineFault::Form),
-    Bad(b"wait 1", LineFault::Form),
-    Bad(b"Wait", LineFault::Form),
-];

@@ -1,20 +1,15 @@
 //! A replay whose reader and writer give and take a little at a time, or fail.
-use super::NO_LIMIT;
-use crate::tests::Row;
+use super::{DEVICE, NO_LIMIT};
 use crate::tests::fakes::{PieceReader, ShortWriter, lines_in};
+use crate::tests::{AtPlace, Row};
 use oca_control::Link;
 use oca_script::{LineFault, Printer, ReplayFault};
-use oca_types::{Handle, MethodId, Ono, Peer, Span};
+use oca_types::{Handle, MethodId, Ono, Span};
 use ocactl_replay::replay::replay;
 use std::alloc::Global;
 
-const DEVICE: Peer = Peer {
-    ip: 0x7f00_0001,
-    port: 65000,
-};
-
 /// A command, what is due, an answer from a stranger and from the device, and twice a take.
-const EXCHANGE: &[u8] = b"0 submit 4097 4 1 0 -
+pub const EXCHANGE: &[u8] = b"0 submit 4097 4 1 0 -
 0 due
 10 due
 15 from 127.0.0.1:65001 3b0001000000140300010000000b00000001000101
@@ -23,7 +18,7 @@ take 1
 take 1
 ";
 
-const EXCHANGED: &[u8] = b"handle 1
+pub const EXCHANGED: &[u8] = b"handle 1
 send 3b00010000001a0100010000001100000001000010010004000100
 nothing
 stranger
@@ -143,53 +138,43 @@ fn stands(link: &mut Link, next: u32, held: bool) -> bool {
 // How many bytes the first lines of the exchange print.
 const PRINTED: [usize; 7] = [0, 9, 69, 77, 86, 97, 111];
 
-/// Whether a reader that fails behind so many bytes of the exchange leaves what the whole lines before print, and the
-/// link as after them: each but the first has the handle 1 submitted, and the fifth alone its answer held.
-fn stops_reading_at(place: usize) -> bool {
-    let mut link = link();
-    let mut from = PieceReader::new(EXCHANGE, 50, place);
-    let mut to = Printer::new(ShortWriter::new(1000, NO_LIMIT));
-    let ended = replay(&mut link, &mut from, &mut to);
-    let Some((front, _)) = EXCHANGE.split_at_checked(place) else {
-        return false;
-    };
-    let lines = lines_in(front);
-    let text = PRINTED[lines.min(6)];
-    ended == Err(ReplayFault::Read)
-        && to.sink().taken.as_slice() == &EXCHANGED[..text]
-        && stands(&mut link, if lines == 0 { 1 } else { 2 }, lines == 5)
-}
+/// Wherever a reader fails.
+pub struct Reads;
 
-/// The first place where it does not.
-pub fn first_unread() -> Option<usize> {
-    for place in 0..EXCHANGE.len() {
-        if !stops_reading_at(place) {
-            return Some(place);
-        }
+impl AtPlace for Reads {
+    /// Whether a reader that fails behind so many bytes of the exchange leaves what the whole lines before print, and
+    /// the link as after them: each but the first has the handle 1 submitted, and the fifth alone its answer held.
+    fn holds(&self, _alloc: Global, place: usize) -> bool {
+        let mut link = link();
+        let mut from = PieceReader::new(EXCHANGE, 50, place);
+        let mut to = Printer::new(ShortWriter::new(1000, NO_LIMIT));
+        let ended = replay(&mut link, &mut from, &mut to);
+        let Some((front, _)) = EXCHANGE.split_at_checked(place) else {
+            return false;
+        };
+        let lines = lines_in(front);
+        let text = PRINTED[lines.min(6)];
+        ended == Err(ReplayFault::Read)
+            && to.sink().taken.as_slice() == &EXCHANGED[..text]
+            && stands(&mut link, if lines == 0 { 1 } else { 2 }, lines == 5)
     }
-    None
 }
 
-/// The same of a writer. In pieces of 43 bytes the lines come in groups: the first three, the fourth, the fifth, and
-/// the last two.
-fn stops_writing_at(place: usize) -> bool {
-    let mut link = link();
-    let mut from = PieceReader::new(EXCHANGE, 43, NO_LIMIT);
-    let mut to = Printer::new(ShortWriter::new(7, place));
-    let ended = replay(&mut link, &mut from, &mut to);
-    let text = to.sink().taken.as_slice();
-    ended == Err(ReplayFault::Write)
-        && text.len() == place
-        && EXCHANGED.starts_with(text)
-        && stands(&mut link, 2, place >= 86 && place < 97)
-}
+/// Wherever a writer fails.
+pub struct Writes;
 
-/// The first place where it does not.
-pub fn first_unwritten() -> Option<usize> {
-    for place in 0..EXCHANGED.len() {
-        if !stops_writing_at(place) {
-            return Some(place);
-        }
+impl AtPlace for Writes {
+    /// The same of a writer. In pieces of 43 bytes the lines come in groups: the first three, the fourth, the fifth,
+    /// and the last two.
+    fn holds(&self, _alloc: Global, place: usize) -> bool {
+        let mut link = link();
+        let mut from = PieceReader::new(EXCHANGE, 43, NO_LIMIT);
+        let mut to = Printer::new(ShortWriter::new(7, place));
+        let ended = replay(&mut link, &mut from, &mut to);
+        let text = to.sink().taken.as_slice();
+        ended == Err(ReplayFault::Write)
+            && text.len() == place
+            && EXCHANGED.starts_with(text)
+            && stands(&mut link, 2, place >= 86 && place < 97)
     }
-    None
 }

@@ -1,6 +1,7 @@
 //! Ends that cut what they give and take, or fail.
-use super::{Cuts, UNMUTED, UNMUTES, WHOLE, bench_device};
+use super::{Cuts, Trial, UNMUTED, UNMUTES, WHOLE, on_bench};
 use crate::tests::fakes::{PieceReader, ShortWriter, lines_in};
+use crate::tests::{AtPlace, wrong_unless};
 use oca_device::{Device, Outbox};
 use oca_script::{Printer, ReplayFault};
 use oca_tree::Setting;
@@ -22,55 +23,50 @@ fn state_of(device: &Device) -> Option<Setting> {
     device.tree().setting_of(Ono(4097))
 }
 
-/// Whether a device with this outbox replays the script between these ends so.
-fn replays_with(device: &mut Device, outbox: &mut Outbox, ends: Cuts, wanted: &Ended<'_>) -> bool {
-    let mut from = PieceReader::new(UNMUTES, ends.piece.max(1), ends.given);
-    let mut printer = Printer::new(ShortWriter::new(ends.most, ends.taken));
-    let ended = replay(device, outbox, &mut from, &mut printer);
-    ended == wanted.end
-        && printer.sink().taken.as_slice() == wanted.text
-        && state_of(device) == Some(Setting::State(wanted.state))
+/// A replay of the script between these ends, and how it ends.
+#[derive(Drop)]
+struct Replayed<'a> {
+    ends: Cuts,
+    wanted: Ended<'a>,
 }
 
-/// Whether a device replays it so.
-fn replays_on(alloc: Global, device: &mut Device, ends: Cuts, wanted: &Ended<'_>) -> bool {
-    match Outbox::new(alloc) {
-        Ok(mut outbox) => replays_with(device, &mut outbox, ends, wanted),
-        Err(_) => false,
+impl Trial for Replayed<'_> {
+    /// Whether a device replays the script so.
+    fn first_wrong(&mut self, device: &mut Device, outbox: &mut Outbox) -> Option<usize> {
+        let mut from = PieceReader::new(UNMUTES, self.ends.piece.max(1), self.ends.given);
+        let mut printer = Printer::new(ShortWriter::new(self.ends.most, self.ends.taken));
+        let ended = replay(device, outbox, &mut from, &mut printer);
+        wrong_unless(
+            ended == self.wanted.end
+                && printer.sink().taken.as_slice() == self.wanted.text
+                && state_of(device) == Some(Setting::State(self.wanted.state)),
+        )
     }
 }
 
 /// Whether the bench device replays it so.
-fn replays(alloc: Global, ends: Cuts, wanted: &Ended<'_>) -> bool {
-    match bench_device(alloc) {
-        Some(mut device) => replays_on(alloc, &mut device, ends, wanted),
-        None => false,
-    }
+fn replays(alloc: Global, ends: Cuts, wanted: Ended<'_>) -> bool {
+    on_bench(alloc, &mut Replayed { ends, wanted }).is_none()
 }
 
-/// Whether the script is replayed to its end through pieces of this size.
-fn replays_in_pieces(alloc: Global, piece: usize) -> bool {
-    let ends = Cuts {
-        piece,
-        most: piece,
-        ..WHOLE
-    };
-    let wanted = Ended {
-        end: Ok(()),
-        text: UNMUTED,
-        state: 2,
-    };
-    replays(alloc, ends, &wanted)
-}
+/// The script is replayed to its end through pieces of each size.
+pub struct Pieces;
 
-/// The first size of pieces that changes what is printed.
-pub fn first_wrong_piece(alloc: Global) -> Option<usize> {
-    for piece in 1..100 {
-        if !replays_in_pieces(alloc, piece) {
-            return Some(piece);
-        }
+impl AtPlace for Pieces {
+    /// Whether it is through pieces of this size.
+    fn holds(&self, alloc: Global, piece: usize) -> bool {
+        let ends = Cuts {
+            piece,
+            most: piece,
+            ..WHOLE
+        };
+        let wanted = Ended {
+            end: Ok(()),
+            text: UNMUTED,
+            state: 2,
+        };
+        replays(alloc, ends, wanted)
     }
-    None
 }
 
 /// How many bytes of the text are printed, and in which state 4097 is, once so many line feeds of the script were read.
@@ -86,52 +82,42 @@ fn ended_behind(front: &[u8]) -> Option<Ended<'static>> {
     })
 }
 
-/// Whether the replay ends so where the reader fails at this place.
-fn ends_where_reads_fail(alloc: Global, place: usize) -> bool {
-    let ends = Cuts {
-        piece: 50,
-        given: place,
-        most: 1000,
-        ..WHOLE
-    };
-    match ended_behind(UNMUTES.get(..place).unwrap_or_default()) {
-        Some(wanted) => replays(alloc, ends, &wanted),
-        None => false,
-    }
-}
+/// The replay ends as it must wherever the reader fails.
+pub struct Reads;
 
-/// The first place at which a reader that fails ends the replay otherwise.
-pub fn first_wrong_read(alloc: Global) -> Option<usize> {
-    for place in 0..UNMUTES.len() {
-        if !ends_where_reads_fail(alloc, place) {
-            return Some(place);
+impl AtPlace for Reads {
+    /// Whether it does where the reader fails at this place.
+    fn holds(&self, alloc: Global, place: usize) -> bool {
+        let ends = Cuts {
+            piece: 50,
+            given: place,
+            most: 1000,
+            ..WHOLE
+        };
+        match ended_behind(UNMUTES.get(..place).unwrap_or_default()) {
+            Some(wanted) => replays(alloc, ends, wanted),
+            None => false,
         }
     }
-    None
 }
 
-/// Whether the replay ends so where the writer fails at this place.
-fn ends_where_writes_fail(alloc: Global, place: usize) -> bool {
-    let ends = Cuts {
-        piece: 30,
-        most: 7,
-        taken: place,
-        ..WHOLE
-    };
-    let wanted = Ended {
-        end: Err(ReplayFault::Write),
-        text: UNMUTED.get(..place).unwrap_or_default(),
-        state: if place < 58 { 1 } else { 2 },
-    };
-    replays(alloc, ends, &wanted)
-}
+/// The replay ends as it must wherever the writer fails.
+pub struct Writes;
 
-/// The first place at which a writer that fails ends the replay otherwise.
-pub fn first_wrong_write(alloc: Global) -> Option<usize> {
-    for place in 0..UNMUTED.len() {
-        if !ends_where_writes_fail(alloc, place) {
-            return Some(place);
-        }
+impl AtPlace for Writes {
+    /// Whether it does where the writer fails at this place.
+    fn holds(&self, alloc: Global, place: usize) -> bool {
+        let ends = Cuts {
+            piece: 30,
+            most: 7,
+            taken: place,
+            ..WHOLE
+        };
+        let wanted = Ended {
+            end: Err(ReplayFault::Write),
+            text: UNMUTED.get(..place).unwrap_or_default(),
+            state: if place < 58 { 1 } else { 2 },
+        };
+        replays(alloc, ends, wanted)
     }
-    None
 }

@@ -1,10 +1,9 @@
 //! Scripts that one device replays, one after the other.
-use super::bench_device;
+use super::Trial;
 use crate::tests::fakes::{PieceReader, ShortWriter};
 use oca_device::{Device, Outbox};
 use oca_script::Printer;
 use ocadev_replay::replay::replay;
-use std::alloc::Global;
 
 const FOUND_ROOM: &[u8] = b"served 0 0 0\n> 3b00010000000b0400010001\n";
 
@@ -40,28 +39,18 @@ fn does_give(device: &mut Device, outbox: &mut Outbox, script: &Gives) -> bool {
     ended == Ok(()) && to.sink().taken.as_slice() == script.1
 }
 
-/// The first script for which a device with this outbox gives something else.
-fn first_wrong(device: &mut Device, outbox: &mut Outbox, scripts: &[Gives]) -> Option<usize> {
-    for (at, script) in scripts.iter().enumerate() {
-        if !does_give(device, outbox, script) {
-            return Some(at);
+/// All of them.
+#[derive(Drop)]
+pub struct KeepAlives;
+
+impl Trial for KeepAlives {
+    /// The first script for which the device gives something else.
+    fn first_wrong(&mut self, device: &mut Device, outbox: &mut Outbox) -> Option<usize> {
+        for (at, script) in KEEP_ALIVES.iter().enumerate() {
+            if !does_give(device, outbox, script) {
+                return Some(at);
+            }
         }
-    }
-    None
-}
-
-/// The same for a device whose outbox is its own; the last number where there is none.
-fn first_wrong_on(alloc: Global, device: &mut Device) -> Option<usize> {
-    match Outbox::new(alloc) {
-        Ok(mut outbox) => first_wrong(device, &mut outbox, KEEP_ALIVES),
-        Err(_) => Some(usize::MAX),
-    }
-}
-
-/// The first script for which a bench device gives something else; the last number where there is none.
-pub fn first_wrong_script(alloc: Global) -> Option<usize> {
-    match bench_device(alloc) {
-        Some(mut device) => first_wrong_on(alloc, &mut device),
-        None => Some(usize::MAX),
+        None
     }
 }

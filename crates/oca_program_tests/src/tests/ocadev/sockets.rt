@@ -1,5 +1,5 @@
 //! The device at a socket.
-use super::bench_device;
+use super::Trial;
 use crate::tests::Row;
 use crate::tests::fakes::ShortWriter;
 use oca_device::{Device, Outbox, Report, serve};
@@ -97,7 +97,7 @@ fn asks_or_hears<E: End>(asker: &mut E, at: Peer, step: Step) -> bool {
 }
 
 /// The first step between a device's end, which is at this peer, and an asker's that goes otherwise.
-fn first_wrong<E: End, F: End>(
+fn first_other<E: End, F: End>(
     device: &mut Device,
     outbox: &mut Outbox,
     end: &mut E,
@@ -112,54 +112,39 @@ fn first_wrong<E: End, F: End>(
     None
 }
 
-/// The same for a device whose outbox is its own; the last number where there is none.
-fn first_wrong_on<E: End, F: End>(
-    alloc: Global,
-    device: &mut Device,
-    end: &mut E,
-    asker: &mut F,
-    at: Peer,
-) -> Option<usize> {
-    match Outbox::new(alloc) {
-        Ok(mut outbox) => first_wrong(device, &mut outbox, end, asker, at),
-        Err(_) => Some(usize::MAX),
-    }
-}
-
-/// The same for the bench device.
-fn first_wrong_between<E: End, F: End>(
-    alloc: Global,
-    end: &mut E,
-    asker: &mut F,
-    at: Peer,
-) -> Option<usize> {
-    match bench_device(alloc) {
-        Some(mut device) => first_wrong_on(alloc, &mut device, end, asker, at),
-        None => Some(usize::MAX),
-    }
-}
-
 /// The same for an asker at a socket of its own.
-fn first_wrong_at<N: Net + Clock, E: End>(
-    system: &N,
+fn first_other_at<N: Net + Clock, E: End>(
     alloc: Global,
+    system: &N,
+    device: &mut Device,
+    outbox: &mut Outbox,
     end: &mut E,
     at: Peer,
 ) -> Option<usize> {
     match UdpEnd::bind(alloc, system, LOOPBACK, 0) {
-        Ok(mut asker) => first_wrong_between(alloc, end, &mut asker, at),
+        Ok(mut asker) => first_other(device, outbox, end, &mut asker, at),
         Err(_) => Some(usize::MAX),
     }
 }
 
-/// The first step between two sockets that goes otherwise; the last number where there are none.
-pub fn first_wrong_step<N: Net + Clock>(system: &N, alloc: Global) -> Option<usize> {
-    match UdpEnd::bind(alloc, system, LOOPBACK, 0) {
-        Ok(mut end) => {
-            let at = end.local();
-            first_wrong_at(system, alloc, &mut end, at)
+/// A device and an asker, each at a socket.
+#[derive(Drop)]
+pub struct AtSockets<'a, N: Net + Clock> {
+    pub alloc: Global,
+    pub system: &'a N,
+}
+
+impl<N: Net + Clock> Trial for AtSockets<'_, N> {
+    /// The first step between two sockets that goes otherwise; the last number where there are none.
+    fn first_wrong(&mut self, device: &mut Device, outbox: &mut Outbox) -> Option<usize> {
+        let system = self.system;
+        match UdpEnd::bind(self.alloc, system, LOOPBACK, 0) {
+            Ok(mut end) => {
+                let at = end.local();
+                first_other_at(self.alloc, system, device, outbox, &mut end, at)
+            }
+            Err(_) => Some(usize::MAX),
         }
-        Err(_) => Some(usize::MAX),
     }
 }
 

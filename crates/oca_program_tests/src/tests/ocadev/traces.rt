@@ -1,8 +1,11 @@
 //! A device that is served until its end is closed, and what is printed of each datagram.
-use super::bench_device;
+use super::Trial;
+use crate::tests::coming::Coming::{self, Datagram, Failed, Quiet};
+use crate::tests::coming::end;
 use crate::tests::fakes::ShortWriter;
+use crate::tests::wrong_unless;
 use oca_device::{Device, Outbox, Report};
-use oca_net::{MemoryEnd, Scripted};
+use oca_net::MemoryEnd;
 use oca_script::Printer;
 use oca_types::Peer;
 use ocadev_cli::keep::Keeping;
@@ -33,80 +36,43 @@ const TWO_LOCKS: &[u8] =
 const UNLOCK: &[u8] =
     b"\x3b\x00\x01\x00\x00\x00\x1a\x01\x00\x01\x00\x00\x00\x11\x00\x00\x00\x46\x00\x00\x10\x02\x00\x01\x00\x04\x00";
 
-/// What a receive gives.
-#[derive(Clone, Copy)]
-enum Receive {
-    /// A datagram of the peer 10.0.0.1 with this port.
-    From(u16, &'static [u8]),
-    /// More bytes than a datagram has.
-    Oversize,
-    Fails,
-    Silence,
-}
+const FIRST: Peer = Peer {
+    ip: 0x0a00_0001,
+    port: 9001,
+};
 
-use Receive::*;
+const SECOND: Peer = Peer {
+    ip: 0x0a00_0001,
+    port: 9002,
+};
 
-const SCRIPT: &[Receive] = &[
-    From(9001, SET),
-    From(9001, SET),
-    From(9001, GET),
-    From(9001, TWO_SETS),
-    From(9002, b"\x3b\x00"),
-    Oversize,
-    Fails,
-    Silence,
-    From(9001, TWO_LOCKS),
-    From(9001, TWO_LOCKS),
-    From(9003, UNLOCK),
-    From(9001, UNLOCK),
+const THIRD: Peer = Peer {
+    ip: 0x0a00_0001,
+    port: 9003,
+};
+
+/// The peer of a datagram with more bytes than one has.
+const OTHER: Peer = Peer { ip: 1, port: 1 };
+
+const SCRIPT: &[Coming] = &[
+    Datagram(FIRST, SET, 0),
+    Datagram(FIRST, SET, 0),
+    Datagram(FIRST, GET, 0),
+    Datagram(FIRST, TWO_SETS, 0),
+    Datagram(SECOND, b"\x3b\x00", 0),
+    Datagram(OTHER, &[0u8; 1473], 0),
+    Failed,
+    Quiet(1),
+    Datagram(FIRST, TWO_LOCKS, 0),
+    Datagram(FIRST, TWO_LOCKS, 0),
+    Datagram(THIRD, UNLOCK, 0),
+    Datagram(FIRST, UNLOCK, 0),
 ];
-
-/// Adds a datagram of a peer to an end's script.
-fn add_datagram(alloc: Global, script: &mut Vec<Scripted>, from: Peer, bytes: &[u8]) -> bool {
-    match bytes.to_vec(alloc) {
-        Ok(bytes) => script
-            .push(Scripted::Datagram {
-                from,
-                bytes,
-                now: 0,
-            })
-            .is_ok(),
-        Err(_) => false,
-    }
-}
-
-/// Adds what a receive gives.
-fn add(alloc: Global, script: &mut Vec<Scripted>, receive: Receive) -> bool {
-    match receive {
-        From(port, bytes) => {
-            let ip = 0x0a00_0001;
-            add_datagram(alloc, script, Peer { ip, port }, bytes)
-        }
-        Oversize => add_datagram(alloc, script, Peer { ip: 1, port: 1 }, &[0u8; 1473]),
-        Fails => script.push(Scripted::Failed).is_ok(),
-        Silence => script.push(Scripted::Quiet { now: 1 }).is_ok(),
-    }
-}
-
-/// Adds what all receives give.
-fn add_all(alloc: Global, script: &mut Vec<Scripted>) -> bool {
-    for receive in SCRIPT {
-        if !add(alloc, script, *receive) {
-            return false;
-        }
-    }
-    true
-}
 
 /// An end that gives the script. The third send fails, which is that of the fourth datagram, since a reuse is not
 /// answered.
-fn end(alloc: Global) -> Option<MemoryEnd> {
-    let mut script = Vec::new(alloc);
-    if add_all(alloc, &mut script) {
-        MemoryEnd::new(alloc, script, 9, Some(2)).ok()
-    } else {
-        None
-    }
+fn end_of_script(alloc: Global) -> Option<MemoryEnd> {
+    end(alloc, SCRIPT, 9, Some(2))
 }
 
 const REPORT: Report = Report {
@@ -123,27 +89,21 @@ const REPORT: Report = Report {
     failed_sends: 1,
 };
 
-/// Whether a device with this outbox reports the script so, whose end took so many packets.
-fn serves_with(alloc: Global, device: &mut Device, outbox: &mut Outbox) -> bool {
-    match end(alloc) {
-        Some(mut end) => { serve_on(device, &mut end, outbox) == REPORT && end.taken().len() == 6 }
-        None => false,
-    }
+/// A device that is served until the script is at its end.
+#[derive(Drop)]
+pub struct Serving {
+    pub alloc: Global,
 }
 
-/// Whether a device does so.
-fn serves_on(alloc: Global, device: &mut Device) -> bool {
-    match Outbox::new(alloc) {
-        Ok(mut outbox) => serves_with(alloc, device, &mut outbox),
-        Err(_) => false,
-    }
-}
-
-/// Whether a bench device is served until the script is at its end.
-pub fn serves_to_the_close(alloc: Global) -> bool {
-    match bench_device(alloc) {
-        Some(mut device) => serves_on(alloc, &mut device),
-        None => false,
+impl Trial for Serving {
+    /// Whether it reports the script so, and its end took so many packets.
+    fn first_wrong(&mut self, device: &mut Device, outbox: &mut Outbox) -> Option<usize> {
+        match end_of_script(self.alloc) {
+            Some(mut end) => wrong_unless(
+                serve_on(device, &mut end, outbox) == REPORT && end.taken().len() == 6,
+            ),
+            None => Some(usize::MAX),
+        }
     }
 }
 
@@ -187,31 +147,22 @@ fn prints_unkept<L: Files>(
     }
 }
 
-/// The same at an end that gives the script.
-fn prints_script<L: Files>(
-    alloc: Global,
-    files: &L,
-    device: &mut Device,
-    outbox: &mut Outbox,
-) -> bool {
-    match end(alloc) {
-        Some(end) => prints_unkept(alloc, files, device, outbox, &mut Watched::new(end)),
-        None => false,
-    }
+/// A device of which each datagram is traced.
+#[derive(Drop)]
+pub struct Printing<'a, L: Files> {
+    pub alloc: Global,
+    pub files: &'a L,
 }
 
-/// The same with an outbox of its own.
-fn prints_on<L: Files>(alloc: Global, files: &L, device: &mut Device) -> bool {
-    match Outbox::new(alloc) {
-        Ok(mut outbox) => prints_script(alloc, files, device, &mut outbox),
-        Err(_) => false,
-    }
-}
-
-/// Whether a bench device reports the script so, and each datagram is traced so.
-pub fn prints_each_datagram<L: Files>(alloc: Global, files: &L) -> bool {
-    match bench_device(alloc) {
-        Some(mut device) => prints_on(alloc, files, &mut device),
-        None => false,
+impl<L: Files> Trial for Printing<'_, L> {
+    /// Whether it reports the script so, and each datagram is traced so.
+    fn first_wrong(&mut self, device: &mut Device, outbox: &mut Outbox) -> Option<usize> {
+        match end_of_script(self.alloc) {
+            Some(end) => {
+                let end = &mut Watched::new(end);
+                wrong_unless(prints_unkept(self.alloc, self.files, device, outbox, end))
+            }
+            None => Some(usize::MAX),
+        }
     }
 }

@@ -1,8 +1,8 @@
 //! Lines in, lines out: how a script is cut, where its reads and writes fail, and which lines are refused.
 ghost use Rattle.std.specs.Prelude.{Ok};
 
-use crate::tests::Row;
 use crate::tests::fakes::{Discard, PatternReader, PieceReader, ShortWriter};
+use crate::tests::{AtPlace, Row};
 use oca_script::lines::serve_lines;
 use oca_script::{
     FromReader, Language, LineFault, Printer, ReplayFault, Sink, Source, Stop, ToWriter,
@@ -46,9 +46,9 @@ impl Language for Echo {
     }
 }
 
-const SCRIPT: &[u8] = b"one\n# note\n\ntwo three\nfour";
+pub const SCRIPT: &[u8] = b"one\n# note\n\ntwo three\nfour";
 
-const TEXT: &[u8] = b"onetwo threefour";
+pub const TEXT: &[u8] = b"onetwo threefour";
 
 /// How a replay ends.
 type Ended = Result<(), ReplayFault>;
@@ -104,50 +104,27 @@ fn replay(ends: Ends) -> Option<Outcome> {
     })
 }
 
-/// Whether SCRIPT is replayed whole in pieces of this size.
-fn is_whole(piece: usize) -> bool {
-    let ends = Ends {
-        piece,
-        before_fault: usize::MAX,
-        most: piece,
-        room: usize::MAX,
-    };
-    match replay(ends) {
-        Some(outcome) => {
-            outcome.ended == Ok(())
-                && outcome.lines == 3
-                && outcome.taken == TEXT.len()
-                && outcome.unread == 0
-        }
-        None => false,
-    }
-}
+/// SCRIPT is replayed whole in pieces of each size.
+pub struct Pieces;
 
-/// The first size of pieces in which SCRIPT is not replayed whole.
-pub fn first_broken() -> Option<usize> {
-    for piece in 1..30 {
-        if !is_whole(piece) {
-            return Some(piece);
+impl AtPlace for Pieces {
+    /// Whether it is in pieces of this size.
+    fn holds(&self, _alloc: Global, piece: usize) -> bool {
+        let ends = Ends {
+            piece,
+            before_fault: usize::MAX,
+            most: piece,
+            room: usize::MAX,
+        };
+        match replay(ends) {
+            Some(outcome) => {
+                outcome.ended == Ok(())
+                    && outcome.lines == 3
+                    && outcome.taken == TEXT.len()
+                    && outcome.unread == 0
+            }
+            None => false,
         }
-    }
-    None
-}
-
-/// Whether a read that fails behind so many bytes ends the replay, with so many lines served and bytes taken.
-fn fails_to_read(place: usize, lines: u64, taken: usize) -> bool {
-    let ends = Ends {
-        piece: 7,
-        before_fault: place,
-        most: 1000,
-        room: usize::MAX,
-    };
-    match replay(ends) {
-        Some(outcome) => {
-            outcome.ended == Err(ReplayFault::Read)
-                && outcome.lines == lines
-                && outcome.taken == taken
-        }
-        None => false,
     }
 }
 
@@ -162,39 +139,45 @@ fn served_before(place: usize) -> (u64, usize) {
     }
 }
 
-/// The first place of SCRIPT at which a failed read does something else.
-pub fn first_misread() -> Option<usize> {
-    for place in 0..SCRIPT.len() {
-        let (lines, taken) = served_before(place);
-        if !fails_to_read(place, lines, taken) {
-            return Some(place);
-        }
-    }
-    None
-}
+/// At each place of SCRIPT a failed read ends the replay.
+pub struct Reads;
 
-/// Whether a write that fails behind so many bytes ends the replay, with those taken.
-fn fails_to_write(place: usize) -> bool {
-    let ends = Ends {
-        piece: 1000,
-        before_fault: usize::MAX,
-        most: 3,
-        room: place,
-    };
-    match replay(ends) {
-        Some(outcome) => outcome.ended == Err(ReplayFault::Write) && outcome.taken == place,
-        None => false,
+impl AtPlace for Reads {
+    /// Whether it does behind so many bytes, with the lines served and the bytes taken that it must.
+    fn holds(&self, _alloc: Global, place: usize) -> bool {
+        let ends = Ends {
+            piece: 7,
+            before_fault: place,
+            most: 1000,
+            room: usize::MAX,
+        };
+        match replay(ends) {
+            Some(outcome) => {
+                outcome.ended == Err(ReplayFault::Read)
+                    && (outcome.lines, outcome.taken) == served_before(place)
+            }
+            None => false,
+        }
     }
 }
 
-/// The first place of TEXT at which a failed write does something else.
-pub fn first_miswritten() -> Option<usize> {
-    for place in 0..TEXT.len() {
-        if !fails_to_write(place) {
-            return Some(place);
+/// At each place of TEXT a failed write ends the replay.
+pub struct Writes;
+
+impl AtPlace for Writes {
+    /// Whether it does behind so many bytes, with those taken.
+    fn holds(&self, _alloc: Global, place: usize) -> bool {
+        let ends = Ends {
+            piece: 1000,
+            before_fault: usize::MAX,
+            most: 3,
+            room: place,
+        };
+        match replay(ends) {
+            Some(outcome) => outcome.ended == Err(ReplayFault::Write) && outcome.taken == place,
+            None => false,
         }
     }
-    None
 }
 
 /// How a replay of SCRIPT through a reader into this writer ends.
@@ -207,26 +190,32 @@ fn replay_into(short: &mut ShortWriter) -> Ended {
     )
 }
 
-/// Whether a replay through a reader and a writer that has room for so many bytes ends so, and takes as many.
-fn ends_through_writer(place: usize, takes_nothing: bool, ended: Ended) -> bool {
-    let mut short = ShortWriter::new(3, place);
-    short.takes_nothing = takes_nothing;
-    replay_into(&mut short) == ended && front_taken(&short) == Some(place)
+/// A replay through a reader and a writer that takes nothing, or fails, beyond its room: a write that takes nothing is
+/// a failed one.
+pub struct ThroughWriter {
+    takes_nothing: bool,
 }
 
-/// The first room at which a replay through a writer ends otherwise: a write that takes nothing is a failed one.
-pub fn first_mistaken(takes_nothing: bool) -> Option<usize> {
-    for place in 0..TEXT.len() + 1 {
+pub const FAILING: ThroughWriter = ThroughWriter {
+    takes_nothing: false,
+};
+
+pub const FULL: ThroughWriter = ThroughWriter {
+    takes_nothing: true,
+};
+
+impl AtPlace for ThroughWriter {
+    /// Whether it ends as it must where there is room for so many bytes, and takes as many.
+    fn holds(&self, _alloc: Global, place: usize) -> bool {
+        let mut short = ShortWriter::new(3, place);
+        short.takes_nothing = self.takes_nothing;
         let ended = if place == TEXT.len() {
             Ok(())
         } else {
             Err(ReplayFault::Write)
         };
-        if !ends_through_writer(place, takes_nothing, ended) {
-            return Some(place);
-        }
+        replay_into(&mut short) == ended && front_taken(&short) == Some(place)
     }
-    None
 }
 
 /// Whether a replay through a reader that fails behind eight bytes ends with a failed read.
