@@ -986,7 +986,8 @@ def finds_a_mute(device, panel):
     link, ago = values["link"], 1000 * (time.monotonic() - list(device.answered.values())[len(FOUND) - 1]) + 1
     check(list(device.asked.values())[:len(FOUND)] == list(FOUND), f"what is asked of a device with one mute: {device.asked}")
     check((values["epoch"], link["commands"], link["in_flight"]) == (1, len(FOUND), 0), f"what is told of it: {values}")
-    check(link["heard"] is not None and link["heard"] <= ago, f"the device is heard {link['heard']} ms ago, and answered {ago:.0f} ms ago")
+    # what came in the millisecond in which the link was made is not told of
+    check((link["heard"] or 0) <= ago, f"the device is heard {link['heard']} ms ago, and answered {ago:.0f} ms ago")
     check(panel.value(4097) == "muted", f"the mute is shown as {panel.value(4097)}")
     told = {o["ono"]: o["lockable"] for o in panel.get("/tree")["objects"]}
     return check(told == {100: True, 4097: True}, f"what can be locked: {told}")
@@ -1008,7 +1009,8 @@ def a_mute(folder):
             check(is_shown, f"the mute is shown as {panel.shown[4097]}")
             ordered = [asked for asked in device.asked.values() if asked in ORDERED]
             check(ordered == list(ORDERED), f"the orders that came: {ordered}")
-            check(panel.look()["epoch"] == 1, "the device is not walked again")
+            values = panel.look()
+            check((values["epoch"], values["link"]["heard"] is None) == (1, False), f"the device is heard, and not walked again: {values}")
             status, headers, body = panel.ask("GET", "/")
             policy = headers["content-security-policy"]
             check(body.startswith(b"<!doctype html>") and policy.startswith("default-src 'none'"), f"the page: {status}, {policy}, {body[:60]}")

@@ -58,9 +58,10 @@ fn set_channel<R: Runtime, E: End>(rt: &R, panel: &mut Panel<E>) -> Result<(), E
     let lower = panel.set(gain, Value::Int16(-60));
     print_status(rt, "gain to -6 dB", lower)?;
     match panel.get(gain) {
-        Ok(value) => Ok(println!(rt; "gain: {} dB/10", word_of(value).as_str())?),
-        Err(trouble) => print_status(rt, "gain", Err(trouble)),
+        Ok(value) => println!(rt; "gain: {} dB/10", word_of(value).as_str())?,
+        Err(trouble) => print_status(rt, "gain", Err(trouble))?,
     }
+    Ok(())
 }
 
 /// Prints the number of the device's status behind what was done.

@@ -1,5 +1,6 @@
 //! Several commands in flight, and how they come out in the order in which they were begun.
-use super::{Answer, Asked, Over};
+use super::{Answer, Asked, Over, panel};
+use crate::tests::Row;
 use oca_control::{ControlFault, Outcome};
 use oca_model::{MuteState, Value, set_request};
 use oca_net::MemoryEnd;
@@ -87,14 +88,14 @@ pub const ROWS: &[Over<Statuses>] = &[
 ];
 
 /// The example of the queue's doc comment: which of two mutes was refused last.
-fn mutes(panel: &mut Panel<MemoryEnd>) -> Result<Option<u32>, ControlFault> {
+fn mutes(mut panel: Panel<MemoryEnd>) -> Result<Option<u32>, ControlFault> {
     let mut in_flight = InFlight::new();
     let mute = set_request(Value::Mute(MuteState::Muted));
     for channel in [4097, 4098] {
-        in_flight.begin_behind(panel, mute.of(Ono(channel)), channel)?;
+        in_flight.begin_behind(&mut panel, mute.of(Ono(channel)), channel)?;
     }
     let mut refused = None;
-    while let Some((channel, outcome)) = in_flight.finish_first(panel) {
+    while let Some((channel, outcome)) = in_flight.finish_first(&mut panel) {
         if done_in(&outcome).is_err() {
             refused = Some(channel);
         }
@@ -105,20 +106,18 @@ fn mutes(panel: &mut Panel<MemoryEnd>) -> Result<Option<u32>, ControlFault> {
 /// The answers to two commands, of which the second is refused.
 const SECOND_REFUSED: &[Answer] = &[(0, 0, &[]), (5, 0, &[])];
 
-/// Which of the mutes is refused last.
-pub struct LastRefused(Option<u32>);
+/// Which of the mutes is refused last over a panel that gets these answers.
+pub struct LastRefused(&'static [Answer], Option<u32>);
 
-impl Asked for LastRefused {
+impl Row for LastRefused {
     /// Whether it is the one that its answer refuses.
-    fn comes_out(&self, _alloc: Global, panel: &mut Panel<MemoryEnd>) -> bool {
-        mutes(panel) == Ok(self.0)
+    fn agrees(&self, alloc: Global) -> bool {
+        match panel(alloc, self.0, 10, None) {
+            Some(panel) => mutes(panel) == Ok(self.1),
+            None => false,
+        }
     }
 }
 
 /// The second mute is refused where its answer says so.
-pub const DOCUMENTED: &[Over<LastRefused>] = &[Over {
-    answers: SECOND_REFUSED,
-    turns: 10,
-    span: None,
-    asked: LastRefused(Some(4098)),
-}];
+pub const DOCUMENTED: &[LastRefused] = &[LastRefused(SECOND_REFUSED, Some(4098))];
