@@ -229,7 +229,7 @@ class Early:
 
 def of_ci(steps, others, room):
     """Runs `rt ci`, and beside it, in this pool, the steps that begin early. Answers its counts, and the steps that have begun.
-    The crate that all wait for is proved before, by all processors; `rt ci` takes it as it is kept then, or says itself what
+    The crate that most wait for is proved before, by all processors; `rt ci` takes it as it is kept then, or says itself what
     is wrong with it. Where RT_JOBS says how many checks run at once, it is not."""
     early, first = Early(steps, others, room), waited_for()
     if first and lanes() > 1 and not os.environ.get("RT_JOBS"):
