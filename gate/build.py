@@ -3,9 +3,9 @@
 
 Usage: build.py FOLDER PROGRAM..     each program is copied into FOLDER
 
-A library is built as `rt lib` builds it, over what earlier checks kept in out/, here or in other copies of the
-repository on this machine; `rt lib` itself lets no two crates be built at once that share one below them. A line is
-printed for each crate as it ends."""
+A library is built as `rt lib` builds it, and a program as `rt run` does, over what earlier checks kept in out/, here or
+in other copies of the repository on this machine; these commands themselves let no two crates be built at once that
+share one below them. A line is printed for each crate as it ends."""
 import importlib.machinery
 import importlib.util
 import os
@@ -45,42 +45,56 @@ def build_library(crate, jobs):
     return status == 0, time.monotonic() - begun
 
 
-def build_libraries(rt, crates):
-    """Builds libraries, each after those below it, and answers whether all are built. The toolchain's own lanes say which are built side
-    by side, by how many processors and by memory: those with the longest chain of others above them first."""
-    ended = []
+def build_all(rt, libraries, programs=(), folder=None):
+    """Builds libraries and programs, each after the libraries below it, copies the programs into a folder, and answers whether all are
+    built. The toolchain's own lanes say which are built side by side, by how many processors and by memory: those with the longest
+    chain of others above them first."""
+    ended, crates = [], sorted([*libraries, *programs], key=lambda it: len(it.below()))
 
     def build(crate, given, jobs):
         if not all(given[it.name, "proof"] for it in crate.below()):
             return False
-        is_built, seconds = build_library(crate, jobs)
+        is_built, seconds = build_program(crate.name, folder, jobs) if crate in programs else build_library(crate, jobs)
         ended.append(crate)
-        print(f"build: {len(ended)} of {len(crates)} libraries: {crate.name} {'proved' if is_built else 'NOT PROVED'}, {seconds:.0f} s", flush=True)
+        print(f"build: {len(ended)} of {len(crates)}: {crate.name} {'proved' if is_built else 'NOT PROVED'}, {seconds:.0f} s", flush=True)
         return is_built
 
     tasks = {}
-    for crate in sorted(crates, key=lambda it: len(it.below())):
+    for crate in crates:
         waits = [(it.name, "proof") for it in crate.below()]
         tasks[crate.name, "proof"] = (waits, crate.count(rb"\n"), rt.need(crate), lambda given, jobs, it=crate: build(it, given, jobs))
     return all(rt.in_lanes(tasks).values())
 
 
-def build_program(name, folder):
+def build_program(name, folder, jobs):
+    """Proves, builds and runs a program in a process of its own, and copies it; what is said where that fails is shown. Answers
+    whether it is built, and its seconds."""
     begun = time.monotonic()
-    ran = subprocess.run(["rt", "run", "--", *WORDS.get(name, ["--help"])], cwd=TOP / "crates" / name, stdin=subprocess.DEVNULL,
+    ran = subprocess.run([sys.executable, TOP / "gate/build.py", "--one", name, str(jobs)], cwd=TOP, stdin=subprocess.DEVNULL,
                          stdout=subprocess.DEVNULL, stderr=subprocess.PIPE, text=True)
     if ran.returncode:
-        print(f"{ran.stderr}build: {name} NOT BUILT")
-        return False
-    shutil.copy(TOP / "crates" / name / "out" / name, folder)  # now: newer than its sources
-    print(f"build: {name} proved and built, {time.monotonic() - begun:.0f} s", flush=True)
-    return True
+        print(ran.stderr, end="")
+    else:
+        shutil.copy(TOP / "crates" / name / "out" / name, folder)  # now: newer than its sources
+    return ran.returncode == 0, time.monotonic() - begun
+
+
+def run_program(name, jobs):
+    """Proves, builds and runs a program as `rt run` does, but for the locks of the crates' folders, which the caller has."""
+    rt = toolchain()
+    crate = next(it for it in rt.rtlib.crates_below(str(TOP)) if it.name == name)
+    os.chdir(crate.folder)
+    os.makedirs("out", exist_ok=True)
+    crate.out, crate.held = sys.stderr, []
+    return crate.run(["--jobs", jobs], WORDS.get(name, ["--help"]))
 
 
 def main():
+    if sys.argv[1:2] == ["--one"]:
+        return run_program(*sys.argv[2:])
     if len(sys.argv) < 3:
         sys.exit(__doc__)
-    folder, names = Path(sys.argv[1]), sys.argv[2:]
+    folder, names = TOP / sys.argv[1], sys.argv[2:]
     begun, rt = time.monotonic(), toolchain()
     os.chdir(TOP)
     crates = {it.name: it for it in rt.rtlib.crates_below(str(TOP))}
@@ -88,15 +102,15 @@ def main():
     if unknown:
         print(f"build: crates.txt has no {', '.join(unknown)}: NOTHING IS BUILT")
         return 1
-    libraries = {below for name in names for below in crates[name].below()}
+    programs = [crates[name] for name in names]
+    libraries = {below for program in programs for below in program.below()}
     folder.mkdir(exist_ok=True)
-    held = rt.rtlib.lock(list(libraries))
-    built = build_libraries(rt, libraries)
+    held = rt.rtlib.lock([*libraries, *programs])
+    is_built = build_all(rt, libraries, programs, folder)
     for it in held:
         os.close(it)
-    good = built and all([build_program(name, folder) for name in names])
     print(f"build: {(time.monotonic() - begun) / 60:.1f} minutes")
-    return 0 if good else 1
+    return 0 if is_built else 1
 
 
 if __name__ == "__main__":

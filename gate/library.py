@@ -47,7 +47,7 @@ def main():
     crate = {it.name: it for it in rt.rtlib.crates_below(str(build.TOP))}["oca_c"]
     held = rt.rtlib.lock([*crate.below(), crate])
     is_left = all(is_left_by_the_gate(it, rt.rtlib.files_of) for it in crate.below())
-    if not is_left and not build.build_libraries(rt, set(crate.below())):
+    if not is_left and not build.build_all(rt, set(crate.below())):
         return 1
     os.makedirs(f"{crate.folder}/out/{target}", exist_ok=True)
     words = ["--jobs", os.environ.get("LIBRARY_JOBS") or str(rt.processors()), "--target", target, "--cpu", cpu]

@@ -300,26 +300,6 @@ def ends_when_told(folder, number):
     return begun.exists() and not late.exists() and status == 128 + number
 
 
-def sees_what_is_not_built(folder):
-    """`build.py` ends well only where the libraries and each program are built."""
-    build = importlib.import_module("build")
-    crates = [SimpleNamespace(name=name, below=lambda: []) for name in ("a", "b")]
-    tools = SimpleNamespace(crates_below=lambda _: crates, lock=lambda _: [])
-    real = build.toolchain, build.build_libraries, build.build_program, sys.argv, Path.cwd()
-    found = []
-    try:
-        build.toolchain, sys.argv = lambda: SimpleNamespace(rtlib=tools), ["build.py", str(folder / "built"), "a", "b"]
-        for libraries, programs in ((True, "ab"), (False, "ab"), (True, "a"), (True, "b"), (True, ""), (False, "")):
-            build.build_libraries = lambda *_, good=libraries: good
-            build.build_program = lambda name, _, built=programs: name in built
-            with contextlib.redirect_stdout(io.StringIO()):
-                found.append(build.main())
-    finally:
-        build.toolchain, build.build_libraries, build.build_program, sys.argv = real[:4]
-        os.chdir(real[4])
-    return found == [0, 1, 1, 1, 1, 1]
-
-
 def builds_as_asked():
     """`library.py` compiles the library for the kind and the processor that are asked for, else for every one of that
     kind, where the crates below are built; and it tells how that ended."""
@@ -336,16 +316,16 @@ def builds_as_asked():
         lower = FakeCrate(name="lower", rlib=f"{folder}/none", below=list)
         crate = FakeCrate(name="oca_c", folder=folder, below=lambda: [lower], compile=compiled)
         tools = SimpleNamespace(crates_below=lambda _: [crate, lower], lock=lambda _: [], files_of=lambda _: [])
-        real = library.build.toolchain, library.build.build_libraries, sys.argv
+        real = library.build.toolchain, library.build.build_all, sys.argv
         try:
             library.build.toolchain = lambda: SimpleNamespace(rtlib=tools, processors=lambda: 1)
             for status, is_built, words in ((0, True, []), (0, True, ["aarch64-unknown-linux-gnu"]), (7, True, []),
                                             (0, True, ["x86_64-unknown-linux-gnu", "x86-64-v3"]), (0, False, [])):
-                library.build.build_libraries = lambda *_, good=is_built: good
+                library.build.build_all = lambda *_, good=is_built: good
                 sys.argv = ["library.py", *words]
                 found.append(library.main())
         finally:
-            library.build.toolchain, library.build.build_libraries, sys.argv = real
+            library.build.toolchain, library.build.build_all, sys.argv = real
             os.chdir(place)
     kinds = "x86_64-unknown-linux-gnu", "aarch64-unknown-linux-gnu"
     first, arm, later = (kinds[0], "x86-64"), (kinds[1], "generic"), (kinds[0], "x86-64-v3")
@@ -836,7 +816,6 @@ def main():
                   ("what failed is told", tells_what_failed(Path(room))),
                   ("a step goes on beside others", goes_on_beside(Path(room))),
                   ("steps begin beside rt ci", begins_early(Path(room))),
-                  ("what is not built is seen", sees_what_is_not_built(Path(room))),
                   ("examples/run.py compares", compares_examples(Path(room)))]
         tried += [(f"a gate that signal {number} ends", ends_when_told(Path(room), number))
                   for number in (signal.SIGTERM, signal.SIGINT)]

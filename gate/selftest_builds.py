@@ -45,7 +45,7 @@ def proves_each_library(_):
         a, d = made("a"), made("d")
         b = made("b", a)
         with contextlib.redirect_stdout(io.StringIO()):
-            is_built = build.build_libraries(rt, {made("c", a, b), b, a, d})
+            is_built = build.build_all(rt, {made("c", a, b), b, a, d})
         names = "".join(name for name, *_ in asked)
         in_order = all(names.index(low) < names.index(high) for low, high in ("ab", "bc") if high in names)
         found.append((is_built, "".join(sorted(names)), in_order))
@@ -55,49 +55,71 @@ def proves_each_library(_):
 
 
 def builds_each_program(folder):
-    """`build.py` builds a program by `rt run`, which proves it, in the program's own folder, with words that only
-    print; and takes what that has made, where it ended well."""
-    build, path = importlib.import_module("build"), os.environ["PATH"]
-    top, log = folder / "programs", folder / "log-of-rt"
-    with_words = {"ocadev": "--help", "trials": "calls", "amplifier": "", "panel": ""}
-    found, real = [], build.TOP
-    (folder / "path-of-rt").mkdir()
-    rt = folder / "path-of-rt/rt"
+    """`build.py` has each program built by a process of its own, once the libraries below it are, with the processes that
+    it may use, and not where one of those is not proved; it takes what that process has made, where it ended well."""
+    build, real = importlib.import_module("build"), importlib.import_module("build").TOP
+    top, log, found = folder / "programs", folder / "log-of-programs", []
+    (top / "gate").mkdir(parents=True)
+    rt = SimpleNamespace(in_lanes=in_turn, need=lambda _: 1)
     try:
-        build.TOP, os.environ["PATH"] = top, f"{rt.parent}:{path}"
-        for status in (0, 3):
-            rt.write_text(f'#!/bin/sh\necho "$PWD: $*" >> {log}\necho new > out/"${{PWD##*/}}"\nexit {status}\n')
-            rt.chmod(0o755)
-            for name in with_words:
-                made, bin_of = top / f"crates/{name}/out/{name}", folder / f"bin-{name}-{status}"
-                for place in (made.parent, bin_of):
-                    place.mkdir(parents=True, exist_ok=True)
-                made.write_text("old\n")
-                with contextlib.redirect_stdout(io.StringIO()):
-                    found.append((build.build_program(name, bin_of), [it.read_text() for it in bin_of.iterdir()]))
+        build.TOP = top
+        for status, is_proved in ((0, True), (3, True), (0, False)):
+            (top / "gate/build.py").write_text(
+                f"import os, sys\nprint(os.getcwd(), *sys.argv[1:], file=open({str(log)!r}, 'a'))\n"
+                f"open('crates/' + sys.argv[2] + '/out/' + sys.argv[2], 'w').write('new')\nsys.exit({status})\n")
+            low = FakeCrate(name="low", below=list, count=lambda _: 1, build_rlib=lambda *_, anew, good=is_proved: not good)
+            programs = [FakeCrate(name=name, below=lambda it=low: [it], count=lambda _: 1) for name in ("a", "b")]
+            bin_of = folder / f"bin-{status}-{is_proved}"
+            for place in (top / "crates/a/out", top / "crates/b/out", bin_of):
+                place.mkdir(parents=True, exist_ok=True)
+            for name in ("a", "b"):
+                (top / f"crates/{name}/out/{name}").write_text("old")
+            with contextlib.redirect_stdout(io.StringIO()):
+                is_built = build.build_all(rt, {low}, programs, bin_of)
+            found.append((is_built, sorted(f"{it.name} {it.read_text()}" for it in bin_of.iterdir())))
     finally:
-        build.TOP, os.environ["PATH"] = real, path
-    called = [f"{top}/crates/{name}: run -- {words}".rstrip() for name, words in with_words.items()]
-    is_asked = [line.rstrip() for line in log.read_text().splitlines()] == called * 2
-    return is_asked and found == [(True, ["new\n"])] * 4 + [(False, [])] * 4
+        build.TOP = real
+    called = sorted(f"{top} --one {name} 2" for name in ("a", "b") for _ in range(2))
+    return sorted(log.read_text().splitlines()) == called and found == [(True, ["a new", "b new"]), (False, []), (False, [])]
+
+
+def proves_a_program(folder):
+    """What `build.py` runs for a program proves, builds and runs it as `rt run` does, in the program's own folder, with words
+    that only print, and ends as that does."""
+    build, place, argv = importlib.import_module("build"), Path.cwd(), sys.argv
+    with_words = {"ocadev": ["--help"], "trials": ["calls"], "amplifier": [], "panel": []}
+    asked, found, real, crates = [], [], build.toolchain, []
+    for name in with_words:
+        here = folder / "alone" / name
+        here.mkdir(parents=True)
+        crates.append(FakeCrate(name=name, folder=str(here), run=lambda *words, it=name: asked.append((Path.cwd().name, *words)) or len(it)))
+    try:
+        build.toolchain = lambda: SimpleNamespace(rtlib=SimpleNamespace(crates_below=lambda _: crates))
+        for name in with_words:
+            sys.argv = ["build.py", "--one", name, "3"]
+            found.append(build.main())
+    finally:
+        build.toolchain, sys.argv = real, argv
+        os.chdir(place)
+    return found == [*map(len, with_words)] and asked == [(name, ["--jobs", "3"], words) for name, words in with_words.items()]
 
 
 def builds_what_is_named(folder):
-    """`build.py` builds all libraries below the programs that are named, then each of these, and none where a library
-    is not proved; no name, or one that crates.txt has not, is a fault."""
+    """`build.py` builds all libraries below the programs that are named, and these, with the folders of all of them locked;
+    no name, or one that crates.txt has not, is a fault."""
     build, place, argv = importlib.import_module("build"), Path.cwd(), sys.argv
     x, y, z, other = (FakeCrate(name=name, below=list) for name in ("x", "y", "z", "other"))
     crates = [x, y, z, other, FakeCrate(name="a", below=lambda: [x, y]), FakeCrate(name="b", below=lambda: [y, z])]
-    real = build.toolchain, build.build_libraries, build.build_program
+    real = build.toolchain, build.build_all
     found, asked = [], []
     named = lambda its: "".join(sorted(it.name for it in its))
     lock = lambda its: asked.append("locks " + named(its)) or []
     tools = SimpleNamespace(crates_below=lambda _: crates, lock=lock)
     try:
         build.toolchain = lambda: SimpleNamespace(rtlib=tools)
-        build.build_program = lambda name, folder: asked.append(f"{name} to {folder.name}") or True
         for is_proved, names in ((True, "ab"), (True, "b"), (False, "ab"), (True, "ac"), (True, "")):
-            build.build_libraries = lambda _, its, good=is_proved: asked.append(named(its)) or good
+            said = lambda low, programs, to: asked.append(f"{named(low)} {named(programs)} to {to.name}")
+            build.build_all = lambda _, *those, good=is_proved: said(*those) or good
             sys.argv = ["build.py", str(folder / "named"), *names]
             try:
                 with contextlib.redirect_stdout(io.StringIO()):
@@ -107,11 +129,11 @@ def builds_what_is_named(folder):
             found.append((status, asked[:]))
             asked.clear()
     finally:
-        build.toolchain, build.build_libraries, build.build_program = real
+        build.toolchain, build.build_all = real
         sys.argv = argv
         os.chdir(place)
-    return found == [(0, ["locks xyz", "xyz", "a to named", "b to named"]), (0, ["locks yz", "yz", "b to named"]),
-                     (1, ["locks xyz", "xyz"]), (1, []), (1, [])]
+    return found == [(0, ["locks abxyz", "xyz ab to named"]), (0, ["locks byz", "yz b to named"]),
+                     (1, ["locks abxyz", "xyz ab to named"]), (1, []), (1, [])]
 
 
 # What `make` runs by Python or `sh` for each goal, as it is and with settings, in a folder without programs.
@@ -252,7 +274,7 @@ def takes_what_the_gate_left(folder):
     too."""
     library, edits = (importlib.import_module(name) for name in ("library", "edits"))
     place, argv = Path.cwd(), sys.argv
-    real, found = (library.build.toolchain, library.build.build_libraries, edits.rtlib), []
+    real, found = (library.build.toolchain, library.build.build_all, edits.rtlib), []
     try:
         for at, (change, _) in enumerate(LEFT):
             low, high = left_crates(folder / f"left-{at}", change)
@@ -261,10 +283,10 @@ def takes_what_the_gate_left(folder):
             tools = SimpleNamespace(crates_below=lambda _: [crate], lock=lambda _: [], files_of=files_of)
             library.build.toolchain = lambda: SimpleNamespace(rtlib=tools, processors=lambda: 1)
             built, sys.argv, edits.rtlib = [], ["library.py"], tools
-            library.build.build_libraries = lambda _, crates: built.append({*crates} == {low, high}) or True
+            library.build.build_all = lambda _, crates: built.append({*crates} == {low, high}) or True
             found.append((library.main(), built, all(map(edits.stands, (low, high)))))
     finally:
-        library.build.toolchain, library.build.build_libraries, edits.rtlib = real
+        library.build.toolchain, library.build.build_all, edits.rtlib = real
         sys.argv = argv
         os.chdir(place)
     wanted = [(0, [] if is_taken else [True], is_taken) for _, is_taken in LEFT]
@@ -327,6 +349,7 @@ def installs_whole(folder):
 ROWS = [(f"make {goal} fails with what it runs", functools.partial(make_fails_with, goal)) for goal in GOALS] + [
     (".ci/run runs the gate", ci_runs_the_gate), ("build.py proves each library", proves_each_library),
     ("build.py builds each program", builds_each_program), ("build.py builds what is named", builds_what_is_named),
+    ("build.py proves a program", proves_a_program),
     ("library.py takes what the gate left", takes_what_the_gate_left),
     ("library.py leaves no old library", leaves_no_old_library), ("install.sh installs all", installs_whole),
     ("make install builds programs anew", builds_programs_anew)]

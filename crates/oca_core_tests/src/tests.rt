@@ -1,13 +1,18 @@
 //! A module for each crate, and what they share.
 mod answers;
+mod control;
 mod device;
+mod ending;
 mod model;
+mod net;
+mod pair;
+mod panel;
 mod pdu;
 mod session;
 mod tree;
 mod types;
 
-use oca_types::{Peer, Peers, Sizes, Window};
+use oca_types::{Packet, Peer, Peers, Sizes, Window};
 use std::alloc::Global;
 use std::fmt::Display;
 use std::process::Abort;
@@ -62,6 +67,46 @@ impl<T: Display> Row for Words<T> {
     /// Whether it prints them.
     fn agrees(&self, alloc: Global) -> bool {
         prints(alloc, &self.0, self.1)
+    }
+}
+
+/// A script by its name: calls, one after another, and what each must answer.
+trait Script {
+    /// The name.
+    fn name(&self) -> &'static str;
+
+    /// The first call that is answered otherwise; the last number where there is nothing to call. The packet is empty
+    /// before the first.
+    fn wrong_step(&self, rt: &HostRuntime, packet: &mut Packet) -> Option<usize>;
+}
+
+/// Plays scripts: each call is answered as they say.
+fn play<S: Script>(abort: &impl Abort, rt: &HostRuntime, scripts: &[S]) {
+    let mut packet = Packet::new();
+    for script in scripts {
+        packet.clear();
+        none_wrong(abort, script.name(), &[script.wrong_step(rt, &mut packet)]);
+    }
+}
+
+/// What must be found at a place of a list.
+trait Wanted<T> {
+    /// Whether it is this.
+    fn is(&self, found: &T) -> bool;
+}
+
+/// The first place of a list at which something else is found than is wanted, or nothing, or too much.
+fn first_other<T, W: Wanted<T>>(found: &[T], wanted: &[W]) -> Option<usize> {
+    for (at, want) in wanted.iter().enumerate() {
+        match found.get(at) {
+            Some(one) if want.is(one) => {}
+            _ => return Some(at),
+        }
+    }
+    if found.len() == wanted.len() {
+        None
+    } else {
+        Some(wanted.len())
     }
 }
 

@@ -12,9 +12,7 @@ use Rattle.oca_script.specs.declared.fault.WriteFailed.{WriteFailed}
 use Rattle.oca_script.specs.Ends.{Output}
 use Rattle.oca_script.specs.Printing.{WritesOut}
 use Rattle.oca_script.specs.Faults.{fault_word}
-use Rattle.oca_textree.specs.declared.fault.TreeFault.{TreeFault}
-use Rattle.oca_textree.specs.declared.fault.TreeFault.TheVariants as trees
-use Rattle.oca_textree.specs.Faults.{object_fault_word as object_word}
+use Rattle.oca_script.specs.ObjectFaults.{object_fault_word as object_word}
 use Rattle.oca_script.specs.Fields.{split_at}
 use Rattle.oca_program.specs.declared.fault.RunFault.{RunFault}
 use Rattle.oca_program.specs.declared.fault.RunFault.TheVariants.{BadWords, Line, Object, NoMemory, Read, Write}
@@ -56,11 +54,6 @@ words_fault kinds.DisplayHelp = NoMemory
 words_fault kinds.DisplayVersion = NoMemory
 words_fault kinds.OutOfMemory = NoMemory
 words_fault other = BadWords
-
--- the fault of the run, where the objects were not listed
-abbrev pub tree_fault : TreeFault → RunFault
-tree_fault (trees.Line number fault) = Object number fault
-tree_fault trees.NoMemory = NoMemory
 
 -- what a function gave, or the fault of its failure
 abbrev pub fault_in : {A : Type 0} → Result A Failure → Result A RunFault

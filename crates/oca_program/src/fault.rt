@@ -8,8 +8,7 @@ ghost use Rattle.oca_program.specs.Faults.{first_line as first_line_of, note_tex
 
 use oca_net::BindFault;
 use oca_script::field::split_at_byte;
-use oca_script::{LineFault, Printer, ReplayFault, Sink, WriteFailed};
-use oca_textree::{ObjectFault, TreeFault};
+use oca_script::{LineFault, ObjectFault, Printer, ReplayFault, Sink, WriteFailed};
 use std::alloc::Global;
 use thiserror::Error;
 
@@ -222,21 +221,6 @@ impl From<BindFault> for RunFault {
         match fault {
             BindFault::Io => RunFault::Socket,
             BindFault::NoMemory => RunFault::NoMemory,
-        }
-    }
-}
-
-impl From<TreeFault> for RunFault {
-    ghost use Rattle.std.specs.Prelude.{◌≡◌};
-    ghost use Rattle.oca_program.specs.Faults.{tree_fault};
-
-    ghost from_gives = { λ fault r. r ≡ tree_fault fault };
-
-    /// Why a run fails whose objects were not listed.
-    fn from(fault: TreeFault) -> RunFault {
-        match fault {
-            TreeFault::Line(number, fault) => RunFault::Object(number, fault),
-            TreeFault::NoMemory => RunFault::NoMemory,
         }
     }
 }

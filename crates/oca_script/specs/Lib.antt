@@ -1,4 +1,5 @@
 pub mod Faults
+pub mod ObjectFaults
 pub mod Fields
 pub mod Escapes
 pub mod FieldAnswers

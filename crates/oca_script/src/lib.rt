@@ -13,6 +13,7 @@ pub mod fault;
 pub mod field;
 pub mod language;
 pub mod lines;
+mod object_fault;
 pub mod printer;
 mod progress;
 
@@ -20,4 +21,5 @@ pub use ends::{FromReader, Sink, Source, ToWriter};
 pub use escape::Escaped;
 pub use fault::{LineFault, ReadFailed, ReplayFault, Stop, WriteFailed};
 pub use language::Language;
+pub use object_fault::ObjectFault;
 pub use printer::Printer;

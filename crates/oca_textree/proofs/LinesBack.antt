@@ -19,8 +19,8 @@ use Rattle.oca_tree.specs.Building.{root, is_long, is_bad_value}
 use Rattle.oca_tree.specs.Starts.{has_other_flags}
 use Rattle.oca_script.specs.Fields.{split_at, split_on}
 use Rattle.oca_script.proofs.PartLemmas.{Free, free-after}
-use Rattle.oca_textree.specs.declared.fault.ObjectFault.{ObjectFault}
-use Rattle.oca_textree.specs.declared.fault.ObjectFault.TheVariants as fault
+use Rattle.oca_script.specs.declared.object_fault.ObjectFault.{ObjectFault}
+use Rattle.oca_script.specs.declared.object_fault.ObjectFault.TheVariants as fault
 use Rattle.oca_textree.specs.Lines.{Taken, field_at, then_by, some_or_fault, class_of_word, one_of, refusal, has_control}
 use Rattle.oca_textree.specs.Stored.{Flagged, flagged_at, start_at, Ending, ending_at, start_refusal, stored_with, stored_by, after_line, after_word, rooted}
 use Rattle.oca_textree.specs.Texts.{after_lines, go_on, line_before, lines_behind, rooted_by, from_root, objects_of_text}

@@ -3,8 +3,8 @@ use Rattle.std.proofs.Common.{◌≡◌, ℕ, List, Option, Some, None, Ok, Err,
 use Rattle.std.specs.Prelude.{Result}
 use Rattle.oca_types.specs.declared.class.Class.{Class}
 use Rattle.oca_tree.specs.declared.object.Object.{Object}
-use Rattle.oca_textree.specs.declared.fault.ObjectFault.{ObjectFault}
-use Rattle.oca_textree.specs.declared.fault.ObjectFault.TheVariants as fault
+use Rattle.oca_script.specs.declared.object_fault.ObjectFault.{ObjectFault}
+use Rattle.oca_script.specs.declared.object_fault.ObjectFault.TheVariants as fault
 use Rattle.oca_textree.specs.Lines.{then_by, some_or_fault, field_at, ono_of, class_of_word, added_as, added_by}
 use Rattle.oca_textree.specs.Stored.{stored_as, stored_by}
 use Rattle.oca_textree.specs.PrivateLines.{ono_at, Placed, placed_at}

@@ -16,8 +16,8 @@ use Rattle.oca_tree.specs.declared.builder.Spec.{Spec}
 use Rattle.oca_tree.specs.declared.builder.Kind.TheVariants as given
 use Rattle.oca_tree.specs.Building.{is_long, add_fault, value_of, has_bad_name, switch}
 use Rattle.oca_tree.specs.Starts.{flags_of, has_other_flags, start_fault, add_with_fault}
-use Rattle.oca_textree.specs.declared.fault.ObjectFault.{ObjectFault}
-use Rattle.oca_textree.specs.declared.fault.ObjectFault.TheVariants as fault
+use Rattle.oca_script.specs.declared.object_fault.ObjectFault.{ObjectFault}
+use Rattle.oca_script.specs.declared.object_fault.ObjectFault.TheVariants as fault
 use Rattle.oca_textree.specs.Faults.{object_fault_of, stored_fault_of}
 use Rattle.oca_textree.specs.Lines.{then_by, some_or_fault, Valued, refusal}
 use Rattle.oca_textree.specs.Stored.{flags_after, named_after, field_text, start_refusal, Ending, Flagged, stored_refusal, stored_object, kept_unless, kept_by, switch_flagged}

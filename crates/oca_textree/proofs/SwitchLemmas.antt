@@ -7,7 +7,7 @@ use Rattle.oca_types.specs.declared.class.Class.TheVariants as class
 use Rattle.oca_tree.specs.declared.builder.Kind.TheVariants as given
 use Rattle.oca_tree.specs.Objects.{Store}
 use Rattle.oca_tree.specs.Building.{is_long, switch, value_of}
-use Rattle.oca_textree.specs.declared.fault.ObjectFault.{ObjectFault}
+use Rattle.oca_script.specs.declared.object_fault.ObjectFault.{ObjectFault}
 use Rattle.oca_textree.specs.Lines.{then_by, Valued, positions_of, value_at, added_with, added_as}
 use Rattle.oca_textree.specs.PrivateLines.{kind_valued, Became}
 use Rattle.oca_textree.proofs.SplitLemmas.{any-map}

@@ -11,8 +11,8 @@ use Rattle.hex.specs.Hex.{IsBytes}
 use Rattle.oca_script.specs.Escapes.{has_hidden}
 use Rattle.oca_script.specs.Fields.{split_on, hex_text}
 use Rattle.oca_script.proofs.PartLemmas.{Free, free-append, free-after, free-nowhere}
-use Rattle.oca_textree.specs.declared.fault.ObjectFault.{ObjectFault}
-use Rattle.oca_textree.specs.declared.fault.ObjectFault.TheVariants as fault
+use Rattle.oca_script.specs.declared.object_fault.ObjectFault.{ObjectFault}
+use Rattle.oca_script.specs.declared.object_fault.ObjectFault.TheVariants as fault
 use Rattle.oca_textree.specs.Lines.{field_at, then_by, some_or_fault, has_control}
 use Rattle.oca_textree.specs.Stored.{short, field_text, is_quoted, text_in_field, flags_after, named_after, names_in_field}
 use Rattle.oca_textree.specs.Written.{holds_mark, holds_comma, is_plain, is_plain_name, in_quotes, text_field, joined_names, name_part, names_field, flag_digit, IsShortText}

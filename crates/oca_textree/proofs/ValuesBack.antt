@@ -22,8 +22,8 @@ use Rattle.oca_tree.specs.Copies.{names_in, flags_in}
 use Rattle.oca_tree.specs.Trees.{IsSoundValue, IsSoundSwitch}
 use Rattle.oca_tree.specs.Building.{number, switch, is_long}
 use Rattle.oca_tree.specs.Starts.{with_flags}
-use Rattle.oca_textree.specs.declared.fault.ObjectFault.{ObjectFault}
-use Rattle.oca_textree.specs.declared.fault.ObjectFault.TheVariants as fault
+use Rattle.oca_script.specs.declared.object_fault.ObjectFault.{ObjectFault}
+use Rattle.oca_script.specs.declared.object_fault.ObjectFault.TheVariants as fault
 use Rattle.oca_textree.specs.Lines.{field_at, then_by, some_or_fault, class_of_word, limits_of, by_word, one_of, value_at, has_control}
 use Rattle.oca_textree.specs.Stored.{Flagged, flagged_at, switch_at}
 use Rattle.oca_textree.specs.Written.{class_before, set_fields, value_fields, range_fields, switch_fields, names_field, flag_digit, IsShortText}

@@ -21,8 +21,8 @@ use Rattle.oca_tree.specs.declared.builder.AddFault.TheVariants as adds
 use Rattle.oca_tree.specs.Objects.{object_of}
 use Rattle.oca_tree.specs.Places.{places, is_block, depth}
 use Rattle.oca_tree.specs.Building.{new_object, number, switch, is_long, is_bad_value, first_fault}
-use Rattle.oca_textree.specs.declared.fault.ObjectFault.{ObjectFault}
-use Rattle.oca_textree.specs.declared.fault.ObjectFault.TheVariants as fault
+use Rattle.oca_script.specs.declared.object_fault.ObjectFault.{ObjectFault}
+use Rattle.oca_script.specs.declared.object_fault.ObjectFault.TheVariants as fault
 use Rattle.oca_textree.specs.Faults.{object_fault_of}
 
 -- ---- one after another: the first fault ends it

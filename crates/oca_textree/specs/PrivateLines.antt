@@ -6,13 +6,13 @@ use Rattle.oca_tree.specs.declared.object.Object.{Object}
 use Rattle.oca_tree.specs.declared.builder.Kind.{Kind}
 use Rattle.oca_tree.specs.Objects.{Store}
 use Rattle.oca_tree.specs.Building.{value_of, has_bad_name}
-use Rattle.oca_textree.specs.declared.fault.ObjectFault.{ObjectFault}
+use Rattle.oca_script.specs.declared.object_fault.ObjectFault.{ObjectFault}
 use Rattle.oca_textree.specs.declared.fault.TreeFault.{TreeFault}
 use Rattle.oca_textree.specs.declared.fault.TreeFault.TheVariants.{Line}
 use Rattle.oca_textree.specs.declared.value.Limits.{Limits}
 use Rattle.oca_types.specs.declared.class.Class.{Class}
 use Rattle.oca_types.specs.declared.class.Class.TheVariants as class
-use Rattle.oca_textree.specs.declared.fault.ObjectFault.TheVariants as fault
+use Rattle.oca_script.specs.declared.object_fault.ObjectFault.TheVariants as fault
 use Rattle.oca_textree.specs.Lines.{Taken, Limited, Valued, then_by, some_or_fault, field_at, integer_of, ono_of}
 use Rattle.oca_textree.specs.Lines.{class_named, class_of_word}
 

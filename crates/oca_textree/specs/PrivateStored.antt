@@ -5,7 +5,7 @@ use denote.Ref.{Bor}
 use Rattle.oca_tree.specs.declared.builder.Kind.{Kind}
 use Rattle.oca_tree.specs.declared.object.Object.{Object}
 use Rattle.oca_tree.specs.Building.{root}
-use Rattle.oca_textree.specs.declared.fault.ObjectFault.{ObjectFault}
+use Rattle.oca_script.specs.declared.object_fault.ObjectFault.{ObjectFault}
 use Rattle.oca_textree.specs.declared.stored.Ending.{Ending as Ended}
 use Rattle.oca_textree.specs.PrivateLines.{kind_valued}
 use Rattle.oca_textree.specs.Stored.{Ending, Positions, Flagged}

@@ -12,8 +12,8 @@ use Rattle.oca_tree.specs.declared.object.Object.{Object}
 use Rattle.oca_tree.specs.declared.object.Value.{Value}
 use Rattle.oca_tree.specs.Building.{switch, is_long, root}
 use Rattle.oca_tree.specs.Starts.{with_flags, has_other_flags}
-use Rattle.oca_textree.specs.declared.fault.ObjectFault.{ObjectFault}
-use Rattle.oca_textree.specs.declared.fault.ObjectFault.TheVariants as fault
+use Rattle.oca_script.specs.declared.object_fault.ObjectFault.{ObjectFault}
+use Rattle.oca_script.specs.declared.object_fault.ObjectFault.TheVariants as fault
 use Rattle.oca_textree.specs.Faults.{object_fault_of}
 use Rattle.oca_textree.specs.Lines.{then_by, some_or_fault, field_at, is_text, ono_of, class_of_word, one_of, Valued}
 use Rattle.oca_textree.specs.Lines.{value_at, refusal, ended, added_by, is_skipped_line, has_control}

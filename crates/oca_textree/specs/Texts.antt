@@ -3,10 +3,10 @@ use Rattle.std.specs.Prelude.{ℕ, ◌+◌, if◌then◌else◌, List, [], ◌�
 use Rattle.oca_script.specs.Fields.{split_at, split_on}
 use Rattle.oca_tree.specs.declared.object.Object.{Object}
 use Rattle.oca_tree.specs.Building.{root}
-use Rattle.oca_textree.specs.declared.fault.ObjectFault.{ObjectFault}
+use Rattle.oca_script.specs.declared.object_fault.ObjectFault.{ObjectFault}
 use Rattle.oca_textree.specs.declared.fault.TreeFault.{TreeFault}
 use Rattle.oca_textree.specs.declared.fault.TreeFault.TheVariants.{Line}
-use Rattle.oca_textree.specs.declared.fault.ObjectFault.TheVariants as fault
+use Rattle.oca_script.specs.declared.object_fault.ObjectFault.TheVariants as fault
 use Rattle.oca_textree.specs.Lines.{has_control}
 use Rattle.oca_textree.specs.Stored.{after_line, after_word, rooted}
 

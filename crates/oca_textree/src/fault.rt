@@ -1,111 +1,35 @@
-//! Why a line lists no object.
+//! Why a line or a text lists no object.
 ghost use Rattle.std.specs.Prelude.{◌≡◌};
-ghost use Rattle.oca_textree.specs.Faults.{object_fault_word, object_fault_of};
+ghost use Rattle.oca_textree.specs.Faults.{object_fault_of, stored_fault_of};
 
+use oca_script::ObjectFault;
 use oca_tree::{AddFault, StartFault};
-use std::fmt::{self, Display, Formatter};
 use thiserror::Error;
 
-/// What is wrong with a line: what is found first from its left, and where all its fields can be read why its object is
-/// not added.
-#[derive(Clone, Copy, PartialEq, Eq, Debug)]
-pub enum ObjectFault {
-    /// A field is missing or too many, a quote is left open, or there is a control character.
-    Form,
-    /// The object's number, its container's, or an integer is not of its form, or not of its type.
-    Number,
-    /// No such class.
-    Class,
-    /// No value of the class, no position of the switch, or other than one flag a position.
-    Value,
-    /// Neither `lockable` nor `no-lock`.
-    Lockable,
-    /// The role is empty, or the role or a position's name has more than 64 bytes, is not UTF-8, or has a character
-    /// that
-    /// is printed as an escape, a backslash left aside.
-    Text,
-    /// 4,096 objects are there, the root counted.
-    Full,
-    /// The number is below 4096.
-    Reserved,
-    /// The number is there.
-    Taken,
-    /// The container is no block that stands before.
-    Container,
-    /// The object would stand at depth 9; the root is at depth 1.
-    Depth,
-    /// The least is above the greatest, the setting is outside them, or there are more than 16 positions.
-    Range,
-    /// Memory was refused.
-    NoMemory,
-}
-
-impl ObjectFault {
-    /// The word that is printed for the fault.
-    pub fn word(self) -> &'static str
-        ensures { result.now ≡ object_fault_word self }
-    {
-        match self {
-            ObjectFault::Form => "form",
-            ObjectFault::Number => "number",
-            ObjectFault::Class => "class",
-            ObjectFault::Value => "value",
-            ObjectFault::Lockable => "lockable",
-            ObjectFault::Text => "text",
-            ObjectFault::Full => "full",
-            ObjectFault::Reserved => "reserved",
-            ObjectFault::Taken => "taken",
-            ObjectFault::Container => "container",
-            ObjectFault::Depth => "depth",
-            ObjectFault::Range => "range",
-            ObjectFault::NoMemory => "no memory",
-        }
+/// Why the tree refuses the object of a line.
+pub fn fault_of(fault: AddFault) -> ObjectFault
+    ensures { result ≡ object_fault_of fault }
+{
+    match fault {
+        AddFault::Full => ObjectFault::Full,
+        AddFault::Reserved => ObjectFault::Reserved,
+        AddFault::Taken => ObjectFault::Taken,
+        AddFault::NoSuchBlock => ObjectFault::Container,
+        AddFault::TooDeep => ObjectFault::Depth,
+        AddFault::BadText => ObjectFault::Text,
+        AddFault::BadRange => ObjectFault::Range,
+        AddFault::NoMemory => ObjectFault::NoMemory,
     }
 }
 
-impl Display for ObjectFault {
-    /// Writes its word.
-    fn fmt<W: fmt::Write>(&self, f: &mut Formatter<W>) -> fmt::Result {
-        f.write_str(self.word())
-    }
-}
-
-impl std::error::Error for ObjectFault {}
-
-impl From<AddFault> for ObjectFault {
-    ghost use Rattle.std.specs.Prelude.{◌≡◌};
-    ghost use Rattle.oca_textree.specs.Faults.{object_fault_of};
-
-    ghost from_gives = { λ fault r. r ≡ object_fault_of fault };
-
-    /// Why the tree refuses the object of a line.
-    fn from(fault: AddFault) -> ObjectFault {
-        match fault {
-            AddFault::Full => ObjectFault::Full,
-            AddFault::Reserved => ObjectFault::Reserved,
-            AddFault::Taken => ObjectFault::Taken,
-            AddFault::NoSuchBlock => ObjectFault::Container,
-            AddFault::TooDeep => ObjectFault::Depth,
-            AddFault::BadText => ObjectFault::Text,
-            AddFault::BadRange => ObjectFault::Range,
-            AddFault::NoMemory => ObjectFault::NoMemory,
-        }
-    }
-}
-
-impl From<StartFault> for ObjectFault {
-    ghost use Rattle.std.specs.Prelude.{◌≡◌};
-    ghost use Rattle.oca_textree.specs.Faults.{stored_fault_of};
-
-    ghost from_gives = { λ fault r. r ≡ stored_fault_of fault };
-
-    /// Why the tree refuses the object of a line with what was stored of it.
-    fn from(fault: StartFault) -> ObjectFault {
-        match fault {
-            StartFault::Add(fault) => ObjectFault::from(fault),
-            StartFault::BadLabel => ObjectFault::Text,
-            StartFault::BadFlags => ObjectFault::Value,
-        }
+/// Why the tree refuses the object of a line with what was stored of it.
+pub fn fault_of_stored(fault: StartFault) -> ObjectFault
+    ensures { result ≡ stored_fault_of fault }
+{
+    match fault {
+        StartFault::Add(fault) => fault_of(fault),
+        StartFault::BadLabel => ObjectFault::Text,
+        StartFault::BadFlags => ObjectFault::Value,
     }
 }
 

@@ -7,7 +7,7 @@ ghost use Rattle.oca_textree.specs.Lines.{class_of_word, has_control as has_cont
 ghost use Rattle.oca_textree.specs.PrivateLines.{field_view, integer_class_of, unsigned_class_of, ono_at, ono_view};
 ghost use Rattle.oca_textree.specs.PrivateLines.{placed_at, placed_view};
 
-use super::fault::ObjectFault;
+use oca_script::ObjectFault;
 use oca_script::escape::has_hidden;
 use oca_script::field::{number, split_at_byte};
 use oca_types::Class;

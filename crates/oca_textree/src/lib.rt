@@ -23,7 +23,8 @@ mod text;
 mod value;
 mod writing;
 
-pub use fault::{ObjectFault, TreeFault};
+pub use fault::TreeFault;
 pub use laws::law_of_texts;
+pub use oca_script::ObjectFault;
 pub use text::tree_from_text;
 pub use writing::print_tree;

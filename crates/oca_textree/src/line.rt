@@ -7,10 +7,11 @@ ghost use Rattle.oca_textree.specs.Lines.{is_skipped_line as skipped_line};
 ghost use Rattle.oca_textree.specs.Stored.{after_line, after_word as behind_word};
 ghost use Rattle.oca_textree.specs.PrivateLines.{last_view, Became, kind_valued};
 
-use super::fault::ObjectFault;
+use super::fault::fault_of;
 use super::field::{field, has_control, placed, text_of};
 use super::stored::add_stored;
 use super::value::{Names, kind_at, lockable, positions};
+use oca_script::ObjectFault;
 use oca_script::field::split_at_byte;
 use oca_tree::{Kind, Spec, TreeBuilder};
 use oca_types::{Class, Ono};
@@ -55,7 +56,7 @@ fn add(
     };
     match builder.add(Ono(container), Ono(ono), &spec) {
         Ok(()) => Ok(()),
-        Err(fault) => Err(ObjectFault::from(fault)),
+        Err(fault) => Err(fault_of(fault)),
     }
 }
 

@@ -5,8 +5,8 @@ ghost use Rattle.oca_textree.specs.Stored.{short, short_utf8, digits_text, field
 ghost use Rattle.oca_textree.specs.Stored.{is_quoted as stands_quoted, text_in_field as next_text};
 ghost use Rattle.oca_textree.specs.PrivateStored.{text_view};
 
-use super::fault::ObjectFault;
 use super::field::{field, text_of};
+use oca_script::ObjectFault;
 use oca_script::field::hex_bytes;
 use oca_types::Text;
 use std::str::from_utf8;

@@ -11,11 +11,12 @@ ghost use Rattle.oca_textree.specs.PrivateStored.{flags_view, named_view, names_
 ghost use Rattle.oca_textree.specs.PrivateStored.{ending_view, kind_flagged};
 ghost use Rattle.oca_tree.specs.Building.{value_of, has_bad_name};
 
-use super::fault::ObjectFault;
+use super::fault::fault_of_stored;
 use super::field::{field, placed};
 use super::quoted::{field_text, is_quoted, text_at};
 use super::value::{kind_at, lockable, truth};
 use arrayvec::ArrayVec;
+use oca_script::ObjectFault;
 use oca_script::field::{number, split_at_byte};
 use oca_tree::{Kind, Spec, Start, TreeBuilder};
 use oca_types::{Class, Ono, Text};
@@ -187,7 +188,7 @@ fn add_ended(
     };
     match builder.add_with(Ono(container), Ono(ono), &spec, &start) {
         Ok(()) => Ok(()),
-        Err(fault) => Err(ObjectFault::from(fault)),
+        Err(fault) => Err(fault_of_stored(fault)),
     }
 }
 

@@ -8,12 +8,13 @@ ghost use Rattle.oca_textree.specs.Stored.{after_line};
 ghost use Rattle.oca_textree.specs.PrivateLines.{IsReadAs, IsReadSoFar};
 ghost use Rattle.oca_textree.specs.Texts.{objects_of_text, line_before, from_root, rooted_by, after_lines};
 ghost use Rattle.oca_textree.specs.declared.fault.TreeFault.TheVariants.{NoMemory, Line};
-ghost use Rattle.oca_textree.specs.declared.fault.ObjectFault.{ObjectFault as Fault};
+ghost use Rattle.oca_script.specs.declared.object_fault.ObjectFault.{ObjectFault as Fault};
 
-use super::fault::{ObjectFault, TreeFault};
+use super::fault::TreeFault;
 use super::field::has_control;
 use super::line::{add_line, behind};
 use super::stored::start_of;
+use oca_script::ObjectFault;
 use oca_script::field::split_at_byte;
 use oca_tree::{Room, Start, Tree, TreeBuilder};
 use oca_types::Text;

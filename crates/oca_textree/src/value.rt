@@ -11,9 +11,9 @@ ghost use Rattle.oca_textree.specs.Lines.{one_of, signed_of, integer_of, limits_
 ghost use Rattle.oca_textree.specs.Lines.{positions_of, value_at};
 ghost use Rattle.oca_textree.specs.PrivateLines.{IsLimit, limits_view, IsWithin, names_view, positions_view, kind_view};
 
-use super::fault::ObjectFault;
 use super::field::{field, text_of};
 use arrayvec::ArrayVec;
+use oca_script::ObjectFault;
 use oca_script::field::{number, split_at_byte};
 use oca_tree::{Kind, MuteState, PolarityState};
 use oca_types::Class;

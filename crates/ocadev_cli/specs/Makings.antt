@@ -5,8 +5,8 @@ use Rattle.oca_tree.specs.declared.object.Object.{Object}
 use Rattle.oca_tree.specs.Bench.{bench_with}
 use Rattle.oca_textree.specs.Texts.{objects_of_text}
 use Rattle.oca_textree.specs.declared.fault.TreeFault.{TreeFault}
+use Rattle.oca_textree.specs.declared.fault.TreeFault.TheVariants as trees
 use Rattle.oca_script.specs.Ends.{Input}
-use Rattle.oca_program.specs.Faults.{tree_fault}
 use Rattle.oca_program.specs.declared.fault.RunFault.{RunFault}
 use Rattle.oca_program.specs.declared.fault.RunFault.TheVariants as fault
 use Rattle.ocadev_cli.specs.Words.{ObjectSource, Bench, Listed}
@@ -16,6 +16,11 @@ use Rattle.ocadev_cli.specs.Words.{ObjectSource, Bench, Listed}
 abbrev pub AreObjects : ObjectSource → List Object → Type 0
 AreObjects (Bench channels) tree = tree ≡ bench_with channels
 AreObjects (Listed path) tree = (text : List ℕ) × (objects_of_text text ≡ Ok tree)
+
+-- the fault of the run, where the objects were not listed
+abbrev pub tree_fault : TreeFault → RunFault
+tree_fault (trees.Line number found) = fault.Object number found
+tree_fault trees.NoMemory = fault.NoMemory
 
 -- Why a text gives no objects: memory was refused, or its first line with a fault.
 abbrev pub HasFault : List ℕ → RunFault → Type 0

@@ -7,6 +7,7 @@ ghost use Rattle.oca_textree.specs.Texts.{objects_of_text};
 ghost use Rattle.oca_program.specs.declared.fault.RunFault.TheVariants.{NoMemory as no_memory, TooMuch as too_much};
 ghost use Rattle.ocadev_cli.specs.Words.{object_source};
 ghost use Rattle.oca_program.specs.Faults.{fault_in};
+ghost use Rattle.ocadev_cli.specs.Makings.{tree_fault as tree_fault_of};
 ghost use Rattle.ocadev_cli.specs.Makings.{HasFault, ReadsMore, ReadsWhole, StopsReading, ListsFrom, MakesObjects};
 
 use super::file::TextFile;
@@ -14,7 +15,7 @@ use super::words::Objects;
 use oca_device::{Device, Outbox};
 use oca_program::{Failure, RunFault};
 use oca_script::Source;
-use oca_textree::tree_from_text;
+use oca_textree::{TreeFault, tree_from_text};
 use oca_tree::{Tree, bench_with_channels};
 use oca_types::Sizes;
 use std::alloc::Global;
@@ -125,6 +126,16 @@ pub fn listed_in<R: Source>(alloc: Global, source: &mut R) -> Result<Tree, RunFa
     }
 }
 
+/// Why a run fails whose objects were not listed.
+fn tree_fault(fault: TreeFault) -> RunFault
+    ensures { result ≡ tree_fault_of fault }
+{
+    match fault {
+        TreeFault::Line(number, fault) => RunFault::Object(number, fault),
+        TreeFault::NoMemory => RunFault::NoMemory,
+    }
+}
+
 /// The objects that a text lists. Refusals: `NoMemory`, and `Object` with its first line that has a fault.
 fn listed_by(alloc: Global, text: &[u8]) -> Result<Tree, RunFault>
     ensures ok { IfOk result (λ tree. objects_of_text text.now ≡ ok tree) }
@@ -132,7 +143,7 @@ fn listed_by(alloc: Global, text: &[u8]) -> Result<Tree, RunFault>
 {
     match tree_from_text(alloc, text) {
         Ok(tree) => Ok(tree),
-        Err(fault) => Err(RunFault::from(fault)),
+        Err(fault) => Err(tree_fault(fault)),
     }
 }
 

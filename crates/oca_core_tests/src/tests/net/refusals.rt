@@ -1,6 +1,6 @@
 //! Where no end is bound, why, and the words of that; and the descriptor of one that is.
 use super::{AtSockets, Begun, Call, LOCALHOST, SocketEnd};
-use crate::tests::{Words, first_wrong, none_wrong, play, reads, wrong_unless};
+use crate::tests::{Words, first_wrong, none_wrong, play, prints, wrong_unless};
 use oca_net::{
     BindError, BindFault, UdpEnd, fill_standard_descriptors, is_refused as host_refuses,
 };
@@ -28,7 +28,7 @@ fn bound(rt: &HostRuntime, at: Peer) -> Result<Peer, BindFault> {
 fn is_refused_for(rt: &HostRuntime, at: Peer, kind: ErrorKind, text: &str) -> bool {
     match UdpEnd::bind_with_reason(rt.alloc(), rt, at.ip, at.port) {
         Err(BindError::Io(reason)) => {
-            reason.kind() == kind && reads(rt.alloc(), &BindError::Io(reason), text)
+            reason.kind() == kind && prints(rt.alloc(), &BindError::Io(reason), text)
         }
         _ => false,
     }
@@ -150,7 +150,7 @@ const FAULTS: &[Words<BindFault>] = &[
 
 /// Whether the error has the words of its fault.
 fn error_reads(alloc: Global) -> bool {
-    reads(alloc, &BindError::NoMemory, "no memory")
+    prints(alloc, &BindError::NoMemory, "no memory")
 }
 
 #[test]

@@ -1,5 +1,5 @@
 //! Reports that are added, and outcomes as text.
-use crate::tests::{Row, first_wrong, none_wrong, reads, wrong_unless};
+use crate::tests::{Row, first_wrong, none_wrong, prints, wrong_unless};
 use oca_control::{ControlFault, DriveReport, Outcome, refused};
 use std::alloc::Global;
 
@@ -87,7 +87,7 @@ struct Refusal(ControlFault, &'static str);
 impl Row for Refusal {
     /// Whether it reads so.
     fn agrees(&self, alloc: Global) -> bool {
-        reads(alloc, &refused(self.0), self.1)
+        prints(alloc, &refused(self.0), self.1)
     }
 }
 
@@ -108,7 +108,7 @@ fn is_nothing() -> bool {
 
 /// Whether a command without an answer reads so.
 fn is_unanswered(alloc: Global) -> bool {
-    reads(alloc, &Outcome::Unanswered, "not answered yet")
+    prints(alloc, &Outcome::Unanswered, "not answered yet")
 }
 
 #[test]
