@@ -48,20 +48,25 @@ impl<'a, C: Clock> Socket<'a, C> {
         ensures signals { IfOk result (λ r. r.0.system.signals ≡ 0) }
     {
         let mut system = System::open(rt, SocketAddrV4::from(asked))?;
-        system.set_timeout(wait)?;
-        let local = peer_of(system.local()?)?;
-        if local.ip != asked.ip || (asked.port != 0 && local.port != asked.port) {
-            return Err(io::Error::from(io::ErrorKind::AddrNotAvailable));
-        }
+        let local = set_up(&mut system, asked, wait)?;
+        Ok((Socket::over(system), local))
+    }
+
+    /// A socket over this clock and this socket of the system. It has told no moment, and no call of it has failed.
+    fn over(system: System<'a, C>) -> Socket<'a, C>
+        ensures system { result.system ≡ system.entry }
+        ensures latest { result.latest ≡ 0 }
+        ensures until { result.until ≡ 0 }
+        ensures fault { result.fault ≡ None }
+    {
         let send_buffer = granted(system.as_raw_fd());
-        let socket = Socket {
+        Socket {
             system,
             latest: 0,
             until: 0,
             fault: None,
             send_buffer,
-        };
-        Ok((socket, local))
+        }
     }
 
     /// Lets a receive wait so many milliseconds.
@@ -132,8 +137,7 @@ impl<'a, C: Clock> Socket<'a, C> {
         ensures calls { min self.old.system.calls last_u64 ≤ self.new.system.calls }
     {
         self.set_wait(wait)?;
-        let (n, from) = self.system.receive(buffer)?;
-        Ok((n, peer_of(from)?))
+        from_peer(self.system.receive(buffer))
     }
 
     /// Hands a datagram to the system, which takes the whole of it, and does not wait for room.
@@ -189,10 +193,33 @@ fn whole(sent: io::Result<usize>, bytes: usize) -> io::Result<()>
     }
 }
 
+/// Lets the receives of a new socket wait so many milliseconds, and says where it is bound. Err where that is not where
+/// it was asked to be.
+fn set_up<C: Clock>(system: &mut System<'_, C>, asked: Peer, wait: u64) -> io::Result<Peer>
+    ensures bound { IfOk result (λ p. IsBoundAt asked.ip asked.port p) }
+    ensures same { system.new ≡ record system.old { timeout = system.new.timeout } }
+{
+    system.set_timeout(wait)?;
+    let local = peer_of(system.local()?)?;
+    if local.ip != asked.ip || (asked.port != 0 && local.port != asked.port) {
+        return Err(io::Error::from(io::ErrorKind::AddrNotAvailable));
+    }
+    Ok(local)
+}
+
 /// Asks for the send buffer: how many bytes the system grants, or 0 where it does not tell.
 fn granted(socket: RawFd) -> u32 {
     let _ = system::ask_send_buffer(socket, SEND_BUFFER);
     system::send_buffer(socket).unwrap_or(0)
+}
+
+/// A received datagram's length and the peer that sent it; an address of IPv6 is no peer.
+fn from_peer(received: io::Result<(usize, SocketAddr)>) -> io::Result<(usize, Peer)>
+    ensures length { IfOk result (λ d. IfOk received (λ r. d.0 ≡ r.0)) }
+    ensures received { OnOk result (IsOk received) }
+{
+    let (n, from) = received?;
+    Ok((n, peer_of(from)?))
 }
 
 /// The peer at an address; one of IPv6 is none.

@@ -1,10 +1,11 @@
 //! An end at a UDP socket.
 ghost use Rattle.std.specs.Prelude.{◌≡◌, ◌≤◌, ◌<◌, ◌+◌, ◌-◌, [], IfOk, IfErr, IfNone, IfSome, None, Some, false, true};
 ghost use Rattle.std.specs.Prelude.{length, max, min};
+ghost use Rattle.std.specs.IoError.{error_kind};
 ghost use Rattle.oca_net.specs.Ends.{HoldsOnlyADatagram, is_closed, is_failed, largest_datagram, last_u64, one_more};
 ghost use Rattle.oca_net.specs.Sockets.{IsBegunAgain, IsBoundAt, IsWhy, ReadsClockAfter, ReturnsMoment};
 ghost use Rattle.oca_net.specs.Sockets.{after_heard, after_sent, fault_of, is_interrupted, is_taken, most_tries};
-ghost use Rattle.oca_net.specs.Sockets.{new_socket, says_none, state_of_socket};
+ghost use Rattle.oca_net.specs.Sockets.{new_socket, says_none, says_none_came, state_of_socket};
 ghost use Rattle.oca_net.specs.PrivateMoments.{IsFresh, milliseconds_of, until_at_most};
 
 use crate::count::step;
@@ -378,8 +379,7 @@ fn wait<C: Clock>(
     for _try in 0..TRIES {
         match socket.receive(buffer, now) {
             Ok(found) => return Ok(Some(found)),
-            Err(reason) if !says_none_came(&reason) => return Err(reason),
-            Err(reason) if !is_signal(&reason) => return Ok(None),
+            Err(reason) if !is_signal(&reason) => return none_came(reason),
             Err(_) => {}
         }
         now = socket.look();
@@ -388,6 +388,18 @@ fn wait<C: Clock>(
         }
     }
     Ok(None)
+}
+
+/// That no datagram has come, where this reason says so; else the reason.
+fn none_came(reason: io::Error) -> io::Result<Option<(usize, Peer)>>
+    ensures none { IfOk result (λ o. (o ≡ None) × (says_none_came (error_kind reason) ≡ true)) }
+    ensures failed { IfErr result (λ e. (e ≡ reason) × (says_none_came (error_kind reason) ≡ false)) }
+{
+    if says_none_came(&reason) {
+        Ok(None)
+    } else {
+        Err(reason)
+    }
 }
 
 /// Puts a datagram in the empty packet.
