@@ -67,19 +67,17 @@ fn command_front(respond: bool, command: &Command) -> [u8; 27]
     ensures fits { CommandFits (fields_of command.now) }
 {
     let size = COMMAND_BYTES as u32 + command.params.len() as u32;
-    let mut front = [0u8; 27];
-    front[0] = SYNC;
-    front[2] = 1;
-    front[7] = respond as u8;
-    front[9] = 1;
-    front[3..7].copy_from_slice(&(9 + size).to_be_bytes());
-    front[10..14].copy_from_slice(&size.to_be_bytes());
-    front[14..18].copy_from_slice(&command.handle.0.to_be_bytes());
-    front[18..22].copy_from_slice(&command.target.0.to_be_bytes());
-    front[22..24].copy_from_slice(&command.method.level.to_be_bytes());
-    front[24..26].copy_from_slice(&command.method.index.to_be_bytes());
-    front[26] = command.count;
-    front
+    let [p0, p1, p2, p3] = (9 + size).to_be_bytes();
+    let [s0, s1, s2, s3] = size.to_be_bytes();
+    let [h0, h1, h2, h3] = command.handle.0.to_be_bytes();
+    let [t0, t1, t2, t3] = command.target.0.to_be_bytes();
+    let [l0, l1] = command.method.level.to_be_bytes();
+    let [i0, i1] = command.method.index.to_be_bytes();
+    let (pdu_type, count) = (respond as u8, command.count);
+    [
+        SYNC, 0, 1, p0, p1, p2, p3, pdu_type, 0, 1, s0, s1, s2, s3, h0, h1, h2, h3, t0, t1, t2, t3,
+        l0, l1, i0, i1, count,
+    ]
 }
 
 /// Appends a PDU of one response (AES70-3). Refusal: `TooLong` where the packet would pass 1,472 bytes, and the packet
