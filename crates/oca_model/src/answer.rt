@@ -5,6 +5,7 @@ ghost use Rattle.oca_types.specs.Putting.{Puts};
 ghost use Rattle.oca_types.specs.Reading.{text_at};
 ghost use Rattle.oca_model.specs.Parameters.{whole};
 ghost use Rattle.oca_model.specs.Answers.{shape_of, answer_count, answer_encoding, answer_in, switch_names_in};
+ghost use Rattle.oca_model.specs.Answers.{shaped_in};
 
 use crate::item::Item;
 use crate::list::{put_list, read_list};
@@ -100,6 +101,24 @@ pub fn read_names(params: &[u8]) -> Option<Names>
     read_list(params)
 }
 
+/// The answer of this kind that the parameters are. Nothing where they are no such answer.
+fn shaped(shape: Shape, class: Class, params: &[u8]) -> Option<Answer>
+    ensures { result ≡ shaped_in shape class params.now }
+{
+    match shape {
+        Shape::Done if params.is_empty() => Some(Answer::Done),
+        Shape::Truth => whole(params).map(Answer::Truth),
+        Shape::Text => read_text(params).map(Answer::Text),
+        Shape::Owner => Some(Answer::Owner(Ono(whole(params)?))),
+        Shape::Reading => Reading::read(class, params).map(Answer::Reading),
+        Shape::Names => Some(Answer::Names(read_list(params)?)),
+        Shape::Flags => Some(Answer::Flags(read_list(params)?)),
+        Shape::Class => whole_class(params).map(Answer::Class),
+        Shape::Members => Some(Answer::Members(read_list(params)?)),
+        Shape::Done | Shape::Descendants => None,
+    }
+}
+
 impl Answer {
     /// How many parameters it has.
     pub fn count(&self) -> u8
@@ -141,18 +160,7 @@ impl Answer {
     pub fn read(class: Class, method: Method, count: u8, params: &[u8]) -> Option<Answer>
         ensures { result ≡ answer_in class method count params.now }
     {
-        let answer = match shape_of(method) {
-            Shape::Done if params.is_empty() => Answer::Done,
-            Shape::Truth => Answer::Truth(whole(params)?),
-            Shape::Text => Answer::Text(read_text(params)?),
-            Shape::Owner => Answer::Owner(Ono(whole(params)?)),
-            Shape::Reading => Answer::Reading(Reading::read(class, params)?),
-            Shape::Names => Answer::Names(read_list(params)?),
-            Shape::Flags => Answer::Flags(read_list(params)?),
-            Shape::Class => Answer::Class(whole_class(params)?),
-            Shape::Members => Answer::Members(read_list(params)?),
-            Shape::Done | Shape::Descendants => return None,
-        };
+        let answer = shaped(shape_of(method), class, params)?;
         if count == answer.count() {
             Some(answer)
         } else {

@@ -67,8 +67,8 @@ fn read_ranged<F: Item>(params: &[u8]) -> Option<Ranged<F>>
 }
 
 /// Appends a setting, its least and its greatest.
-fn put_ranged<F: Item>(params: &mut Params, ranged: Ranged<F>) -> Result<(), PutFault>
-    ensures { Puts result params.old.items params.new.items (ranged_encoding F.encoding ranged) }
+fn put_ranged<F: Item>(params: &mut Params, ranged: &Ranged<F>) -> Result<(), PutFault>
+    ensures { Puts result params.old.items params.new.items (ranged_encoding F.encoding ranged.now) }
 {
     ranged.setting.put_item(params)?;
     ranged.least.put_item(params)?;
@@ -114,16 +114,16 @@ impl Reading {
         match self {
             Reading::Mute(state) => (state as u8).put_item(params),
             Reading::Polarity(state) => (state as u8).put_item(params),
-            Reading::Switch(ranged) => put_ranged(params, ranged),
+            Reading::Switch(ranged) => put_ranged(params, &ranged),
             Reading::Boolean(truth) => truth.put_item(params),
-            Reading::Int8(ranged) => put_ranged(params, ranged),
-            Reading::Int16(ranged) => put_ranged(params, ranged),
-            Reading::Int32(ranged) => put_ranged(params, ranged),
-            Reading::Int64(ranged) => put_ranged(params, ranged),
-            Reading::Uint8(ranged) => put_ranged(params, ranged),
-            Reading::Uint16(ranged) => put_ranged(params, ranged),
-            Reading::Uint32(ranged) => put_ranged(params, ranged),
-            Reading::Uint64(ranged) => put_ranged(params, ranged),
+            Reading::Int8(ranged) => put_ranged(params, &ranged),
+            Reading::Int16(ranged) => put_ranged(params, &ranged),
+            Reading::Int32(ranged) => put_ranged(params, &ranged),
+            Reading::Int64(ranged) => put_ranged(params, &ranged),
+            Reading::Uint8(ranged) => put_ranged(params, &ranged),
+            Reading::Uint16(ranged) => put_ranged(params, &ranged),
+            Reading::Uint32(ranged) => put_ranged(params, &ranged),
+            Reading::Uint64(ranged) => put_ranged(params, &ranged),
         }
     }
 
@@ -133,21 +133,21 @@ impl Reading {
     pub fn read(class: Class, params: &[u8]) -> Option<Reading>
         ensures { result ≡ reading_in class params.now }
     {
-        Some(match class {
-            Class::Block => return None,
-            Class::Mute => Reading::Mute(mute_of(whole(params)?)?),
-            Class::Polarity => Reading::Polarity(polarity_of(whole(params)?)?),
-            Class::Switch => Reading::Switch(read_ranged(params)?),
-            Class::Boolean => Reading::Boolean(whole(params)?),
-            Class::Int8 => Reading::Int8(read_ranged(params)?),
-            Class::Int16 => Reading::Int16(read_ranged(params)?),
-            Class::Int32 => Reading::Int32(read_ranged(params)?),
-            Class::Int64 => Reading::Int64(read_ranged(params)?),
-            Class::Uint8 => Reading::Uint8(read_ranged(params)?),
-            Class::Uint16 => Reading::Uint16(read_ranged(params)?),
-            Class::Uint32 => Reading::Uint32(read_ranged(params)?),
-            Class::Uint64 => Reading::Uint64(read_ranged(params)?),
-        })
+        match class {
+            Class::Block => None,
+            Class::Mute => whole(params).and_then(mute_of).map(Reading::Mute),
+            Class::Polarity => whole(params).and_then(polarity_of).map(Reading::Polarity),
+            Class::Switch => read_ranged(params).map(Reading::Switch),
+            Class::Boolean => whole(params).map(Reading::Boolean),
+            Class::Int8 => read_ranged(params).map(Reading::Int8),
+            Class::Int16 => read_ranged(params).map(Reading::Int16),
+            Class::Int32 => read_ranged(params).map(Reading::Int32),
+            Class::Int64 => read_ranged(params).map(Reading::Int64),
+            Class::Uint8 => read_ranged(params).map(Reading::Uint8),
+            Class::Uint16 => read_ranged(params).map(Reading::Uint16),
+            Class::Uint32 => read_ranged(params).map(Reading::Uint32),
+            Class::Uint64 => read_ranged(params).map(Reading::Uint64),
+        }
     }
 }
 

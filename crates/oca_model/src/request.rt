@@ -1,10 +1,8 @@
 //! What is asked of an object: for a panel to put, for a device to read.
 ghost use Rattle.std.specs.Prelude.{◌≡◌, ◌<◌, length, IfOk, IfErr, IfSome, IfNone};
-ghost use Rattle.std.specs.Int.{w16};
 ghost use Rattle.std.specs.Result.{result_map_both};
 ghost use Rattle.oca_types.specs.Methods.{method_kind, access};
 ghost use Rattle.oca_types.specs.Putting.{Puts};
-ghost use Rattle.oca_types.specs.Reading.{unsigned_at, bool_at, text_at};
 ghost use Rattle.oca_types.specs.Sizes.{most_parameter_bytes};
 ghost use Rattle.oca_types.specs.declared.class.Method.{Method};
 ghost use Rattle.oca_types.specs.declared.words.MethodId.{MethodId};
@@ -119,19 +117,6 @@ fn one<F: Item>(count: u8, params: &[u8]) -> Result<F, ValueFault>
     whole(params).ok_or(ValueFault::Malformed)
 }
 
-/// The text that is all of the parameters.
-fn one_text(count: u8, params: &[u8]) -> Result<Text, ValueFault>
-    ensures { result ≡ counted 1 count (all text_at params.now) }
-{
-    if count != 1 {
-        return Err(ValueFault::Malformed);
-    }
-    let mut cursor = Cursor::new(params);
-    let text = cursor.take_text().map_err(|_| ValueFault::Malformed)?;
-    cursor.finish().map_err(|_| ValueFault::Malformed)?;
-    Ok(text)
-}
-
 /// The list of at most 16 items that is all of the parameters.
 fn one_list<I: Item>(count: u8, params: &[u8]) -> Result<ArrayVec<I, 16>, ValueFault>
     ensures { result_map_both (λ v. v.items) (λ e. e) result
@@ -143,32 +128,25 @@ fn one_list<I: Item>(count: u8, params: &[u8]) -> Result<ArrayVec<I, 16>, ValueF
     read_list(params).ok_or(ValueFault::Malformed)
 }
 
-/// The position and the text that are all of the parameters.
-fn position_and_text(count: u8, params: &[u8]) -> Result<(u16, Text), ValueFault>
-    ensures { result ≡ counted 2 count (all (pair_at (unsigned_at w16) text_at) params.now) }
+/// The two fields that are all of the bytes.
+fn pair<F: Item, G: Item>(params: &[u8]) -> Option<(F, G)>
+    ensures { result ≡ Rattle.oca_model.specs.Parameters.whole (pair_at F.read_at G.read_at params.now) }
 {
-    if count != 2 {
-        return Err(ValueFault::Malformed);
-    }
     let mut cursor = Cursor::new(params);
-    let position = cursor.take_u16().map_err(|_| ValueFault::Malformed)?;
-    let text = cursor.take_text().map_err(|_| ValueFault::Malformed)?;
-    cursor.finish().map_err(|_| ValueFault::Malformed)?;
-    Ok((position, text))
+    let first = F::take_item(&mut cursor).ok()?;
+    let second = G::take_item(&mut cursor).ok()?;
+    cursor.finish().ok()?;
+    Some((first, second))
 }
 
-/// The position and the Boolean that are all of the parameters.
-fn position_and_bool(count: u8, params: &[u8]) -> Result<(u16, bool), ValueFault>
-    ensures { result ≡ counted 2 count (all (pair_at (unsigned_at w16) bool_at) params.now) }
+/// The two fields that are all of the parameters.
+fn two<F: Item, G: Item>(count: u8, params: &[u8]) -> Result<(F, G), ValueFault>
+    ensures { result ≡ counted 2 count (all (pair_at F.read_at G.read_at) params.now) }
 {
     if count != 2 {
         return Err(ValueFault::Malformed);
     }
-    let mut cursor = Cursor::new(params);
-    let position = cursor.take_u16().map_err(|_| ValueFault::Malformed)?;
-    let truth = cursor.take_bool().map_err(|_| ValueFault::Malformed)?;
-    cursor.finish().map_err(|_| ValueFault::Malformed)?;
-    Ok((position, truth))
+    pair(params).ok_or(ValueFault::Malformed)
 }
 
 /// What a set method asks of an object of the class.
@@ -298,7 +276,7 @@ impl Request {
             Method::GetEnabled => bare(Request::GetEnabled, count, params),
             Method::SetEnabled => Ok(Request::SetEnabled(one(count, params)?)),
             Method::GetLabel => bare(Request::GetLabel, count, params),
-            Method::SetLabel => Ok(Request::SetLabel(one_text(count, params)?)),
+            Method::SetLabel => Ok(Request::SetLabel(one(count, params)?)),
             Method::GetOwner => bare(Request::GetOwner, count, params),
             Method::GetMembers => bare(Request::GetMembers, count, params),
             Method::GetMembersRecursive => bare(Request::GetMembersRecursive, count, params),
@@ -310,13 +288,13 @@ impl Request {
             }
             Method::GetPositionName => Ok(Request::GetPositionName(one(count, params)?)),
             Method::SetPositionName => {
-                let (position, name) = position_and_text(count, params)?;
+                let (position, name) = two(count, params)?;
                 Ok(Request::SetPositionName(position, name))
             }
             Method::GetPositionNames => bare(Request::GetPositionNames, count, params),
             Method::GetPositionEnabled => Ok(Request::GetPositionEnabled(one(count, params)?)),
             Method::SetPositionEnabled => {
-                let (position, truth) = position_and_bool(count, params)?;
+                let (position, truth) = two(count, params)?;
                 Ok(Request::SetPositionEnabled(position, truth))
             }
             Method::GetPositionEnableds => bare(Request::GetPositionEnableds, count, params),

@@ -1,7 +1,11 @@
 //! What an object is set to, in the terms of its class.
 ghost use Rattle.std.specs.Prelude.{◌≡◌};
+ghost use Rattle.std.specs.Int.{w8};
 ghost use Rattle.oca_types.specs.Putting.{Puts};
+ghost use Rattle.oca_types.specs.Reading.{unsigned_at};
 ghost use Rattle.oca_model.specs.Values.{class_of_value, value_encoding, value_in, mute_of, polarity_of};
+ghost use Rattle.oca_model.specs.Values.{then_find, or_fault};
+ghost use Rattle.oca_model.specs.declared.value.ValueFault.TheVariants.{Unlisted};
 
 use crate::item::Item;
 use crate::parameters::whole;
@@ -92,6 +96,22 @@ fn all<F: Item>(params: &[u8]) -> Result<F, ValueFault>
     whole(params).ok_or(ValueFault::Malformed)
 }
 
+/// The listed state of a mute whose number is all of the bytes.
+fn mute_in(params: &[u8]) -> Result<MuteState, ValueFault>
+    ensures { result ≡ then_find (λ n. or_fault Unlisted (mute_of n))
+        (Rattle.oca_model.specs.Values.all (unsigned_at w8) params.now) }
+{
+    mute_of(all(params)?).ok_or(ValueFault::Unlisted)
+}
+
+/// The listed state of a polarity whose number is all of the bytes.
+fn polarity_in(params: &[u8]) -> Result<PolarityState, ValueFault>
+    ensures { result ≡ then_find (λ n. or_fault Unlisted (polarity_of n))
+        (Rattle.oca_model.specs.Values.all (unsigned_at w8) params.now) }
+{
+    polarity_of(all(params)?).ok_or(ValueFault::Unlisted)
+}
+
 impl Value {
     /// The class of the objects that are set to such a value.
     pub fn class(self) -> Class
@@ -139,22 +159,20 @@ impl Value {
     pub fn read(class: Class, params: &[u8]) -> Result<Value, ValueFault>
         ensures { result ≡ value_in class params.now }
     {
-        Ok(match class {
-            Class::Block => return Err(ValueFault::Malformed),
-            Class::Mute => Value::Mute(mute_of(all(params)?).ok_or(ValueFault::Unlisted)?),
-            Class::Polarity => {
-                Value::Polarity(polarity_of(all(params)?).ok_or(ValueFault::Unlisted)?)
-            }
-            Class::Switch => Value::Switch(all(params)?),
-            Class::Boolean => Value::Boolean(all(params)?),
-            Class::Int8 => Value::Int8(all(params)?),
-            Class::Int16 => Value::Int16(all(params)?),
-            Class::Int32 => Value::Int32(all(params)?),
-            Class::Int64 => Value::Int64(all(params)?),
-            Class::Uint8 => Value::Uint8(all(params)?),
-            Class::Uint16 => Value::Uint16(all(params)?),
-            Class::Uint32 => Value::Uint32(all(params)?),
-            Class::Uint64 => Value::Uint64(all(params)?),
-        })
+        match class {
+            Class::Block => Err(ValueFault::Malformed),
+            Class::Mute => mute_in(params).map(Value::Mute),
+            Class::Polarity => polarity_in(params).map(Value::Polarity),
+            Class::Switch => all(params).map(Value::Switch),
+            Class::Boolean => all(params).map(Value::Boolean),
+            Class::Int8 => all(params).map(Value::Int8),
+            Class::Int16 => all(params).map(Value::Int16),
+            Class::Int32 => all(params).map(Value::Int32),
+            Class::Int64 => all(params).map(Value::Int64),
+            Class::Uint8 => all(params).map(Value::Uint8),
+            Class::Uint16 => all(params).map(Value::Uint16),
+            Class::Uint32 => all(params).map(Value::Uint32),
+            Class::Uint64 => all(params).map(Value::Uint64),
+        }
     }
 }
