@@ -17,6 +17,15 @@ import time
 from pathlib import Path
 
 TOP = Path(__file__).resolve().parent.parent
+# The seconds that each took to prove and build, others beside it, as measured on 2026-11-27: which is begun first, and with how many
+# processes, goes by them. One that is not here counts a second for ten of its lines.
+SECONDS = {
+    "oca_types": 60, "oca_model": 130, "oca_tree": 280, "oca_net": 130, "oca_pdu": 80, "oca_session": 80, "oca_script": 130,
+    "oca_control": 90, "oca_program": 90, "oca_panel": 120, "oca_device": 100, "oca_textree": 225, "oca_web": 285,
+    "ocadev_replay": 55, "ocadev_cli": 310, "ocadev": 95, "ocactl_replay": 65, "ocactl_cli": 420, "ocactl": 90,
+    "ocapanel_cli": 170, "ocapanel": 130,
+}
+NEEDS = 4_000_000_000  # bytes for a check: the most that one took, measured, is 3.3 GB (ocactl_cli)
 # What a program is run with to be built: words that only print.
 WORDS = {"trials": ["calls"], "amplifier": [], "panel": []}
 
@@ -34,6 +43,14 @@ def toolchain():
     return made
 
 
+def lanes(rt):
+    """How many checks are to run at once: as many as there are processors, and as memory holds; or as many as RT_JOBS says. The
+    toolchain left to itself reckons with three to five times the memory that they take, and waits."""
+    if os.environ.get("RT_JOBS", "").isdigit():
+        return int(os.environ["RT_JOBS"])
+    return max(1, min(rt.processors(), rt.free() // NEEDS))
+
+
 def build_library(crate, jobs):
     """Builds a library; what the prover says of one that fails is shown. Answers whether it is built, and its seconds."""
     begun = time.monotonic()
@@ -45,16 +62,34 @@ def build_library(crate, jobs):
     return status == 0, time.monotonic() - begun
 
 
+def work(crate):
+    """The seconds that it takes to prove and build a crate."""
+    return SECONDS.get(crate.name) or crate.count(rb"\n") / 10
+
+
+def chains(crates):
+    """The seconds of each crate with those of the longest chain of others above it. The crates are given lowest first."""
+    behind = {}
+    for crate in reversed(crates):
+        above = (behind[it.name] for it in crates if crate in it.below())
+        behind[crate.name] = work(crate) + max(above, default=0)
+    return behind
+
+
 def build_all(rt, libraries, programs=(), folder=None):
     """Builds libraries and programs, each after the libraries below it, copies the programs into a folder, and answers whether all are
-    built. The toolchain's own lanes say which are built side by side, by how many processors and by memory: those with the longest
-    chain of others above them first."""
+    built. The toolchain's own lanes say which are built side by side: those with the longest chain of others above them first. One
+    whose chain is the longest that is left, or hardly shorter, gets a process for each processor, where memory is free."""
     ended, crates = [], sorted([*libraries, *programs], key=lambda it: len(it.below()))
+    behind = chains(crates)
 
     def build(crate, given, jobs):
         if not all(given[it.name, "proof"] for it in crate.below()):
             return False
-        is_built, seconds = build_program(crate.name, folder, jobs) if crate in programs else build_library(crate, jobs)
+        is_longest = all(0.95 * behind[it.name] <= behind[crate.name] for it in crates if it not in ended)
+        if is_longest and rt.free() > 1.6 * rt.need(crate):
+            jobs = max(jobs, min(4, rt.processors()))
+        is_built, seconds = build_program(rt, crate.name, folder, jobs) if crate in programs else build_library(crate, jobs)
         ended.append(crate)
         print(f"build: {len(ended)} of {len(crates)}: {crate.name} {'proved' if is_built else 'NOT PROVED'}, {seconds:.0f} s", flush=True)
         return is_built
@@ -62,16 +97,23 @@ def build_all(rt, libraries, programs=(), folder=None):
     tasks = {}
     for crate in crates:
         waits = [(it.name, "proof") for it in crate.below()]
-        tasks[crate.name, "proof"] = (waits, crate.count(rb"\n"), rt.need(crate), lambda given, jobs, it=crate: build(it, given, jobs))
-    return all(rt.in_lanes(tasks).values())
+        tasks[crate.name, "proof"] = (waits, work(crate), rt.need(crate), lambda given, jobs, it=crate: build(it, given, jobs))
+    said = os.environ.get("RT_JOBS")
+    os.environ["RT_JOBS"] = str(lanes(rt))
+    try:
+        return all(rt.in_lanes(tasks).values())
+    finally:
+        os.environ.pop("RT_JOBS")
+        if said is not None:
+            os.environ["RT_JOBS"] = said
 
 
-def build_program(name, folder, jobs):
-    """Proves, builds and runs a program in a process of its own, and copies it; what is said where that fails is shown. Answers
-    whether it is built, and its seconds."""
+def build_program(rt, name, folder, jobs):
+    """Proves, builds and runs a program in a process of its own, which ends with this one, and copies it; what is said where that fails
+    is shown. Answers whether it is built, and its seconds."""
     begun = time.monotonic()
-    ran = subprocess.run([sys.executable, TOP / "gate/build.py", "--one", name, str(jobs)], cwd=TOP, stdin=subprocess.DEVNULL,
-                         stdout=subprocess.DEVNULL, stderr=subprocess.PIPE, text=True)
+    words = [*rt.rtlib.guarded(), sys.executable, TOP / "gate/build.py", "--one", name, str(jobs)]
+    ran = subprocess.run(words, cwd=TOP, stdin=subprocess.DEVNULL, stdout=subprocess.DEVNULL, stderr=subprocess.PIPE, text=True)
     if ran.returncode:
         print(ran.stderr, end="")
     else:

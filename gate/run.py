@@ -35,7 +35,6 @@ sys.path.insert(0, str(HERE))
 import build
 
 BESIDE = 3
-NEEDS = 4_000_000_000  # bytes for a check: the most that one took, measured, is 3.3 GB (ocactl_cli)
 LAST_LINES = 12  # so many are shown of a step that passed
 RUNNING = []
 TABLE = []  # a line for each command that has ended
@@ -175,12 +174,8 @@ def least_of_ci(top=TOP):
 
 
 def lanes():
-    """How many checks `rt ci` is to run at once: as many as there are processors, and as memory holds; or as many as
-    RT_JOBS says. Left to itself it reckons with three to five times the memory that they take, and waits."""
-    if os.environ.get("RT_JOBS", "").isdigit():
-        return int(os.environ["RT_JOBS"])
-    rt = build.toolchain()
-    return max(1, min(rt.processors(), rt.free() // NEEDS))
+    """How many checks `rt ci` is to run at once."""
+    return build.lanes(build.toolchain())
 
 
 def waited_for(top=TOP):

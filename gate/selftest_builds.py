@@ -33,7 +33,7 @@ def proves_each_library(_):
     """`build.py` has each library checked once, after those below it and not where one of them fails, as a check that
     keeps its work does it; one is built where its check ends well, and all are where each is."""
     build = importlib.import_module("build")
-    rt = SimpleNamespace(in_lanes=in_turn, need=lambda _: 1)
+    rt = SimpleNamespace(in_lanes=in_turn, need=lambda _: 1, free=lambda: 9e9, processors=lambda: 2)
     found = []
     for failing in ("", "a", "b", "c", "d"):
         asked = []
@@ -54,18 +54,38 @@ def proves_each_library(_):
     return found == [it for one in wanted for it in ((*one, True), True)]
 
 
+def gives_the_longest_chain_more(_):
+    """`build.py` has a crate that no longer chain stands beside checked by as many processes as there are processors, four
+    at most, where there is memory for that; others, and each where there is not, by as many as the lanes say."""
+    build, found = importlib.import_module("build"), []
+    for processors, free in ((8, 2e9), (3, 2e9), (8, 1e9)):
+        asked = []
+
+        def made(name, seconds, *below):
+            build_rlib = lambda flags, anew: asked.append((name, flags[1])) or 0
+            return FakeCrate(name=name, below=lambda: [*below], count=lambda _: 10 * seconds, build_rlib=build_rlib)
+
+        low, alone = made("low", 2), made("alone", 10)
+        rt = SimpleNamespace(in_lanes=in_turn, need=lambda _: 1e9, free=lambda: free, processors=lambda: processors)
+        with contextlib.redirect_stdout(io.StringIO()):
+            build.build_all(rt, [low, alone, made("high", 9, low)])
+        found.append(asked)
+    return found == [[("alone", "2"), ("low", most), ("high", most)] for most in "432"]
+
+
 def builds_each_program(folder):
-    """`build.py` has each program built by a process of its own, once the libraries below it are, with the processes that
-    it may use, and not where one of those is not proved; it takes what that process has made, where it ended well."""
+    """`build.py` has each program built by a process of its own, which ends with it, once the libraries below it are, with the
+    processes that it may use, and not where one of those is not proved; it takes what that process has made, where it ended well."""
     build, real = importlib.import_module("build"), importlib.import_module("build").TOP
     top, log, found = folder / "programs", folder / "log-of-programs", []
     (top / "gate").mkdir(parents=True)
-    rt = SimpleNamespace(in_lanes=in_turn, need=lambda _: 1)
+    guarded = SimpleNamespace(guarded=lambda: ["env", "ENDS=with it"])
+    rt = SimpleNamespace(in_lanes=in_turn, need=lambda _: 1, free=lambda: 9e9, processors=lambda: 2, rtlib=guarded)
     try:
         build.TOP = top
         for status, is_proved in ((0, True), (3, True), (0, False)):
             (top / "gate/build.py").write_text(
-                f"import os, sys\nprint(os.getcwd(), *sys.argv[1:], file=open({str(log)!r}, 'a'))\n"
+                f"import os, sys\nprint(os.getcwd(), *sys.argv[1:], os.environ['ENDS'], file=open({str(log)!r}, 'a'))\n"
                 f"open('crates/' + sys.argv[2] + '/out/' + sys.argv[2], 'w').write('new')\nsys.exit({status})\n")
             low = FakeCrate(name="low", below=list, count=lambda _: 1, build_rlib=lambda *_, anew, good=is_proved: not good)
             programs = [FakeCrate(name=name, below=lambda it=low: [it], count=lambda _: 1) for name in ("a", "b")]
@@ -79,7 +99,7 @@ def builds_each_program(folder):
             found.append((is_built, sorted(f"{it.name} {it.read_text()}" for it in bin_of.iterdir())))
     finally:
         build.TOP = real
-    called = sorted(f"{top} --one {name} 2" for name in ("a", "b") for _ in range(2))
+    called = sorted(f"{top} --one {name} 2 with it" for name in ("a", "b") for _ in range(2))
     return sorted(log.read_text().splitlines()) == called and found == [(True, ["a new", "b new"]), (False, []), (False, [])]
 
 
@@ -348,6 +368,7 @@ def installs_whole(folder):
 # What is tried, each in a folder of its own.
 ROWS = [(f"make {goal} fails with what it runs", functools.partial(make_fails_with, goal)) for goal in GOALS] + [
     (".ci/run runs the gate", ci_runs_the_gate), ("build.py proves each library", proves_each_library),
+    ("build.py gives the longest chain more", gives_the_longest_chain_more),
     ("build.py builds each program", builds_each_program), ("build.py builds what is named", builds_what_is_named),
     ("build.py proves a program", proves_a_program),
     ("library.py takes what the gate left", takes_what_the_gate_left),

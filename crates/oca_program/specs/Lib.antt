@@ -1,5 +1,4 @@
 pub mod Commands
 pub mod Faults
-pub mod Fields
 pub mod Options
 pub mod Sockets

@@ -1,12 +1,11 @@
-//! What the programs over the two ends have in common: why a run fails, with its exit status and what is printed of it;
-//! the words of a command line; the fields of a line, with their faults.
+//! What the programs over the two ends have in common: why a run fails, with its exit status and what is printed of it,
+//! and the words of a command line.
 //!
 //! A program's `main` takes its words by [`words_of`], and prints a [`Failure`] by [`report`]. [`options`] reads the
 //! values of the options that `clap` has found; [`socket`] binds an end.
 #![tactic(auto)]
 
 pub mod fault;
-pub mod field;
 pub mod form;
 pub mod options;
 pub mod socket;

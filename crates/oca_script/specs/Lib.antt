@@ -3,6 +3,7 @@ pub mod ObjectFaults
 pub mod Fields
 pub mod Escapes
 pub mod FieldAnswers
+pub mod LineFields
 pub mod Script
 pub mod Ends
 pub mod Printing

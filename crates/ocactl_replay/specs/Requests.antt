@@ -4,7 +4,7 @@ use Rattle.std.specs.Str.{bytes_eq}
 use Rattle.oca_types.specs.declared.words.Peer.{Peer}
 use Rattle.oca_types.specs.Peers.{RequestFields}
 use Rattle.oca_script.specs.Fields.{moment_of, peer_of, hex_of}
-use Rattle.oca_program.specs.Fields.{needs, u32_of, u16_of, u8_of}
+use Rattle.oca_script.specs.LineFields.{needs, u32_of, u16_of, u8_of}
 use Rattle.oca_script.specs.declared.fault.LineFault.{LineFault}
 use Rattle.oca_script.specs.declared.fault.LineFault.TheVariants as fault
 

@@ -7,9 +7,9 @@ ghost use Rattle.ocactl_replay.specs.Requests.{datagram_call_of, from_of, take_o
 ghost use Rattle.ocactl_replay.specs.PrivateRequests.{text_given, pair_given, texts_in, texts_given, request_read};
 ghost use Rattle.ocactl_replay.specs.PrivateRequests.{call_asked};
 
-use oca_program::field::{moment, u8_in, u16_in, u32_in};
 use oca_script::LineFault;
 use oca_script::field::{first_field, hex_bytes, peer};
+use oca_script::line_field::{moment, u8_in, u16_in, u32_in};
 use oca_types::{Handle, MethodId, Ono, Peer, Request};
 
 /// Room for the bytes of a field.

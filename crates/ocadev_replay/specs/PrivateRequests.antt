@@ -7,7 +7,7 @@ use Rattle.oca_script.specs.Fields.{moment_of, peer_of, hex_of, then_in, read_be
 use denote.Ref.{Bor}
 use Rattle.oca_types.specs.declared.words.Peer.{Peer}
 use Rattle.oca_device.specs.Events.{Event, Datagram, Tick}
-use Rattle.oca_program.specs.Fields.{needs}
+use Rattle.oca_script.specs.LineFields.{needs}
 use Rattle.ocadev_replay.specs.Requests.{asked_event}
 use Rattle.ocadev_replay.specs.declared.request.Fields.{Fields}
 use Rattle.ocadev_replay.specs.declared.request.Fields.TheVariants as fields

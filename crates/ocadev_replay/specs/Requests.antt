@@ -4,7 +4,7 @@ use Rattle.std.specs.Str.{bytes_eq}
 use Rattle.oca_script.specs.Fields.{moment_of, peer_of, hex_of}
 use Rattle.oca_script.specs.declared.fault.LineFault.{LineFault}
 use Rattle.oca_script.specs.declared.fault.LineFault.TheVariants.{Form, Moment, Peer, Hex}
-use Rattle.oca_program.specs.Fields.{needs}
+use Rattle.oca_script.specs.LineFields.{needs}
 use Rattle.oca_device.specs.Events.{Event, Datagram, Tick}
 
 abbrev pub is_quiet : List ℕ → Bool

@@ -7,9 +7,9 @@ ghost use Rattle.ocadev_replay.specs.Requests.{is_quiet as quiet_word, tick_of, 
 ghost use Rattle.ocadev_replay.specs.PrivateRequests.{AreFields, FieldsWithin, begun, moment_and_peer_of};
 ghost use Rattle.ocadev_replay.specs.PrivateRequests.{datagram_after, event_asked};
 
-use oca_program::field::moment;
 use oca_script::LineFault;
 use oca_script::field::{first_field, hex_bytes, number_before, peer, peer_before, split_at_byte};
+use oca_script::line_field::moment;
 use oca_types::Peer;
 
 /// Room for the bytes of a datagram in a script.

@@ -1,17 +1,17 @@
-//! The fields of a line, or the fault that they have.
+//! The fields that a line must have, or the fault that the line has.
 ghost use Rattle.std.specs.Prelude.{◌≡◌};
 ghost use Rattle.std.specs.Option.{ok_or};
 ghost use Rattle.oca_script.specs.Fields.{moment_of};
-ghost use Rattle.oca_program.specs.Fields.{u32_of, u16_of, u8_of};
+ghost use Rattle.oca_script.specs.LineFields.{u32_of, u16_of, u8_of};
 
-use oca_script::LineFault;
-use oca_script::field::number;
+use super::fault::LineFault;
+use super::field::{self, number};
 
 /// A moment in milliseconds: 1 to 20 digits, in 64 bits.
 pub fn moment(text: &[u8]) -> Result<u64, LineFault>
     ensures { result ≡ ok_or (moment_of text.now) LineFault.Moment }
 {
-    oca_script::field::moment(text).ok_or(LineFault::Moment)
+    field::moment(text).ok_or(LineFault::Moment)
 }
 
 /// A number of 1 to 10 digits, in 32 bits.
