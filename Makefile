@@ -31,7 +31,7 @@ demo:
 	@python3 examples/run.py
 
 build:
-	@echo "Proving and building $(PROGRAMS) with the crates below them: the first time some 30 minutes on four processors,"
+	@echo "Proving and building $(PROGRAMS) with the crates below them: the first time some 20 minutes on four processors,"
 	@echo "after an edit mostly seconds to minutes. Each crate is named as it ends."
 	@$(BUILD) $(PROGRAMS)
 	@python3 examples/run.py bin/ocadev
