@@ -87,7 +87,7 @@ def build_all(rt, libraries, programs=(), folder=None):
         if not all(given[it.name, "proof"] for it in crate.below()):
             return False
         is_longest = all(0.95 * behind[it.name] <= behind[crate.name] for it in crates if it not in ended)
-        if is_longest and rt.free() > 1.6 * rt.need(crate):
+        if is_longest and rt.free() > 1.6 * rt.need(crate):  # what the toolchain reckons with for a second process
             jobs = max(jobs, min(4, rt.processors()))
         is_built, seconds = build_program(rt, crate.name, folder, jobs) if crate in programs else build_library(crate, jobs)
         ended.append(crate)
