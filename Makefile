@@ -1,5 +1,6 @@
 # make demo    builds without proving, runs the examples and compares what they print: about a minute
-# make build   proves and builds the programs into bin
+# make build   proves and builds ocadev and ocactl into bin
+# make ocapanel   proves and builds the browser's panel, over the same crates
 # make test    the gate: every proof from nothing, must-fail edits, tests, programs, and the steps of gate/steps
 # make lossy   both programs over a network that loses, doubles, delays and reorders, one command at a time and 16 under
 #              way; and why the window must be 31 then: COMMANDS=200 SEED=1
@@ -9,7 +10,7 @@
 # make bench   instructions, memory by size, requests a second beside bare loops, with the goals
 # make panel-trial   the panel in a real browser, headless Chromium: clicks, drags, locks, loss, a restart, 4,096 objects
 # make install puts the programs, their manual pages and the library for C below PREFIX (of DESTDIR); what is not built yet is
-#              proved and built first (make build, make library), and built anew where a source is newer
+#              proved and built first (make build ocapanel library), and built anew where a source is newer
 # make library proves and builds the library for C: TARGET=aarch64-unknown-linux-gnu for another kind of processor, which
 #              `make install-library` then puts into a folder of its own
 # make uninstall takes away what was installed
@@ -21,20 +22,25 @@ SEED = 1
 PREFIX = /usr/local
 TARGET = x86_64-unknown-linux-gnu
 LIBRARY = crates/oca_c/out/$(TARGET)/liboca_c.a
-PROGRAMS = ocadev ocactl ocapanel
+PROGRAMS = ocadev ocactl
 BUILD = python3 gate/build.py bin
 SOURCES = $(shell find crates \( -name out -o -name '*_tests' \) -prune -o \( -name '*.rt' -o -name '*.antt' \) -print 2>/dev/null)
-.PHONY: build demo test lossy fuzz world law bench panel-trial library install install-library uninstall clean
+.PHONY: build ocapanel demo test lossy fuzz world law bench panel-trial library install install-library uninstall clean
 
 demo:
 	@echo "Building by 'rt try' and running the examples; nothing is proved yet by that. This takes about a minute."
 	@python3 examples/run.py
 
 build:
-	@echo "Proving and building $(PROGRAMS) with the crates below them: the first time some 20 minutes on four processors,"
-	@echo "after an edit mostly seconds to minutes. Each crate is named as it ends."
+	@echo "Proving and building $(PROGRAMS) with the crates below them: the first time some 15 minutes on four processors,"
+	@echo "after an edit only the crates that it changes and those above them. Each crate is named as it ends."
 	@$(BUILD) $(PROGRAMS)
 	@python3 examples/run.py bin/ocadev
+
+ocapanel:
+	@echo "Proving and building ocapanel with the crates below it: some 5 minutes on four processors where make build has run,"
+	@echo "after an edit only the crates that it changes and those above them. Each crate is named as it ends."
+	@$(BUILD) ocapanel
 
 test:
 	@python3 gate/run.py
@@ -57,7 +63,8 @@ law:
 	@python3 tools/law.py bin $(HISTORIES) $(SEED)
 
 panel-trial:
-	@test -x bin/ocapanel || $(MAKE) build
+	@test -x bin/ocactl || $(MAKE) build
+	@test -x bin/ocapanel || $(MAKE) ocapanel
 	@python3 tools/panel_trial.py bin
 
 bench: build
@@ -68,11 +75,14 @@ bench: build
 
 export PREFIX DESTDIR LIBRARY
 
-install: install-library bin/ocapanel
+install: install-library bin/ocadev bin/ocactl bin/ocapanel
 	@sh gate/install.sh install programs
 
-bin/ocapanel: $(SOURCES)
+bin/ocadev bin/ocactl &: $(SOURCES)
 	@$(MAKE) build
+
+bin/ocapanel: $(SOURCES) | bin/ocactl
+	@$(MAKE) ocapanel
 
 install-library: $(LIBRARY)
 	@sh gate/install.sh install library $(TARGET)

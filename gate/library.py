@@ -5,7 +5,7 @@ Usage: library.py [TARGET [CPU]]     TARGET is x86_64-unknown-linux-gnu or aarch
 
 Writes crates/oca_c/out/TARGET/liboca_c.a, for every processor of that kind unless CPU names one (x86-64-v2, x86-64-v3;
 neoverse-v2). Crates that the gate has just proved and left are taken as they are where no source has changed since,
-others are built over kept work. An archive that stood there before is taken away first. It is proved by as many processes
+else all are built as `make build` does it. An archive that stood there before is taken away first. It is proved by as many processes
 as there are processors, or as LIBRARY_JOBS says: one takes less of a busy machine."""
 import os
 import sys
@@ -47,11 +47,14 @@ def main():
     crate = {it.name: it for it in rt.rtlib.crates_below(str(build.TOP))}["oca_c"]
     held = rt.rtlib.lock([*crate.below(), crate])
     is_left = all(is_left_by_the_gate(it, rt.rtlib.files_of) for it in crate.below())
-    if not is_left and not build.build_all(rt, set(crate.below())):
-        return 1
     os.makedirs(f"{crate.folder}/out/{target}", exist_ok=True)
     words = ["--jobs", os.environ.get("LIBRARY_JOBS") or str(rt.processors()), "--target", target, "--cpu", cpu]
-    status = compiled(crate, words, f"{crate.folder}/out/{target}/liboca_c.a")
+    with build.in_memory(rt):
+        if not is_left:
+            build.apart(crate.below())
+            if not build.build_all(rt, set(crate.below())):
+                return 1
+        status = compiled(crate, words, f"{crate.folder}/out/{target}/liboca_c.a")
     for it in held:
         os.close(it)
     return status

@@ -225,9 +225,10 @@ class Early:
 def of_ci(steps, others, room):
     """Runs `rt ci`, and beside it, in this pool, the steps that begin early. Answers its counts, and the steps that have begun.
     The crate that most wait for is proved before, by all processors; `rt ci` takes it as it is kept then, or says itself what
-    is wrong with it. Where RT_JOBS says how many checks run at once, it is not."""
+    is wrong with it. Where RT_JOBS says how many checks run at once, it is not; nor where CI is true, since `rt ci` then
+    refuses names."""
     early, first = Early(steps, others, room), waited_for()
-    if first and lanes() > 1 and not os.environ.get("RT_JOBS"):
+    if first and lanes() > 1 and not os.environ.get("RT_JOBS") and os.environ.get("CI") != "true":
         watched(f"rt ci {first}", 1)
     count = watched(f"RT_JOBS={lanes()} rt ci", least_of_ci(), early.note)
     early.add(ENDED)
@@ -250,6 +251,12 @@ def run_steps(parts, others, early):
     return counts + show_each(beside)
 
 
+def writes():
+    """Where what this starts writes what it removes again. In a work tree of git, `rt ci` moves there what the crates keep, and would have
+    to copy it."""
+    return build.in_memory(build.toolchain()) if (TOP / ".git").is_dir() else contextlib.nullcontext()
+
+
 def refused(steps):
     """What is wrong with the lines of the steps, a line each."""
     wrong = [f"a step is no 'LEAST MINUTES COMMAND', with LEAST above 0: {step.command}" for step in steps if not step.is_read]
@@ -268,10 +275,10 @@ def main(words):
     for line in wrong:
         print(f"gate: FAILED: {line}", flush=True)
     parts = [[step for step in part if step.is_read] for part in parts]
-    with tempfile.TemporaryDirectory() as room, ThreadPoolExecutor() as others:
+    with writes(), tempfile.TemporaryDirectory() as room, ThreadPoolExecutor() as others:
         early = {}
         if not words:
-            print(f"gate: every proof from nothing, then {len(steps)} steps: some 50 minutes on four processors. "
+            print(f"gate: every proof from nothing, then {len(steps)} steps: some 40 minutes on four processors. "
                   "Each crate and each step is shown as it ends.", flush=True)
             count, early = of_ci([step for part in parts for step in part], others, room)
             counts.append(count)

@@ -21,7 +21,7 @@ from types import SimpleNamespace
 import run
 import selftest_builds
 import selftest_tools
-from selftest_builds import FakeCrate
+from selftest_builds import FakeCrate, memory_at, without, writes
 
 HERE = Path(__file__).resolve().parent
 GOOD = "3 1 echo '3 passed, 0 failed'"
@@ -202,10 +202,11 @@ def knows_what_is_waited_for(folder):
 def counts_all():
     """The whole gate passes only where `rt ci`, its steps and their list do: each of them is made to fail alone. It calls
     `rt ci` without other words, on as many lanes as there are, for as many checks as that is to pass, and every step of
-    the file, as it stands there; before, where nothing says how many lanes there are, `rt ci` of the crate that all others
-    wait for, whose failure is left to the other call."""
-    real, said = (run.watched, run.run_steps, run.left_out, run.lanes, run.waited_for), os.environ.pop("RT_JOBS", None)
-    run.waited_for = lambda: "a"
+    the file, as it stands there; before, where nothing says how many lanes there are and CI is not true, `rt ci` of the
+    crate that all others wait for, whose failure is left to the other call."""
+    real = run.watched, run.run_steps, run.left_out, run.lanes, run.waited_for
+    run.waited_for, toolchain, places = lambda: "a", run.build.toolchain, set()
+    run.build.toolchain = lambda: SimpleNamespace(free=lambda: 99e9, processors=lambda: 4)
     parts = run.paragraphs(HERE / "steps")
     steps = [[(step.least, step.minutes, step.command) for step in part] for part in parts]
     called = [("RT_JOBS=3 rt ci", run.least_of_ci()), (steps, {}), (sum(steps, []), run.TOP / "tools")]
@@ -213,25 +214,25 @@ def counts_all():
     words = lambda steps: [(it.least, it.minutes, it.command) for it in steps]
     try:
         found, asked = [], []
-        for of_ci, of_steps, missing, lanes in (((3, 0), [(5, 0)], [], 3), ((3, 1), [(5, 0)], [], 3), ((3, 0), [(5, 1)], [], 3),
-                                                ((3, 0), [(5, 0)], ["x.py"], 3), ((3, 0), [(5, 0)], [], 1), ((3, 0), [(5, 0)], [], 0)):
-            run.lanes = lambda: lanes or 3
-            if not lanes:
-                os.environ["RT_JOBS"] = "3"
-            run.watched = lambda command, least, note=None: asked.append((command, least)) or (of_ci if note else (0, 1))
+        for of_ci, of_steps, missing, lanes, said in (
+                ((3, 0), [(5, 0)], [], 3, {}), ((3, 1), [(5, 0)], [], 3, {"CI": "false"}), ((3, 0), [(5, 1)], [], 3, {}),
+                ((3, 0), [(5, 0)], ["x.py"], 3, {}), ((3, 0), [(5, 0)], [], 1, {}), ((3, 0), [(5, 0)], [], 3, {"RT_JOBS": "3"}),
+                ((3, 0), [(5, 0)], [], 3, {"CI": "true"})):
+            run.lanes = lambda: lanes
+            run.watched = lambda command, least, note=None: asked.append((command, least)) or places.add(writes()) or (of_ci if note else (0, 1))
             run.run_steps = lambda given, _, early: asked.append(([words(part) for part in given], early)) or of_steps
             run.left_out = lambda given, tools: asked.append((words(given), tools)) or missing
             told = io.StringIO()
-            with contextlib.redirect_stdout(told):
+            with tempfile.TemporaryDirectory() as memory, without("CI"), memory_at(memory), contextlib.redirect_stdout(told):
+                os.environ |= said
                 found.append((run.main([]), run.last_line(told.getvalue())))
         alone = [("RT_JOBS=1 rt ci", called[0][1]), *called[1:]]
-        is_asked = sorted(asked, key=str) == sorted((first + called) * 4 + alone + called, key=str)
-        return is_asked and found == [(0, "8 passed, 0 failed")] + [(1, "8 passed, 1 failed")] * 3 + [(0, "8 passed, 0 failed")] * 2
+        is_asked = sorted(asked, key=str) == sorted((first + called) * 4 + alone + called * 2, key=str)
+        is_asked = is_asked and places == {" in memory" if (run.TOP / ".git").is_dir() else ""}
+        return is_asked and found == [(0, "8 passed, 0 failed")] + [(1, "8 passed, 1 failed")] * 3 + [(0, "8 passed, 0 failed")] * 3
     finally:
         run.watched, run.run_steps, run.left_out, run.lanes, run.waited_for = real
-        os.environ.pop("RT_JOBS", None)
-        if said is not None:
-            os.environ["RT_JOBS"] = said
+        run.build.toolchain = toolchain
 
 
 def knows_the_lanes():
@@ -286,18 +287,28 @@ def ends_all_that_hangs(folder):
     return not place.exists()
 
 
+def text_of(file):
+    """The text of a file of /proc, which may be gone."""
+    with contextlib.suppress(OSError):
+        return file.read_text(errors="replace")
+    return ""
+
+
 def ends_when_told(folder, number):
     """A gate that a signal ends has not passed, and what its steps have started ends with it."""
-    begun, late, file = folder / f"begun-{number}", folder / f"late-{number}", folder / "long-steps"
-    file.write_text(f"1 1 touch {begun}; sleep 2; touch {late}; echo '1 passed, 0 failed'\n")
+    begun, file, seconds = folder / f"begun-{number}", folder / "long-steps", f"{60 + number}.{os.getpid()}"
+    file.write_text(f"1 2 touch {begun}; sleep {seconds}; echo '1 passed, 0 failed'\n")
     gate = subprocess.Popen([sys.executable, str(HERE / "run.py"), "steps", str(file)], stdout=subprocess.DEVNULL)
+    sleeps = lambda: any(f"sleep\0{seconds}\0" == text_of(it) for it in Path("/proc").glob("[0-9]*/cmdline"))
     until = time.monotonic() + 30
-    while not begun.exists() and time.monotonic() < until:
+    while not (begun.exists() and sleeps()) and time.monotonic() < until:
         time.sleep(0.05)
+    is_begun = sleeps()
     gate.send_signal(number)
-    status = gate.wait(30)
-    time.sleep(3)
-    return begun.exists() and not late.exists() and status == 128 + number
+    status, until = gate.wait(30), time.monotonic() + 30
+    while sleeps() and time.monotonic() < until:
+        time.sleep(0.05)
+    return is_begun and not sleeps() and status == 128 + number
 
 
 def builds_as_asked():
@@ -313,12 +324,12 @@ def builds_as_asked():
         return status
 
     with tempfile.TemporaryDirectory() as folder:
-        lower = FakeCrate(name="lower", rlib=f"{folder}/none", below=list)
+        lower = FakeCrate(name="lower", folder=folder, rlib=f"{folder}/none", below=list)
         crate = FakeCrate(name="oca_c", folder=folder, below=lambda: [lower], compile=compiled)
         tools = SimpleNamespace(crates_below=lambda _: [crate, lower], lock=lambda _: [], files_of=lambda _: [])
         real = library.build.toolchain, library.build.build_all, sys.argv
         try:
-            library.build.toolchain = lambda: SimpleNamespace(rtlib=tools, processors=lambda: 1)
+            library.build.toolchain = lambda: SimpleNamespace(rtlib=tools, free=lambda: 0, processors=lambda: 1)
             for status, is_built, words in ((0, True, []), (0, True, ["aarch64-unknown-linux-gnu"]), (7, True, []),
                                             (0, True, ["x86_64-unknown-linux-gnu", "x86-64-v3"]), (0, False, [])):
                 library.build.build_all = lambda *_, good=is_built: good
@@ -634,7 +645,7 @@ def told_of_clause(edits, crate, clause, narrow, whole, wanted):
 # word takes some of them away unseen.
 PROGRAMS = "ocadev ocactl ocapanel trials amplifier panel"
 FEWEST = {
-    "python3 gate/selftest.py": 102,
+    "python3 gate/selftest.py": 106,
     f"mkdir -p bin && for name in {PROGRAMS}; do cp crates/$name/out/$name bin/ || exit 1; done": 1,
     "python3 tools/c_library.py bin": 26600, "python3 examples/run.py bin/ocadev": 4, "python3 tools/runs.py bin": 354,
     "python3 tools/ctl_runs.py bin": 123, "python3 tools/unreliable.py bin": 3746, "python3 tools/damaged.py bin": 103936,
@@ -806,6 +817,13 @@ def tools_with_checks():
 
 
 def main():
+    """Runs the rows, with a TMPDIR as the gate gives its steps one, so that a row finds by itself what it finds in the gate."""
+    with tempfile.TemporaryDirectory() as room:
+        os.environ["TMPDIR"], tempfile.tempdir = room, None
+        return run_rows()
+
+
+def run_rows():
     passed = failed = 0
     with tempfile.TemporaryDirectory() as room:
         tried = [(what, is_as_wanted(Path(room), *case)) for what, *case in CASES]

@@ -8,6 +8,9 @@ import os
 import shutil
 import subprocess
 import sys
+import tempfile
+import threading
+import time
 from pathlib import Path
 from types import SimpleNamespace
 
@@ -29,78 +32,207 @@ def in_turn(tasks):
     return given
 
 
-def proves_each_library(_):
-    """`build.py` has each library checked once, after those below it and not where one of them fails, as a check that
-    keeps its work does it; one is built where its check ends well, and all are where each is."""
-    build = importlib.import_module("build")
-    rt = SimpleNamespace(in_lanes=in_turn, need=lambda _: 1, free=lambda: 9e9, processors=lambda: 2)
-    found = []
-    for failing in ("", "a", "b", "c", "d"):
-        asked = []
+def sum_of(file):
+    """A sum of a file, or what stands for one that is not there."""
+    return Path(file).read_text() if Path(file).is_file() else "none"
 
-        def made(name, *below):
-            build_rlib = lambda flags, anew: asked.append((name, flags, anew)) or 3 * (name == failing)
-            return FakeCrate(name=name, below=lambda: [*below], count=lambda _: 1, build_rlib=build_rlib)
 
+def fake_tools(processors=2, free=9e9, **more):
+    """The toolchain's command, as far as a build asks it."""
+    tools = SimpleNamespace(RATTLE="rattle", sum_of=sum_of, **more)
+    return SimpleNamespace(free=lambda: free, processors=lambda: processors, rtlib=tools)
+
+
+@contextlib.contextmanager
+def without(*names):
+    """While this lasts the environment has none of these."""
+    said = {name: os.environ.pop(name) for name in names if name in os.environ}
+    try:
+        yield
+    finally:
+        for name in names:
+            os.environ.pop(name, None)
+        os.environ |= said
+
+
+def fake_library(folder, name, below, asked, status=lambda: 0):
+    """A crate of which a library is built, in a folder of its own: what is asked of the prover is noted, and each time another library is
+    made, where the status is 0."""
+    rlib, crate = Path(folder, name, "out/statements", f"{name}.rlib"), None
+
+    def call(*words):
+        asked.append((name, *words))
+        print(f"said of {name}", file=crate.out)
+        if status() == 0:
+            rlib.mkdir()
+            (rlib / "format").write_text(f"made at {time.monotonic_ns()}")
+        return status()
+
+    crate = FakeCrate(name=name, folder=str(Path(folder, name)), below=lambda: [*below], count=lambda _: 1, makes_rlib=lambda: True,
+                      stamp=lambda: "sources", words=lambda flags, keeps: [*flags, f"keeps={keeps}"], call=call)
+    return crate
+
+
+def built(build, crates, **more):
+    """Whether all are built, and what is printed meanwhile."""
+    build.apart(crates)
+    with without("RT_JOBS"), contextlib.redirect_stdout(io.StringIO()) as said:
+        return build.build_all(fake_tools(**more), {*crates}), said.getvalue()
+
+
+def proves_each_library(folder):
+    """`build.py` has each library checked once, after those below it and not where one of them fails, from nothing and for its statements;
+    one is built where its check ends well, and all are where each is."""
+    build, found = importlib.import_module("build"), []
+    for at, failing in enumerate(("", "a", "b", "c", "d")):
+        asked, top = [], folder / f"libraries-{at}"
+        made = lambda name, *below: fake_library(top, name, below, asked, lambda: 3 * (name == failing))
         a, d = made("a"), made("d")
         b = made("b", a)
-        with contextlib.redirect_stdout(io.StringIO()):
-            is_built = build.build_all(rt, {made("c", a, b), b, a, d})
+        c = made("c", a, b)
+        is_built, said = built(build, [c, b, a, d])
         names = "".join(name for name, *_ in asked)
         in_order = all(names.index(low) < names.index(high) for low, high in ("ab", "bc") if high in names)
         found.append((is_built, "".join(sorted(names)), in_order))
-        found.append(all((flags, anew) == (["--jobs", "2"], False) for _, flags, anew in asked))
-    wanted = [(True, "abcd"), (False, "ad"), (False, "abd"), (False, "abcd"), (False, "abcd")]
-    return found == [it for one in wanted for it in ((*one, True), True)]
+        found += [(f"said of {it}\n" in said, f": {it} NOT PROVED," in said) == (it == failing,) * 2 for it in "abcd"]
+        for name, *words in asked:
+            jobs, to = words.pop(3), f"{top}/{name}/out/statements/{name}.rlib"
+            found.append(jobs in "12" and words == ["rattle", "build", "--jobs", "keeps=False", "--statements", "-o", to])
+    asked = []
+    built(build, [fake_library(folder / "libraries-alone", "a", [], asked)], processors=4, free=99e9)
+    found.append(len(asked) == 1 and asked[0][3:5] == ("--jobs", "4"))
+    wanted = [(True, "abcd", True), (False, "ad", True), (False, "abd", True), (False, "abcd", True), (False, "abcd", True)]
+    return [it for it in found if it is not True] == wanted
 
 
-def gives_the_longest_chain_more(_):
-    """`build.py` has a crate that no longer chain stands beside checked by as many processes as there are processors, four
-    at most, where there is memory for that; others, and each where there is not, by as many as the lanes say."""
+def takes_what_stands(folder):
+    """`build.py` takes a library that it has built of the same sources over the same libraries; it builds what is gone or another, and what
+    stands above it; and what changed while it was built is not built, nor what stands above it."""
+    build, asked = importlib.import_module("build"), []
+    made = lambda name, *below: fake_library(folder / "standing", name, below, asked)
+    a, d = made("a"), made("d")
+    b = made("b", a)
+    c, e = made("c", a, b), made("e", a, d)
+    found, crates, call = [], [a, b, c, d, e], b.call
+
+    def again(change=lambda: None):
+        asked.clear()
+        change()
+        is_built, said = built(build, crates)
+        found.append((is_built, "".join(sorted(name for name, *_ in asked)), "NOT BUILT, begin again" in said))
+
+    def changed_meanwhile(*words):
+        b.stamp = lambda: "third"
+        return call(*words)
+
+    again()
+    again()
+    again(lambda: setattr(b, "stamp", lambda: "second"))
+    again(lambda: Path(a.rlib, "format").write_text("another"))
+    again(lambda: shutil.rmtree(d.rlib))
+    again(lambda: (setattr(b, "stamp", lambda: "of before"), setattr(b, "call", changed_meanwhile)))
+    again(lambda: setattr(b, "call", call))
+    again()
+    wanted = [(True, it, False) for it in ("abcde", "", "bc", "abce", "de")] + [(False, "b", True), (True, "bc", False), (True, "", False)]
+    return found == wanted
+
+
+# Which crates are begun, in their order, where so many of so many processors are idle and others wait for these crates longest;
+# and with how many processes.
+SHARES = [("ab", 4, 4, "", "a2 b2"), ("ab", 4, 4, "a", "a3 b1"), ("abcde", 4, 4, "", "a1 b1 c1 d1"), ("abcde", 4, 4, "b", "a1 b3"),
+          ("a", 8, 8, "", "a4"), ("a", 8, 8, "a", "a4"), ("ab", 2, 2, "a", "a1 b1"), ("ab", 1, 4, "a", "a1"), ("abc", 0, 4, "", ""),
+          ("a", 1, 1, "a", "a1"), ("", 4, 4, "", ""), ("ab", 3, 4, "ab", "a3")]
+
+
+def shares_processors(_):
+    """`build.py` begins as many crates as processors are idle, those first that others wait for longest, with processes for the processors
+    that no other waits for; and never more in all, nor one before those below it."""
     build, found = importlib.import_module("build"), []
-    for processors, free in ((8, 2e9), (3, 2e9), (8, 1e9)):
-        asked = []
+    for ready, idle, number, long, wanted in SHARES:
+        given = build.shares([*ready], idle, number, lambda it, its=long: it in its)
+        found.append(" ".join(f"{name}{jobs}" for name, jobs in given) == wanted)
+    made = lambda name, seconds, *below: FakeCrate(name=name, below=lambda: [*below], count=lambda _: 10 * seconds)
+    a, b, c = (made(name, seconds) for name, seconds in (("a", 1), ("b", 5), ("c", 2)))
+    crates = [a, b, c, made("d", 9, a, c), made("e", 1, a, b, c)]
+    for number in (1, 2, 4):
+        begun, used, most, lock = [], [0], [0], threading.Lock()
 
-        def made(name, seconds, *below):
-            build_rlib = lambda flags, anew: asked.append((name, flags[1])) or 0
-            return FakeCrate(name=name, below=lambda: [*below], count=lambda _: 10 * seconds, build_rlib=build_rlib)
+        def noted(crate, jobs):
+            with lock:
+                begun.append(crate.name)
+                used[0] += jobs
+                most[0] = max(most[0], used[0])
+            time.sleep(0.01)
+            with lock:
+                used[0] -= jobs
+            return True
 
-        low, alone = made("low", 2), made("alone", 10)
-        rt = SimpleNamespace(in_lanes=in_turn, need=lambda _: 1e9, free=lambda: free, processors=lambda: processors)
-        with contextlib.redirect_stdout(io.StringIO()):
-            build.build_all(rt, [low, alone, made("high", 9, low)])
-        found.append(asked)
-    return found == [[("alone", "2"), ("low", most), ("high", most)] for most in "432"]
+        is_made = build.side_by_side(crates, number, noted)
+        found.append(is_made and sorted(begun) == [*"abcde"] and most[0] <= number and begun.index("d") > max(map(begun.index, "ac")))
+        found.append(number > 1 or begun == ["c", "a", "d", "b", "e"])
+    given = []
+    build.side_by_side(crates, 4, lambda crate, jobs: given.append((crate.name, jobs)) or True)
+    found.append((dict(given)["c"], dict(given)["a"]) == (3, 1))
+    real, number = build.side_by_side, []
+    try:
+        build.side_by_side = lambda _, most, make: number.append(most)
+        with without("RT_JOBS"):
+            for processors, free in ((4, 9e9), (4, 3e9), (2, 99e9)):
+                build.build_all(fake_tools(processors, free), [])
+            for said in ("3", "0"):
+                os.environ["RT_JOBS"] = said
+                build.build_all(fake_tools(4, 99e9), [])
+    finally:
+        build.side_by_side = real
+    named = made("oca_tree", 1)
+    return all(found) and number == [2, 1, 2, 3, 4] and build.work(named) == build.SECONDS["oca_tree"] and build.work(a) == 1
 
 
 def builds_each_program(folder):
     """`build.py` has each program built by a process of its own, which ends with it, once the libraries below it are, with the
-    processes that it may use, and not where one of those is not proved; it takes what that process has made, where it ended well."""
+    processes that it may use, and not where one of those is not proved; it takes what that process has made, where it ended well, and
+    what stands as it would be built: not where its sources, a library below it or itself are others."""
     build, real = importlib.import_module("build"), importlib.import_module("build").TOP
     top, log, found = folder / "programs", folder / "log-of-programs", []
     (top / "gate").mkdir(parents=True)
-    guarded = SimpleNamespace(guarded=lambda: ["env", "ENDS=with it"])
-    rt = SimpleNamespace(in_lanes=in_turn, need=lambda _: 1, free=lambda: 9e9, processors=lambda: 2, rtlib=guarded)
+    for place in (top / "crates/a/out", top / "crates/b/out", folder / "bin-of-both"):
+        place.mkdir(parents=True)
+
+    def again(status, is_proved=True, stamps="", lost=""):
+        (top / "gate/build.py").write_text(
+            f"import os, sys\nprint(os.getcwd(), *sys.argv[1:], os.environ['ENDS'], file=open({str(log)!r}, 'a'))\n"
+            f"print('said of', sys.argv[2], file=sys.stderr)\n"
+            f"open('crates/' + sys.argv[2] + '/out/' + sys.argv[2], 'w').write('made {len(found)}')\nsys.exit({status})\n")
+        low = fake_library(top / "crates", "low", [], [], lambda: int(not is_proved))
+        programs = [FakeCrate(name=name, folder=str(top / "crates" / name), below=lambda: [low], count=lambda _: 1,
+                              makes_rlib=lambda: False, stamp=lambda it=name: "second" if it in stamps else "sources") for name in ("a", "b")]
+        build.apart([low, *programs])
+        if lost:
+            Path(top, "crates", lost).write_text("old")
+        log.write_text("")
+        with without("RT_JOBS"), contextlib.redirect_stdout(io.StringIO()) as said:
+            tools = fake_tools(4, 99e9, guarded=lambda: ["env", "ENDS=with it"])
+            is_built = build.build_all(tools, {low}, programs, folder / "bin-of-both")
+        asked = "".join(sorted(line.removeprefix(f"{top} --one ") for line in log.read_text().split("\n")))
+        has = " ".join(sorted(f"{it.name}: {it.read_text()}" for it in (folder / "bin-of-both").iterdir()))
+        is_told = ("said of a\n" in said.getvalue()) == (status != 0)
+        found.append((is_built, asked, has, is_told))
+
     try:
         build.TOP = top
-        for status, is_proved in ((0, True), (3, True), (0, False)):
-            (top / "gate/build.py").write_text(
-                f"import os, sys\nprint(os.getcwd(), *sys.argv[1:], os.environ['ENDS'], file=open({str(log)!r}, 'a'))\n"
-                f"open('crates/' + sys.argv[2] + '/out/' + sys.argv[2], 'w').write('new')\nsys.exit({status})\n")
-            low = FakeCrate(name="low", below=list, count=lambda _: 1, build_rlib=lambda *_, anew, good=is_proved: not good)
-            programs = [FakeCrate(name=name, below=lambda it=low: [it], count=lambda _: 1) for name in ("a", "b")]
-            bin_of = folder / f"bin-{status}-{is_proved}"
-            for place in (top / "crates/a/out", top / "crates/b/out", bin_of):
-                place.mkdir(parents=True, exist_ok=True)
-            for name in ("a", "b"):
-                (top / f"crates/{name}/out/{name}").write_text("old")
-            with contextlib.redirect_stdout(io.StringIO()):
-                is_built = build.build_all(rt, {low}, programs, bin_of)
-            found.append((is_built, sorted(f"{it.name} {it.read_text()}" for it in bin_of.iterdir())))
+        again(0)
+        again(0)
+        again(0, stamps="a")
+        again(0, stamps="a", lost="b/out/b")
+        again(0, stamps="a", lost="low/out/statements/low.rlib/format")
+        again(3, stamps="b")
+        again(0, False, lost="low/out/statements/low.rlib/format")
     finally:
         build.TOP = real
-    called = sorted(f"{top} --one {name} 2 with it" for name in ("a", "b") for _ in range(2))
-    return sorted(log.read_text().splitlines()) == called and found == [(True, ["a new", "b new"]), (False, []), (False, [])]
+    a, b = "a 3 with it", "b 1 with it"
+    return found == [(True, a + b, "a: made 0 b: made 0", True), (True, "", "a: made 0 b: made 0", True), (True, a, "a: made 2 b: made 0", True),
+                     (True, b, "a: made 2 b: made 3", True), (True, a + b, "a: made 4 b: made 4", True), (False, a + b, "a: made 4 b: made 4", True),
+                     (False, "", "a: made 4 b: made 4", True)]
 
 
 def proves_a_program(folder):
@@ -121,28 +253,30 @@ def proves_a_program(folder):
     finally:
         build.toolchain, sys.argv = real, argv
         os.chdir(place)
-    return found == [*map(len, with_words)] and asked == [(name, ["--jobs", "3"], words) for name, words in with_words.items()]
+    is_apart = all(it.rlib == f"{it.folder}/out/statements/{it.name}.rlib" for it in crates)
+    return is_apart and found == [*map(len, with_words)] and asked == [(name, ["--jobs", "3"], words) for name, words in with_words.items()]
 
 
 def builds_what_is_named(folder):
     """`build.py` builds all libraries below the programs that are named, and these, with the folders of all of them locked;
     no name, or one that crates.txt has not, is a fault."""
     build, place, argv = importlib.import_module("build"), Path.cwd(), sys.argv
-    x, y, z, other = (FakeCrate(name=name, below=list) for name in ("x", "y", "z", "other"))
-    crates = [x, y, z, other, FakeCrate(name="a", below=lambda: [x, y]), FakeCrate(name="b", below=lambda: [y, z])]
+    x, y, z, other = (FakeCrate(name=name, folder=name, below=list) for name in ("x", "y", "z", "other"))
+    a, b = FakeCrate(name="a", folder="a", below=lambda: [x, y]), FakeCrate(name="b", folder="b", below=lambda: [y, z])
+    crates = [x, y, z, other, a, b]
     real = build.toolchain, build.build_all
     found, asked = [], []
     named = lambda its: "".join(sorted(it.name for it in its))
     lock = lambda its: asked.append("locks " + named(its)) or []
     tools = SimpleNamespace(crates_below=lambda _: crates, lock=lock)
     try:
-        build.toolchain = lambda: SimpleNamespace(rtlib=tools)
+        build.toolchain = lambda: SimpleNamespace(rtlib=tools, free=lambda: 99e9, processors=lambda: 1)
         for is_proved, names in ((True, "ab"), (True, "b"), (False, "ab"), (True, "ac"), (True, "")):
-            said = lambda low, programs, to: asked.append(f"{named(low)} {named(programs)} to {to.name}")
+            said = lambda low, programs, to: asked.append(f"{named(low)} {named(programs)} to {to.name}" + writes())
             build.build_all = lambda _, *those, good=is_proved: said(*those) or good
             sys.argv = ["build.py", str(folder / "named"), *names]
             try:
-                with contextlib.redirect_stdout(io.StringIO()):
+                with memory_at(folder / "memory-of-named"), contextlib.redirect_stdout(io.StringIO()):
                     status = build.main()
             except SystemExit as ended:
                 status = int(ended.code not in (None, 0))
@@ -152,27 +286,84 @@ def builds_what_is_named(folder):
         build.toolchain, build.build_all = real
         sys.argv = argv
         os.chdir(place)
-    return found == [(0, ["locks abxyz", "xyz ab to named"]), (0, ["locks byz", "yz b to named"]),
-                     (1, ["locks abxyz", "xyz ab to named"]), (1, []), (1, [])]
+    is_apart = all(it.rlib == f"{it.name}/out/statements/{it.name}.rlib" for it in crates)
+    both = ["locks abxyz", "xyz ab to named in memory"]
+    return is_apart and found == [(0, both), (0, ["locks byz", "yz b to named in memory"]), (1, both), (1, []), (1, [])]
+
+
+@contextlib.contextmanager
+def memory_at(folder, flags=0, space=7e9):
+    """While this lasts the folder is what lies in memory, with so much space, and no TMPDIR is set."""
+    build = importlib.import_module("build")
+    real, folder = (build.MEMORY, os.statvfs, tempfile.tempdir), Path(folder)
+    folder.mkdir(parents=True, exist_ok=True)
+    try:
+        build.MEMORY = folder
+        os.statvfs = lambda place: SimpleNamespace(f_flag=flags, f_bavail=int(space / 1000), f_frsize=1000) if place == folder else real[1](place)
+        with without("TMPDIR", "RT_JOBS"):
+            tempfile.tempdir = None  # found anew, without TMPDIR
+            yield
+    finally:
+        build.MEMORY, os.statvfs, tempfile.tempdir = real
+
+
+def writes():
+    """Where what is started now would write what it removes again, if in memory."""
+    build, within = importlib.import_module("build"), os.environ.get("TMPDIR", "none")
+    is_there = Path(within).parent == build.MEMORY and tempfile.gettempdir() == within and os.stat(within).st_mode & 0o777 == 0o711
+    return " in memory" if is_there else ""
+
+
+def writes_in_memory(folder):
+    """`build.py` has what it starts write into a folder in memory, which is removed at the end, also where it is killed, where memory has
+    room for that beside the checks, programs can be run from there, and nobody has said another place."""
+    build, found = importlib.import_module("build"), []
+    for at, (free, flags, space, wanted) in enumerate(((14e9, 0, 7e9, " in memory"), (13e9, 0, 7e9, ""), (14e9, os.ST_NOEXEC, 7e9, ""),
+                                                       (14e9, 0, 5e9, ""))):
+        with memory_at(folder / f"memory-{at}", flags, space):
+            before = tempfile.gettempdir()
+            with build.in_memory(fake_tools(2, free)):
+                found.append(writes() == wanted)
+            found.append("TMPDIR" not in os.environ and tempfile.gettempdir() == before and not [*build.MEMORY.iterdir()])
+    with memory_at(folder / "memory-said"):
+        os.environ["TMPDIR"] = str(folder)
+        with build.in_memory(fake_tools(2, 14e9)):
+            found.append(os.environ["TMPDIR"] == str(folder))
+    with memory_at(folder / "memory-there"):
+        build.MEMORY = folder / "none"
+        with build.in_memory(fake_tools(2, 14e9)):
+            found.append("TMPDIR" not in os.environ)
+    place = folder / "memory-of-a-killed"
+    place.mkdir()
+    text = (f"import os, signal, sys\nfrom pathlib import Path\nfrom types import SimpleNamespace\nsys.path.insert(0, {str(run.HERE)!r})\nimport build\n"
+            f"build.MEMORY, build.ROOM = Path({str(place)!r}), 0\nrt = SimpleNamespace(free=lambda: 99e9, processors=lambda: 1)\n"
+            "with build.in_memory(rt):\n    Path(os.environ['TMPDIR'], 'left').touch()\n    os.kill(os.getpid(), signal.SIGKILL)\n")
+    with without("TMPDIR"):
+        subprocess.run([sys.executable, "-c", text], timeout=60)
+    until = time.monotonic() + 30
+    while any(place.iterdir()) and time.monotonic() < until:
+        time.sleep(0.05)
+    return all(found) and not any(place.iterdir())
 
 
 # What `make` runs by Python or `sh` for each goal, as it is and with settings, in a folder without programs.
-BUILD = ["gate/build.py bin ocadev ocactl ocapanel", "examples/run.py bin/ocadev"]
+BUILD = ["gate/build.py bin ocadev ocactl", "examples/run.py bin/ocadev"]
+PANEL = "gate/build.py bin ocapanel"
 TRIALS = "gate/build.py bin trials"
 KIND, OTHER = "x86_64-unknown-linux-gnu", "aarch64-unknown-linux-gnu"
 LIBRARY, INSTALL = f"gate/library.py {KIND}", "gate/install.sh install"
 GOALS = {
-    "test": ["gate/run.py"], "demo": ["examples/run.py"], "build": BUILD,
+    "test": ["gate/run.py"], "demo": ["examples/run.py"], "build": BUILD, "ocapanel": [PANEL],
     "lossy": [*BUILD, "tools/lossy.py bin 200 1", "tools/lossy.py bin directed"],
     "fuzz": [*BUILD, "tools/fuzz.py bin 60 1"], "world": [TRIALS, "tools/world.py bin 8000 1"],
-    "law": [TRIALS, "tools/law.py bin 2000 1"], "panel-trial": [*BUILD, "tools/panel_trial.py bin"],
+    "law": [TRIALS, "tools/law.py bin 2000 1"], "panel-trial": [*BUILD, PANEL, "tools/panel_trial.py bin"],
     "lossy COMMANDS=7 SEED=3": [*BUILD, "tools/lossy.py bin 7 3", "tools/lossy.py bin directed"],
     "fuzz SECONDS=7 SEED=3": [*BUILD, "tools/fuzz.py bin 7 3"],
     "world SCHEDULES=7 SEED=3": [TRIALS, "tools/world.py bin 7 3"],
     "law HISTORIES=7 SEED=3": [TRIALS, "tools/law.py bin 7 3"],
     f"install-library TARGET={OTHER}": [f"gate/library.py {OTHER}", f"{INSTALL} library {OTHER}"],
     "library": [LIBRARY], "install-library": [LIBRARY, f"{INSTALL} library {KIND}"],
-    "install": [LIBRARY, f"{INSTALL} library {KIND}", *BUILD, f"{INSTALL} programs"],
+    "install": [LIBRARY, f"{INSTALL} library {KIND}", *BUILD, PANEL, f"{INSTALL} programs"],
     "uninstall": [f"gate/install.sh uninstall {it}" for it in ("programs", f"library {KIND}")],
     "bench": [*BUILD, "bench/run.py bin", "bench/core.py bin", "bench/memory.py bin", "bench/sockets.py bin"]}
 
@@ -211,7 +402,7 @@ def make_fails_with(goal, folder):
 def builds_programs_anew(folder):
     """`make install` has the programs built where there are none, or where a source or a definition of any crate is
     newer than they are; not where only what was made of them, or a test, is."""
-    found = []
+    found, programs = [], ("ocadev", "ocactl", "ocapanel")
     cases = [("src/in/a.rt", 200, False), ("specs/A.antt", 200, False), ("proofs/f/A.antt", 200, False),
              ("src/a.rt", 50, True), ("out/a.rt", 200, True), (None, 0, False)]
     for at, (name, second, _) in enumerate(cases):
@@ -221,11 +412,13 @@ def builds_programs_anew(folder):
         for file in ("crates/low/src/in/a.rt", "crates/low_tests/src/a.rt"):
             made(file, 50 if file.startswith("crates/low/") else 200)
         if name:
-            made("bin/ocapanel", 100)
+            for program in programs:
+                made(f"bin/{program}", 100)
             made(f"crates/low/{name}", second)
-        asked = ["make", "-q", "-C", made.folder, "bin/ocapanel"]
-        found.append(subprocess.run(asked, env=without_make(), capture_output=True, timeout=60).returncode == 0)
-    return found == [is_there for *_, is_there in cases]
+        for program in programs:
+            asked = ["make", "-q", "-C", made.folder, f"bin/{program}"]
+            found.append(subprocess.run(asked, env=without_make(), capture_output=True, timeout=60).returncode == 0)
+    return found == [is_there for *_, is_there in cases for _ in programs]
 
 
 def ci_runs_the_gate(folder):
@@ -299,12 +492,15 @@ def takes_what_the_gate_left(folder):
         for at, (change, _) in enumerate(LEFT):
             low, high = left_crates(folder / f"left-{at}", change)
             crate = FakeCrate(name="oca_c", folder=str(folder / f"left-{at}"), below=lambda: [low, high])
-            crate.compile = lambda words, to: Path(to).touch() or 0
+            crate.compile = lambda words, to: Path(to).touch() or int(writes() != " in memory")
             tools = SimpleNamespace(crates_below=lambda _: [crate], lock=lambda _: [], files_of=files_of)
-            library.build.toolchain = lambda: SimpleNamespace(rtlib=tools, processors=lambda: 1)
+            library.build.toolchain = lambda: SimpleNamespace(rtlib=tools, free=lambda: 99e9, processors=lambda: 1)
             built, sys.argv, edits.rtlib = [], ["library.py"], tools
-            library.build.build_all = lambda _, crates: built.append({*crates} == {low, high}) or True
-            found.append((library.main(), built, all(map(edits.stands, (low, high)))))
+            stand = all(map(edits.stands, (low, high)))
+            is_apart = lambda: writes() == " in memory" and all("/out/statements/" in it.rlib for it in (low, high))
+            library.build.build_all = lambda _, crates, low=low, high=high: built.append({*crates} == {low, high} and is_apart()) or True
+            with memory_at(folder / "memory-of-library"):
+                found.append((library.main(), built, stand))
     finally:
         library.build.toolchain, library.build.build_all, edits.rtlib = real
         sys.argv = argv
@@ -368,9 +564,9 @@ def installs_whole(folder):
 # What is tried, each in a folder of its own.
 ROWS = [(f"make {goal} fails with what it runs", functools.partial(make_fails_with, goal)) for goal in GOALS] + [
     (".ci/run runs the gate", ci_runs_the_gate), ("build.py proves each library", proves_each_library),
-    ("build.py gives the longest chain more", gives_the_longest_chain_more),
+    ("build.py takes what stands", takes_what_stands), ("build.py shares the processors", shares_processors),
     ("build.py builds each program", builds_each_program), ("build.py builds what is named", builds_what_is_named),
-    ("build.py proves a program", proves_a_program),
+    ("build.py proves a program", proves_a_program), ("build.py has checks write in memory", writes_in_memory),
     ("library.py takes what the gate left", takes_what_the_gate_left),
     ("library.py leaves no old library", leaves_no_old_library), ("install.sh installs all", installs_whole),
     ("make install builds programs anew", builds_programs_anew)]

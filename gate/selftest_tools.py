@@ -12,7 +12,7 @@ from pathlib import Path
 from types import SimpleNamespace
 
 import run
-from selftest_builds import FakeCrate, in_turn, stand_in
+from selftest_builds import FakeCrate, in_turn, memory_at, stand_in, writes
 
 # What the prover says where a proof names what is no more.
 GONE = "error: `x` is not in scope"
@@ -29,6 +29,7 @@ TRIED = {
     "h_h": ("hale", "wrong h", "refused"), "i_number": ("N = 1", "N = 2", "refused"),
     "j_number": ("N = 1", "N = 1 ", "FAILED"), "k_f_is_right": ("more", "right", "FAILED: NOT REFUSED")}
 GOOD_ONES = ("a_f", "b_f_again", "c_g", "g_i", "h_h", "i_number")
+KEPT = []  # of which crates the prover was asked, what was kept there before, False where nothing was to be kept, and where it writes
 
 
 def crate_of_edits(folder, name, edits, bodies=BODIES, constant=""):
@@ -45,7 +46,8 @@ def crate_of_edits(folder, name, edits, bodies=BODIES, constant=""):
 
 
 def said_by_the_prover(crate, texts, flags, kept):
-    """What the prover says of such a crate with these texts."""
+    """What the prover says of such a crate with these texts. Where it keeps what it proves is noted."""
+    KEPT.append((crate.name, bool(kept) and sorted(it.name for it in Path(kept).glob("*")), writes()))
     lines, body = [], texts["src/lib.rt"]
     for name, inside in re.findall(r"(?s)fn (\w+)\(\) \{\n    (.*?)\n\}", body):
         if "wrong" in inside or "N = 2;" in body and name == "f":
@@ -68,8 +70,8 @@ def told_by_edits(folder, crates, words, most=60):
     try:
         edits.ROOT, edits.SELFTEST, edits.rtlib, edits.MOST = folder, folder / "none", rtlib, most
         edits.rt = SimpleNamespace(edited=real[2].edited, unread=real[2].unread, checked=said_by_the_prover,
-                                   in_lanes=in_turn, need=lambda _: 1)
-        with contextlib.redirect_stdout(told):
+                                   in_lanes=in_turn, need=lambda _: 1, free=lambda: 99e9, processors=lambda: 1)
+        with memory_at(folder / "memory"), contextlib.redirect_stdout(told):
             status = edits.main(words)
     finally:
         edits.ROOT, edits.SELFTEST, edits.rt, edits.rtlib, edits.MOST = real
@@ -96,6 +98,25 @@ def tries_edits_in_groups(folder):
             print(f"edits.py {words}: {[(it, told.get(it)) for it in wrong]}, {status}, {last}, in place of {ends}")
             right = False
     return right
+
+
+def keeps_for_more_groups(folder):
+    """`edits.py` has the checks of a crate keep what they prove where its edits are several groups; where they are one, nothing, but what
+    EDITS_KEPT says. What they write and remove again lies in memory."""
+    crates = [crate_of_edits(folder, "a", ["a_f", "c_g"]), crate_of_edits(folder, "b", ["a_f", "i_number"])]
+    earlier = Path(crates[0].folder, "out/incremental")
+    earlier.mkdir(parents=True)
+    (earlier / "work").touch()
+    found = []
+    for said in ("", "1"):
+        KEPT.clear()
+        os.environ["EDITS_KEPT"] = said
+        status, *_ = told_by_edits(folder, crates, [])
+        found.append((status, sorted(KEPT, key=str)))
+    os.environ.pop("EDITS_KEPT")
+    row = lambda name, kept: (name, kept, " in memory")
+    others = [row("b", []), row("b", [])]
+    return found == [(0, [row("a", False), *others]), (0, [row("a", ["work"]), *others])]
 
 
 def sees_what_is_not_proved(folder):
@@ -565,6 +586,7 @@ ROWS = [("edits.py tries edits in groups", tries_edits_in_groups),
         ("snippets.py runs what documents say", runs_what_documents_say),
         ("snippets.py comes to what documents say", finds_what_documents_say),
         ("neighbours.py judges runs", judges_neighbours), ("all that the tools have is called", calls_all_that_it_has),
+        ("edits.py keeps for more groups", keeps_for_more_groups),
         ("snippets.py finds examples of doc comments", finds_examples),
         ("a definition's name stands in one spec", finds_names_defined_twice),
         ("unreliable.py fails each in turn", fails_each_in_turn),

@@ -46,6 +46,9 @@ from concurrent.futures import FIRST_COMPLETED, ThreadPoolExecutor, wait
 from pathlib import Path
 
 ROOT = Path(__file__).resolve().parent.parent
+sys.path.insert(0, str(ROOT / "gate"))
+import build
+
 SELFTEST = ROOT / "tools" / "edits_selftest"
 FLAGS = ["--jobs", "1"]
 EMPTIED = "#[tactic(none)] unreachable!();"  # a body of which no goal is searched for
@@ -479,17 +482,17 @@ class Answer:
 
 
 class Trial:
-    """The edits of a crate, each group tried over what the checks of the groups before it kept: only the functions that the edits touch
-    are checked, and what these call. The gate has proved the crate itself."""
+    """The edits of a crate, each group tried over what the checks of the groups before it kept, where there are several: only the
+    functions that the edits touch are checked, and what these call. The gate has proved the crate itself."""
 
     def __init__(self, crate, room, part=0, parts=1):
-        self.crate, self.kept, self.checks, self.why = crate, f"{room}/kept", 0, None
+        self.crate, self.room, self.kept, self.checks, self.why = crate, room, None, 0, None
         edits = [Edit(it, crate) for it in listed(Path(crate.folder, "wrong"))]
         edits += [Edit(it, crate, must_pass=True) for it in listed(SELFTEST / crate.name)]
         self.edits = sorted(edits, key=lambda it: sorted(map(str, it.keys())))[part::parts]  # those of one function in different parts
         earlier = f"{crate.folder}/out/incremental"
         if os.environ.get("EDITS_KEPT") and os.path.isdir(earlier):
-            shutil.copytree(earlier, self.kept)
+            self.kept = shutil.copytree(earlier, f"{room}/kept")
 
     def checked(self, texts, paths, without=()):
         """Checks a copy of the crate with these texts: the functions of these paths, or all where there is none; without
@@ -546,6 +549,8 @@ class Trial:
         left, alone, is_first = [it for it in self.edits if not it.why], False, True
         while left and not self.why:
             groups = [Group(it) for it in left] if alone else grouped(left, self.crate, is_first)
+            if len(groups) > 1:  # to keep what is proved takes two to five seconds of a check
+                self.kept = f"{self.room}/kept"
             missed = []
             for group in groups if not self.why else []:
                 is_last = len(group.edits()) == 1 and not (is_first and group.empties())
@@ -666,7 +671,8 @@ def main(names):
         memory = rt.need(crate) // 2
         for part in range(parts):
             tasks[crate.name, "edits", part] = ([], work, memory, lambda given, jobs, of=(crate, part, parts): tried(*of))
-    given = beside_proofs(tasks, {it.name: it for it in crates}, lanes()) if is_beside else rt.in_lanes(tasks)
+    with build.in_memory(rt):
+        given = beside_proofs(tasks, {it.name: it for it in crates}, lanes()) if is_beside else rt.in_lanes(tasks)
     passed, failed = verdict(given.values())
     print(f"{passed} passed, {failed} failed")
     return 1 if failed else 0

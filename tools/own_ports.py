@@ -7,7 +7,6 @@ import fcntl
 import os
 import random
 import socket
-import tempfile
 import time
 
 
@@ -20,7 +19,7 @@ def by_turns():
 @contextlib.contextmanager
 def alone():
     """While this lasts no other tool is in it."""
-    with open(os.path.join(tempfile.gettempdir(), f"oca-own-ports-{os.getuid()}"), "w", encoding="ascii") as file:
+    with open(f"/tmp/oca-own-ports-{os.getuid()}", "w", encoding="ascii") as file:  # whatever TMPDIR says
         fcntl.flock(file, fcntl.LOCK_EX)
         yield
 
