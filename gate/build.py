@@ -28,6 +28,7 @@ SECONDS = {
     "ocadev_replay": 55, "ocadev_cli": 310, "ocadev": 95, "ocactl_replay": 65, "ocactl_cli": 420, "ocactl": 90,
     "ocapanel_cli": 170, "ocapanel": 130,
 }
+LONG = 0.6  # of the seconds of the longest chain of crates that is left: others wait long for a crate whose chain has so many
 NEEDS = 4_000_000_000  # bytes for a check: the most that one took, measured, is 3.3 GB (ocactl_cli)
 MEMORY = Path("/dev/shm")  # a folder in memory, where the system has one
 ROOM = 6_000_000_000  # bytes there; the most that a run of the gate took, measured, is 1.8 GB
@@ -48,16 +49,21 @@ def toolchain():
     return made
 
 
+def said_lanes():
+    """How many checks RT_JOBS says are to run at once; 0 where it says no number above 0."""
+    said = os.environ.get("RT_JOBS", "")
+    return int(said) if said.isascii() and said.isdigit() else 0
+
+
 def lanes(rt):
     """How many checks, or processes of checks, are to run at once: as many as there are processors, and as memory holds; or as many as
     RT_JOBS says. The toolchain left to itself reckons with three to five times the memory that they take, and waits."""
-    said = os.environ.get("RT_JOBS", "")
-    return int(said) if said.isdigit() and int(said) else max(1, min(rt.processors(), int(rt.free()) // NEEDS))
+    return said_lanes() or max(1, min(rt.processors(), int(rt.free()) // NEEDS))
 
 
 def has_room_in_memory(rt):
-    """Whether memory has room for what checks write and remove again, which may write there and run programs from there."""
-    if not MEMORY.is_dir() or not os.access(MEMORY, os.W_OK | os.X_OK):
+    """Whether memory has room for what checks write and remove again, which may write there and run programs from there, as nobody too."""
+    if not MEMORY.is_dir() or not os.access(MEMORY, os.W_OK | os.X_OK) or not MEMORY.stat().st_mode & 0o001:
         return False
     found = os.statvfs(MEMORY)
     is_large = found.f_bavail * found.f_frsize >= ROOM and rt.free() >= lanes(rt) * NEEDS + ROOM
@@ -68,7 +74,8 @@ def has_room_in_memory(rt):
 def in_memory(rt):
     """Has the checks that this process starts write into memory what they remove again, up to half a GB of small files each: to remove
     them from a disk takes up to 15 seconds a check, in which no processor works. All that it starts finds the folder as TMPDIR. It is
-    removed at the end, however this process ends. Where TMPDIR is set already, or memory has no such room, nothing is changed."""
+    removed at the end, also where this process is killed; what goes on after that may make it anew. Where TMPDIR is set already, or memory
+    has no such room, nothing is changed."""
     if "TMPDIR" in os.environ or not has_room_in_memory(rt):
         yield
         return
@@ -94,10 +101,10 @@ def apart(crates):
 
 
 def made_from(rt, crate):
-    """What tells what was built of the crate from anything else: sums of its sources and of those below it, of the libraries that it was
-    built over, as they stand, and of itself."""
+    """What tells what was built of the crate from anything else: sums of its sources and of those below it, and of each library that it was
+    built over, and of itself, as they stand; of a library the sum of its file `format`, which has sums of the others."""
     made = f"{crate.rlib}/format" if crate.makes_rlib() else f"{crate.folder}/out/{crate.name}"
-    files = [f"{it.rlib}/format" for it in crate.below()]  # holds a sum of the files of the library
+    files = [f"{it.rlib}/format" for it in crate.below()]
     return "\n".join([crate.stamp(), *map(rt.rtlib.sum_of, [*files, made])])
 
 
@@ -107,7 +114,7 @@ def note_of(crate):
 
 
 def is_made(rt, crate):
-    """Whether a build now would make of the crate what is there, and what this program has made."""
+    """Whether what is there of the crate was made by this program, and is what it would make now."""
     note = note_of(crate)
     return note.is_file() and note.read_text() == made_from(rt, crate)
 
@@ -136,18 +143,18 @@ def build_program(rt, crate, jobs):
 
 
 def build_once(rt, crate, build, jobs):
-    """Builds the crate so, unless what it would make is there, and notes what it was made from. Answers whether it is there, which it is not
-    where a source was changed meanwhile, and the seconds that it took."""
+    """Builds the crate so, unless what it would make is there, and notes what it was made from. Answers whether it is there, and the seconds
+    that it took. It is not where a source was changed meanwhile, or one of a crate below since that was built."""
     begun, is_there = time.monotonic(), is_made(rt, crate)
     if not is_there:
         stamp = crate.stamp()
         if build(rt, crate, jobs):
             said = made_from(rt, crate)
-            is_there = said.split("\n")[0] == stamp
+            is_there = said.split("\n")[0] == stamp and all(is_made(rt, it) for it in crate.below())
             if is_there:
                 note_of(crate).write_text(said)
             else:
-                print(f"build: a source was changed while {crate.name} was built: NOT BUILT, begin again")
+                print(f"build: a source of {crate.name}, or of a crate below it, was changed meanwhile: NOT BUILT, begin again")
     return is_there, time.monotonic() - begun
 
 
@@ -165,12 +172,13 @@ def chains(crates):
     return behind
 
 
-def shares(ready, idle, number, is_long):
-    """The crates that can be begun, in this order, and with how many processes: each with those that no other waits for, and one that
-    others wait for longest with three of four; four at most, and no more in all than are idle."""
-    given, left = [], idle
+def shares(ready, idle, number, long):
+    """The crates that can be begun, in this order, and with how many of the processes, of which so many are idle: each with those that no
+    other waits for; one of those that others wait for long, begun or not, with half of all at least, and the only one with three of
+    four; but with four at most, and no more in all than are idle."""
+    given, left, least = [], idle, number // 2 if len(long) > 1 else number * 3 // 4
     for at, crate in enumerate(ready[:idle]):
-        jobs = max(1, left // (len(ready) - at), number * 3 // 4 if is_long(crate) else 0)
+        jobs = max(1, left // (len(ready) - at), least if crate in long else 0)
         given.append((crate, min(jobs, left, 4)))
         left -= given[-1][1]
         if not left:
@@ -186,9 +194,11 @@ def side_by_side(crates, number, make):
     with ThreadPoolExecutor(number) as pool:
         while left or running:
             ready = [it for it in left if all(below.name in made for below in it.below())]
-            longest = max(behind[it.name] for it in [*left, *(it for it, _ in running.values())])
+            begun = [it for it, _ in running.values()]
+            longest = max(behind[it.name] for it in [*left, *begun])
+            long = [it for it in [*ready, *begun] if behind[it.name] >= LONG * longest]
             idle = number - sum(jobs for _, jobs in running.values())
-            for crate, jobs in shares(ready, idle, number, lambda it, most=longest: behind[it.name] >= 0.95 * most):
+            for crate, jobs in shares(ready, idle, number, long):
                 left.remove(crate)
                 is_wanted = all(made[below.name] for below in crate.below())
                 running[pool.submit(lambda it=crate, n=jobs, can=is_wanted: can and make(it, n))] = crate, jobs

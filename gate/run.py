@@ -20,6 +20,7 @@ import contextlib
 import os
 import re
 import resource
+import shutil
 import signal
 import subprocess
 import sys
@@ -224,11 +225,11 @@ class Early:
 
 def of_ci(steps, others, room):
     """Runs `rt ci`, and beside it, in this pool, the steps that begin early. Answers its counts, and the steps that have begun.
-    The crate that most wait for is proved before, by all processors; `rt ci` takes it as it is kept then, or says itself what
+    The crate that most wait for is proved before, in several processes; `rt ci` takes it as it is kept then, or says itself what
     is wrong with it. Where RT_JOBS says how many checks run at once, it is not; nor where CI is true, since `rt ci` then
     refuses names."""
     early, first = Early(steps, others, room), waited_for()
-    if first and lanes() > 1 and not os.environ.get("RT_JOBS") and os.environ.get("CI") != "true":
+    if first and lanes() > 1 and not build.said_lanes() and os.environ.get("CI") != "true":
         watched(f"rt ci {first}", 1)
     count = watched(f"RT_JOBS={lanes()} rt ci", least_of_ci(), early.note)
     early.add(ENDED)
@@ -252,9 +253,10 @@ def run_steps(parts, others, early):
 
 
 def writes():
-    """Where what this starts writes what it removes again. In a work tree of git, `rt ci` moves there what the crates keep, and would have
-    to copy it."""
-    return build.in_memory(build.toolchain()) if (TOP / ".git").is_dir() else contextlib.nullcontext()
+    """Where what this starts writes what it removes again: in memory, but where git's folder is not here. There `rt ci` moves what the
+    crates keep to where temporary files are, which must be the same disk, else it is lost."""
+    is_here = (TOP / ".git").is_dir() and shutil.which("rt")
+    return build.in_memory(build.toolchain()) if is_here else contextlib.nullcontext()
 
 
 def refused(steps):
@@ -266,6 +268,8 @@ def refused(steps):
 def main(words):
     signal.signal(signal.SIGINT, interrupted)
     signal.signal(signal.SIGTERM, interrupted)
+    if signal.getsignal(signal.SIGHUP) != signal.SIG_IGN:  # as under `nohup`
+        signal.signal(signal.SIGHUP, interrupted)
     begun, counts = time.monotonic(), []
     parts = paragraphs(Path(words[1]) if len(words) > 1 else HERE / "steps")
     steps = [step for part in parts for step in part]

@@ -10,6 +10,7 @@ import importlib
 import inspect
 import io
 import os
+import shutil
 import signal
 import subprocess
 import sys
@@ -95,10 +96,10 @@ def finds_what_is_left_out(folder):
 def goes_on_beside(folder):
     """A step that runs beside others goes on while later paragraphs run, and nothing that is no such step does."""
     file, there = folder / "steps", folder / "there"
-    waits = f"1 1 for _ in $(seq 100); do [ -e {there} ] && exit 0; sleep 0.02; done; exit 1"
+    waits = f"1 1 for _ in $(seq 100); do [ -e '{there}' ] && exit 0; sleep 0.02; done; exit 1"
     found = []
     for sign in ("&", ""):
-        file.write_text(f"{sign}{waits}\n{GOOD}\n\n1 1 touch {there}\n")
+        file.write_text(f"{sign}{waits}\n{GOOD}\n\n1 1 touch '{there}'\n")
         ran = subprocess.run([sys.executable, str(HERE / "run.py"), "steps", str(file)], capture_output=True, text=True, timeout=120)
         found.append(run.last_line(ran.stdout))
         there.unlink(missing_ok=True)
@@ -209,15 +210,16 @@ def counts_all():
     run.build.toolchain = lambda: SimpleNamespace(free=lambda: 99e9, processors=lambda: 4)
     parts = run.paragraphs(HERE / "steps")
     steps = [[(step.least, step.minutes, step.command) for step in part] for part in parts]
-    called = [("RT_JOBS=3 rt ci", run.least_of_ci()), (steps, {}), (sum(steps, []), run.TOP / "tools")]
-    first = [("rt ci a", 1)]
+    called = lambda lanes: [(f"RT_JOBS={lanes} rt ci", run.least_of_ci()), (steps, {}), (sum(steps, []), run.TOP / "tools")]
     words = lambda steps: [(it.least, it.minutes, it.command) for it in steps]
     try:
-        found, asked = [], []
-        for of_ci, of_steps, missing, lanes, said in (
-                ((3, 0), [(5, 0)], [], 3, {}), ((3, 1), [(5, 0)], [], 3, {"CI": "false"}), ((3, 0), [(5, 1)], [], 3, {}),
-                ((3, 0), [(5, 0)], ["x.py"], 3, {}), ((3, 0), [(5, 0)], [], 1, {}), ((3, 0), [(5, 0)], [], 3, {"RT_JOBS": "3"}),
-                ((3, 0), [(5, 0)], [], 3, {"CI": "true"})):
+        found, wanted = [], []
+        for of_ci, of_steps, missing, lanes, said, is_first in (
+                ((3, 0), [(5, 0)], [], 3, {}, True), ((3, 1), [(5, 0)], [], 3, {"CI": "false"}, True), ((3, 0), [(5, 1)], [], 2, {}, True),
+                ((3, 0), [(5, 0)], ["x.py"], 3, {"RT_JOBS": "0"}, True), ((3, 0), [(5, 0)], [], 3, {"RT_JOBS": ""}, True),
+                ((3, 0), [(5, 0)], [], 1, {}, False), ((3, 0), [(5, 0)], [], 3, {"RT_JOBS": "3"}, False),
+                ((3, 0), [(5, 0)], [], 3, {"CI": "true"}, False)):
+            asked, failed = [], of_ci[1] + of_steps[0][1] + len(missing)
             run.lanes = lambda: lanes
             run.watched = lambda command, least, note=None: asked.append((command, least)) or places.add(writes()) or (of_ci if note else (0, 1))
             run.run_steps = lambda given, _, early: asked.append(([words(part) for part in given], early)) or of_steps
@@ -225,11 +227,10 @@ def counts_all():
             told = io.StringIO()
             with tempfile.TemporaryDirectory() as memory, without("CI"), memory_at(memory), contextlib.redirect_stdout(told):
                 os.environ |= said
-                found.append((run.main([]), run.last_line(told.getvalue())))
-        alone = [("RT_JOBS=1 rt ci", called[0][1]), *called[1:]]
-        is_asked = sorted(asked, key=str) == sorted((first + called) * 4 + alone + called * 2, key=str)
-        is_asked = is_asked and places == {" in memory" if (run.TOP / ".git").is_dir() else ""}
-        return is_asked and found == [(0, "8 passed, 0 failed")] + [(1, "8 passed, 1 failed")] * 3 + [(0, "8 passed, 0 failed")] * 3
+                found.append((run.main([]), run.last_line(told.getvalue()), sorted(asked, key=str)))
+            first = [("rt ci a", 1)] * is_first
+            wanted.append((int(failed > 0), f"8 passed, {failed} failed", sorted(first + called(lanes), key=str)))
+        return found == wanted and places == {" in memory" if run.TOP.joinpath(".git").is_dir() and shutil.which("rt") else ""}
     finally:
         run.watched, run.run_steps, run.left_out, run.lanes, run.waited_for = real
         run.build.toolchain = toolchain
@@ -241,11 +242,13 @@ def knows_the_lanes():
     real, said = run.build.toolchain, os.environ.pop("RT_JOBS", None)
     try:
         found = []
-        for processors, memory in ((4, 23_000_000_000), (4, 9_000_000_000), (2, 23_000_000_000), (4, 1_000_000_000)):
+        for processors, memory in ((4, 23_000_000_000), (4, 9_000_000_000), (2, 23_000_000_000), (4, 1_000_000_000), (4, 7_900_000_000)):
             run.build.toolchain = lambda: SimpleNamespace(processors=lambda: processors, free=lambda: memory)
             found.append(run.lanes())
-        os.environ["RT_JOBS"] = "7"
-        return [*found, run.lanes()] == [4, 2, 2, 1, 7]
+        for words in ("7", "0", "many", "\u00b2"):
+            os.environ["RT_JOBS"] = words
+            found.append(run.lanes())
+        return found == [4, 2, 2, 1, 1, 7, 1, 1, 1]
     finally:
         run.build.toolchain = real
         os.environ.pop("RT_JOBS", None)
@@ -282,7 +285,7 @@ def forgives_no_lateness():
 def ends_all_that_hangs(folder):
     """What a step has started that hangs is ended with it."""
     place = folder / "late"
-    run.kept(run.Step(f"1 0.01 (sleep 2; touch {place}) & sleep 600"))
+    run.kept(run.Step(f"1 0.01 (sleep 2; touch '{place}') & sleep 600"))
     subprocess.run(["sleep", "3"], check=True)
     return not place.exists()
 
@@ -297,8 +300,9 @@ def text_of(file):
 def ends_when_told(folder, number):
     """A gate that a signal ends has not passed, and what its steps have started ends with it."""
     begun, file, seconds = folder / f"begun-{number}", folder / "long-steps", f"{60 + number}.{os.getpid()}"
-    file.write_text(f"1 2 touch {begun}; sleep {seconds}; echo '1 passed, 0 failed'\n")
-    gate = subprocess.Popen([sys.executable, str(HERE / "run.py"), "steps", str(file)], stdout=subprocess.DEVNULL)
+    file.write_text(f"1 2 touch '{begun}'; sleep {seconds}; echo '1 passed, 0 failed'\n")
+    words, is_heard = [sys.executable, str(HERE / "run.py"), "steps", str(file)], lambda: signal.signal(number, signal.SIG_DFL)
+    gate = subprocess.Popen(words, stdout=subprocess.DEVNULL, preexec_fn=is_heard)
     sleeps = lambda: any(f"sleep\0{seconds}\0" == text_of(it) for it in Path("/proc").glob("[0-9]*/cmdline"))
     until = time.monotonic() + 30
     while not (begun.exists() and sleeps()) and time.monotonic() < until:
@@ -645,7 +649,7 @@ def told_of_clause(edits, crate, clause, narrow, whole, wanted):
 # word takes some of them away unseen.
 PROGRAMS = "ocadev ocactl ocapanel trials amplifier panel"
 FEWEST = {
-    "python3 gate/selftest.py": 106,
+    "python3 gate/selftest.py": 109,
     f"mkdir -p bin && for name in {PROGRAMS}; do cp crates/$name/out/$name bin/ || exit 1; done": 1,
     "python3 tools/c_library.py bin": 26600, "python3 examples/run.py bin/ocadev": 4, "python3 tools/runs.py bin": 354,
     "python3 tools/ctl_runs.py bin": 123, "python3 tools/unreliable.py bin": 3746, "python3 tools/damaged.py bin": 103936,
@@ -817,7 +821,7 @@ def tools_with_checks():
 
 
 def main():
-    """Runs the rows, with a TMPDIR as the gate gives its steps one, so that a row finds by itself what it finds in the gate."""
+    """Runs the rows with a TMPDIR, as the gate gives its steps one where memory has room."""
     with tempfile.TemporaryDirectory() as room:
         os.environ["TMPDIR"], tempfile.tempdir = room, None
         return run_rows()
@@ -836,7 +840,7 @@ def run_rows():
                   ("steps begin beside rt ci", begins_early(Path(room))),
                   ("examples/run.py compares", compares_examples(Path(room)))]
         tried += [(f"a gate that signal {number} ends", ends_when_told(Path(room), number))
-                  for number in (signal.SIGTERM, signal.SIGINT)]
+                  for number in (signal.SIGTERM, signal.SIGINT, signal.SIGHUP)]
     tried += [(f"{name}.py sees differences", sees_differences(tool)) for name, tool in tools_with_checks()]
     tried += [("library.py builds as asked", builds_as_asked()), ("snippets.py compares", compares_documents()),
               ("edits.py lists each edit", lists_each_edit()), ("edits.py judges edits", judges_edits()),

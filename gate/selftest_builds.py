@@ -6,6 +6,7 @@ import importlib
 import io
 import os
 import shutil
+import signal
 import subprocess
 import sys
 import tempfile
@@ -86,11 +87,11 @@ def proves_each_library(folder):
     build, found = importlib.import_module("build"), []
     for at, failing in enumerate(("", "a", "b", "c", "d")):
         asked, top = [], folder / f"libraries-{at}"
-        made = lambda name, *below: fake_library(top, name, below, asked, lambda: 3 * (name == failing))
+        made = lambda name, *below: fake_library(top, name, below, asked, lambda: at * (name == failing))
         a, d = made("a"), made("d")
         b = made("b", a)
-        c = made("c", a, b)
-        is_built, said = built(build, [c, b, a, d])
+        c, e = made("c", a, b), made("e", d, a)
+        is_built, said = built(build, [c, b, e, a, d])
         names = "".join(name for name, *_ in asked)
         in_order = all(names.index(low) < names.index(high) for low, high in ("ab", "bc") if high in names)
         found.append((is_built, "".join(sorted(names)), in_order))
@@ -101,13 +102,13 @@ def proves_each_library(folder):
     asked = []
     built(build, [fake_library(folder / "libraries-alone", "a", [], asked)], processors=4, free=99e9)
     found.append(len(asked) == 1 and asked[0][3:5] == ("--jobs", "4"))
-    wanted = [(True, "abcd", True), (False, "ad", True), (False, "abd", True), (False, "abcd", True), (False, "abcd", True)]
+    wanted = [(True, "abcde", True), (False, "ad", True), (False, "abde", True), (False, "abcde", True), (False, "abcd", True)]
     return [it for it in found if it is not True] == wanted
 
 
 def takes_what_stands(folder):
     """`build.py` takes a library that it has built of the same sources over the same libraries; it builds what is gone or another, and what
-    stands above it; and what changed while it was built is not built, nor what stands above it."""
+    stands above it; and what changed while it was built, or while it waited for what stands above it, is not built, nor what does."""
     build, asked = importlib.import_module("build"), []
     made = lambda name, *below: fake_library(folder / "standing", name, below, asked)
     a, d = made("a"), made("d")
@@ -121,8 +122,8 @@ def takes_what_stands(folder):
         is_built, said = built(build, crates)
         found.append((is_built, "".join(sorted(name for name, *_ in asked)), "NOT BUILT, begin again" in said))
 
-    def changed_meanwhile(*words):
-        b.stamp = lambda: "third"
+    def changed_meanwhile(*words, it=b):
+        it.stamp = lambda: "third"
         return call(*words)
 
     again()
@@ -133,15 +134,42 @@ def takes_what_stands(folder):
     again(lambda: (setattr(b, "stamp", lambda: "of before"), setattr(b, "call", changed_meanwhile)))
     again(lambda: setattr(b, "call", call))
     again()
+    again(lambda: build.note_of(b).write_text(""))
+    again(lambda: (setattr(b, "stamp", lambda: "of before"), setattr(b, "call", functools.partial(changed_meanwhile, it=a))))
+    again(lambda: setattr(b, "call", call))
     wanted = [(True, it, False) for it in ("abcde", "", "bc", "abce", "de")] + [(False, "b", True), (True, "bc", False), (True, "", False)]
-    return found == wanted
+    return found == [*wanted, (True, "bc", False), (False, "b", True), (True, "abce", False)]
 
 
-# Which crates are begun, in their order, where so many of so many processors are idle and others wait for these crates longest;
+# Which crates are begun, in their order, where so many of so many processors are idle and others wait long for these, of which some run;
 # and with how many processes.
 SHARES = [("ab", 4, 4, "", "a2 b2"), ("ab", 4, 4, "a", "a3 b1"), ("abcde", 4, 4, "", "a1 b1 c1 d1"), ("abcde", 4, 4, "b", "a1 b3"),
           ("a", 8, 8, "", "a4"), ("a", 8, 8, "a", "a4"), ("ab", 2, 2, "a", "a1 b1"), ("ab", 1, 4, "a", "a1"), ("abc", 0, 4, "", ""),
-          ("a", 1, 1, "a", "a1"), ("", 4, 4, "", ""), ("ab", 3, 4, "ab", "a3")]
+          ("a", 1, 1, "a", "a1"), ("", 4, 4, "", ""), ("ab", 3, 4, "ab", "a2 b1"), ("abc", 4, 4, "ac", "a2 b1 c1"), ("ab", 3, 4, "az", "a2 b1"),
+          ("ab", 3, 4, "a", "a3"), ("abc", 4, 4, "bc", "a1 b2 c1"), ("abcd", 8, 8, "ad", "a4 b1 c1 d2"), ("abcde", 8, 8, "a", "a4 b1 c1 d1 e1"),
+          ("abc", 8, 8, "ab", "a4 b4")]
+
+
+def begun_with(crates, number, goes_on=None, until=None):
+    """With how many processes each of the crates but `d` and `g`, which stand above others, is made, where so many are to be used, and one crate is not made until another is
+    begun."""
+    build, given, is_begun = importlib.import_module("build"), {}, threading.Event()
+
+    def make(crate, jobs):
+        given[crate.name] = jobs
+        if crate is until:
+            is_begun.set()
+        return crate is not goes_on or is_begun.wait(30)
+
+    is_made = build.side_by_side(crates, number, make)
+    return is_made and " ".join(f"{it.name}{given[it.name]}" for it in crates if it.name not in "dg")
+
+
+def meets(barrier):
+    """Whether as many come to this as are awaited."""
+    with contextlib.suppress(threading.BrokenBarrierError):
+        return barrier.wait() >= 0
+    return False
 
 
 def shares_processors(_):
@@ -149,7 +177,7 @@ def shares_processors(_):
     that no other waits for; and never more in all, nor one before those below it."""
     build, found = importlib.import_module("build"), []
     for ready, idle, number, long, wanted in SHARES:
-        given = build.shares([*ready], idle, number, lambda it, its=long: it in its)
+        given = build.shares([*ready], idle, number, [*long])
         found.append(" ".join(f"{name}{jobs}" for name, jobs in given) == wanted)
     made = lambda name, seconds, *below: FakeCrate(name=name, below=lambda: [*below], count=lambda _: 10 * seconds)
     a, b, c = (made(name, seconds) for name, seconds in (("a", 1), ("b", 5), ("c", 2)))
@@ -170,9 +198,18 @@ def shares_processors(_):
         is_made = build.side_by_side(crates, number, noted)
         found.append(is_made and sorted(begun) == [*"abcde"] and most[0] <= number and begun.index("d") > max(map(begun.index, "ac")))
         found.append(number > 1 or begun == ["c", "a", "d", "b", "e"])
-    given = []
-    build.side_by_side(crates, 4, lambda crate, jobs: given.append((crate.name, jobs)) or True)
-    found.append((dict(given)["c"], dict(given)["a"]) == (3, 1))
+    for seconds, wanted in ((2, "c3 f1"), (5, "c3 f1"), (6, "c2 f2")):
+        f = made("f", seconds)
+        found.append(begun_with([c, f, made("d", 9, c), made("g", 1, f)], 4) == wanted)
+    f, h = made("f", 8), made("h", 9)
+    j, r = made("j", 2, h), made("r", 1, h)
+    found.append(begun_with([h, f, j, r, made("d", 9, h, j), made("g", 1, f)], 4, f, r) == "h3 f1 j2 r1")
+    z = made("z", 1)
+    k, i = made("k", 8, z), made("i", 7, z)
+    found.append(begun_with([h, z, k, i, made("d", 9, h)], 8, h, i) == "h4 z4 k2 i2")
+    found.append(build.chains(crates) == {"a": 10, "b": 6, "c": 11, "d": 9, "e": 1})
+    meeting = threading.Barrier(4, timeout=30)
+    found.append(build.side_by_side([made("a", 9), *(made(name, 1) for name in "bcd")], 8, lambda *_: meets(meeting)))
     real, number = build.side_by_side, []
     try:
         build.side_by_side = lambda _, most, make: number.append(most)
@@ -201,8 +238,8 @@ def builds_each_program(folder):
     def again(status, is_proved=True, stamps="", lost=""):
         (top / "gate/build.py").write_text(
             f"import os, sys\nprint(os.getcwd(), *sys.argv[1:], os.environ['ENDS'], file=open({str(log)!r}, 'a'))\n"
-            f"print('said of', sys.argv[2], file=sys.stderr)\n"
-            f"open('crates/' + sys.argv[2] + '/out/' + sys.argv[2], 'w').write('made {len(found)}')\nsys.exit({status})\n")
+            f"print('said of', sys.argv[2], file=sys.stderr)\nmade = 'crates/' + sys.argv[2] + '/out/' + sys.argv[2]\n"
+            f"open(made, 'w').write('made {len(found)}')\nos.chmod(made, 0o755)\nos.utime(made, (1, 1))\nsys.exit({status})\n")
         low = fake_library(top / "crates", "low", [], [], lambda: int(not is_proved))
         programs = [FakeCrate(name=name, folder=str(top / "crates" / name), below=lambda: [low], count=lambda _: 1,
                               makes_rlib=lambda: False, stamp=lambda it=name: "second" if it in stamps else "sources") for name in ("a", "b")]
@@ -210,13 +247,16 @@ def builds_each_program(folder):
         if lost:
             Path(top, "crates", lost).write_text("old")
         log.write_text("")
-        with without("RT_JOBS"), contextlib.redirect_stdout(io.StringIO()) as said:
+        with without("RT_JOBS"), contextlib.redirect_stdout(io.StringIO()) as said, contextlib.ExitStack() as running:
+            held = [(running.enter_context(it.open()), it.read_text()) for it in (folder / "bin-of-both").iterdir()]
             tools = fake_tools(4, 99e9, guarded=lambda: ["env", "ENDS=with it"])
             is_built = build.build_all(tools, {low}, programs, folder / "bin-of-both")
+            is_replaced = all(file.read() == text for file, text in held)
+        can_run = all(os.access(it, os.X_OK) and it.stat().st_mtime > 1e9 for it in (folder / "bin-of-both").iterdir())
         asked = "".join(sorted(line.removeprefix(f"{top} --one ") for line in log.read_text().split("\n")))
         has = " ".join(sorted(f"{it.name}: {it.read_text()}" for it in (folder / "bin-of-both").iterdir()))
         is_told = ("said of a\n" in said.getvalue()) == (status != 0)
-        found.append((is_built, asked, has, is_told))
+        found.append((is_built, asked, has, is_told and is_replaced and can_run))
 
     try:
         build.TOP = top
@@ -226,12 +266,14 @@ def builds_each_program(folder):
         again(0, stamps="a", lost="b/out/b")
         again(0, stamps="a", lost="low/out/statements/low.rlib/format")
         again(3, stamps="b")
+        again(1, stamps="b")
         again(0, False, lost="low/out/statements/low.rlib/format")
     finally:
         build.TOP = real
-    a, b = "a 3 with it", "b 1 with it"
+    a, b = "a 2 with it", "b 2 with it"
     return found == [(True, a + b, "a: made 0 b: made 0", True), (True, "", "a: made 0 b: made 0", True), (True, a, "a: made 2 b: made 0", True),
-                     (True, b, "a: made 2 b: made 3", True), (True, a + b, "a: made 4 b: made 4", True), (False, a + b, "a: made 4 b: made 4", True),
+                     (True, b, "a: made 2 b: made 3", True), (True, a + b, "a: made 4 b: made 4", True),
+                     (False, a + b, "a: made 4 b: made 4", True), (False, a + b, "a: made 4 b: made 4", True),
                      (False, "", "a: made 4 b: made 4", True)]
 
 
@@ -241,20 +283,23 @@ def proves_a_program(folder):
     build, place, argv = importlib.import_module("build"), Path.cwd(), sys.argv
     with_words = {"ocadev": ["--help"], "trials": ["calls"], "amplifier": [], "panel": []}
     asked, found, real, crates = [], [], build.toolchain, []
+    are_apart = lambda: all(it.rlib == f"{it.folder}/out/statements/{it.name}.rlib" for it in crates)
     for name in with_words:
         here = folder / "alone" / name
         here.mkdir(parents=True)
-        crates.append(FakeCrate(name=name, folder=str(here), run=lambda *words, it=name: asked.append((Path.cwd().name, *words)) or len(it)))
+        run_it = lambda *words, it=name: asked.append((are_apart() and Path.cwd().name, *words)) or len(it)
+        crates.append(FakeCrate(name=name, folder=str(here), run=run_it))
     try:
         build.toolchain = lambda: SimpleNamespace(rtlib=SimpleNamespace(crates_below=lambda _: crates))
         for name in with_words:
+            for it in crates:
+                it.rlib = "none"
             sys.argv = ["build.py", "--one", name, "3"]
             found.append(build.main())
     finally:
         build.toolchain, sys.argv = real, argv
         os.chdir(place)
-    is_apart = all(it.rlib == f"{it.folder}/out/statements/{it.name}.rlib" for it in crates)
-    return is_apart and found == [*map(len, with_words)] and asked == [(name, ["--jobs", "3"], words) for name, words in with_words.items()]
+    return found == [*map(len, with_words)] and asked == [(name, ["--jobs", "3"], words) for name, words in with_words.items()]
 
 
 def builds_what_is_named(folder):
@@ -297,9 +342,10 @@ def memory_at(folder, flags=0, space=7e9):
     build = importlib.import_module("build")
     real, folder = (build.MEMORY, os.statvfs, tempfile.tempdir), Path(folder)
     folder.mkdir(parents=True, exist_ok=True)
+    folder.chmod(0o755)
     try:
         build.MEMORY = folder
-        os.statvfs = lambda place: SimpleNamespace(f_flag=flags, f_bavail=int(space / 1000), f_frsize=1000) if place == folder else real[1](place)
+        os.statvfs = lambda place: SimpleNamespace(f_flag=flags, f_bavail=space // 4096, f_frsize=4096) if place == folder else real[1](place)
         with without("TMPDIR", "RT_JOBS"):
             tempfile.tempdir = None  # found anew, without TMPDIR
             yield
@@ -314,15 +360,24 @@ def writes():
     return " in memory" if is_there else ""
 
 
+# How many processors, how much free memory, how the folder in memory is mounted, its room and mode, and what RT_JOBS says, where a check
+# takes 4 GB and the folder is to have 6; and whether all is written there.
+OF_MEMORY = [(2, 14e9, 0, 7e9, 0o777, "", " in memory"), (2, 13.9e9, 0, 7e9, 0o777, "", ""), (2, 14e9, os.ST_NOEXEC, 7e9, 0o777, "", ""),
+             (2, 14e9, 0, 5.9e9, 0o777, "", ""), (2, 14e9, 0, 6e9 + 4096, 0o777, "", " in memory"), (3, 18e9, 0, 7e9, 0o777, "", " in memory"),
+             (3, 17.9e9, 0, 7e9, 0o777, "", ""), (4, 10e9, 0, 7e9, 0o777, "1", " in memory"), (1, 13e9, 0, 7e9, 0o777, "2", ""),
+             (2, 14e9, 0, 7e9, 0o700, "", ""), (2, 14e9, 0, 7e9, 0o755, "", " in memory")]
+
+
 def writes_in_memory(folder):
     """`build.py` has what it starts write into a folder in memory, which is removed at the end, also where it is killed, where memory has
     room for that beside the checks, programs can be run from there, and nobody has said another place."""
     build, found = importlib.import_module("build"), []
-    for at, (free, flags, space, wanted) in enumerate(((14e9, 0, 7e9, " in memory"), (13e9, 0, 7e9, ""), (14e9, os.ST_NOEXEC, 7e9, ""),
-                                                       (14e9, 0, 5e9, ""))):
+    for at, (processors, free, flags, space, mode, said, wanted) in enumerate(OF_MEMORY):
         with memory_at(folder / f"memory-{at}", flags, space):
             before = tempfile.gettempdir()
-            with build.in_memory(fake_tools(2, free)):
+            build.MEMORY.chmod(mode)
+            os.environ |= {"RT_JOBS": said} if said else {}
+            with build.in_memory(fake_tools(processors, free)):
                 found.append(writes() == wanted)
             found.append("TMPDIR" not in os.environ and tempfile.gettempdir() == before and not [*build.MEMORY.iterdir()])
     with memory_at(folder / "memory-said"):
@@ -337,13 +392,47 @@ def writes_in_memory(folder):
     place.mkdir()
     text = (f"import os, signal, sys\nfrom pathlib import Path\nfrom types import SimpleNamespace\nsys.path.insert(0, {str(run.HERE)!r})\nimport build\n"
             f"build.MEMORY, build.ROOM = Path({str(place)!r}), 0\nrt = SimpleNamespace(free=lambda: 99e9, processors=lambda: 1)\n"
-            "with build.in_memory(rt):\n    Path(os.environ['TMPDIR'], 'left').touch()\n    os.kill(os.getpid(), signal.SIGKILL)\n")
-    with without("TMPDIR"):
-        subprocess.run([sys.executable, "-c", text], timeout=60)
-    until = time.monotonic() + 30
+            "with build.in_memory(rt):\n    Path(os.environ['TMPDIR'], 'left').touch()\n    print(os.environ['TMPDIR'], flush=True)\n"
+            "    os.killpg(0, signal.SIGKILL)\n")
+    with without("TMPDIR", "RT_JOBS"):
+        ran = subprocess.run([sys.executable, "-c", text], timeout=60, start_new_session=True, stdout=subprocess.PIPE, text=True)
+    was_there, until = Path(ran.stdout).parent == place and ran.returncode == -signal.SIGKILL, time.monotonic() + 30
     while any(place.iterdir()) and time.monotonic() < until:
         time.sleep(0.05)
-    return all(found) and not any(place.iterdir())
+    return all(found) and was_there and not any(place.iterdir())
+
+
+def writes_where_git_is(folder):
+    """The gate has what it starts write into memory where git's folder and the toolchain are here, and else changes nothing."""
+    build, found, real, path = run.build, [], (run.TOP, run.build.toolchain), os.environ["PATH"]
+    stand_in(folder / "path/rt", "exit 1")
+    (folder / "path/sh").symlink_to("/bin/sh")
+    try:
+        build.toolchain = lambda: fake_tools(2, 99e9)
+        for at, (make, has_rt) in enumerate(((Path.mkdir, True), (Path.touch, True), (lambda _: None, True), (Path.mkdir, False))):
+            run.TOP = folder / f"top-{at}"
+            run.TOP.mkdir()
+            make(run.TOP / ".git")
+            os.environ["PATH"] = str(folder / "path") if has_rt else str(folder / "none")
+            with memory_at(folder / f"memory-of-top-{at}"), run.writes():
+                found.append(writes())
+    finally:
+        (run.TOP, build.toolchain), os.environ["PATH"] = real, path
+    return found == [" in memory", "", "", ""]
+
+
+def keeps_others_out(folder):
+    """What is alone at the ports that `ocactl` takes by turns is so whatever TMPDIR says, and for each user."""
+    own_ports, asked = importlib.import_module("own_ports"), []
+    real = own_ports.fcntl
+    try:
+        own_ports.fcntl = SimpleNamespace(LOCK_EX="alone", flock=lambda file, how: asked.append((file.name, how)))
+        for at in range(2):
+            with memory_at(folder / f"memory-of-ports-{at}"), run.build.in_memory(fake_tools(2, 99e9)), own_ports.alone():
+                pass
+    finally:
+        own_ports.fcntl = real
+    return len(asked) == 2 and {*asked} == {(f"/tmp/oca-own-ports-{os.getuid()}", "alone")}
 
 
 # What `make` runs by Python or `sh` for each goal, as it is and with settings, in a folder without programs.
@@ -385,7 +474,7 @@ def make_fails_with(goal, folder):
     fails where one of it does."""
     top, log = folder / "make", folder / "make.log"
     for name in ("python3", "sh"):
-        stand_in(top / f"path/{name}", f'echo "$*" >> {log}\necho "said by $*"\n[ "$*" != "$FAILS" ]')
+        stand_in(top / f"path/{name}", f'echo "$*" >> "{log}"\necho "said by $*"\n[ "$*" != "$FAILS" ]')
     (top / "Makefile").write_text((run.TOP / "Makefile").read_text())
     for fails in ("", *GOALS[goal]):
         log.write_text("")
@@ -424,7 +513,7 @@ def builds_programs_anew(folder):
 def ci_runs_the_gate(folder):
     """`.ci/run` calls `make test` in the repository's own folder, from wherever it is called, and ends as that does."""
     top, log = folder / "ci", folder / "ci.log"
-    stand_in(top / "path/make", f'echo "$PWD: $*" >> {log}\necho said\nexit "$STATUS"')
+    stand_in(top / "path/make", f'echo "$PWD: $*" >> "{log}"\necho said\nexit "$STATUS"')
     stand_in(top / ".ci/run", (run.TOP / ".ci/run").read_text().removeprefix("#!/bin/sh\n"))
     found = []
     for status in (0, 1, 7):
@@ -500,7 +589,7 @@ def takes_what_the_gate_left(folder):
             is_apart = lambda: writes() == " in memory" and all("/out/statements/" in it.rlib for it in (low, high))
             library.build.build_all = lambda _, crates, low=low, high=high: built.append({*crates} == {low, high} and is_apart()) or True
             with memory_at(folder / "memory-of-library"):
-                found.append((library.main(), built, stand))
+                found.append((library.main(), built, stand and "/out/rlib/" in low.rlib))
     finally:
         library.build.toolchain, library.build.build_all, edits.rtlib = real
         sys.argv = argv
@@ -567,6 +656,7 @@ ROWS = [(f"make {goal} fails with what it runs", functools.partial(make_fails_wi
     ("build.py takes what stands", takes_what_stands), ("build.py shares the processors", shares_processors),
     ("build.py builds each program", builds_each_program), ("build.py builds what is named", builds_what_is_named),
     ("build.py proves a program", proves_a_program), ("build.py has checks write in memory", writes_in_memory),
+    ("run.py has all written where it may", writes_where_git_is), ("own_ports.py keeps others out", keeps_others_out),
     ("library.py takes what the gate left", takes_what_the_gate_left),
     ("library.py leaves no old library", leaves_no_old_library), ("install.sh installs all", installs_whole),
     ("make install builds programs anew", builds_programs_anew)]

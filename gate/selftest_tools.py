@@ -153,7 +153,7 @@ def compares_scripts(folder):
         for device, link, good in cases + [(link, device, good) for device, link, good in cases]:
             for name, said, letter in (("ocadev", device, "d"), ("ocactl", link, "l")):
                 heard = f'[ "$*" = "words {letter}" ] && grep -q line || exit 9'
-                stand_in(place / name, f"{heard}\ncd {place}\n{said}")
+                stand_in(place / name, f"{heard}\ncd '{place}'\n{said}")
             told, drawn = io.StringIO(), []
             with contextlib.redirect_stdout(told):
                 status = fuzz.main()
@@ -566,7 +566,7 @@ def sees_what_is_not_kept(folder):
         keep.KILLS, keep.random = 3, SimpleNamespace(uniform=lambda *_: 0.15)
         for at, (kept, _) in enumerate(OF_KEEPERS):
             place = folder / f"keeper-{at}"
-            stand_in(place / "ocadev", f"exec {sys.executable} {place}/device.py \"$@\"")
+            stand_in(place / "ocadev", f"exec '{sys.executable}' '{place}/device.py' \"$@\"")
             (place / "device.py").write_text(KEEPER.replace("{KEPT}", kept))
             checks = keep.Checks(str(place))
             with contextlib.redirect_stdout(io.StringIO()):

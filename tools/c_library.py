@@ -52,8 +52,8 @@ class Checks:
 
 
 def library(target):
-    """The library for a kind of processor, proved and built: over the crates below it as the gate has just proved them.
-    One process proves it, since other steps run beside this one."""
+    """The library for a kind of processor, proved and built: over the crates below it as the gate has just proved them, or built anew where
+    it has not. One process proves it, since other steps run beside this one."""
     run = subprocess.run([sys.executable, "gate/library.py", target], cwd=TOP, stdout=subprocess.PIPE, stderr=subprocess.STDOUT, text=True,
                          env={**os.environ, "LIBRARY_JOBS": "1"})
     if run.returncode:

@@ -610,7 +610,7 @@ def proved_beside():
 
 def lanes():
     """How many checks run at once at most: as many as there are processors, and as memory holds, or as RT_JOBS says."""
-    return int(os.environ.get("RT_JOBS") or max(1, min(rt.processors(), rt.free() // NEEDS)))
+    return build.said_lanes() or max(1, min(rt.processors(), rt.free() // NEEDS))
 
 
 def is_idle(number):
