@@ -29,6 +29,7 @@ SECONDS = {
     "ocapanel_cli": 170, "ocapanel": 130,
 }
 LONG = 0.6  # of the seconds of the longest chain of crates that is left: others wait long for a crate whose chain has so many
+SHORT = 30  # seconds: a crate that takes fewer itself is not worth a second process, however long its chain is
 NEEDS = 4_000_000_000  # bytes for a check: the most that one took, measured, is 3.3 GB (ocactl_cli)
 MEMORY = Path("/dev/shm")  # a folder in memory, where the system has one
 ROOM = 6_000_000_000  # bytes there; the most that a run of the gate took, measured, is 1.8 GB
@@ -196,7 +197,7 @@ def side_by_side(crates, number, make):
             ready = [it for it in left if all(below.name in made for below in it.below())]
             begun = [it for it, _ in running.values()]
             longest = max(behind[it.name] for it in [*left, *begun])
-            long = [it for it in [*ready, *begun] if behind[it.name] >= LONG * longest]
+            long = [it for it in [*ready, *begun] if behind[it.name] >= LONG * longest and work(it) >= SHORT]
             idle = number - sum(jobs for _, jobs in running.values())
             for crate, jobs in shares(ready, idle, number, long):
                 left.remove(crate)

@@ -179,7 +179,7 @@ def shares_processors(_):
     for ready, idle, number, long, wanted in SHARES:
         given = build.shares([*ready], idle, number, [*long])
         found.append(" ".join(f"{name}{jobs}" for name, jobs in given) == wanted)
-    made = lambda name, seconds, *below: FakeCrate(name=name, below=lambda: [*below], count=lambda _: 10 * seconds)
+    made = lambda name, hundreds, *below: FakeCrate(name=name, below=lambda: [*below], count=lambda _: 1000 * hundreds)
     a, b, c = (made(name, seconds) for name, seconds in (("a", 1), ("b", 5), ("c", 2)))
     crates = [a, b, c, made("d", 9, a, c), made("e", 1, a, b, c)]
     for number in (1, 2, 4):
@@ -198,8 +198,8 @@ def shares_processors(_):
         is_made = build.side_by_side(crates, number, noted)
         found.append(is_made and sorted(begun) == [*"abcde"] and most[0] <= number and begun.index("d") > max(map(begun.index, "ac")))
         found.append(number > 1 or begun == ["c", "a", "d", "b", "e"])
-    for seconds, wanted in ((2, "c3 f1"), (5, "c3 f1"), (6, "c2 f2")):
-        f = made("f", seconds)
+    for hundreds, wanted in ((2, "c3 f1"), (5, "c3 f1"), (6, "c2 f2")):
+        f = made("f", hundreds)
         found.append(begun_with([c, f, made("d", 9, c), made("g", 1, f)], 4) == wanted)
     f, h = made("f", 8), made("h", 9)
     j, r = made("j", 2, h), made("r", 1, h)
@@ -207,7 +207,10 @@ def shares_processors(_):
     z = made("z", 1)
     k, i = made("k", 8, z), made("i", 7, z)
     found.append(begun_with([h, z, k, i, made("d", 9, h)], 8, h, i) == "h4 z4 k2 i2")
-    found.append(build.chains(crates) == {"a": 10, "b": 6, "c": 11, "d": 9, "e": 1})
+    for hundreds, wanted in ((0.29, "c3 f1"), (0.3, "c2 f2")):
+        f = made("f", hundreds)
+        found.append(begun_with([c, f, made("d", 9, c), made("g", 9, f)], 4) == wanted)
+    found.append(build.chains(crates) == {"a": 1000, "b": 600, "c": 1100, "d": 900, "e": 100})
     meeting = threading.Barrier(4, timeout=30)
     found.append(build.side_by_side([made("a", 9), *(made(name, 1) for name in "bcd")], 8, lambda *_: meets(meeting)))
     real, number = build.side_by_side, []
@@ -222,7 +225,7 @@ def shares_processors(_):
     finally:
         build.side_by_side = real
     named = made("oca_tree", 1)
-    return all(found) and number == [2, 1, 2, 3, 4] and build.work(named) == build.SECONDS["oca_tree"] and build.work(a) == 1
+    return all(found) and number == [2, 1, 2, 3, 4] and build.work(named) == build.SECONDS["oca_tree"] and build.work(a) == 100
 
 
 def builds_each_program(folder):
