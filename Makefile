@@ -32,7 +32,7 @@ demo:
 	@python3 examples/run.py
 
 build:
-	@echo "Proving and building $(PROGRAMS) with the crates below them: the first time some 15 minutes on four processors,"
+	@echo "Proving and building $(PROGRAMS) with the crates below them: the first time 15 to 20 minutes on four processors,"
 	@echo "after an edit only the crates that it changes and those above them. Each crate is named as it ends."
 	@$(BUILD) $(PROGRAMS)
 	@python3 examples/run.py bin/ocadev

@@ -282,7 +282,7 @@ def main(words):
     with writes(), tempfile.TemporaryDirectory() as room, ThreadPoolExecutor() as others:
         early = {}
         if not words:
-            print(f"gate: every proof from nothing, then {len(steps)} steps: some 40 minutes on four processors. "
+            print(f"gate: every proof from nothing, then {len(steps)} steps: 40 to 50 minutes on four processors. "
                   "Each crate and each step is shown as it ends.", flush=True)
             count, early = of_ci([step for part in parts for step in part], others, room)
             counts.append(count)
