@@ -28,7 +28,7 @@ SECONDS = {
     "ocadev_replay": 55, "ocadev_cli": 310, "ocadev": 95, "ocactl_replay": 65, "ocactl_cli": 420, "ocactl": 90,
     "ocapanel_cli": 170, "ocapanel": 130,
 }
-LONG = 0.6  # of the seconds of the longest chain of crates that is left: others wait long for a crate whose chain has so many
+LONG = 0.6  # of the seconds of the longest chain of crates that is left: a crate that begins a chain of so many is long
 SHORT = 30  # seconds: a crate that takes fewer itself is not worth a second process, however long its chain is
 NEEDS = 4_000_000_000  # bytes for a check: the most that one took, measured, is 3.3 GB (ocactl_cli)
 MEMORY = Path("/dev/shm")  # a folder in memory, where the system has one
@@ -75,8 +75,8 @@ def has_room_in_memory(rt):
 def in_memory(rt):
     """Has the checks that this process starts write into memory what they remove again, up to half a GB of small files each: to remove
     them from a disk takes up to 15 seconds a check, in which no processor works. All that it starts finds the folder as TMPDIR. It is
-    removed at the end, also where this process is killed; what goes on after that may make it anew. Where TMPDIR is set already, or memory
-    has no such room, nothing is changed."""
+    removed at the end, also where this process is killed; a process that it has started, and that outlives it, may make it anew, and it is
+    left then. Where TMPDIR is set already, or memory has no such room, nothing is changed."""
     if "TMPDIR" in os.environ or not has_room_in_memory(rt):
         yield
         return
@@ -120,6 +120,11 @@ def is_made(rt, crate):
     return note.is_file() and note.read_text() == made_from(rt, crate)
 
 
+def all_below_are_made(rt, crate):
+    """Whether each library that the crate is built over is still what was built in this run, of what its sources still are."""
+    return all(is_made(rt, it) for it in crate.below())
+
+
 def build_library(rt, crate, jobs):
     """Proves and builds a library; what the prover says of one that fails is shown. Answers whether it is built."""
     with tempfile.TemporaryFile("w+", errors="replace") as crate.out:
@@ -145,17 +150,18 @@ def build_program(rt, crate, jobs):
 
 def build_once(rt, crate, build, jobs):
     """Builds the crate so, unless what it would make is there, and notes what it was made from. Answers whether it is there, and the seconds
-    that it took. It is not where a source was changed meanwhile, or one of a crate below since that was built."""
+    that it took. It is not where a source was changed meanwhile, or, of a crate below, a source or the library since that was built."""
     begun, is_there = time.monotonic(), is_made(rt, crate)
     if not is_there:
-        stamp = crate.stamp()
-        if build(rt, crate, jobs):
+        stamp, is_changed = crate.stamp(), not all_below_are_made(rt, crate)
+        if not is_changed and build(rt, crate, jobs):
             said = made_from(rt, crate)
-            is_there = said.split("\n")[0] == stamp and all(is_made(rt, it) for it in crate.below())
-            if is_there:
-                note_of(crate).write_text(said)
-            else:
-                print(f"build: a source of {crate.name}, or of a crate below it, was changed meanwhile: NOT BUILT, begin again")
+            is_there = said.split("\n")[0] == stamp and all_below_are_made(rt, crate)
+            is_changed = not is_there
+        if is_there:
+            note_of(crate).write_text(said)
+        if is_changed:
+            print(f"build: what {crate.name} is built of was changed meanwhile: NOT BUILT, begin again")
     return is_there, time.monotonic() - begun
 
 

@@ -37,6 +37,17 @@ def compiled(crate, words, to):
     return status
 
 
+def compiled_of_one_text(crate, words, to):
+    """Compiles the library so, but leaves no archive where a source was changed meanwhile."""
+    stamp = crate.stamp()
+    status = compiled(crate, words, to)
+    if status == 0 and crate.stamp() != stamp:
+        print("library: a source was changed meanwhile: NOT BUILT, begin again")
+        os.remove(to)
+        return 1
+    return status
+
+
 def main():
     target = sys.argv[1] if len(sys.argv) > 1 else "x86_64-unknown-linux-gnu"
     if target not in LEAST or len(sys.argv) > 3:
@@ -54,7 +65,7 @@ def main():
             build.apart(crate.below())
             if not build.build_all(rt, set(crate.below())):
                 return 1
-        status = compiled(crate, words, f"{crate.folder}/out/{target}/liboca_c.a")
+        status = compiled_of_one_text(crate, words, f"{crate.folder}/out/{target}/liboca_c.a")
     for it in held:
         os.close(it)
     return status

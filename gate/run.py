@@ -253,10 +253,11 @@ def run_steps(parts, others, early):
 
 
 def writes():
-    """Where what this starts writes what it removes again: in memory, but where git's folder is not here. There `rt ci` moves what the
-    crates keep to where temporary files are, which must be the same disk, else it is lost."""
-    is_here = (TOP / ".git").is_dir() and shutil.which("rt")
-    return build.in_memory(build.toolchain()) if is_here else contextlib.nullcontext()
+    """Has what this starts write in memory what it removes again, where `rt ci` sets aside what the crates keep in git's folder. Where that
+    is not here, or may not be written, it sets it aside where temporary files are, and what does not lie on the same disk is lost."""
+    git = TOP / ".git"
+    is_aside = git.is_dir() and not git.is_symlink() and os.access(git, os.W_OK)
+    return build.in_memory(build.toolchain()) if is_aside and shutil.which("rt") else contextlib.nullcontext()
 
 
 def refused(steps):
@@ -268,7 +269,7 @@ def refused(steps):
 def main(words):
     signal.signal(signal.SIGINT, interrupted)
     signal.signal(signal.SIGTERM, interrupted)
-    if signal.getsignal(signal.SIGHUP) != signal.SIG_IGN:  # as under `nohup`
+    if signal.getsignal(signal.SIGHUP) != signal.SIG_IGN:  # which it is under `nohup`
         signal.signal(signal.SIGHUP, interrupted)
     begun, counts = time.monotonic(), []
     parts = paragraphs(Path(words[1]) if len(words) > 1 else HERE / "steps")
@@ -282,7 +283,7 @@ def main(words):
     with writes(), tempfile.TemporaryDirectory() as room, ThreadPoolExecutor() as others:
         early = {}
         if not words:
-            print(f"gate: every proof from nothing, then {len(steps)} steps: 40 to 50 minutes on four processors. "
+            print(f"gate: every proof, then {len(steps)} steps: from nothing 40 to 50 minutes on four processors. "
                   "Each crate and each step is shown as it ends.", flush=True)
             count, early = of_ci([step for part in parts for step in part], others, room)
             counts.append(count)

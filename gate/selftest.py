@@ -256,6 +256,21 @@ def knows_the_lanes():
             os.environ["RT_JOBS"] = said
 
 
+def edits_know_the_lanes():
+    """The edits are tried by as many checks at once as there are processors and memory for, at least one, or as RT_JOBS says."""
+    edits = importlib.import_module("edits")
+    real, found = edits.rt, []
+    try:
+        for processors, memory, said in ((4, 23e9, ""), (4, 9e9, ""), (2, 23e9, ""), (4, 1e9, ""), (4, 23e9, "7"), (4, 23e9, "0"), (4, 23e9, "many")):
+            edits.rt = SimpleNamespace(processors=lambda: processors, free=lambda: memory)
+            with without("RT_JOBS"):
+                os.environ |= {"RT_JOBS": said} if said else {}
+                found.append(edits.lanes())
+    finally:
+        edits.rt = real
+    return found == [4, 2, 2, 1, 7, 4, 4]
+
+
 def counts_edits():
     """An edit that is not refused has failed, and so has one that tries the tool itself and is judged wrongly."""
     edits = importlib.import_module("edits")
@@ -297,17 +312,22 @@ def text_of(file):
     return ""
 
 
-def ends_when_told(folder, number):
-    """A gate that a signal ends has not passed, and what its steps have started ends with it."""
+def ends_when_told(folder, number, before=None):
+    """A gate that a signal ends has not passed, and what its steps have started ends with it; not where it was to ignore that one, as one
+    before."""
     begun, file, seconds = folder / f"begun-{number}", folder / "long-steps", f"{60 + number}.{os.getpid()}"
     file.write_text(f"1 2 touch '{begun}'; sleep {seconds}; echo '1 passed, 0 failed'\n")
-    words, is_heard = [sys.executable, str(HERE / "run.py"), "steps", str(file)], lambda: signal.signal(number, signal.SIG_DFL)
-    gate = subprocess.Popen(words, stdout=subprocess.DEVNULL, preexec_fn=is_heard)
+    words = [sys.executable, str(HERE / "run.py"), "steps", str(file)]
+    hears = lambda: (signal.signal(number, signal.SIG_DFL), before and signal.signal(before, signal.SIG_IGN))
+    gate = subprocess.Popen(words, stdout=subprocess.DEVNULL, preexec_fn=hears)
     sleeps = lambda: any(f"sleep\0{seconds}\0" == text_of(it) for it in Path("/proc").glob("[0-9]*/cmdline"))
     until = time.monotonic() + 30
     while not (begun.exists() and sleeps()) and time.monotonic() < until:
         time.sleep(0.05)
     is_begun = sleeps()
+    for it in [before] if before else []:
+        gate.send_signal(it)
+        time.sleep(0.1)
     gate.send_signal(number)
     status, until = gate.wait(30), time.monotonic() + 30
     while sleeps() and time.monotonic() < until:
@@ -329,7 +349,7 @@ def builds_as_asked():
 
     with tempfile.TemporaryDirectory() as folder:
         lower = FakeCrate(name="lower", folder=folder, rlib=f"{folder}/none", below=list)
-        crate = FakeCrate(name="oca_c", folder=folder, below=lambda: [lower], compile=compiled)
+        crate = FakeCrate(name="oca_c", folder=folder, below=lambda: [lower], compile=compiled, stamp=lambda: "sources")
         tools = SimpleNamespace(crates_below=lambda _: [crate, lower], lock=lambda _: [], files_of=lambda _: [])
         real = library.build.toolchain, library.build.build_all, sys.argv
         try:
@@ -649,7 +669,7 @@ def told_of_clause(edits, crate, clause, narrow, whole, wanted):
 # word takes some of them away unseen.
 PROGRAMS = "ocadev ocactl ocapanel trials amplifier panel"
 FEWEST = {
-    "python3 gate/selftest.py": 109,
+    "python3 gate/selftest.py": 111,
     f"mkdir -p bin && for name in {PROGRAMS}; do cp crates/$name/out/$name bin/ || exit 1; done": 1,
     "python3 tools/c_library.py bin": 26600, "python3 examples/run.py bin/ocadev": 4, "python3 tools/runs.py bin": 354,
     "python3 tools/ctl_runs.py bin": 123, "python3 tools/unreliable.py bin": 3746, "python3 tools/damaged.py bin": 103936,
@@ -841,12 +861,14 @@ def run_rows():
                   ("examples/run.py compares", compares_examples(Path(room)))]
         tried += [(f"a gate that signal {number} ends", ends_when_told(Path(room), number))
                   for number in (signal.SIGTERM, signal.SIGINT, signal.SIGHUP)]
+        tried.append(("a gate under nohup goes on", ends_when_told(Path(room), signal.SIGTERM, signal.SIGHUP)))
     tried += [(f"{name}.py sees differences", sees_differences(tool)) for name, tool in tools_with_checks()]
     tried += [("library.py builds as asked", builds_as_asked()), ("snippets.py compares", compares_documents()),
               ("edits.py lists each edit", lists_each_edit()), ("edits.py judges edits", judges_edits()),
               ("the steps name enough", names_enough()),
               ("make library stands on its sources", stands_on_its_sources())]
     tried += [("all that is tried counts", counts_all()), ("the lanes of rt ci", knows_the_lanes()), ("edits.py counts all", counts_edits()),
+              ("edits.py knows the lanes", edits_know_the_lanes()),
               ("edits.py waits for proofs", waits_for_proofs()),
               ("edits.py copies functions", copies_edits()), ("edits.py empties functions", empties_functions()),
               ("edits.py narrows contracts", narrows_contracts()),

@@ -108,13 +108,14 @@ def proves_each_library(folder):
 
 def takes_what_stands(folder):
     """`build.py` takes a library that it has built of the same sources over the same libraries; it builds what is gone or another, and what
-    stands above it; and what changed while it was built, or while it waited for what stands above it, is not built, nor what does."""
+    stands above it. A crate is not built where its source was changed while it was built, or one of a crate below since that was built, or
+    where a library below is not the one that was; nor what stands above it."""
     build, asked = importlib.import_module("build"), []
     made = lambda name, *below: fake_library(folder / "standing", name, below, asked)
     a, d = made("a"), made("d")
     b = made("b", a)
     c, e = made("c", a, b), made("e", a, d)
-    found, crates, call = [], [a, b, c, d, e], b.call
+    found, crates, call, call_e = [], [a, b, c, d, e], b.call, e.call
 
     def again(change=lambda: None):
         asked.clear()
@@ -122,9 +123,17 @@ def takes_what_stands(folder):
         is_built, said = built(build, crates)
         found.append((is_built, "".join(sorted(name for name, *_ in asked)), "NOT BUILT, begin again" in said))
 
-    def changed_meanwhile(*words, it=b):
-        it.stamp = lambda: "third"
+    def changed_meanwhile(*words):
+        b.stamp = lambda: "third"
         return call(*words)
+
+    def changes_before():
+        a.stamp = lambda: "third"
+        return "of before"
+
+    def replaced(it, *words):
+        Path(it.rlib, "format").write_text("replaced")
+        return call_e(*words)
 
     again()
     again()
@@ -135,10 +144,14 @@ def takes_what_stands(folder):
     again(lambda: setattr(b, "call", call))
     again()
     again(lambda: build.note_of(b).write_text(""))
-    again(lambda: (setattr(b, "stamp", lambda: "of before"), setattr(b, "call", functools.partial(changed_meanwhile, it=a))))
-    again(lambda: setattr(b, "call", call))
+    again(lambda: setattr(b, "stamp", changes_before))
+    again(lambda: setattr(b, "stamp", lambda: "of before"))
+    for it in (a, d):
+        again(lambda: (setattr(e, "stamp", lambda name=it.name: f"over {name}"), setattr(e, "call", functools.partial(replaced, it))))
+        again(lambda: setattr(e, "call", call_e))
     wanted = [(True, it, False) for it in ("abcde", "", "bc", "abce", "de")] + [(False, "b", True), (True, "bc", False), (True, "", False)]
-    return found == [*wanted, (True, "bc", False), (False, "b", True), (True, "abce", False)]
+    wanted += [(True, "bc", False), (False, "", True), (True, "abce", False)]
+    return found == [*wanted, (False, "e", True), (True, "abce", False), (False, "e", True), (True, "de", False)]
 
 
 # Which crates are begun, in their order, where so many of so many processors are idle and others wait long for these, of which some run;
@@ -147,12 +160,12 @@ SHARES = [("ab", 4, 4, "", "a2 b2"), ("ab", 4, 4, "a", "a3 b1"), ("abcde", 4, 4,
           ("a", 8, 8, "", "a4"), ("a", 8, 8, "a", "a4"), ("ab", 2, 2, "a", "a1 b1"), ("ab", 1, 4, "a", "a1"), ("abc", 0, 4, "", ""),
           ("a", 1, 1, "a", "a1"), ("", 4, 4, "", ""), ("ab", 3, 4, "ab", "a2 b1"), ("abc", 4, 4, "ac", "a2 b1 c1"), ("ab", 3, 4, "az", "a2 b1"),
           ("ab", 3, 4, "a", "a3"), ("abc", 4, 4, "bc", "a1 b2 c1"), ("abcd", 8, 8, "ad", "a4 b1 c1 d2"), ("abcde", 8, 8, "a", "a4 b1 c1 d1 e1"),
-          ("abc", 8, 8, "ab", "a4 b4")]
+          ("abc", 8, 8, "ab", "a4 b4"), ("abc", 4, 4, "abc", "a2 b2"), ("ab", 5, 5, "ab", "a2 b3"), ("a", 32, 32, "a", "a4")]
 
 
 def begun_with(crates, number, goes_on=None, until=None):
-    """With how many processes each of the crates but `d` and `g`, which stand above others, is made, where so many are to be used, and one crate is not made until another is
-    begun."""
+    """With how many processes each of the crates but `d` and `g`, which stand above others, is made, where so many are to be used, and one
+    crate is not made until another is begun."""
     build, given, is_begun = importlib.import_module("build"), {}, threading.Event()
 
     def make(crate, jobs):
@@ -174,7 +187,7 @@ def meets(barrier):
 
 def shares_processors(_):
     """`build.py` begins as many crates as processors are idle, those first that others wait for longest, with processes for the processors
-    that no other waits for; and never more in all, nor one before those below it."""
+    that no other waits for, and more for the crates that begin long chains; never more in all, nor one before those below it."""
     build, found = importlib.import_module("build"), []
     for ready, idle, number, long, wanted in SHARES:
         given = build.shares([*ready], idle, number, [*long])
@@ -204,6 +217,9 @@ def shares_processors(_):
     f, h = made("f", 8), made("h", 9)
     j, r = made("j", 2, h), made("r", 1, h)
     found.append(begun_with([h, f, j, r, made("d", 9, h, j), made("g", 1, f)], 4, f, r) == "h3 f1 j2 r1")
+    s, x = made("s", 0.2), made("x", 1)
+    over_x = made("c", 2, x)
+    found.append(begun_with([s, x, over_x, made("g", 1, x), made("d", 9, s, over_x)], 4, s, over_x) == "s1 x3 c3")
     z = made("z", 1)
     k, i = made("k", 8, z), made("i", 7, z)
     found.append(begun_with([h, z, k, i, made("d", 9, h)], 8, h, i) == "h4 z4 k2 i2")
@@ -368,7 +384,7 @@ def writes():
 OF_MEMORY = [(2, 14e9, 0, 7e9, 0o777, "", " in memory"), (2, 13.9e9, 0, 7e9, 0o777, "", ""), (2, 14e9, os.ST_NOEXEC, 7e9, 0o777, "", ""),
              (2, 14e9, 0, 5.9e9, 0o777, "", ""), (2, 14e9, 0, 6e9 + 4096, 0o777, "", " in memory"), (3, 18e9, 0, 7e9, 0o777, "", " in memory"),
              (3, 17.9e9, 0, 7e9, 0o777, "", ""), (4, 10e9, 0, 7e9, 0o777, "1", " in memory"), (1, 13e9, 0, 7e9, 0o777, "2", ""),
-             (2, 14e9, 0, 7e9, 0o700, "", ""), (2, 14e9, 0, 7e9, 0o755, "", " in memory")]
+             (2, 14e9, 0, 7e9, 0o710, "", ""), (2, 14e9, 0, 7e9, 0o701, "", " in memory")]
 
 
 def writes_in_memory(folder):
@@ -393,6 +409,7 @@ def writes_in_memory(folder):
             found.append("TMPDIR" not in os.environ)
     place = folder / "memory-of-a-killed"
     place.mkdir()
+    place.chmod(0o755)
     text = (f"import os, signal, sys\nfrom pathlib import Path\nfrom types import SimpleNamespace\nsys.path.insert(0, {str(run.HERE)!r})\nimport build\n"
             f"build.MEMORY, build.ROOM = Path({str(place)!r}), 0\nrt = SimpleNamespace(free=lambda: 99e9, processors=lambda: 1)\n"
             "with build.in_memory(rt):\n    Path(os.environ['TMPDIR'], 'left').touch()\n    print(os.environ['TMPDIR'], flush=True)\n"
@@ -412,7 +429,8 @@ def writes_where_git_is(folder):
     (folder / "path/sh").symlink_to("/bin/sh")
     try:
         build.toolchain = lambda: fake_tools(2, 99e9)
-        for at, (make, has_rt) in enumerate(((Path.mkdir, True), (Path.touch, True), (lambda _: None, True), (Path.mkdir, False))):
+        link = lambda place: place.symlink_to(folder / "top-0/.git")
+        for at, (make, has_rt) in enumerate(((Path.mkdir, True), (Path.touch, True), (lambda _: None, True), (Path.mkdir, False), (link, True))):
             run.TOP = folder / f"top-{at}"
             run.TOP.mkdir()
             make(run.TOP / ".git")
@@ -421,7 +439,7 @@ def writes_where_git_is(folder):
                 found.append(writes())
     finally:
         (run.TOP, build.toolchain), os.environ["PATH"] = real, path
-    return found == [" in memory", "", "", ""]
+    return found == [" in memory", "", "", "", ""]
 
 
 def keeps_others_out(folder):
@@ -583,7 +601,7 @@ def takes_what_the_gate_left(folder):
     try:
         for at, (change, _) in enumerate(LEFT):
             low, high = left_crates(folder / f"left-{at}", change)
-            crate = FakeCrate(name="oca_c", folder=str(folder / f"left-{at}"), below=lambda: [low, high])
+            crate = FakeCrate(name="oca_c", folder=str(folder / f"left-{at}"), below=lambda: [low, high], stamp=lambda: "sources")
             crate.compile = lambda words, to: Path(to).touch() or int(writes() != " in memory")
             tools = SimpleNamespace(crates_below=lambda _: [crate], lock=lambda _: [], files_of=files_of)
             library.build.toolchain = lambda: SimpleNamespace(rtlib=tools, free=lambda: 99e9, processors=lambda: 1)
@@ -605,8 +623,8 @@ def takes_what_the_gate_left(folder):
 
 
 def leaves_no_old_library(folder):
-    """`library.py` leaves no archive that it has not made: where compiling fails, or ends well and makes none, it
-    fails."""
+    """`library.py` leaves no archive that it has not made, or made while a source was changed: where compiling fails, or ends well and
+    makes none, it fails."""
     library, found = importlib.import_module("library"), []
     for status, makes in ((0, True), (0, False), (5, False), (5, True)):
         to = folder / "old.a"
@@ -615,7 +633,12 @@ def leaves_no_old_library(folder):
         with contextlib.redirect_stdout(io.StringIO()):
             got = library.compiled(SimpleNamespace(compile=compile_it), [], str(to))
         found.append((got, to.exists() and to.read_text()))
-    return found == [(0, "new"), (1, False), (5, False), (5, "new")]
+    for status, stamps in ((0, ["first", "second"]), (5, ["first", "second"]), (0, ["first"] * 2)):
+        compile_it = lambda _, to: status or Path(to).touch() or 0
+        crate = SimpleNamespace(compile=compile_it, stamp=stamps.pop)
+        with contextlib.redirect_stdout(io.StringIO()):
+            found.append((library.compiled_of_one_text(crate, [], str(to)), to.exists()))
+    return found == [(0, "new"), (1, False), (5, False), (5, "new"), (1, False), (5, False), (0, True)]
 
 
 # Stand-ins for what installs the library: each fails where FAILS names it, and else makes the file behind -o.
