@@ -252,12 +252,16 @@ def run_steps(parts, others, early):
     return counts + show_each(beside)
 
 
-def writes():
-    """Has what this starts write in memory what it removes again, where `rt ci` sets aside what the crates keep in git's folder. Where that
-    is not here, or may not be written, it sets it aside where temporary files are, and what does not lie on the same disk is lost."""
+def sets_aside_here():
+    """Whether `rt ci` sets aside in git's folder what the crates keep: not where that is elsewhere, or may not be written. There it does so
+    where temporary files are, and what these crates have is lost where that is another disk."""
     git = TOP / ".git"
-    is_aside = git.is_dir() and not git.is_symlink() and os.access(git, os.W_OK)
-    return build.in_memory(build.toolchain()) if is_aside and shutil.which("rt") else contextlib.nullcontext()
+    return git.is_dir() and not git.is_symlink() and os.access(git, os.W_OK)
+
+
+def writes():
+    """Has what this starts write in memory what it removes again, where nothing is lost by it."""
+    return build.in_memory(build.toolchain()) if sets_aside_here() and shutil.which("rt") else contextlib.nullcontext()
 
 
 def refused(steps):
