@@ -138,12 +138,13 @@ impl Link {
             return Err(ControlFault::TooLong);
         }
         self.moment = self.moment.max(now);
-        self.table.submit(Request {
+        let request = Request {
             target,
             method,
             count,
             params,
-        });
+        };
+        self.table.submit(request, self.moment);
         Ok(handle)
     }
 

@@ -69,17 +69,17 @@ impl Table {
         self.low == self.next || self.next < self.low + u64::from(span)
     }
 
-    /// Puts a command behind the others, under the next handle.
-    pub fn submit(&mut self, request: Request<'_>)
+    /// Puts a command behind the others, under the next handle, which is submitted now.
+    pub fn submit(&mut self, request: Request<'_>, now: u64)
         requires left { self.old.next < 4294967296 }
         requires room { span_has_room 32 self.old.next self.old.untaken ≡ true }
         requires short { length request.params.now ≤ most_command_parameter_bytes }
         ensures { self.new ≡ record {
           next = self.old.next + 1;
-          untaken = self.old.untaken ++ new_untaken (command_under self.old.next (request_of request.entry)) ∷ [];
+          untaken = self.old.untaken ++ new_untaken now (command_under self.old.next (request_of request.entry)) ∷ [];
         } }
     {
-        self.slots[place(self.next)].put(request);
+        self.slots[place(self.next)].put(request, now);
         self.next += 1;
     }
 
