@@ -111,7 +111,7 @@ impl Slot {
     pub fn is_late(&self, now: u64) -> bool
         ensures { result ≡ held_is_late now self.now }
     {
-        self.held && !self.answered && now.saturating_sub(self.submitted) > LONGEST_LIFE_MS
+        self.waits() && now.saturating_sub(self.submitted) > LONGEST_LIFE_MS
     }
 
     /// From which moment on the command is due: from the first on where it was never given out, else 250 ms after it
