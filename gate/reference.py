@@ -15,8 +15,9 @@ CALL = r"^(?:static inline )?(?:(?:enum|struct) oca_\w+|const char|u?int\d+_t|si
 
 # On each page anyway; and what the header's own functions call, which has no page.
 NAMED_ANYWAY = ("struct oca_device", "struct oca_link", "enum oca_result")
-HELPERS = {"oca_device_close_any", "oca_link_close_any", "oca_outcome_of", "oca_panel_give_out", "oca_panel_refused", "oca_panel_was_read",
-           "oca_panel_text", "oca_walk_put"}
+HELPERS = {"oca_device_close_any", "oca_link_close_any", "oca_moment_after", "oca_outcome_of", "oca_panel_give_out", "oca_panel_now",
+           "oca_panel_refused", "oca_panel_state_at", "oca_panel_text", "oca_panel_turn_until", "oca_panel_was_read", "oca_walk_ends_at",
+           "oca_walk_put"}
 
 
 def comment_in(text):

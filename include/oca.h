@@ -447,8 +447,8 @@ enum oca_result oca_link_last_heard(struct oca_link *link, uint64_t *moment) OCA
 /* Whether the link is lost: a command got no answer to 20 sendings. It stays so; answers that still come are taken as before. */
 enum oca_result oca_link_is_lost(struct oca_link *link, bool *lost) OCA_NONNULL;
 
-/* Whether the link is late at a moment: a command was given out more than 100,000 ms before it and has no answer, as where the program stood
- * still. A copy of it now could be carried out a second time: do not call oca_link_due, and open a new link. */
+/* Whether the link is late at a moment: a command was submitted more than 15,000 ms before it and has no answer, sent or not, as where the
+ * program stood still. Nothing is to act so late: do not call oca_link_due, and open a new link. */
 enum oca_result oca_link_is_late(struct oca_link *link, uint64_t now, bool *late) OCA_NONNULL;
 
 /* Takes the answer to a command: its status and ParamCount, and its parameters. `out` has room for 1,452 bytes. */
@@ -468,17 +468,18 @@ struct oca_end {
     bool (*receive)(void *context, uint64_t until, uint8_t *out, size_t out_len, size_t *len, uint32_t *ip, uint16_t *port);
 };
 
-/* A panel: a link to one device, driven over the caller's socket. A closed one: struct oca_panel panel = OCA_PANEL_INIT; */
-struct oca_panel { struct oca_link link; struct oca_end end; uint32_t turns; };
+/* A panel: a link to one device, driven over the caller's socket, and for how many milliseconds a call waits for its answer. A closed one:
+ * struct oca_panel panel = OCA_PANEL_INIT; */
+struct oca_panel { struct oca_link link; struct oca_end end; uint32_t wait_ms; };
 #define OCA_PANEL_INIT {OCA_LINK_INIT, {0, NULL, NULL, NULL, NULL}, 0}
 
 /* What became of what was asked. OCA_ASKED_DONE: the device did it. OCA_ASKED_REFUSED: it refused, with a status of enum oca_status.
  * OCA_ASKED_UNREADABLE: its answer is none to what was asked. OCA_ASKED_NO_VALUE: nothing of the object's class can be asked so, or there
  * is no such value; it was not sent. OCA_ASKED_NOT_SENT: the link did not take it, with a result of enum oca_result. OCA_ASKED_LOST and
  * OCA_ASKED_LATE: the link is lost, or stood still too long, and sends nothing any more: it may have been carried out, or not, and a new
- * panel is to be opened. OCA_ASKED_UNANSWERED: no answer came in the panel's turns; it stays in flight, under the handle that `result`
- * has. Wait for it again by oca_panel_finish: until its answer is taken, no command can be begun whose handle is the span or more above
- * it (OCA_SPAN_FULL). With 210 turns, as long as a link retransmits, an answer comes or the link is lost. */
+ * panel is to be opened. OCA_ASKED_UNANSWERED: no answer came in the time that the panel waits; it stays in flight, under the handle that
+ * `result` has. Wait for it again by oca_panel_finish: until its answer is taken, no command can be begun whose handle is the span or more
+ * above it (OCA_SPAN_FULL). Where the panel waits for 10,500 ms, longer than a link retransmits, an answer comes or the link is lost. */
 enum oca_asked {
     OCA_ASKED_DONE = 0, OCA_ASKED_REFUSED = 1, OCA_ASKED_UNREADABLE = 2, OCA_ASKED_NO_VALUE = 3, OCA_ASKED_NOT_SENT = 4, OCA_ASKED_LOST = 5,
     OCA_ASKED_LATE = 6, OCA_ASKED_UNANSWERED = 7
@@ -499,14 +500,16 @@ static inline struct oca_outcome oca_outcome_of(uint32_t asked, uint32_t status,
 
 /* Opens a panel for the device at this address, over a socket of the caller's, which is copied. Its first command gets this handle: on a
  * port that the device heard before, one above all that were used there since the last pause of more than two minutes in which nothing was
- * sent from it. The span is that of oca_link_open. A command waits for its answer for so many turns, of at most 50 ms each: a turn ends sooner with each datagram that comes. 210 are as long
- * as a link retransmits, 20 are a second at most; where a device is silent the link is lost after some 5 seconds.
+ * sent from it. The span is that of oca_link_open. A call waits for the answer to its command for so many milliseconds by the clock of
+ * the end, whatever else comes: datagrams of strangers cost none of it. 10,500 are longer than a link retransmits; with 0 no call waits.
+ * Where a device is silent the link is lost after some 5 seconds. As a last resort a wait ends where the clock shows no later moment in
+ * 100,000 receives.
  * OCA_OPEN where the panel is open; OCA_BAD_SIZE also for a struct of another size. */
-static inline enum oca_result oca_panel_open(struct oca_panel *panel, const struct oca_end *end, uint32_t ip, uint16_t port, uint32_t first_handle, uint8_t span, uint32_t turns) {
+static inline enum oca_result oca_panel_open(struct oca_panel *panel, const struct oca_end *end, uint32_t ip, uint16_t port, uint32_t first_handle, uint8_t span, uint32_t wait_ms) {
     if (panel->link.is_open) return OCA_OPEN;
     if (end->size != sizeof *end) return OCA_BAD_SIZE;
     panel->end = *end;
-    panel->turns = turns;
+    panel->wait_ms = wait_ms;
     return oca_link_open(&panel->link, ip, port, first_handle, end->now(end->context), span);
 }
 
@@ -515,22 +518,28 @@ static inline void oca_panel_close(struct oca_panel *panel) {
     if (panel) oca_link_close_any(&panel->link);
 }
 
-/* Whether the panel can go on: OCA_ASKED_DONE, or OCA_ASKED_LOST or OCA_ASKED_LATE; OCA_ASKED_NOT_SENT with OCA_CLOSED where it is closed. */
-static inline struct oca_outcome oca_panel_state(struct oca_panel *panel) {
+/* The present moment of a panel's end, and whether its link can go on then. */
+static inline uint64_t oca_panel_now(const struct oca_panel *panel) { return panel->end.now(panel->end.context); }
+static inline struct oca_outcome oca_panel_state_at(struct oca_panel *panel, uint64_t now) {
     bool lost = false, late = false;
-    if (!panel->link.is_open) return oca_outcome_of(OCA_ASKED_NOT_SENT, 0, OCA_CLOSED);
     const enum oca_result found = oca_link_is_lost(&panel->link, &lost);
     if (found != OCA_DONE) return oca_outcome_of(OCA_ASKED_NOT_SENT, 0, found);
     if (lost) return oca_outcome_of(OCA_ASKED_LOST, 0, 0);
-    (void)oca_link_is_late(&panel->link, panel->end.now(panel->end.context), &late);
+    (void)oca_link_is_late(&panel->link, now, &late);
     return oca_outcome_of(late ? OCA_ASKED_LATE : OCA_ASKED_DONE, 0, 0);
+}
+
+/* Whether the panel can go on: OCA_ASKED_DONE, or OCA_ASKED_LOST or OCA_ASKED_LATE; OCA_ASKED_NOT_SENT with OCA_CLOSED where it is closed. */
+static inline struct oca_outcome oca_panel_state(struct oca_panel *panel) {
+    if (!panel->link.is_open) return oca_outcome_of(OCA_ASKED_NOT_SENT, 0, OCA_CLOSED);
+    return oca_panel_state_at(panel, oca_panel_now(panel));
 }
 static inline struct oca_outcome oca_panel_give_out(struct oca_panel *panel) {
     uint8_t bytes[OCA_MOST_BYTES] = {0};
     uint32_t due = OCA_DUE_NOTHING, handle = 0;
     size_t len = 0;
-    struct oca_outcome state = oca_panel_state(panel);
-    const uint64_t now = state.asked == OCA_ASKED_DONE ? panel->end.now(panel->end.context) : 0;
+    const uint64_t now = oca_panel_now(panel);
+    const struct oca_outcome state = oca_panel_state_at(panel, now);
     while (state.asked == OCA_ASKED_DONE) {
         const enum oca_result found = oca_link_due(&panel->link, now, bytes, sizeof bytes, &len, &due, &handle);
         if (found != OCA_DONE) return oca_outcome_of(OCA_ASKED_NOT_SENT, 0, found);
@@ -541,21 +550,26 @@ static inline struct oca_outcome oca_panel_give_out(struct oca_panel *panel) {
     return state;
 }
 
-/* Takes one turn: receives once, for at most 50 ms or until something is due, whichever is sooner, and sends what is due, keep-alives too. Tells what
- * oca_panel_state does. */
-static inline struct oca_outcome oca_panel_turn(struct oca_panel *panel) {
+/* The moment so many milliseconds behind another one, and at most the last there is; a turn that receives until a moment at most. */
+static inline uint64_t oca_moment_after(uint64_t moment, uint32_t ms) { return moment > UINT64_MAX - ms ? UINT64_MAX : moment + ms; }
+static inline struct oca_outcome oca_panel_turn_until(struct oca_panel *panel, uint64_t until) {
     uint8_t bytes[OCA_MOST_BYTES + 1] = {0};
     size_t len = 0;
     uint32_t ip = 0, reception = 0, answered = 0;
     uint16_t port = 0;
-    uint64_t until = 0, due = 0;
+    uint64_t due = 0;
     if (!panel->link.is_open) return oca_panel_state(panel);
-    const uint64_t now = panel->end.now(panel->end.context);
-    until = now > UINT64_MAX - 50 ? UINT64_MAX : now + 50;
     if (oca_link_next_due(&panel->link, &due) == OCA_DONE && due < until) until = due;
     if (panel->end.receive(panel->end.context, until, bytes, sizeof bytes, &len, &ip, &port) && len <= OCA_MOST_BYTES)
-        (void)oca_link_datagram(&panel->link, ip, port, bytes, len, panel->end.now(panel->end.context), &reception, &answered);
+        (void)oca_link_datagram(&panel->link, ip, port, bytes, len, oca_panel_now(panel), &reception, &answered);
     return oca_panel_give_out(panel);
+}
+
+/* Takes one turn: receives once, for at most 50 ms or until something is due, whichever is sooner, and sends what is due, keep-alives too. Tells what
+ * oca_panel_state does: of a link that this turn finds lost or late that it is. */
+static inline struct oca_outcome oca_panel_turn(struct oca_panel *panel) {
+    if (!panel->link.is_open) return oca_panel_state(panel);
+    return oca_panel_turn_until(panel, oca_moment_after(oca_panel_now(panel), 50));
 }
 
 /* Submits a command by a method of enum oca_method, or one that sets or reads an object by its value, sends it at once and tells its handle:
@@ -565,7 +579,7 @@ static inline enum oca_result oca_panel_begin(struct oca_panel *panel, uint32_t 
     const struct oca_outcome state = oca_panel_state(panel);
     if (state.asked == OCA_ASKED_LATE) return OCA_LOST;
     if (!panel->link.is_open) return OCA_CLOSED;
-    const enum oca_result taken = oca_link_call(&panel->link, ono, method, count, params, params_len, panel->end.now(panel->end.context), handle);
+    const enum oca_result taken = oca_link_call(&panel->link, ono, method, count, params, params_len, oca_panel_now(panel), handle);
     if (taken == OCA_DONE) (void)oca_panel_give_out(panel);
     return taken;
 }
@@ -598,9 +612,18 @@ static inline struct oca_outcome oca_panel_try_finish(struct oca_panel *panel, u
 /* Waits for a command that was begun, and takes its answer. After OCA_ASKED_UNANSWERED it can be waited for again. */
 static inline struct oca_outcome oca_panel_finish(struct oca_panel *panel, uint32_t handle, struct oca_answer *answer) {
     struct oca_outcome outcome = oca_panel_try_finish(panel, handle, answer);
-    for (uint32_t turn = 0; turn < panel->turns && outcome.asked == OCA_ASKED_UNANSWERED; turn++) {
-        (void)oca_panel_turn(panel);
+    if (outcome.asked != OCA_ASKED_UNANSWERED) return outcome;
+    uint64_t now = oca_panel_now(panel), latest = now;
+    const uint64_t until = oca_moment_after(now, panel->wait_ms);
+    for (uint32_t still = 0; now < until && still < 100000 && outcome.asked == OCA_ASKED_UNANSWERED; still++) {
+        const uint64_t turn = oca_moment_after(now, 50);
+        (void)oca_panel_turn_until(panel, turn < until ? turn : until);
         outcome = oca_panel_try_finish(panel, handle, answer);
+        now = oca_panel_now(panel);
+        if (now > latest) {
+            latest = now;
+            still = 0;
+        }
     }
     return outcome;
 }
@@ -751,16 +774,20 @@ static inline void oca_walk_put(struct oca_walk *walk, uint32_t ono, uint32_t co
     walk->places[first].container = container;
 }
 
+/* Whether a walk can't go on after a question that fared so. */
+static inline bool oca_walk_ends_at(struct oca_outcome outcome) { return outcome.asked == OCA_ASKED_NOT_SENT || outcome.asked == OCA_ASKED_UNANSWERED; }
+
 /* What a walk calls at each object, with what the caller gave for it: it goes on where this answers true. It may ask the panel too. */
 typedef bool (*oca_visitor)(void *context, const struct oca_visit *visit);
 
 /* Visits the objects of the device from the root on, each block's members behind it in their order: each object once, at most 4,096, in the
  * place of a walk that the caller has for it. Each is asked for its class and its role, and a block for its members; nothing is set. Each
- * answer is waited for until it is there or the link is lost, whatever the panel's turns are. OCA_ASKED_DONE where all were visited, or the
- * visitor ended it; else why it could not go on. */
+ * answer is waited for until it is there or the link is lost, for 20,000 ms at most, however long the panel waits. OCA_ASKED_DONE where all
+ * were visited, or the visitor ended it; else why it could not go on: OCA_ASKED_UNANSWERED where in that time neither was so, as where the
+ * clock stands still. */
 static inline struct oca_outcome oca_panel_walk(struct oca_panel *panel, struct oca_walk *walk, oca_visitor visit, void *context) {
     struct oca_members members = {0, {0}};
-    const uint32_t turns = panel->turns;
+    const uint32_t wait_ms = panel->wait_ms;
     bool goes_on = true;
     walk->visited = walk->waiting = 0;
     oca_walk_put(walk, 100, 0);
@@ -769,7 +796,7 @@ static inline struct oca_outcome oca_panel_walk(struct oca_panel *panel, struct 
         struct oca_visit found = {walk->places[next].ono, walk->places[next].container, {0, 0, 0}, {0, {0}, 0}, {0, {0}}, {0, 0, 0}};
         walk->places[walk->visited].ono = found.ono;
         walk->places[walk->visited++].container = found.container;
-        panel->turns = UINT32_MAX; /* until the answer is there, or the link is lost */
+        panel->wait_ms = 20000; /* a link is lost, or late, before that */
         found.described = oca_panel_class(panel, found.ono, &found.id);
         if (found.described.asked == OCA_ASKED_DONE) found.described = oca_panel_role(panel, found.ono, &found.role);
         if (found.described.asked != OCA_ASKED_DONE) found.listed = found.described;
@@ -777,11 +804,11 @@ static inline struct oca_outcome oca_panel_walk(struct oca_panel *panel, struct 
             found.listed = oca_panel_members(panel, found.ono, &members);
             for (uint32_t i = found.listed.asked == OCA_ASKED_DONE ? members.count : 0; i > 0; i--) oca_walk_put(walk, members.onos[i - 1], found.ono);
         }
-        panel->turns = turns;
+        panel->wait_ms = wait_ms;
         const struct oca_outcome state = oca_panel_state(panel);
         if (state.asked != OCA_ASKED_DONE) return state;
-        if (found.described.asked == OCA_ASKED_NOT_SENT) return found.described;
-        if (found.listed.asked == OCA_ASKED_NOT_SENT) return found.listed;
+        if (oca_walk_ends_at(found.described)) return found.described;
+        if (oca_walk_ends_at(found.listed)) return found.listed;
         goes_on = visit(context, &found);
     }
     return oca_outcome_of(OCA_ASKED_DONE, 0, 0);
