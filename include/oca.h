@@ -17,7 +17,7 @@
  *    signal handler or from the forked child of a process with threads;
  *  - enough stack (docs/EMBEDDING.md has figures).
  * Only the calls that open and start take memory, by malloc, realloc and free or by a heap of the program's own, whose blocks are
- * aligned to 16; close gives it back. After OCA_NO_MEMORY at a start: close. */
+ * aligned to 16; close gives it back. Behind OCA_NO_MEMORY at an opening or at a start the struct is closed. */
 #ifndef OCA_H
 #define OCA_H
 #include <stdbool.h>
@@ -240,7 +240,9 @@ uint32_t oca_class_with(const uint16_t *fields, size_t fields_len) OCA_NONNULL;
  * block's class is OCA_CLASS_BLOCK, and nothing else of its reading is looked at; the limits of a mute, a polarity, a Boolean and a position
  * are not looked at either), whether it can be locked and is enabled (0 no, any other byte yes), its role, its label, and of a switch
  * its positions: how many there are, the name of each, and which are enabled. There is no pointer in it, and no byte between its fields.
- * Its size comes first: a struct of another size than the library's is refused with OCA_BAD_SIZE. */
+ * Its size comes first, also where it is to be written, and the zeros are 0: a struct of another size than the library's, or with another
+ * byte there, is refused with OCA_BAD_SIZE. Of one that is only written to the size alone is looked at: struct oca_spec spec =
+ * OCA_SPEC_INIT; */
 struct oca_spec {
     uint32_t size;
     uint8_t lockable, enabled;
@@ -249,11 +251,12 @@ struct oca_spec {
     struct oca_name role, label, names[16];
     uint8_t enableds[16], zeros[6];
 };
+#define OCA_SPEC_INIT {(uint32_t)sizeof(struct oca_spec), 1, 1, 0, {{0, 0, 0}, {0, 0, 0}, {0, 0, 0}}, {0, {0}}, {0, {0}}, {{0, {0}}}, {0}, {0}}
 
 /* An object of this role that is read so, lockable and enabled, with an empty label and no positions; a block; and one more position of a
  * switch, enabled. */
 static inline struct oca_spec oca_spec_of(const char *role, struct oca_reading reading) {
-    struct oca_spec spec = {(uint32_t)sizeof(struct oca_spec), 1, 1, 0, {{0, 0, 0}, {0, 0, 0}, {0, 0, 0}}, {0, {0}}, {0, {0}}, {{0, {0}}}, {0}, {0}};
+    struct oca_spec spec = OCA_SPEC_INIT;
     spec.reading = reading;
     spec.role = oca_name_of(role);
     return spec;
@@ -277,8 +280,8 @@ struct oca_device { void *at; bool is_open; };
 /* Opens a device that has its root alone (the block 100), with room for so many objects, the root counted: 1 to 4,096. */
 enum oca_result oca_device_open(struct oca_device *device, uint16_t room) OCA_CHECKED;
 
-/* The same with what was stored of the root: its label, and whether it is enabled; all else of the struct but its size is not
- * looked at. The first that applies: OCA_BAD_SIZE, OCA_BAD_TEXT for a label that is none, OCA_NO_MEMORY. */
+/* The same with what was stored of the root: its label, and whether it is enabled; all else of the struct but its size and its zeros is
+ * not looked at. The first that applies: OCA_BAD_SIZE, OCA_BAD_TEXT for a label that is none, OCA_NO_MEMORY. */
 enum oca_result oca_device_open_with(struct oca_device *device, uint16_t room, const struct oca_spec *root) OCA_CHECKED;
 
 /* Closes a device and gives its memory back; a closed one stays closed, and at a null pointer nothing is done. */
@@ -312,8 +315,8 @@ enum oca_result oca_device_add_switch(struct oca_device *device, uint32_t contai
 
 /* Starts the device, with reply windows of this size (1 to 64; 32 is usual; at least twice the panels' span less one) and sessions of so
  * many peers (1 to 64; 16 is usual).
- * Where it is started already it is OCA_STARTED, whatever is asked for. OCA_NO_MEMORY loses the objects: close the struct, and begin
- * anew. */
+ * Where it is started already it is OCA_STARTED, whatever is asked for. OCA_NO_MEMORY loses the objects and closes the struct: each call
+ * then answers OCA_CLOSED, and it can be opened anew. */
 enum oca_result oca_device_start(struct oca_device *device, uint8_t window, uint8_t peers) OCA_CHECKED;
 
 /* The same for a small device: with room for so many packets that answer a datagram (1 to 122), of some 1,480 bytes each. oca_device_start
@@ -363,8 +366,8 @@ enum oca_result oca_device_set_truth(struct oca_device *device, uint32_t ono, bo
 enum oca_result oca_device_set_signed(struct oca_device *device, uint32_t ono, int64_t number) OCA_NONNULL;
 enum oca_result oca_device_set_unsigned(struct oca_device *device, uint32_t ono, uint64_t number) OCA_NONNULL;
 
-/* The same by a value: its class is not looked at, but for the kind: states of a mute and of a polarity are of one kind, and so are integers
- * of every type, as in the calls above. OCA_NO_VALUE, before all others but OCA_CLOSED and OCA_NOT_STARTED, where the words are those of no value. */
+/* The same by a value of the object's class: OCA_OTHER_KIND for one of another class, as for a polarity's at a mute, and for an integer of
+ * another type. OCA_NO_VALUE, before all others but OCA_CLOSED and OCA_NOT_STARTED, where the words are those of no value. */
 enum oca_result oca_device_set(struct oca_device *device, uint32_t ono, const struct oca_value *value) OCA_NONNULL;
 
 /* How an object is set: kind 1 a state, 2 a position, 3 a truth (0 or 1), 4 a number, `negative` (0 or 1) where it is below 0.
@@ -385,7 +388,7 @@ static inline enum oca_result oca_device_object(struct oca_device *device, size_
 }
 
 /* What an object is now, by its index from 0 at the root in order of adding: an addition of the struct makes the same object again, but for
- * its lock, and of the root oca_device_open_with does. OCA_NOTHING behind the last. So a device saves what was set, by peers and at its
+ * its lock, and of the root oca_device_open_with does. OCA_BAD_SIZE, where the struct does not say its size; OCA_NOTHING behind the last. So a device saves what was set, by peers and at its
  * front; oca_device_object has the object's number and that of its block. */
 enum oca_result oca_device_spec(struct oca_device *device, size_t index, struct oca_spec *spec) OCA_NONNULL;
 
@@ -437,6 +440,10 @@ enum oca_result oca_link_next_due(struct oca_link *link, uint64_t *moment) OCA_N
 /* The lowest handle whose answer came and was not taken yet; OCA_NOTHING where there is none. */
 enum oca_result oca_link_answered(struct oca_link *link, uint32_t *handle) OCA_NONNULL;
 
+/* Whether the command under a handle is in flight: it was submitted, and has no answer so far. Where it is not, and oca_link_take gives no
+ * answer, its answer was taken, or no command has that handle. */
+enum oca_result oca_link_in_flight(struct oca_link *link, uint32_t handle, bool *in_flight) OCA_NONNULL;
+
 /* The handle that the next command gets: a link that is opened after this one to the same device begins there or above. OCA_NOTHING
  * after the last one, 4294967295. */
 enum oca_result oca_link_next_handle(struct oca_link *link, uint32_t *handle) OCA_NONNULL;
@@ -479,16 +486,17 @@ struct oca_panel { struct oca_link link; struct oca_end end; uint32_t wait_ms; }
  * OCA_ASKED_LATE: the link is lost, or stood still too long, and sends nothing any more: it may have been carried out, or not, and a new
  * panel is to be opened. OCA_ASKED_UNANSWERED: no answer came in the time that the panel waits; it stays in flight, under the handle that
  * `result` has. Wait for it again by oca_panel_finish: until its answer is taken, no command can be begun whose handle is the span or more
- * above it (OCA_SPAN_FULL). Where the panel waits for 10,500 ms, longer than a link retransmits, an answer comes or the link is lost. */
+ * above it (OCA_SPAN_FULL). Where the panel waits for 10,500 ms, longer than a link retransmits, an answer comes or the link is lost.
+ * OCA_ASKED_NO_HANDLE: there is no command under the handle, which `result` has: its answer was taken, or it was never begun. */
 enum oca_asked {
     OCA_ASKED_DONE = 0, OCA_ASKED_REFUSED = 1, OCA_ASKED_UNREADABLE = 2, OCA_ASKED_NO_VALUE = 3, OCA_ASKED_NOT_SENT = 4, OCA_ASKED_LOST = 5,
-    OCA_ASKED_LATE = 6, OCA_ASKED_UNANSWERED = 7
+    OCA_ASKED_LATE = 6, OCA_ASKED_UNANSWERED = 7, OCA_ASKED_NO_HANDLE = 8
 };
 struct oca_outcome { uint32_t asked, status, result; };
 
 /* An outcome in words, for a log: the name of a status, why it was not sent, or what else became of it. */
 static inline const char *oca_outcome_text(struct oca_outcome outcome) {
-    static const char *const texts[] = {"done", "a status of a later version", "unreadable answer", "no value", "not sent", "lost", "late", "no answer"};
+    static const char *const texts[] = {"done", "a status of a later version", "unreadable answer", "no value", "not sent", "lost", "late", "no answer", "no such handle"};
     if (outcome.asked == OCA_ASKED_REFUSED && oca_status_text(outcome.status)) return oca_status_text(outcome.status);
     if (outcome.asked == OCA_ASKED_NOT_SENT) return oca_result_text(outcome.result);
     return outcome.asked < sizeof texts / sizeof *texts ? texts[outcome.asked] : "an outcome of a later version";
@@ -498,9 +506,22 @@ static inline struct oca_outcome oca_outcome_of(uint32_t asked, uint32_t status,
     return outcome;
 }
 
+/* A port to bind the panel's socket to, the other one, and a first handle that is safe there, by the time of day: the handle rises by 100,000
+ * a second, faster than commands are answered, so that each run at that port goes on above the last one. When it would reach 2,147,483,648,
+ * every six hours, it begins again at 0, and it is the other port's turn. So a program that runs often takes one session of the device, and
+ * not one more each time, each of which the device keeps for two minutes. The time of day is in seconds and microseconds since the beginning
+ * of 1970, and is not to be set back. */
+struct oca_own_port { uint16_t port, other; uint32_t first_handle; };
+static inline struct oca_own_port oca_own_port(uint64_t seconds, uint32_t microseconds) {
+    const uint64_t since = seconds * 100000 + microseconds / 10;
+    const uint32_t turn = since >> 31 & 1;
+    struct oca_own_port own = {(uint16_t)(65001 + turn), (uint16_t)(65002 - turn), (uint32_t)(since & 0x7fffffff)};
+    return own;
+}
+
 /* Opens a panel for the device at this address, over a socket of the caller's, which is copied. Its first command gets this handle: on a
  * port that the device heard before, one above all that were used there since the last pause of more than two minutes in which nothing was
- * sent from it. The span is that of oca_link_open. A call waits for the answer to its command for so many milliseconds by the clock of
+ * sent from it (oca_own_port gives one). The span is that of oca_link_open. A call waits for the answer to its command for so many milliseconds by the clock of
  * the end, whatever else comes: datagrams of strangers cost none of it. 10,500 are longer than a link retransmits; with 0 no call waits.
  * Where a device is silent the link is lost after some 5 seconds. As a last resort a wait ends where the clock shows no later moment in
  * 100,000 receives.
@@ -603,8 +624,10 @@ struct oca_answer { uint32_t count; size_t params_len; uint8_t params[OCA_MOST_A
  * changes nothing. */
 static inline struct oca_outcome oca_panel_try_finish(struct oca_panel *panel, uint32_t handle, struct oca_answer *answer) {
     uint32_t status = 0;
+    bool in_flight = true;
     const enum oca_result taken = oca_link_take(&panel->link, handle, &status, &answer->count, answer->params, sizeof answer->params, &answer->params_len);
     if (taken == OCA_DONE) return oca_outcome_of(status == OCA_STATUS_OK ? OCA_ASKED_DONE : OCA_ASKED_REFUSED, status, 0);
+    if (oca_link_in_flight(&panel->link, handle, &in_flight) == OCA_DONE && !in_flight) return oca_outcome_of(OCA_ASKED_NO_HANDLE, 0, handle);
     const struct oca_outcome state = oca_panel_state(panel);
     return state.asked == OCA_ASKED_DONE ? oca_outcome_of(OCA_ASKED_UNANSWERED, 0, handle) : state;
 }

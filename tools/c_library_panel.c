@@ -291,7 +291,13 @@ static void begins_several(struct oca_panel *panel) {
     same("handles rise", handles[8] - handles[0], 8);
     same("the last", oca_panel_finish_get(panel, handles[8], OCA_CLASS_INT16, &reading).asked, OCA_ASKED_DONE);
     for (int k = 7; k >= 0; k--) same("finish", oca_panel_finish_set(panel, handles[k]).asked, OCA_ASKED_DONE);
-    same("taken once", oca_panel_finish_set(panel, handles[0]).asked, OCA_ASKED_UNANSWERED);
+    const uint32_t others[] = {handles[0], handles[8], handles[8] + 1, handles[0] - 1, 0, UINT32_MAX};
+    for (size_t k = 0; k < sizeof others / sizeof *others; k++) {
+        const struct oca_outcome outcome = oca_panel_finish_set(panel, others[k]);
+        same("a handle whose answer was taken, or that no command had", outcome.asked, OCA_ASKED_NO_HANDLE);
+        same("it is told", outcome.result, others[k]);
+        says("in words", oca_outcome_text(outcome), "no such handle");
+    }
 }
 
 static void locks(struct oca_panel *panel, struct oca_panel *other) {
@@ -855,7 +861,7 @@ static void outcome_texts(void) {
         {{OCA_ASKED_UNREADABLE, 0, 0}, "unreadable answer"}, {{OCA_ASKED_NO_VALUE, 0, 0}, "no value"},
         {{OCA_ASKED_NOT_SENT, 0, OCA_HANDLES_SPENT}, "no handle is left"},
         {{OCA_ASKED_LOST, 0, 0}, "lost"}, {{OCA_ASKED_LATE, 0, 0}, "late"}, {{OCA_ASKED_UNANSWERED, 0, 1}, "no answer"},
-        {{OCA_ASKED_UNANSWERED + 1, 0, 0}, "an outcome of a later version"}};
+        {{OCA_ASKED_NO_HANDLE, 0, 1}, "no such handle"}, {{OCA_ASKED_NO_HANDLE + 1, 0, 0}, "an outcome of a later version"}};
     for (size_t i = 0; i < sizeof rows / sizeof *rows; i++)
         says("the text of an outcome", oca_outcome_text(rows[i].outcome), rows[i].text);
 }

@@ -28,7 +28,7 @@ RENAMED = {
     ("oca_device_datagram_words", "out"): "verdict", ("oca_device_object_words", "out"): "object", ("oca_device_setting", "reading"): "setting",
     ("oca_link_submit", "command"): "handle", ("oca_link_due", "kind"): "due", ("oca_link_due", "command"): "handle",
     ("oca_link_datagram", "kind"): "reception", ("oca_link_take", "command"): "handle", ("oca_link_answered", "command"): "handle",
-    ("oca_link_next_handle", "command"): "handle",
+    ("oca_link_next_handle", "command"): "handle", ("oca_link_in_flight", "command"): "handle",
 }
 LENGTHS = {"bytes": "len", "verdict": "words", "object": "words"}
 
