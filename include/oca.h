@@ -466,7 +466,8 @@ enum oca_result oca_link_take(struct oca_link *link, uint32_t handle, uint32_t *
 /* The caller's socket, by which a panel reaches its device: the size of the struct first, what the three functions are handed, and they.
  * `now` reads the clock. `send` hands a datagram to the device; what is not sent is as if lost. `receive` waits for a datagram until that
  * moment at most, puts it into room for `out_len` bytes with its length and its sender, and answers whether there was one: one that is
- * longer than the room has that length or more, and is dropped. It may answer sooner that there is none. */
+ * longer than the room has that length or more, and is dropped. It may answer sooner that there is none. None of them calls the panel or
+ * its link. */
 struct oca_end {
     size_t size;
     void *context;

@@ -698,6 +698,19 @@ static void asks_in_vain(void) {
     same("and is closed as any other", !panel.link.is_open && !panel.link.at && oca_panel_state(&panel).result == OCA_CLOSED, true);
 }
 
+/* A turn in which nothing comes and nothing is due lasts 50 ms, and one before something is due ends there. */
+static void turns_last(void) {
+    static struct network network;
+    struct oca_panel panel = OCA_PANEL_INIT;
+    begins_network(&network, &panel);
+    const uint64_t opened = network.now;
+    for (uint32_t k = 1; k < 4; k++) same("a turn", oca_panel_turn(&panel).asked == OCA_ASKED_DONE && network.now == opened + 50 * k, true);
+    network.now = opened + 2470;
+    same("a turn until a keep-alive is due", oca_panel_turn(&panel).asked == OCA_ASKED_DONE && network.now == opened + 2500, true);
+    same("which it sends", network.sent, 1);
+    oca_panel_close(&panel);
+}
+
 /* A turn says that the link is late where it is so behind the receive, and sends nothing: a millisecond sooner it is not late. */
 static void turns_late(void) {
     static struct network network;
@@ -1020,6 +1033,7 @@ int main(int count, char **words) {
     waits_until_the_last_moment();
     asks_for_both_bytes();
     asks_in_vain();
+    turns_last();
     turns_late();
     waits_in_a_flood();
     waits_by_no_clock(UINT64_C(1) << 40);
