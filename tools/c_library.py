@@ -28,6 +28,8 @@ import threading
 import time
 from pathlib import Path
 
+sys.path.insert(0, str(Path(__file__).resolve().parent.parent / "gate"))
+import reference
 from embedded import bound_at
 from own_ports import free_port
 
@@ -37,6 +39,7 @@ AMPLIFIER = "1: open 0 dB/10, 2: muted 0 dB/10\n1: open -60 dB/10, 2: muted 0 dB
 PANEL = "open channel 1: status 0\ngain to -6 dB: status 0\ngain: -60 dB/10\n"
 STRICT = ["-O2", "-Wall", "-Wextra", "-Werror"]
 LANGUAGES = {"c11": ["cc", "-std=c11"], "c++17": ["c++", "-x", "c++", "-std=c++17"]}
+RESULTS = {name: int(number) for name, number in re.findall(r"(OCA_\w+) = (\d+)", (TOP / "include/oca.h").read_text())}
 CALLS = 1_500_000  # of a run of random ones
 SANITIZED = ["-O1", "-g", "-fsanitize=address,undefined", "-fno-sanitize-recover=all"]
 
@@ -154,6 +157,10 @@ def random_calls(checks, made, prefix):
         counts = re.search(r"(\d+) passed, (\d+) failed\n$", out)
         checks.same(f"calls of anything ({language})", (counts is not None and int(counts[1]) > CALLS, counts and counts[2], status), (True, "0", 0))
         print(out, end="") if status else None
+        for line in out.splitlines()[:-1] if not status else ():
+            name, *results = line.split()
+            unsaid = {int(it) for it in results} - {RESULTS[it] for it in reference.answers_of(name)}
+            checks.same(f"what {name} answered and its page does not say", unsaid, set())
 
 
 def full_datagram(checks, made):

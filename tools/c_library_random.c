@@ -1,7 +1,7 @@
 /* Random calls of the library: of devices and links that are closed, built, started or lost, with sizes, numbers and moments at their
  * edges, and of panels whose sockets give anything. What a call writes stands between bytes that must stay as they are, an answer must be
  * one that the header names, what is closed answers so, and what is refused leaves what it would have told.
- * Usage: random CALLS SEED */
+ * It prints which results each call answered. Usage: random CALLS SEED */
 #include <oca.h>
 #include <stdio.h>
 #include <stdlib.h>
@@ -23,6 +23,18 @@ static uint64_t number(void) {
     if (kind == 1) return 4096 + below(20);
     if (kind == 2) return below(200);
     return (uint64_t)below(UINT32_MAX) << 32 | below(UINT32_MAX);
+}
+
+/* The names of the calls that were made, each with the results that it answered, a bit for each. */
+#define CALL(name) (called = #name, name)
+static const char *called = "", *names_of_calls[64];
+static uint32_t results_of[64];
+
+static void told(enum oca_result result) {
+    int k = 0;
+    while (k < 63 && names_of_calls[k] && strcmp(names_of_calls[k], called) != 0) k++;
+    names_of_calls[k] = called;
+    results_of[k] |= UINT32_C(1) << (result & 31);
 }
 
 static void expect(bool is_well, const char *what) {
@@ -92,42 +104,43 @@ static void calls_device(struct oca_device *d) {
     const uint32_t ono = below(3) ? 4096 + below(8) : (uint32_t)number(), container = below(3) ? 100 : 4096 + below(9);
     const size_t size = below(4) ? below(80) : 0;
     const struct oca_value value = any_value();
-    struct oca_spec spec = any_spec(), *told;
+    struct oca_spec spec = any_spec(), *read;
     enum oca_result result = OCA_DONE;
     int count = 0;
     bool may_open = false;
     switch (below(26)) {
-    case 0: result = oca_device_open(d, (uint16_t)(below(2) ? below(30) : number())), may_open = true; break;
-    case 1: result = oca_device_open_with(d, (uint16_t)below(30), &spec), may_open = true; break;
+    case 0: result = CALL(oca_device_open)(d, (uint16_t)(below(2) ? below(30) : number())), may_open = true; break;
+    case 1: result = CALL(oca_device_open_with)(d, (uint16_t)below(30), &spec), may_open = true; break;
     case 2: if (below(8) == 0) oca_device_close(d); return;
-    case 3: if (below(9)) return; result = oca_device_start(d, (uint8_t)number(), (uint8_t)number()); break;
-    case 4: if (below(9)) return; result = oca_device_start_within(d, (uint8_t)(1 + below(9)), (uint8_t)(1 + below(4)), (size_t)number()); break;
-    case 5: case 6: case 7: result = oca_device_add(d, container, ono, &spec); break;
-    case 8: result = oca_device_add_block(d, container, ono, role, below(6), below(2)); break;
-    case 9: result = oca_device_add_int8(d, container, ono, role, below(6), below(2), (int8_t)below(256), (int8_t)below(256), (int8_t)below(256)); break;
-    case 10: result = oca_device_datagram_words(d, below(3), (uint16_t)below(3), bytes, any_datagram(bytes, below(50)), number(), (uint32_t *)room(0, 4 * (size % 9)), size % 9), count = 1; break;
-    case 11: result = oca_device_packets(d, (size_t *)room(0, sizeof(size_t))), count = 1; break;
-    case 12: result = oca_device_packet(d, below(4), (uint8_t *)room(0, size), size, (size_t *)room(1, sizeof(size_t))), count = 2; break;
-    case 13: result = oca_device_left_out(d, (bool *)memset(room(0, 1), 0, 1)), count = 0; break;
-    case 14: result = oca_device_written(d, (uint32_t *)room(0, 4 * size), size, (size_t *)room(1, sizeof(size_t))), count = 2; break;
-    case 15: result = oca_device_tick(d, number()); break;
-    case 16: result = oca_device_next_lapse(d, (uint64_t *)room(0, 8)), count = 1; break;
-    case 17: result = oca_device_set(d, ono, &value); break;
-    case 18: result = oca_device_set_state(d, ono, (uint8_t)number()); break;
-    case 19: result = oca_device_set_signed(d, ono, (int64_t)number()); break;
-    case 20: result = oca_device_set_unsigned(d, ono, number()); break;
-    case 21: result = oca_device_setting(d, ono, (struct oca_setting *)room(0, sizeof(struct oca_setting))), count = 1; break;
-    case 22: result = oca_device_object_words(d, below(12), (uint32_t *)room(0, 4 * (size % 6)), size % 6, (uint8_t *)room(1, size), size), count = 2; break;
+    case 3: if (below(9)) return; result = CALL(oca_device_start)(d, (uint8_t)number(), (uint8_t)number()); break;
+    case 4: if (below(9)) return; result = CALL(oca_device_start_within)(d, (uint8_t)(1 + below(9)), (uint8_t)(1 + below(4)), (size_t)number()); break;
+    case 5: case 6: case 7: result = CALL(oca_device_add)(d, container, ono, &spec); break;
+    case 8: result = CALL(oca_device_add_block)(d, container, ono, role, below(6), below(2)); break;
+    case 9: result = CALL(oca_device_add_int8)(d, container, ono, role, below(6), below(2), (int8_t)below(256), (int8_t)below(256), (int8_t)below(256)); break;
+    case 10: result = CALL(oca_device_datagram_words)(d, below(3), (uint16_t)below(3), bytes, any_datagram(bytes, below(50)), number(), (uint32_t *)room(0, 4 * (size % 9)), size % 9), count = 1; break;
+    case 11: result = CALL(oca_device_packets)(d, (size_t *)room(0, sizeof(size_t))), count = 1; break;
+    case 12: result = CALL(oca_device_packet)(d, below(4), (uint8_t *)room(0, size), size, (size_t *)room(1, sizeof(size_t))), count = 2; break;
+    case 13: result = CALL(oca_device_left_out)(d, (bool *)memset(room(0, 1), 0, 1)), count = 0; break;
+    case 14: result = CALL(oca_device_written)(d, (uint32_t *)room(0, 4 * size), size, (size_t *)room(1, sizeof(size_t))), count = 2; break;
+    case 15: result = CALL(oca_device_tick)(d, number()); break;
+    case 16: result = CALL(oca_device_next_lapse)(d, (uint64_t *)room(0, 8)), count = 1; break;
+    case 17: result = CALL(oca_device_set)(d, ono, &value); break;
+    case 18: result = CALL(oca_device_set_state)(d, ono, (uint8_t)number()); break;
+    case 19: result = CALL(oca_device_set_signed)(d, ono, (int64_t)number()); break;
+    case 20: result = CALL(oca_device_set_unsigned)(d, ono, number()); break;
+    case 21: result = CALL(oca_device_setting)(d, ono, (struct oca_setting *)room(0, sizeof(struct oca_setting))), count = 1; break;
+    case 22: result = CALL(oca_device_object_words)(d, below(12), (uint32_t *)room(0, 4 * (size % 6)), size % 6, (uint8_t *)room(1, size), size), count = 2; break;
     case 23:
-        told = (struct oca_spec *)room(0, sizeof spec);
-        told->size = below(2) ? (uint32_t)sizeof spec : (uint32_t)number();
-        memcpy(places[0].before + EDGE, &told->size, 4);
-        result = oca_device_spec(d, below(12), told), count = 1;
-        expect(told->size == sizeof spec || result != OCA_DONE, "a struct of another size is written to");
+        read = (struct oca_spec *)room(0, sizeof spec);
+        read->size = below(2) ? (uint32_t)sizeof spec : (uint32_t)number();
+        memcpy(places[0].before + EDGE, &read->size, 4);
+        result = CALL(oca_device_spec)(d, below(12), read), count = 1;
+        expect(read->size == sizeof spec || result != OCA_DONE, "a struct of another size is written to");
         break;
-    case 24: result = oca_device_set_position(d, ono, (uint16_t)number()); break;
-    default: result = oca_device_lock(d, ono, (uint32_t *)room(0, 4), (uint32_t *)room(1, 4), (uint16_t *)room(2, 2)), count = 3; break;
+    case 24: result = CALL(oca_device_set_position)(d, ono, (uint16_t)number()); break;
+    default: result = CALL(oca_device_lock)(d, ono, (uint32_t *)room(0, 4), (uint32_t *)room(1, 4), (uint16_t *)room(2, 2)), count = 3; break;
     }
+    told(result);
     expect(result <= OCA_NO_VALUE, "a result of a device");
     expect(was_open || may_open || result == OCA_CLOSED, "a closed device answers so");
     expect(!was_open || !may_open || result == OCA_OPEN, "an open device is not opened");
@@ -145,19 +158,20 @@ static void calls_link(struct oca_link *l) {
     int count = 0;
     bool is_opening = false;
     switch (below(14)) {
-    case 0: result = oca_link_open(l, below(3), (uint16_t)below(3), (uint32_t)number(), now, (uint8_t)number()), is_opening = true; break;
+    case 0: result = CALL(oca_link_open)(l, below(3), (uint16_t)below(3), (uint32_t)number(), now, (uint8_t)number()), is_opening = true; break;
     case 1: if (below(8) == 0) oca_link_close(l); return;
-    case 2: case 3: result = oca_link_submit(l, (uint32_t)number(), 4, 1, (uint8_t)number(), bytes, below(9) ? below(9) : below(OCA_MOST_BYTES + 1), now, (uint32_t *)room(0, 4)), count = 1; break;
-    case 4: case 5: result = oca_link_due(l, now, (uint8_t *)room(0, size), size, (size_t *)room(1, sizeof(size_t)), (uint32_t *)room(2, 4), (uint32_t *)room(3, 4)), count = 4; break;
-    case 6: result = oca_link_datagram(l, below(3), (uint16_t)below(3), bytes, any_datagram(bytes, below(50)), now, (uint32_t *)room(0, 4), (uint32_t *)room(1, 4)), count = 2; break;
-    case 7: result = oca_link_next_due(l, (uint64_t *)room(0, 8)), count = 1; break;
-    case 8: result = oca_link_answered(l, (uint32_t *)room(0, 4)), count = 1; break;
-    case 9: result = oca_link_next_handle(l, (uint32_t *)room(0, 4)), count = 1; break;
-    case 10: result = oca_link_last_heard(l, (uint64_t *)room(0, 8)), count = 1; break;
-    case 11: result = oca_link_in_flight(l, (uint32_t)number(), (bool *)memset(room(0, 1), 0, 1)); break;
-    case 12: result = oca_link_is_late(l, now, (bool *)memset(room(0, 1), 0, 1)); break;
-    default: result = oca_link_take(l, (uint32_t)number(), (uint32_t *)room(0, 4), (uint32_t *)room(1, 4), (uint8_t *)room(2, size), size, (size_t *)room(3, sizeof(size_t))), count = 4; break;
+    case 2: case 3: result = CALL(oca_link_submit)(l, (uint32_t)number(), 4, 1, (uint8_t)number(), bytes, below(9) ? below(9) : below(OCA_MOST_BYTES + 1), now, (uint32_t *)room(0, 4)), count = 1; break;
+    case 4: case 5: result = CALL(oca_link_due)(l, now, (uint8_t *)room(0, size), size, (size_t *)room(1, sizeof(size_t)), (uint32_t *)room(2, 4), (uint32_t *)room(3, 4)), count = 4; break;
+    case 6: result = CALL(oca_link_datagram)(l, below(3), (uint16_t)below(3), bytes, any_datagram(bytes, below(50)), now, (uint32_t *)room(0, 4), (uint32_t *)room(1, 4)), count = 2; break;
+    case 7: result = CALL(oca_link_next_due)(l, (uint64_t *)room(0, 8)), count = 1; break;
+    case 8: result = CALL(oca_link_answered)(l, (uint32_t *)room(0, 4)), count = 1; break;
+    case 9: result = CALL(oca_link_next_handle)(l, (uint32_t *)room(0, 4)), count = 1; break;
+    case 10: result = CALL(oca_link_last_heard)(l, (uint64_t *)room(0, 8)), count = 1; break;
+    case 11: result = CALL(oca_link_in_flight)(l, (uint32_t)number(), (bool *)memset(room(0, 1), 0, 1)); break;
+    case 12: result = CALL(oca_link_is_late)(l, now, (bool *)memset(room(0, 1), 0, 1)); break;
+    default: result = CALL(oca_link_take)(l, (uint32_t)number(), (uint32_t *)room(0, 4), (uint32_t *)room(1, 4), (uint8_t *)room(2, size), size, (size_t *)room(3, sizeof(size_t))), count = 4; break;
     }
+    told(result);
     expect(result <= OCA_NO_VALUE, "a result of a link");
     expect(was_open || is_opening || result == OCA_CLOSED, "a closed link answers so");
     expect(!was_open || !is_opening || result == OCA_OPEN, "an open link is not opened");
@@ -240,6 +254,12 @@ int main(int count, char **words) {
     for (int k = 0; k < 2; k++) oca_device_close(&devices[k]), oca_link_close(&links[k]);
     oca_panel_close(&panel);
     for (int k = 0; k < 4; k++) free(places[k].whole);
+    for (int k = 0; k < 64 && names_of_calls[k]; k++) {
+        printf("%s", names_of_calls[k]);
+        for (uint32_t result = 0; result < 32; result++)
+            if (results_of[k] >> result & 1) printf(" %u", result);
+        printf("\n");
+    }
     printf("%lu passed, %lu failed\n", answered - wrong, wrong);
     return wrong != 0;
 }
