@@ -130,6 +130,16 @@ impl Table {
         }
     }
 
+    /// Whether a command waits for an answer under this handle.
+    pub fn waits(&self, handle: Handle) -> bool
+        ensures { result ≡ list_any (waits handle.0) self.now.untaken }
+    {
+        let Some(at) = place_of(handle, self.low, self.next) else {
+            return false;
+        };
+        self.slots[at].waits()
+    }
+
     /// Stores an answer, and returns whether a command waited for it.
     pub fn answer(&mut self, handle: Handle, status: u8, count: u8, params: &[u8]) -> bool
         requires { length params.now ≤ most_parameter_bytes }
