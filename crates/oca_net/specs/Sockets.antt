@@ -134,6 +134,18 @@ pub record IsBoundAt (ip port : ℕ) (local : Peer) : Type 0 where
   pub address : local.ip ≡ ip
   pub same_port : port ≢ 0 → local.port ≡ port
 
+-- An end that was to be bound at one address of the machine, and at this port, is bound here: the address is not 0, which
+-- is all of them, so that what the end sends leaves from there or not at all. At port 0 the system chooses the port.
+pub record IsBoundAtOne (port : ℕ) (local : Peer) : Type 0 where
+  pub one : local.ip ≢ 0
+  pub same_port : port ≢ 0 → local.port ≡ port
+
+-- A controller's end is bound here: at this address, where it is not 0, and in any case at one alone.
+pub record IsBoundFrom (ip port : ℕ) (local : Peer) : Type 0 where
+  pub one : local.ip ≢ 0
+  pub address : ip ≢ 0 → local.ip ≡ ip
+  pub same_port : port ≢ 0 → local.port ≡ port
+
 -- The end after a receive that returned this, and left the calls of the system, the moment to wait for and the reason
 -- so. Where it did not fail, the moment said is what the last look at the clock gave, or the one before where that is
 -- later; where it failed, the reason is kept.

@@ -20,6 +20,6 @@ mod udp;
 pub use descriptors::fill_standard_descriptors;
 pub use end::{End, Heard};
 pub use memory::{MemoryEnd, Scripted};
-pub use refusal::is_refused;
+pub use refusal::{is_gone, is_refused};
 pub use sleep::CountsSleep;
 pub use udp::{BindError, BindFault, UdpEnd};

@@ -1,4 +1,4 @@
-//! Whether a host refuses a port.
+//! Whether a host refuses a port, and whether this machine has lost an address.
 use oca_types::Peer;
 use std::io;
 use std::net::{Net, SocketAddrV4, UdpSocket};
@@ -14,6 +14,17 @@ pub fn is_refused<R: Net>(rt: &R, ip: u32, peer: Peer) -> bool {
     match ask(rt, Peer { ip, port: 0 }, peer) {
         Ok(_) => false,
         Err(reason) => reason.kind() == io::ErrorKind::ConnectionRefused,
+    }
+}
+
+/// Whether this machine has this address no longer: no socket can be bound there, at a port of the system's choice, since
+/// the address is not available. What an end sends that was bound there then fails. `false` where a socket can be bound,
+/// as at an address whose interface is down, from which the system may send by another one, and where another reason
+/// stands against it: then nothing is known.
+pub fn is_gone<R: Net>(rt: &R, ip: u32) -> bool {
+    match UdpSocket::bind(rt, SocketAddrV4::from(Peer { ip, port: 0 })) {
+        Ok(_) => false,
+        Err(reason) => reason.kind() == io::ErrorKind::AddrNotAvailable,
     }
 }
 

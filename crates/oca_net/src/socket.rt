@@ -222,6 +222,25 @@ fn from_peer(received: io::Result<(usize, SocketAddr)>) -> io::Result<(usize, Pe
     Ok((n, peer_of(from)?))
 }
 
+/// The address of this machine from which the system reaches a peer, asked from the route. Nothing is sent. It is not 0,
+/// so a socket that is bound there sends from there alone. Err where the system reaches the peer from nowhere.
+pub(crate) fn address_towards<R: Net>(rt: &R, peer: Peer) -> io::Result<u32>
+    ensures { IfOk result (λ ip. ip ≢ 0) }
+{
+    one_address(peer_of(system::local_towards(rt, SocketAddrV4::from(peer))?)?)
+}
+
+/// The address of a socket that is at one alone.
+fn one_address(local: Peer) -> io::Result<u32>
+    ensures one { IfOk result (λ ip. ip ≢ 0) }
+    ensures same { IfOk result (λ ip. ip ≡ local.ip) }
+{
+    if local.ip == 0 {
+        return Err(io::Error::from(io::ErrorKind::AddrNotAvailable));
+    }
+    Ok(local.ip)
+}
+
 /// The peer at an address; one of IPv6 is none.
 fn peer_of(address: SocketAddr) -> io::Result<Peer> {
     match address {

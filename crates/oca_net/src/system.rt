@@ -12,7 +12,7 @@ use libc::net::{
     AF_INET, MSG_DONTWAIT, MSG_NOSIGNAL, SO_SNDBUF, SOL_SOCKET, getsockopt, sendto, setsockopt,
 };
 use libc::types::timespec;
-use std::net::{Net, SocketAddr, SocketAddrV4, UdpSocket};
+use std::net::{Ipv4Addr, Net, SocketAddr, SocketAddrV4, UdpSocket};
 use std::os::fd::{AsFd, AsRawFd, BorrowedFd, RawFd};
 use std::rt::Clock;
 use std::time::{Duration, Instant};
@@ -214,6 +214,19 @@ impl<C: Clock> AsRawFd for System<'_, C> {
     fn as_raw_fd(&self) -> RawFd {
         self.socket.as_raw_fd()
     }
+}
+
+/// The address, with a port, from which the system reaches a peer: where a socket is that it connected to the peer. It
+/// has sent nothing, and is closed.
+pub(crate) fn local_towards<R: Net>(rt: &R, peer: SocketAddrV4) -> io::Result<SocketAddr> {
+    let anywhere = SocketAddrV4::new(Ipv4Addr::UNSPECIFIED, 0);
+    local_of_connected(&UdpSocket::bind(rt, anywhere)?, peer)
+}
+
+/// Connects a socket to a peer, which sends nothing, and asks where the socket is.
+fn local_of_connected(socket: &UdpSocket, peer: SocketAddrV4) -> io::Result<SocketAddr> {
+    socket.connect(peer)?;
+    socket.local_addr()
 }
 
 /// Asks for a send buffer of so many bytes. What the system grants, `send_buffer` tells.

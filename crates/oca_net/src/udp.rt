@@ -3,7 +3,7 @@ ghost use Rattle.std.specs.Prelude.{◌≡◌, ◌≤◌, ◌<◌, ◌+◌, ◌-
 ghost use Rattle.std.specs.Prelude.{length, max, min};
 ghost use Rattle.std.specs.IoError.{error_kind};
 ghost use Rattle.oca_net.specs.Ends.{HoldsOnlyADatagram, is_closed, is_failed, largest_datagram, last_u64, one_more};
-ghost use Rattle.oca_net.specs.Sockets.{IsBegunAgain, IsBoundAt, IsWhy, ReadsClockAfter, ReturnsMoment};
+ghost use Rattle.oca_net.specs.Sockets.{IsBegunAgain, IsBoundAt, IsBoundAtOne, IsWhy, ReadsClockAfter, ReturnsMoment};
 ghost use Rattle.oca_net.specs.Sockets.{after_heard, after_sent, fault_of, is_interrupted, is_taken, most_tries};
 ghost use Rattle.oca_net.specs.Sockets.{new_socket, says_none, says_none_came, state_of_socket};
 ghost use Rattle.oca_net.specs.PrivateMoments.{IsFresh, milliseconds_of, until_at_most};
@@ -11,7 +11,7 @@ ghost use Rattle.oca_net.specs.PrivateMoments.{IsFresh, milliseconds_of, until_a
 use crate::count::step;
 use crate::end::{End, Heard};
 use crate::reason::{is_interrupted, is_signal, reason_of, says_none_came};
-use crate::socket::Socket;
+use crate::socket::{Socket, address_towards};
 use oca_types::{MOST_BYTES, Packet, Peer};
 use std::alloc::Global;
 use std::io;
@@ -127,10 +127,14 @@ impl<'a, C: Clock> Model for UdpEnd<'a, C> {
 }
 
 impl<'a, C: Clock> UdpEnd<'a, C> {
-    /// An end at this address (an IPv4 address as a number, the first byte highest; 0 is every address of the machine,
-    /// and answers may then leave from another one than was asked) and port; at port 0 the system chooses one. Takes
-    /// the receive buffer first, then binds the socket. Refusals: `NoMemory` where the buffer's memory was refused,
-    /// `Io` where the system refused the socket.
+    /// An end at this address (an IPv4 address as a number, the first byte highest) and port; at port 0 the system
+    /// chooses one. Takes the receive buffer first, then binds the socket. Refusals: `NoMemory` where the buffer's memory
+    /// was refused, `Io` where the system refused the socket.
+    ///
+    /// At address 0, every one of the machine, the system chooses for each datagram from which it leaves: a device's
+    /// answers may leave from another one than was asked, and its controllers drop them; a controller's copies of one
+    /// command may leave from two, and are then of two peers, for each of which the device executes it. So bind a device
+    /// at the address at which it is asked, and a controller by `bind_towards`.
     pub fn bind(alloc: Global, rt: &'a C, ip: u32, port: u16) -> Result<UdpEnd<'a, C>, BindFault>
     where
         C: Net,
@@ -169,6 +173,45 @@ impl<'a, C: Clock> UdpEnd<'a, C> {
             failed_receive: None,
             failed_send: None,
         })
+    }
+
+    /// An end for a device, at the address from which the system reaches it, and at this port; at port 0 the system
+    /// chooses one. The address is asked from the route, without a datagram. It is one address, so each copy of a command
+    /// leaves from there or not at all, and to the device all come from one peer: so a controller's end is bound. A
+    /// socket, a buffer and refusals as of `bind`; `Io` also where the system has no route to the device.
+    pub fn bind_towards(
+        alloc: Global,
+        rt: &'a C,
+        device: Peer,
+        port: u16,
+    ) -> Result<UdpEnd<'a, C>, BindFault>
+    where
+        C: Net,
+        ensures new { IfOk result (λ e. e ≡ new_socket e.local) }
+        ensures bound { IfOk result (λ e. IsBoundAtOne port e.local) }
+    {
+        match UdpEnd::bind_towards_with_reason(alloc, rt, device, port) {
+            Ok(end) => Ok(end),
+            Err(error) => Err(error.fault()),
+        }
+    }
+
+    /// As `bind_towards`, and a refusal has the system's reason.
+    pub fn bind_towards_with_reason(
+        alloc: Global,
+        rt: &'a C,
+        device: Peer,
+        port: u16,
+    ) -> Result<UdpEnd<'a, C>, BindError>
+    where
+        C: Net,
+        ensures new { IfOk result (λ e. e ≡ new_socket e.local) }
+        ensures bound { IfOk result (λ e. IsBoundAtOne port e.local) }
+    {
+        match address_towards(rt, device) {
+            Ok(ip) => UdpEnd::bind_with_reason(alloc, rt, ip, port),
+            Err(reason) => Err(BindError::Io(reason)),
+        }
     }
 
     /// Where it is bound, the port that the system chose included.

@@ -2,7 +2,7 @@
 use super::{AtSockets, Begun, Call, LOCALHOST, SocketEnd};
 use crate::tests::{Words, first_wrong, none_wrong, play, prints, wrong_unless};
 use oca_net::{
-    BindError, BindFault, UdpEnd, fill_standard_descriptors, is_refused as host_refuses,
+    BindError, BindFault, UdpEnd, fill_standard_descriptors, is_gone, is_refused as host_refuses,
 };
 use oca_types::{Packet, Peer};
 use std::alloc::Global;
@@ -30,6 +30,30 @@ fn is_refused_for(rt: &HostRuntime, at: Peer, kind: ErrorKind, text: &str) -> bo
         Err(BindError::Io(reason)) => {
             reason.kind() == kind && prints(rt.alloc(), &BindError::Io(reason), text)
         }
+        _ => false,
+    }
+}
+
+/// Whether an end for this device is at the address from which this machine reaches itself, and at this port.
+fn is_towards(rt: &HostRuntime, device: Peer, port: u16) -> bool {
+    match UdpEnd::bind_towards(rt.alloc(), rt, device, port) {
+        Ok(end) => end.local().ip == LOCALHOST && (port == 0 || end.local().port == port),
+        Err(_) => false,
+    }
+}
+
+/// A port that was free just now.
+fn free_port(rt: &HostRuntime) -> u16 {
+    match bound(rt, HERE) {
+        Ok(local) => local.port,
+        Err(_) => 0,
+    }
+}
+
+/// Why no end for this device is bound at this port.
+fn is_towards_nowhere(rt: &HostRuntime, device: Peer, port: u16, kind: ErrorKind) -> bool {
+    match UdpEnd::bind_towards_with_reason(rt.alloc(), rt, device, port) {
+        Err(BindError::Io(reason)) => reason.kind() == kind,
         _ => false,
     }
 }
@@ -66,6 +90,11 @@ pub enum Step {
     IsRefusedFor(Place, ErrorKind, &'static str),
     /// A host does not refuse the port of the end.
     HasAProgram,
+    /// An end for the first one as a device is at the address of this machine, at a port of the system's choice and at
+    /// one that was asked for; and there is none at the port of the first.
+    IsTowards,
+    /// The machine has the address of the first end, and not that of no machine.
+    HasItsAddress,
     /// The end has a descriptor.
     HasADescriptor,
 }
@@ -87,6 +116,12 @@ impl Call for Step {
             IsRefused(at) => matches!(bound(rt, peer(begun, at)), Err(BindFault::Io)),
             IsRefusedFor(at, kind, text) => is_refused_for(rt, peer(begun, at), kind, text),
             HasAProgram => !host_refuses(rt, LOCALHOST, begun.first),
+            IsTowards => {
+                is_towards(rt, begun.first, 0)
+                    && is_towards(rt, begun.first, free_port(rt))
+                    && is_towards_nowhere(rt, begun.first, begun.first.port, ErrorKind::AddrInUse)
+            }
+            HasItsAddress => !is_gone(rt, begun.first.ip) && is_gone(rt, NO_MACHINE.ip),
             HasADescriptor => has_a_descriptor(first),
         }
     }
@@ -113,6 +148,11 @@ const SCRIPTS: &[AtSockets<Step>] = &[
     ),
     AtSockets("a_refused_socket_has_the_systems_reason", REASONS),
     AtSockets("a_host_refuses_a_port_that_no_program_has", &[HasAProgram]),
+    AtSockets(
+        "an_end_for_a_device_is_at_one_address_and_the_port",
+        &[IsTowards],
+    ),
+    AtSockets("an_address_that_is_there_is_not_gone", &[HasItsAddress]),
     AtSockets("an_end_has_a_descriptor", &[HasADescriptor]),
 ];
 
