@@ -1,12 +1,13 @@
 //! The socket of a program, and what is printed of sends that failed.
 ghost use Rattle.std.specs.Prelude.{◌≡◌, ◌⊎◌, IfOk, IfErr};
-ghost use Rattle.oca_net.specs.Sockets.{IsBoundAt, new_socket};
+ghost use Rattle.oca_net.specs.Sockets.{IsBoundAt, IsBoundFrom, new_socket};
 ghost use Rattle.oca_program.specs.Sockets.{bind_refusal, kind_fault};
 ghost use Rattle.oca_program.specs.declared.fault.RunFault.TheVariants.{Socket, NoMemory};
 
 use super::fault::{Failure, RunFault, print_note};
 use oca_net::{BindError, UdpEnd};
 use oca_script::{Printer, Sink};
+use oca_types::Peer;
 use std::alloc::Global;
 use std::io;
 use std::net::Net;
@@ -25,6 +26,29 @@ pub fn bind<N: Net + Clock>(
     ensures fault { IfErr result (λ f. (f.fault ≡ Socket) ⊎ (f.fault ≡ NoMemory)) }
 {
     match UdpEnd::bind_with_reason(alloc, system, ip, port) {
+        Ok(end) => Ok(end),
+        Err(error) => Err(refused(alloc, &error)),
+    }
+}
+
+/// An end of a controller of this device, at this port; at port 0 the system chooses one. It is at this address; where
+/// that is 0, at the one from which the system reaches the device: so at one alone, from which each copy of a command
+/// leaves or none. Refusals as of `bind`, also where the system has no route to the device.
+pub fn bind_towards<N: Net + Clock>(
+    alloc: Global,
+    system: &N,
+    ip: u32,
+    device: Peer,
+    port: u16,
+) -> Result<UdpEnd<'_, N>, Failure>
+    ensures new { IfOk result (λ e. e ≡ new_socket e.local) }
+    ensures bound { IfOk result (λ e. IsBoundFrom ip port e.local) }
+    ensures fault { IfErr result (λ f. (f.fault ≡ Socket) ⊎ (f.fault ≡ NoMemory)) }
+{
+    if ip != 0 {
+        return bind(alloc, system, ip, port);
+    }
+    match UdpEnd::bind_towards_with_reason(alloc, system, device, port) {
         Ok(end) => Ok(end),
         Err(error) => Err(refused(alloc, &error)),
     }

@@ -40,10 +40,12 @@ reason_unheard true is_refused = reasons.AnswersNone
 reason_unheard false true = reasons.Refused
 reason_unheard false false = reasons.NeverHeard
 
--- why no answer came, by when the device was heard before besides
-abbrev pub reason_by : (now : ℕ) → Option ℕ → (is_there is_refused : Bool) → Reason
-reason_by now (Some moment) is_there is_refused = reasons.HeardBefore (now - moment)
-reason_by now None is_there is_refused = reason_unheard is_there is_refused
+-- why no answer came, by whether the machine has lost the address from which the commands left, and when the device was
+-- heard before besides
+abbrev pub reason_by : (is_gone : Bool) → (now : ℕ) → Option ℕ → (is_there is_refused : Bool) → Reason
+reason_by true now heard is_there is_refused = reasons.AddressGone
+reason_by false now (Some moment) is_there is_refused = reasons.HeardBefore (now - moment)
+reason_by false now None is_there is_refused = reason_unheard is_there is_refused
 
 -- the first handle: that of the words, where they give one
 abbrev pub first_handle_for : Option ℕ → ℕ → ℕ

@@ -33,7 +33,7 @@ use Rattle.oca_panel.specs.OwnPorts.{IsPortByClock}
 use Rattle.ocactl_cli.specs.Sockets.{IsReached, IsUnreached, end_at, link_for, port_or_any}
 use Rattle.oca_panel.specs.declared.own_port.OwnPort.{OwnPort}
 use Rattle.oca_types.specs.declared.words.Peer.{Peer}
-use Rattle.oca_net.specs.Sockets.{IsBoundAt}
+use Rattle.oca_net.specs.Sockets.{IsBoundFrom}
 use Rattle.ocactl_cli.specs.Trees.{PrintsTree}
 use Rattle.ocactl_cli.specs.Words.{sending_fields}
 use Rattle.ocactl_cli.specs.declared.object_line.ObjectLine.{ObjectLine}
@@ -118,11 +118,11 @@ pub record SendsOne (reach : Reach) (sending : Sending) (before : EndState) (end
   pub asks : AsksOver reach own.first_handle.0 sending before sent was is
   pub ends : ended ≡ ended_by_send sent
 
--- over a socket that was bound at the address that was given, and at the port that was given or one of the system's
--- choice
+-- over a socket that was bound at one address, the one that was given where one was, and at the port that was given or
+-- one of the system's choice
 pub record SendsBound (reach : Reach) (sending : Sending) (ended : Result ℕ RunFault) (was is : Output) : Type 0 where
   pub local : Peer
-  pub bound : IsBoundAt reach.ip (port_or_any reach.port) local
+  pub bound : IsBoundFrom reach.ip (port_or_any reach.port) local
   pub sends : SendsOne reach sending (end_at local) ended was is
 
 -- ONE COMMAND was sent, or the device was not reached.

@@ -3,7 +3,7 @@ use Rattle.std.specs.Prelude.{◌≡◌, ◌⊎◌, ◌+◌, ◌≤◌, ◌==◌
 use Rattle.oca_types.specs.declared.words.Peer.{Peer}
 use Rattle.oca_types.specs.Sizes.{span_size}
 use Rattle.oca_net.specs.EndStates.{EndState}
-use Rattle.oca_net.specs.Sockets.{IsBoundAt, new_socket, state_of_socket}
+use Rattle.oca_net.specs.Sockets.{IsBoundFrom, new_socket, state_of_socket}
 use Rattle.oca_control.specs.Links.{LinkState, new_link}
 use Rattle.oca_panel.specs.OwnPorts.{IsPortByClock}
 use Rattle.oca_panel.specs.declared.own_port.OwnPort.{OwnPort}
@@ -19,13 +19,13 @@ use Rattle.ocactl_cli.specs.declared.words.Reach.{Reach}
 
 -- Where no port was given: at the program's own, or where another may be taken, at one of the system's choice.
 abbrev pub IsBoundByChoice : (ip own : ℕ) → (own_alone : Bool) → Peer → Type 0
-IsBoundByChoice ip own true local = IsBoundAt ip own local
-IsBoundByChoice ip own false local = IsBoundAt ip own local ⊎ IsBoundAt ip 0 local
+IsBoundByChoice ip own true local = IsBoundFrom ip own local
+IsBoundByChoice ip own false local = IsBoundFrom ip own local ⊎ IsBoundFrom ip 0 local
 
--- A SOCKET IS BOUND at the address that was given, and at the port, where one was given; and whether it is at the
--- program's own port though none was given.
+-- A SOCKET IS BOUND at one address, the one that was given where one was, and at the port, where one was given; and
+-- whether it is at the program's own port though none was given.
 abbrev pub IsSocketFor : Option ℕ → (ip own : ℕ) → (own_alone : Bool) → Peer → (is_own : Bool) → Type 0
-IsSocketFor (Some port) ip own own_alone local is_own = IsBoundAt ip port local × (is_own ≡ false)
+IsSocketFor (Some port) ip own own_alone local is_own = IsBoundFrom ip port local × (is_own ≡ false)
 IsSocketFor None ip own own_alone local is_own =
     IsBoundByChoice ip own own_alone local × (is_own ≡ (local.port == own))
 
@@ -66,7 +66,7 @@ pub record IsLinkedFurther (reach : Reach) (first : ℕ) (before : EndState) (li
 -- over the other of the program's ports, where that was bound
 pub record IsLinkedElsewhere (reach : Reach) (own : OwnPort) (link : LinkState) (end_state : EndState) : Type 0 where
   pub local : Peer
-  pub bound : IsBoundAt reach.ip own.other local
+  pub bound : IsBoundFrom reach.ip own.other local
   pub linked : IsLinkedAtOnce reach own.first_handle.0 local link end_state
 
 -- by whether the device answers commands from the first port: where it was heard and does not, over the other one, if

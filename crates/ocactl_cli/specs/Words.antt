@@ -47,8 +47,8 @@ linking_in words =
 
 -- ---- the device over a network
 
--- the address that a socket is bound to unless it is given: 127.0.0.1 for a device of 127/8, and any address of the
--- machine else
+-- the address that a socket is bound to unless it is given: 127.0.0.1 for a device of 127/8, else the one from which the
+-- system reaches the device, which 0 stands for
 abbrev pub own_address : Peer → ℕ
 own_address device = if device.ip / 16777216 == 127 then 2130706433 else 0
 

@@ -79,8 +79,8 @@ const OWN_FIRST_HANDLE: ArgumentRow = ArgumentRow {
 const IP: ArgumentRow = ArgumentRow {
     name: "ip",
     value: "A.B.C.D",
-    help: "The local address [default: 127.0.0.1 for a device on this machine (127.x.x.x), otherwise any address of \
-        this machine]",
+    help: "The local address, from which each copy of a command leaves; 0.0.0.0 means the one from which the system \
+        reaches the device [default: 127.0.0.1 for a device on this machine (127.x.x.x), otherwise 0.0.0.0]",
     kind: Kind::Optional,
 };
 

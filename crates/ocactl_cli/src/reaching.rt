@@ -1,6 +1,6 @@
 //! How a device is reached: the socket's port, and a link with its first handle.
 ghost use Rattle.std.specs.Prelude.{◌≡◌, ◌<◌, IfErr, IfOk};
-ghost use Rattle.oca_net.specs.Sockets.{IsBoundAt, new_socket};
+ghost use Rattle.oca_net.specs.Sockets.{IsBoundFrom, new_socket};
 ghost use Rattle.ocactl_cli.specs.declared.probe.Found.TheVariants.{NotAnswering};
 ghost use Rattle.ocactl_cli.specs.PrivateSockets.{IsLinkedIfBound, IsMarked, IsSameButNoted};
 ghost use Rattle.ocactl_cli.specs.Sockets.{IsBoundByChoice, IsLinkedBehind, IsLinkedBy, IsLinkedFurther, IsLinkedOver};
@@ -12,7 +12,7 @@ use super::words::Reach;
 use oca_control::Link;
 use oca_net::UdpEnd;
 use oca_panel::OwnPort;
-use oca_program::socket::bind;
+use oca_program::socket::bind_towards;
 use oca_program::{Failure, print_note};
 use oca_script::{Printer, Sink};
 use oca_types::Peer;
@@ -111,7 +111,7 @@ fn at_own_alone<'a, N: Net + Clock>(
     reach: Reach,
     own: OwnPort,
 ) -> Result<UdpEnd<'a, N>, Failure>
-    ensures bound { IfOk result (λ end. IsBoundAt reach.ip own.port end.local) }
+    ensures bound { IfOk result (λ end. IsBoundFrom reach.ip own.port end.local) }
     ensures new { IfOk result (λ end. end ≡ new_socket end.local) }
     ensures fault { IfErr result (λ failure. IsUnreached failure.fault) }
 {
@@ -223,18 +223,20 @@ fn further<'a, N: Net + Clock>(
     (reach.link(own.first_handle.0 + 1, now), end)
 }
 
-/// A socket at a port, and at the address of these words. A refusal says the port.
+/// A socket at a port, and at the address of these words: where they give none, or 0.0.0.0, at the one from which the
+/// system reaches the device. A refusal says the port.
 fn bind_at<'a, N: Net + Clock>(
     alloc: Global,
     system: &'a N,
     reach: Reach,
     port: u16,
 ) -> Result<UdpEnd<'a, N>, Failure>
-    ensures bound { IfOk result (λ end. IsBoundAt reach.ip port end.local) }
+    ensures bound { IfOk result (λ end. IsBoundFrom reach.ip port end.local) }
     ensures new { IfOk result (λ end. end ≡ new_socket end.local) }
     ensures fault { IfErr result (λ failure. IsUnreached failure.fault) }
 {
-    named(alloc, bind(alloc, system, reach.ip, port), port)
+    let bound = bind_towards(alloc, system, reach.ip, reach.device, port);
+    named(alloc, bound, port)
 }
 
 /// The socket; or the fault of binding it, with the port in its note.
@@ -251,13 +253,16 @@ fn named<'a, N: Net + Clock>(
     }
 }
 
-/// The failure, and the port in its note, where there is one and memory for it.
+/// The failure, and the port in its note, where there is a note and memory for it, and a port was asked for.
 fn naming(alloc: Global, failure: Failure, port: u16) -> Failure
     ensures { result.fault ≡ failure.fault }
 {
     let Some(note) = &failure.note else {
         return failure;
     };
+    if port == 0 {
+        return failure;
+    }
     match format!(in alloc; "port {port}: {note}") {
         Ok(named) => Failure::noted(failure.fault, named),
         Err(_) => failure,

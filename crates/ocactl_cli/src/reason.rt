@@ -5,12 +5,12 @@ ghost use Rattle.ocactl_cli.specs.Reasons.{reason_by, reason_unheard};
 use super::probe::is_there;
 use super::watched::Watched;
 use super::words::Reach;
-use oca_net::{UdpEnd, is_refused};
+use oca_net::{UdpEnd, is_gone, is_refused};
 use oca_program::print_note;
 use oca_script::{Printer, Sink};
 use oca_types::Peer;
 use std::alloc::{AllocError, Global};
-use std::net::Net;
+use std::net::{Ipv4Addr, Net};
 use std::rt::Clock;
 
 /// What is known of a device that gave no answer.
@@ -24,13 +24,18 @@ pub enum Reason {
     HeardBefore(u64),
     /// It is there, and answered no command.
     AnswersNone,
+    /// The machine has lost the address from which the commands left, so that no copy of them can be sent.
+    AddressGone,
 }
 
-/// Why no answer came: by the present moment, when the device was heard, whether it was heard when it was asked again,
+/// Why no answer came: by whether the machine has lost the socket's address, the present moment, when the device was heard, whether it was heard when it was asked again,
 /// and whether its host refuses its port.
-fn why(now: u64, heard: Option<u64>, is_there: bool, is_refused: bool) -> Reason
-    ensures { result ≡ reason_by now heard is_there is_refused }
+fn why(is_gone: bool, now: u64, heard: Option<u64>, is_there: bool, is_refused: bool) -> Reason
+    ensures { result ≡ reason_by is_gone now heard is_there is_refused }
 {
+    if is_gone {
+        return Reason::AddressGone;
+    }
     match heard {
         Some(moment) => Reason::HeardBefore(now.saturating_sub(moment)),
         None => unheard(is_there, is_refused),
@@ -48,8 +53,9 @@ fn unheard(is_there: bool, is_refused: bool) -> Reason
     }
 }
 
-/// Prints when the device was heard, where a command got no answer. A device that was not heard is asked once more
-/// whether it is there, and its host whether a program has its port.
+/// Prints when the device was heard, where a command got no answer, or that the machine has lost the address from which
+/// the command left. A device that was not heard is asked once more whether it is there, and its host whether a program
+/// has its port.
 pub fn note_silence<N: Net + Clock, F: Sink>(
     alloc: Global,
     system: &N,
@@ -59,23 +65,29 @@ pub fn note_silence<N: Net + Clock, F: Sink>(
     faults: &mut Printer<F>,
 ) {
     let device = reach.device;
+    let own = end.end().local();
+    let is_gone = is_gone(system, own.ip);
     let heard = end.heard();
-    let is_there = asks && heard.is_none() && is_there(end, device);
-    let is_refused = asks && heard.is_none() && !is_there && is_refused(system, reach.ip, device);
-    let reason = why(end.end().now(), heard, is_there, is_refused);
-    if let Ok(text) = reason_text(alloc, device, end.end().local().port, reason) {
+    let asks = asks && !is_gone && heard.is_none();
+    let is_there = asks && is_there(end, device);
+    let is_refused = asks && !is_there && is_refused(system, own.ip, device);
+    let reason = why(is_gone, end.end().now(), heard, is_there, is_refused);
+    if let Ok(text) = reason_text(alloc, device, own, reason) {
         print_note(text.as_str(), faults);
     }
 }
 
-/// The text of a reason.
+/// The text of a reason, by the device and where the socket is.
 fn reason_text(
     alloc: Global,
     device: Peer,
-    port: u16,
+    own: Peer,
     reason: Reason,
 ) -> Result<String, AllocError> {
     match reason {
+        Reason::AddressGone => {
+            format!(in alloc; "the address {} is gone", Ipv4Addr::from(own.ip))
+        }
         Reason::NeverHeard => format!(in alloc; "nothing was heard from {device}"),
         Reason::Refused => {
             format!(in alloc;
@@ -84,6 +96,7 @@ fn reason_text(
         }
         Reason::HeardBefore(ms) => format!(in alloc; "{device} was last heard {ms} ms ago"),
         Reason::AnswersNone => {
+            let port = own.port;
             format!(in alloc;
                 "{device} is heard, but answers no command from port {port}: wait two minutes, or give another --port"
             )

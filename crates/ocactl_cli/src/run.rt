@@ -1,10 +1,11 @@
 //! A run of the program.
-ghost use Rattle.std.specs.Prelude.{◌≡◌, ℤ, Some, false, if◌then◌else◌, map};
+ghost use Rattle.std.specs.Prelude.{◌≡◌, ℤ, IfErr, IfOk, Some, false, if◌then◌else◌, map};
 ghost use Rattle.clap.specs.Words.{kind_of};
 ghost use Rattle.oca_types.specs.Sizes.{span_size};
 ghost use Rattle.oca_script.specs.Ends.{input};
 ghost use Rattle.oca_script.specs.Printing.{WritesOut};
 ghost use Rattle.oca_program.specs.Faults.{PrintsFault, fault_in, words_fault};
+ghost use Rattle.oca_net.specs.Sockets.{IsBoundFrom, new_socket};
 ghost use Rattle.oca_panel.specs.Panels.{PanelState};
 ghost use Rattle.ocactl_cli.specs.Objects.{Gets, Locks};
 ghost use Rattle.ocactl_cli.specs.PrivateObjects.{ono_number, pair_of};
@@ -14,6 +15,7 @@ ghost use Rattle.ocactl_cli.specs.Runs.{run_status, RunsProgram, RunsWords, Does
 ghost use Rattle.ocactl_cli.specs.Runs.{DoesByOptions, DoesRequest, AnswersUnmatched, PrintsHelp, EndsWithText};
 ghost use Rattle.ocactl_cli.specs.Runs.{ReplaysScript, SendsAt, SendsOne, AsksOver, RunsAt, RunsFrom, DoesAt, DoesTask};
 ghost use Rattle.ocactl_cli.specs.Runs.{AsksEach, new_session};
+ghost use Rattle.ocactl_cli.specs.Sockets.{IsUnreached, port_or_any};
 
 use super::commands::send_all;
 use super::exchange::ask_once;
@@ -33,7 +35,7 @@ use oca_control::Link;
 use oca_net::{End, UdpEnd};
 use oca_panel::{OwnPort, Panel};
 use oca_program::options::help_or_failure;
-use oca_program::socket::bind;
+use oca_program::socket::bind_towards;
 use oca_program::{Failure, RunFault, print_note, report};
 use oca_script::{Printer, Sink, Source, WriteFailed};
 use oca_types::{Handle, Ono, Span};
@@ -334,12 +336,28 @@ fn sent<N: Net + Clock, W: Sink, F: Sink>(
     ensures { SendsAt reach sending.now (fault_in result) printer.old printer.new }
 {
     note_span(alloc, reach.span, faults);
-    match bind(alloc, system, reach.ip, reach.port.unwrap_or(0)) {
+    match bound_to_send(alloc, system, reach) {
         Ok(end) => {
             let end = Watched::new(end, reach.device);
             sent_over(alloc, system, end, reach, sending, printer, faults)
         }
         Err(failure) => Err(failure),
+    }
+}
+
+/// A socket at the address of these words, and at their port or one of the system's choice.
+fn bound_to_send<N: Net + Clock>(
+    alloc: Global,
+    system: &N,
+    reach: Reach,
+) -> Result<UdpEnd<'_, N>, Failure>
+    ensures new { IfOk result (λ e. e ≡ new_socket e.local) }
+    ensures bound { IfOk result (λ e. IsBoundFrom reach.ip (port_or_any reach.port) e.local) }
+    ensures fault { IfErr result (λ failure. IsUnreached failure.fault) }
+{
+    match reach.port {
+        Some(port) => bind_towards(alloc, system, reach.ip, reach.device, port),
+        None => bind_towards(alloc, system, reach.ip, reach.device, 0),
     }
 }
 

@@ -397,7 +397,8 @@ fn host_of(words: &ArgMatches<'_>) -> Option<Peer>
     host_in(words, "device")
 }
 
-/// The address that a socket is bound to unless it is given.
+/// The address that a socket is bound to unless it is given; 0 stands for the one from which the system reaches the
+/// device.
 fn address_for(device: Peer) -> u32
     ensures { result ≡ own_address device }
 {
