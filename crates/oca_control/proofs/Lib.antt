@@ -19,3 +19,4 @@ pub mod DueTimes
 pub mod Settling
 pub mod Asked
 pub mod Runs
+mod Waits
