@@ -29,7 +29,7 @@ turns_asked (OneTaken {n = n} {d = d} {e = e} {f = f} before none going turn) be
         omega (arith, f less, last)
 
 -- neither is so
-neither : (a b : Bool) → (a || b) ≡ false → (a ≡ false) × (b ≡ false)
+pub neither : (a b : Bool) → (a || b) ≡ false → (a ≡ false) × (b ≡ false)
 neither true b e = cc
 neither false b e = (refl, e)
 

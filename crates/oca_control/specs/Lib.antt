@@ -18,4 +18,5 @@ pub mod Running
 pub mod PrivateSlots
 pub mod PrivateTurning
 pub mod PrivateDriving
+pub mod Waiting
 pub mod PrivateAsking

@@ -3,7 +3,8 @@ ghost use Rattle.std.specs.Prelude.{◌≡◌, ◌<◌, ◌+◌};
 ghost use Rattle.oca_types.specs.Peers.{request_of};
 ghost use Rattle.oca_net.specs.Ends.{last_u64};
 ghost use Rattle.oca_control.specs.Asking.{TakesATurn, Waits, ReceivesSoOften, Begins, Asks, refused_by};
-ghost use Rattle.oca_control.specs.PrivateAsking.{Settles};
+ghost use Rattle.oca_control.specs.PrivateAsking.{Ends, IsOver, Settles};
+ghost use Rattle.oca_control.specs.Waiting.{IsPresentOf, TakesATurnAndSees, WaitsUntil, WaitsWhile};
 
 use crate::driving::give_out;
 use crate::fault::ControlFault;
@@ -77,6 +78,101 @@ pub fn wait_for<E: End>(link: &mut Link, end: &mut E, handle: Handle, turns: u32
     match settled(link, handle, late) {
         Some(outcome) => outcome,
         None => Outcome::Unanswered,
+    }
+}
+
+/// Waits for the answer under this handle, and takes it, as [`wait_for`] does, until this moment, in milliseconds.
+///
+/// `Answered` and `Lost` as there. `Unanswered` as soon as the present moment is `until` or later, or a turn found the
+/// end closed, or 4,294,967,295 turns were taken, so that it also ends over an end whose clock stands still. The
+/// present moment is what [`now`](End::now) of the end returns, or the link's own, the latest that it was told, where
+/// that is later. A turn is begun only before `until`, and is at a socket one of at most 50 ms; however many
+/// datagrams come from others, the wait goes on.
+pub fn wait_until<E: End>(link: &mut Link, end: &mut E, handle: Handle, until: u64) -> Outcome
+    ensures { WaitsUntil handle.0 until link.old result link.new (E.state end.old) (E.state end.new) }
+{
+    let mut seen = Seen {
+        lost: false,
+        closed: false,
+    };
+    for _turn in 0..u32::MAX {
+        if let Some(outcome) = ended(link, end, handle, seen, until) {
+            return outcome;
+        }
+        seen = take_further(link, end);
+    }
+    match settled(link, handle, seen.lost) {
+        Some(outcome) => outcome,
+        None => Outcome::Unanswered,
+    }
+}
+
+/// Waits for the answer under this handle as [`wait_until`] does, for so many milliseconds from the present moment on.
+pub fn wait_while<E: End>(
+    link: &mut Link,
+    end: &mut E,
+    handle: Handle,
+    milliseconds: u32,
+) -> Outcome
+    ensures { WaitsWhile handle.0 milliseconds link.old result link.new (E.state end.old) (E.state end.new) }
+{
+    let until = present(link, end).saturating_add(u64::from(milliseconds));
+    wait_until(link, end, handle, until)
+}
+
+/// What a turn found: whether the link is lost, or late, and whether the end is closed.
+#[derive(Clone, Copy)]
+struct Seen {
+    lost: bool,
+    closed: bool,
+}
+
+/// The present moment: the end's, or the link's own where that is later.
+fn present<E: End>(link: &Link, end: &E) -> u64
+    ensures { IsPresentOf result link.now (E.state end.now) }
+{
+    link.moment_at(end.now())
+}
+
+/// What is known without a turn, by what the last one found and by the present moment: the answer under the handle,
+/// which is taken, that the link is lost, or that no answer came in time.
+fn ended<E: End>(
+    link: &mut Link,
+    end: &E,
+    handle: Handle,
+    seen: Seen,
+    until: u64,
+) -> Option<Outcome>
+    ensures { Ends handle.0 until seen.lost seen.closed (E.state end.now) link.old result link.new }
+{
+    match settled(link, handle, seen.lost) {
+        Some(outcome) => Some(outcome),
+        None => over(link, end, seen.closed, until),
+    }
+}
+
+/// That no answer came in time, where the end is closed or the present moment is this one or later.
+fn over<E: End>(link: &Link, end: &E, closed: bool, until: u64) -> Option<Outcome>
+    ensures { IsOver until closed (E.state end.now) link.now result }
+{
+    if closed {
+        return Some(Outcome::Unanswered);
+    }
+    let now = present(link, end);
+    if until <= now {
+        return Some(Outcome::Unanswered);
+    }
+    None
+}
+
+/// Takes a turn, and returns what it found.
+fn take_further<E: End>(link: &mut Link, end: &mut E) -> Seen
+    ensures { TakesATurnAndSees result.lost result.closed link.old link.new (E.state end.old) (E.state end.new) }
+{
+    let report = turn(link, end);
+    Seen {
+        lost: report.lost,
+        closed: report.turns == 0,
     }
 }
 

@@ -23,7 +23,7 @@ mod table;
 mod turning;
 
 pub use answer::Answer;
-pub use asking::{ask, begin, refused, wait_for};
+pub use asking::{ask, begin, refused, wait_for, wait_until, wait_while};
 pub use driving::{drive, give_out};
 pub use due::Due;
 pub use fault::ControlFault;

@@ -14,7 +14,7 @@ ghost use Rattle.oca_control.specs.Untaken.{answer_under, waits};
 ghost use Rattle.std.specs.List.{list_any};
 ghost use Rattle.oca_control.specs.Links.{reception_counted, late_at, new_link, submission, submitted, decision};
 ghost use Rattle.oca_control.specs.Links.{due_answer, due_bytes, gone_on, IsNextDue, NeverIsDue, reception, received};
-ghost use Rattle.oca_control.specs.Links.{taken};
+ghost use Rattle.oca_control.specs.Links.{present_moment, taken};
 ghost use Rattle.oca_control.specs.Steps.{ReceivesDatagram};
 ghost use Rattle.oca_control.specs.PrivateSlots.{AreShortResponses, IsShortResponse};
 
@@ -285,6 +285,13 @@ impl Link {
         ensures { result ≡ late_at now self.now }
     {
         self.table.is_late(latest(self.moment, now))
+    }
+
+    /// The present moment where an end says this one: the link's own, where that is later.
+    pub(crate) fn moment_at(&self, now: u64) -> u64
+        ensures { result ≡ present_moment now self.now }
+    {
+        latest(self.moment, now)
     }
 
     /// The span, at most 32: at most as many commands are untaken.

@@ -3,7 +3,7 @@ ghost use Rattle.std.specs.Prelude.{◌≡◌, false};
 ghost use Rattle.oca_control.specs.Links.{late_at};
 ghost use Rattle.oca_control.specs.Turning.{GivesInTime, Turns};
 ghost use Rattle.oca_control.specs.Running.{NothingIsLeft, LeavesNothing};
-ghost use Rattle.oca_control.specs.PrivateTurning.{lost_report};
+ghost use Rattle.oca_control.specs.PrivateTurning.{IsEndOfTurn, lost_report};
 
 use crate::driving::{count_of, give_out, nothing};
 use crate::link::Link;
@@ -52,7 +52,7 @@ pub fn turn<E: End>(link: &mut Link, end: &mut E) -> DriveReport
     ensures left { LeavesNothing result link.new }
 {
     let mut packet = Packet::new();
-    let until = wait_until(link, end.now());
+    let until = end_of_turn(link, end.now());
     match end.receive_by(&mut packet, until) {
         Heard::Datagram { from, now } => {
             let answered = count_of(link.datagram(from, packet.as_slice(), now));
@@ -81,7 +81,9 @@ pub fn turn<E: End>(link: &mut Link, end: &mut E) -> DriveReport
 }
 
 /// Until when a turn receives that begins now: 50 ms from now on, or until something is due.
-fn wait_until(link: &Link, now: u64) -> u64 {
+fn end_of_turn(link: &Link, now: u64) -> u64
+    ensures { IsEndOfTurn link.now now result }
+{
     let most = now.saturating_add(WAIT_MS);
     match link.next_due() {
         Some(due) => most.min(due),

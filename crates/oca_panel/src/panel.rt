@@ -58,11 +58,12 @@ impl<E: End + Drop> Drop for Panel<E> {
 }
 
 impl<E: End> Panel<E> {
-    ghost use Rattle.std.specs.Prelude.{◌≡◌, true, false, MatchOption};
+    ghost use Rattle.std.specs.Prelude.{◌≡◌, false, MatchOption};
     ghost use Rattle.oca_types.specs.Peers.{request_of};
     ghost use Rattle.oca_types.specs.Sizes.{span_size};
     ghost use Rattle.oca_control.specs.Links.{IsNextDue, NeverIsDue};
     ghost use Rattle.oca_panel.specs.Panels.{AsksIn, BeginsIn, FinishesIn, IsOpened, MaySettle, TurnsOnce};
+    ghost use Rattle.oca_panel.specs.Renewals.{IsFoundLost};
 
     /// A panel for the device at this address, over an end, with a new link that is made at the end's present moment.
     ///
@@ -146,7 +147,7 @@ impl<E: End> Panel<E> {
     /// Whether the link is lost, or is late at the end's present moment: then it sends nothing any more, and a new
     /// panel is to be opened.
     pub fn is_lost(&self) -> bool
-        ensures { self.now.link.lost ≡ true → result ≡ true }
+        ensures { IsFoundLost self.now result }
     {
         self.link.is_lost() || is_late(&self.link, self.end.now())
     }

@@ -11,7 +11,7 @@ use Rattle.oca_control.specs.declared.outcome.Outcome.{Outcome}
 use Rattle.oca_control.specs.declared.outcome.Outcome.TheVariants as outcomes
 use Rattle.oca_control.specs.declared.report.DriveReport.{DriveReport}
 use Rattle.oca_control.specs.Answers.{answer_fields}
-use Rattle.oca_control.specs.Links.{LinkState, IsNextDue, NeverIsDue}
+use Rattle.oca_control.specs.Links.{LinkState, IsNextDue, NeverIsDue, late_at}
 use Rattle.oca_control.specs.Turning.{Turns}
 use Rattle.oca_control.specs.Asking.{Waits, ReceivesSoOften, Begins, Asks, IsPresent, refused_by}
 use Rattle.oca_control.specs.Untaken.{answer_under}
@@ -93,6 +93,12 @@ pub record IsWaitTime (s : SessionState) (time : ℕ) : Type 0 where
   pub present : IsPresent now s.end_state
   pub next : MatchOption due (NeverIsDue s.link) (λ t. IsNextDue s.link t)
   pub beside : time ≡ time_beside s.socket due now
+
+-- Whether the link is lost, or late at the present moment of the end.
+pub record IsLostNow (s : SessionState) (found : Bool) : Type 0 where
+  pub now : ℕ
+  pub present : IsPresent now s.end_state
+  pub lost : found ≡ (s.link.lost || late_at now s.link)
 
 -- The first command in flight was waited for, and came out so.
 pub record AwaitsFirst (old new : SessionState) (outcome : Outcome) : Type 0 where

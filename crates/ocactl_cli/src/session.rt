@@ -1,7 +1,7 @@
 //! A panel, and the commands in flight on it.
 ghost use Rattle.std.specs.Prelude.{◌≡◌, ◌==◌, ◌||◌, ◌<◌, length, true};
 ghost use Rattle.oca_types.specs.Peers.{request_of};
-ghost use Rattle.ocactl_cli.specs.Exchanges.{AwaitsFirst, IsWaitTime, NoneInFlight, TakesOne, is_over};
+ghost use Rattle.ocactl_cli.specs.Exchanges.{AwaitsFirst, IsLostNow, IsWaitTime, NoneInFlight, TakesOne, is_over};
 ghost use Rattle.ocactl_cli.specs.Exchanges.{time_beside, time_until};
 ghost use Rattle.ocactl_cli.specs.PrivateExchanges.{Submitted, TakesFirst};
 
@@ -115,7 +115,7 @@ impl<E: End> Session<E> {
 
     /// Whether the link is lost, or late now.
     pub fn is_lost(&self) -> bool
-        ensures { self.now.link.lost ≡ true → result ≡ true }
+        ensures { IsLostNow self.now result }
     {
         self.panel.is_lost()
     }

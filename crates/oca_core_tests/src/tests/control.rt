@@ -2,6 +2,7 @@
 //! A script is a list of calls with what each must answer, and an assertion tells which of them was answered otherwise.
 mod asking;
 mod datagrams;
+mod deadlines;
 mod driving;
 mod ends;
 mod handles;

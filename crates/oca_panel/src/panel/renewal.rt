@@ -1,6 +1,6 @@
 //! A panel that goes on with a new link, and turns that say what was done.
 use super::Panel;
-use oca_control::{DriveReport, Link, is_late, turn};
+use oca_control::{DriveReport, Link, turn};
 use oca_net::End;
 use oca_types::{Handle, Peer, Span};
 
@@ -25,10 +25,10 @@ impl<E: End> Panel<E> {
         turn(&mut self.link, &mut self.end)
     }
 
-    /// Whether the link is lost, or is late at the end's present moment: then nothing more is sent of its commands.
+    /// The same as [`Panel::is_lost`].
     pub fn finds_lost(&self) -> bool
         ensures { IsFoundLost self.now result }
     {
-        self.link.is_lost() || is_late(&self.link, self.end.now())
+        self.is_lost()
     }
 }

@@ -5,6 +5,7 @@ use crate::tests::Script;
 use crate::tests::ending::{Ending, end_of};
 use oca_control::{
     ControlFault, DriveReport, Link, Outcome, ask, drive, give_in_time, give_out, wait_for,
+    wait_until, wait_while,
 };
 use oca_net::MemoryEnd;
 use oca_types::{Handle, MethodId, Ono, Packet, Request};
@@ -44,6 +45,10 @@ pub enum Step {
     Asks(u32, Fared),
     /// The answer under a handle is waited for at most so many turns.
     Waits(u32, u32, Fared),
+    /// The answer under a handle is waited for until a moment.
+    WaitsUntil(u32, u64, Fared),
+    /// The answer under a handle is waited for, for so many milliseconds.
+    WaitsWhile(u32, u32, Fared),
     /// So many commands and so many keep-alives are given out at a moment.
     GivesOut(u64, u64, u64),
     /// So many commands are given out in time at a moment; or none, since the link is late.
@@ -79,6 +84,16 @@ fn asked(link: &mut Link, end: &mut MemoryEnd, turns: u32) -> Outcome {
 /// Waits for the answer under a handle.
 fn waited(link: &mut Link, end: &mut MemoryEnd, handle: u32, turns: u32) -> Outcome {
     wait_for(link, end, Handle(handle), turns)
+}
+
+/// Waits for the answer under a handle until a moment.
+fn waited_until(link: &mut Link, end: &mut MemoryEnd, handle: u32, until: u64) -> Outcome {
+    wait_until(link, end, Handle(handle), until)
+}
+
+/// Waits for the answer under a handle for so many milliseconds.
+fn waited_while(link: &mut Link, end: &mut MemoryEnd, handle: u32, milliseconds: u32) -> Outcome {
+    wait_while(link, end, Handle(handle), milliseconds)
 }
 
 /// Drives the link.
@@ -123,6 +138,11 @@ fn agrees(link: &mut Link, end: &mut MemoryEnd, packet: &mut Packet, step: Step)
         At(step) => link_agrees(link, packet, step),
         Asks(turns, want) => is_outcome(&asked(link, end, turns), want),
         Waits(handle, turns, want) => is_outcome(&waited(link, end, handle, turns), want),
+        WaitsUntil(handle, until, want) => is_outcome(
+            &waited_until(link, end, handle, until),
+            want,
+        ),
+        WaitsWhile(handle, ms, want) => is_outcome(&waited_while(link, end, handle, ms), want),
         GivesOut(now, sent, keep_alives) => given_out(link, end, now) == given(sent, keep_alives),
         GivesInTime(now, sent, lost) => given_in_time(link, end, now)
             == DriveReport {
