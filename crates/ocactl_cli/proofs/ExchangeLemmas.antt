@@ -1,5 +1,5 @@
 -- The outcomes of commands, and their text.
-use Rattle.std.proofs.Common.{◌≡◌, Bool, ℕ, ◌+◌, ◌-◌, ◌<◌, ◌≤◌, true, false, List, [], ◌∷◌, ◌++◌, length, Result, Ok, Err, refl, sym, ap, ◌∙◌, subst, arith, append-nil, append_assoc}
+use Rattle.std.proofs.Common.{◌≡◌, Bool, ℕ, ◌+◌, ◌-◌, ◌<◌, ◌≤◌, true, false, List, [], ◌∷◌, ◌++◌, length, Result, Ok, Err, refl, sym, ap, ◌∙◌, subst, arith, append-nil, append_assoc, inl, inr}
 use Rattle.std.specs.Prelude.{OnOk, ℤ, Option, Some, None, map, ◌==◌, ◌||◌, if◌then◌else◌}
 use Rattle.std.proofs.lemmas.Bool.{ne_eqb}
 use Rattle.std.proofs.lemmas.List.{map-append, length-map}
@@ -13,6 +13,7 @@ use Rattle.oca_script.specs.Ends.{Output}
 use Rattle.oca_script.specs.Printing.{Prints, PrintsAll, PrintsPart, WritesOut}
 use Rattle.oca_script.proofs.PrintLemmas.{PrintsAll-nil, PrintsPart-then, prints-then, prints-less, written-out, front}
 use Rattle.oca_control.specs.declared.fault.ControlFault.{ControlFault}
+use Rattle.oca_control.specs.declared.fault.ControlFault.TheVariants.{Lost}
 use Rattle.oca_control.specs.declared.outcome.Outcome.{Outcome}
 use Rattle.oca_control.specs.declared.outcome.Outcome.TheVariants as outcomes
 use Rattle.oca_panel.specs.declared.trouble.Trouble.{Trouble}
@@ -25,10 +26,10 @@ use Rattle.ocactl_cli.specs.Objects.{trouble_status}
 use Rattle.ocactl_cli.specs.Trees.{listed_status}
 use Rattle.oca_control.specs.Links.{LinkState}
 use Rattle.oca_net.specs.Ends.{last_u64}
-use Rattle.oca_control.specs.Asking.{refused_by, Begins, Waits, ReceivesSoOften}
+use Rattle.oca_control.specs.Asking.{refused_by, Begins, IsPresent, Waits, ReceivesSoOften}
 use Rattle.ocactl_cli.specs.Requests.{LineAsked, Send}
-use Rattle.ocactl_cli.specs.Exchanges.{SessionState, FirstIsOpen, TakesOne, Idles, IdledNot, OneTurned, OnePrinted, AwaitsFirst, Awaits, NoneAwaited, OneAwaited, AwaitsUntil, SubmitsCommand, Refuses, Concludes, FinishesLines, ended_by, most_turns, outcome_line, outcome_status, WritesOutcome}
-use Rattle.ocactl_cli.specs.PrivateExchanges.{PrintsUnlessFailed, AwaitsAndPrints, IdlesAndPrints, SendsAndPrints, DoesLineAndPrints, Submitted, TakesFirst, is_write_failure}
+use Rattle.ocactl_cli.specs.Exchanges.{SessionState, FirstIsOpen, TakesOne, Idles, IdledNot, OneTurned, OnePrinted, AwaitsFirst, Awaits, NoneAwaited, OneAwaited, AwaitsUntil, SubmitsCommand, Refuses, Concludes, FinishesLines, ended_by, most_turns, outcome_line, outcome_status, WritesOutcome, TakesUp, since, longest_at_hand}
+use Rattle.ocactl_cli.specs.PrivateExchanges.{PrintsUnlessFailed, AwaitsAndPrints, IdlesAndPrints, SendsAndPrints, DoesLineAndPrints, DoesTakenUpAndPrints, Submitted, TakesFirst, is_write_failure}
 
 -- ---- printing, unless a write has failed
 
@@ -62,8 +63,8 @@ part-flushed a b c text h k = subst (PrintsPart a c) (append-nil text) (PrintsPa
 -- ---- commands in flight on a panel
 
 -- the session that a panel and the commands in flight on it are
-abbrev pub session_of : PanelState → List (ℕ × Unit {0}) → ℕ → Bool → Option ℤ → Bool → SessionState
-session_of p queue ahead refused socket is_open = record {
+abbrev pub session_of : PanelState → List (ℕ × Unit {0}) → ℕ → Bool → Option ℤ → Bool → Option ℕ → SessionState
+session_of p queue ahead refused socket is_open at_hand = record {
   link = p.link;
   end_state = p.end_state;
   in_flight = map (λ c. c.0) queue;
@@ -71,6 +72,7 @@ session_of p queue ahead refused socket is_open = record {
   unanswered = refused || p.unanswered;
   socket = socket;
   is_open = is_open;
+  at_hand = at_hand;
 }
 
 -- where there is room the link decides
@@ -91,13 +93,14 @@ same-panel old new l e t u =
     ∙ ap (λ (x : ℕ). record new { link = old.link; end_state = old.end_state; turns = x }) t
     ∙ ap (λ (x : Bool). record old { unanswered = x }) u
 
-pub submits : (request : RequestFields) (returned : Result Handle ControlFault) (h : Handle) (queue more : List (ℕ × Unit {0})) (old new : PanelState) (ahead : ℕ) (refused : Bool) (socket : Option ℤ) (is_open : Bool) (before : SessionState)
-    → session_of old queue ahead refused socket is_open ≡ before → returned ≡ Ok h → length before.in_flight < 32 → BeginsBehind request tt returned queue more old new
-    → Submitted request (Ok h) before (session_of new more ahead refused socket true)
-submits request returned h queue more old new ahead refused socket is_open before e is few begun =
+pub submits : (request : RequestFields) (returned : Result Handle ControlFault) (h : Handle) (queue more : List (ℕ × Unit {0})) (old new : PanelState) (ahead : ℕ) (refused : Bool) (socket : Option ℤ) (is_open : Bool) (at_hand : Option ℕ) (before : SessionState) (now : ℕ)
+    → session_of old queue ahead refused socket is_open at_hand ≡ before → returned ≡ Ok h → length before.in_flight < 32 → BeginsBehind request tt returned queue more old new
+    → IsPresent now old.end_state → now ≤ since at_hand now + longest_at_hand
+    → Submitted request (Ok h) before (session_of new more ahead refused socket true (Some now))
+submits request returned h queue more old new ahead refused socket is_open at_hand before now e is few begun present in_time =
     let b : BeginsIn request returned old new = begun-behind request returned queue more old new (few-of queue before.in_flight (ap (λ (x : SessionState). x.in_flight) e) few) begun in
     let behind : more ≡ put_behind queue tt (Ok h) = begun.behind ∙ ap (put_behind queue tt) is in
-    subst (λ (x : SessionState). SubmitsCommand request h x (session_of new more ahead refused socket true)) e
+    subst (λ (x : SessionState). SubmitsCommand request h x (session_of new more ahead refused socket true (Some now))) e
     (record {
       begins = subst (λ (z : Result Handle ControlFault). Begins request z old.link new.link old.end_state new.end_state) is b.begins;
       in_flight = ap (map (λ (c : ℕ × Unit {0}). c.0)) behind ∙ map-append (λ (c : ℕ × Unit {0}). c.0) queue ((h.0, tt) ∷ []);
@@ -105,22 +108,45 @@ submits request returned h queue more old new ahead refused socket is_open befor
       unanswered = ap (λ (x : Bool). refused || x) b.unanswered;
       socket = refl;
       is_open = refl;
+      now = now;
+      present = present;
+      in_time = in_time;
+      at_hand = refl;
     })
 
 -- what is refused changes nothing
-pub refuses : (request : RequestFields) (returned : Result Handle ControlFault) (f : ControlFault) (queue more : List (ℕ × Unit {0})) (old new : PanelState) (ahead : ℕ) (refused : Bool) (socket : Option ℤ) (is_open : Bool) (before : SessionState)
-    → session_of old queue ahead refused socket is_open ≡ before → returned ≡ Err f → length before.in_flight < 32 → BeginsBehind request tt returned queue more old new
-    → Submitted request (Err f) before (session_of new more ahead refused socket is_open)
-refuses request returned f queue more old new ahead refused socket is_open before e is few begun =
+pub refuses : (request : RequestFields) (returned : Result Handle ControlFault) (f : ControlFault) (queue more : List (ℕ × Unit {0})) (old new : PanelState) (ahead : ℕ) (refused : Bool) (socket : Option ℤ) (is_open : Bool) (at_hand : Option ℕ) (before : SessionState)
+    → session_of old queue ahead refused socket is_open at_hand ≡ before → returned ≡ Err f → length before.in_flight < 32 → BeginsBehind request tt returned queue more old new
+    → Submitted request (Err f) before (session_of new more ahead refused socket is_open at_hand)
+refuses request returned f queue more old new ahead refused socket is_open at_hand before e is few begun =
     let b : BeginsIn request returned old new = begun-behind request returned queue more old new (few-of queue before.in_flight (ap (λ (x : SessionState). x.in_flight) e) few) begun in
     let kept : more ≡ queue = begun.behind ∙ ap (put_behind queue tt) is in
     let begins : Begins request (Err f) old.link new.link old.end_state new.end_state =
     subst (λ (z : Result Handle ControlFault). Begins request z old.link new.link old.end_state new.end_state) is b.begins in
     let same : new ≡ old = same-panel old new begins.gives.0 begins.gives.1 b.turns b.unanswered in
-    let there : Refuses request f (session_of old queue ahead refused socket is_open) = subst (λ (p : PanelState). Begins request (Err f) old.link p.link old.end_state p.end_state) same begins in
-    let all : session_of new more ahead refused socket is_open ≡ session_of old queue ahead refused socket is_open =
-    ap (λ (p : PanelState). session_of p more ahead refused socket is_open) same ∙ ap (λ (q : List (ℕ × Unit {0})). session_of old q ahead refused socket is_open) kept in
-    subst (λ (x : SessionState). (session_of new more ahead refused socket is_open ≡ x) × Refuses request f x) e (all, there)
+    let there : Refuses request f (session_of old queue ahead refused socket is_open at_hand) = inr (subst (λ (p : PanelState). Begins request (Err f) old.link p.link old.end_state p.end_state) same begins) in
+    let all : session_of new more ahead refused socket is_open at_hand ≡ session_of old queue ahead refused socket is_open at_hand =
+    ap (λ (p : PanelState). session_of p more ahead refused socket is_open at_hand) same ∙ ap (λ (q : List (ℕ × Unit {0})). session_of old q ahead refused socket is_open at_hand) kept in
+    subst (λ (x : SessionState). (session_of new more ahead refused socket is_open at_hand ≡ x) × Refuses request f x) e (all, there)
+
+-- the present moment, by what the end says of itself
+pub present-of : (d e : EndState) (now : ℕ) → d ≡ e → IsPresent now d → IsPresent now e
+present-of d e now is h = subst (IsPresent now) is h
+
+pub took-up : (queue : List (ℕ × Unit {0})) (p : PanelState) (ahead : ℕ) (refused : Bool) (socket : Option ℤ) (is_open : Bool) (at_hand : Option ℕ) (before : SessionState) (now from : ℕ)
+    → session_of p queue ahead refused socket is_open at_hand ≡ before → IsPresent now p.end_state → from ≡ since at_hand now
+    → TakesUp before (session_of p queue ahead refused socket is_open (Some from))
+took-up queue p ahead refused socket is_open at_hand before now from e present is =
+    subst (λ (x : SessionState). TakesUp x (session_of p queue ahead refused socket is_open (Some from))) e
+    (record { now = now; present = present; at_hand = ap (λ (n : ℕ). session_of p queue ahead refused socket is_open (Some n)) is })
+
+-- what comes late changes nothing
+pub came-late : (request : RequestFields) (f : ControlFault) (queue : List (ℕ × Unit {0})) (p : PanelState) (ahead : ℕ) (refused : Bool) (socket : Option ℤ) (is_open : Bool) (at_hand : Option ℕ) (before : SessionState) (now : ℕ)
+    → session_of p queue ahead refused socket is_open at_hand ≡ before → IsPresent now p.end_state → since at_hand now + longest_at_hand < now → f ≡ Lost
+    → Refuses request f before
+came-late request f queue p ahead refused socket is_open at_hand before now e present late counts =
+    subst (Refuses request f) e
+    (inl (record { now = now; present = present; late = late; counts = counts }))
 
 -- no answer came, where one was waited for
 none-came : (h n : ℕ) (l k : LinkState) (o : Outcome) (d e : EndState) → Waits h n l o k d e → is_lost_or_unanswered o ≡ (outcome_status o == 3)
@@ -137,10 +163,10 @@ none-so-far : (refused was now lost three : Bool) → now ≡ (was || lost) → 
 none-so-far true was now lost three e f = refl
 none-so-far false was now lost three e f = e ∙ ap (λ (x : Bool). was || x) f
 
-awaited-one : (h : ℕ) (o : Outcome) (queue rest : List (ℕ × Unit {0})) (old new : PanelState) (ahead : ℕ) (refused : Bool) (socket : Option ℤ) (is_open : Bool)
+awaited-one : (h : ℕ) (o : Outcome) (queue rest : List (ℕ × Unit {0})) (old new : PanelState) (ahead : ℕ) (refused : Bool) (socket : Option ℤ) (is_open : Bool) (at_hand : Option ℕ)
     → queue ≡ (h, tt) ∷ rest → Waits h most_turns old.link o new.link old.end_state new.end_state → new.unanswered ≡ (old.unanswered || is_lost_or_unanswered o)
-    → AwaitsFirst (session_of old queue ahead refused socket is_open) (session_of new rest ahead refused socket is_open) o
-awaited-one h o queue rest old new ahead refused socket is_open first waits unanswered = record {
+    → AwaitsFirst (session_of old queue ahead refused socket is_open at_hand) (session_of new rest ahead refused socket is_open at_hand) o
+awaited-one h o queue rest old new ahead refused socket is_open at_hand first waits unanswered = record {
   handle = h;
   first = ap (map (λ (c : ℕ × Unit {0}). c.0)) first;
   waits = waits;
@@ -149,15 +175,16 @@ awaited-one h o queue rest old new ahead refused socket is_open first waits unan
   unanswered = none-so-far refused old.unanswered new.unanswered (is_lost_or_unanswered o) (outcome_status o == 3) unanswered (none-came h most_turns old.link new.link o old.end_state new.end_state waits);
   socket = refl;
   is_open = refl;
+  at_hand = refl;
 }
 
-pub first-awaited : (came : Unit {0} × Outcome) (queue rest : List (ℕ × Unit {0})) (old new : PanelState) (ahead : ℕ) (refused : Bool) (socket : Option ℤ) (is_open : Bool) (before : SessionState)
-    → session_of old queue ahead refused socket is_open ≡ before → old.turns ≡ most_turns → FinishesFirst (Some came) queue rest old new
-    → AwaitsFirst before (session_of new rest ahead refused socket is_open) came.1
-first-awaited came queue rest old new ahead refused socket is_open before e turns h =
+pub first-awaited : (came : Unit {0} × Outcome) (queue rest : List (ℕ × Unit {0})) (old new : PanelState) (ahead : ℕ) (refused : Bool) (socket : Option ℤ) (is_open : Bool) (at_hand : Option ℕ) (before : SessionState)
+    → session_of old queue ahead refused socket is_open at_hand ≡ before → old.turns ≡ most_turns → FinishesFirst (Some came) queue rest old new
+    → AwaitsFirst before (session_of new rest ahead refused socket is_open at_hand) came.1
+first-awaited came queue rest old new ahead refused socket is_open at_hand before e turns h =
     let waits : Waits h.0 most_turns old.link came.1 new.link old.end_state new.end_state = subst (λ (n : ℕ). Waits h.0 n old.link came.1 new.link old.end_state new.end_state) turns h.2.waits in
-    subst (λ (x : SessionState). AwaitsFirst x (session_of new rest ahead refused socket is_open) came.1) e
-    (awaited-one h.0 came.1 queue rest old new ahead refused socket is_open h.1 waits h.2.unanswered)
+    subst (λ (x : SessionState). AwaitsFirst x (session_of new rest ahead refused socket is_open at_hand) came.1) e
+    (awaited-one h.0 came.1 queue rest old new ahead refused socket is_open at_hand h.1 waits h.2.unanswered)
 
 -- what is known without a turn is known in any number of turns
 longer : (h n : ℕ) (l k : LinkState) (o : Outcome) (d e : EndState) → IsKnown o → Waits h 0 l o k d e → Waits h n l o k d e
@@ -172,21 +199,21 @@ longer h n l k outcomes.Lost d e known w = (w.0, w.1, none-more w.0 w.2, w.3, w.
     none-more m few = omega arith
 longer h n l k outcomes.Unanswered d e known w = absurd known
 
-pub first-settled : (came : Unit {0} × Outcome) (queue rest : List (ℕ × Unit {0})) (old new : PanelState) (ahead : ℕ) (refused : Bool) (socket : Option ℤ) (is_open : Bool) (before : SessionState)
-    → session_of old queue ahead refused socket is_open ≡ before → SettlesFirst (Some came) queue rest old new
-    → AwaitsFirst before (session_of new rest ahead refused socket is_open) came.1
-first-settled came queue rest old new ahead refused socket is_open before e h =
-    subst (λ (x : SessionState). AwaitsFirst x (session_of new rest ahead refused socket is_open) came.1) e
-    (awaited-one h.0 came.1 queue rest old new ahead refused socket is_open h.1 (longer h.0 most_turns old.link new.link came.1 old.end_state new.end_state h.2.known h.2.waits) h.2.unanswered)
+pub first-settled : (came : Unit {0} × Outcome) (queue rest : List (ℕ × Unit {0})) (old new : PanelState) (ahead : ℕ) (refused : Bool) (socket : Option ℤ) (is_open : Bool) (at_hand : Option ℕ) (before : SessionState)
+    → session_of old queue ahead refused socket is_open at_hand ≡ before → SettlesFirst (Some came) queue rest old new
+    → AwaitsFirst before (session_of new rest ahead refused socket is_open at_hand) came.1
+first-settled came queue rest old new ahead refused socket is_open at_hand before e h =
+    subst (λ (x : SessionState). AwaitsFirst x (session_of new rest ahead refused socket is_open at_hand) came.1) e
+    (awaited-one h.0 came.1 queue rest old new ahead refused socket is_open at_hand h.1 (longer h.0 most_turns old.link new.link came.1 old.end_state new.end_state h.2.known h.2.waits) h.2.unanswered)
 
 -- it is not known how the first came out
-pub first-unknown : (queue rest : List (ℕ × Unit {0})) (old new : PanelState) (ahead : ℕ) (refused : Bool) (socket : Option ℤ) (is_open : Bool) (before : SessionState)
-    → session_of old queue ahead refused socket is_open ≡ before → SettlesFirst None queue rest old new
-    → TakesFirst None before (session_of new rest ahead refused socket is_open)
-first-unknown queue rest old new ahead refused socket is_open before e h =
-    let all : session_of new rest ahead refused socket is_open ≡ session_of old queue ahead refused socket is_open =
-    ap (λ (p : PanelState). session_of p rest ahead refused socket is_open) h.1 ∙ ap (λ (q : List (ℕ × Unit {0})). session_of old q ahead refused socket is_open) h.0 in
-    subst (λ (x : SessionState). (session_of new rest ahead refused socket is_open ≡ x) × FirstIsOpen x.link x.in_flight) e (all, open-as queue old.link h.2)
+pub first-unknown : (queue rest : List (ℕ × Unit {0})) (old new : PanelState) (ahead : ℕ) (refused : Bool) (socket : Option ℤ) (is_open : Bool) (at_hand : Option ℕ) (before : SessionState)
+    → session_of old queue ahead refused socket is_open at_hand ≡ before → SettlesFirst None queue rest old new
+    → TakesFirst None before (session_of new rest ahead refused socket is_open at_hand)
+first-unknown queue rest old new ahead refused socket is_open at_hand before e h =
+    let all : session_of new rest ahead refused socket is_open at_hand ≡ session_of old queue ahead refused socket is_open at_hand =
+    ap (λ (p : PanelState). session_of p rest ahead refused socket is_open at_hand) h.1 ∙ ap (λ (q : List (ℕ × Unit {0})). session_of old q ahead refused socket is_open at_hand) h.0 in
+    subst (λ (x : SessionState). (session_of new rest ahead refused socket is_open at_hand ≡ x) × FirstIsOpen x.link x.in_flight) e (all, open-as queue old.link h.2)
   where
     open-as : (q : List (ℕ × Unit {0})) (l : LinkState) → FirstIsUnknown q l → FirstIsOpen l (map (λ c. c.0) q)
     open-as [] l u = tt
@@ -284,15 +311,18 @@ sends-none request answer fault o w v z old s t new a b c is submits k noted by 
     }
 
 pub serves-command : (request : RequestFields) (left : ℕ) (v z : Result Unit WriteFailed) (old s new : SessionState) (a b c : Output)
-    → left ≡ old.ahead - 1 → AwaitsAndPrints left (Ok tt) old s v a b → SendsAndPrints request v s new z b c → DoesLineAndPrints old (Send request) new z a c
+    → left ≡ old.ahead - 1 → AwaitsAndPrints left (Ok tt) old s v a b → SendsAndPrints request v s new z b c → DoesTakenUpAndPrints old (Send request) new z a c
 serves-command request left v z old s new a b c is h k = record {
   text = h.text ++ k.text;
   serves = (s, h.text, k.text, k.returned, subst (λ (n : ℕ). AwaitsUntil n old s h.text) is h.awaits, k.sends, refl);
   prints = goes-on (Ok tt) v z a b c h.text k.text h.prints k.prints;
 }
 
-pub as-line : (old new : SessionState) (l m : LineAsked) (z : Result Unit WriteFailed) (a c : Output) → m ≡ l → DoesLineAndPrints old l new z a c → DoesLineAndPrints old m new z a c
-as-line old new l m z a c e h = subst (λ (x : LineAsked). DoesLineAndPrints old x new z a c) (sym e) h
+pub as-line : (old new : SessionState) (l m : LineAsked) (z : Result Unit WriteFailed) (a c : Output) → m ≡ l → DoesTakenUpAndPrints old l new z a c → DoesTakenUpAndPrints old m new z a c
+as-line old new l m z a c e h = subst (λ (x : LineAsked). DoesTakenUpAndPrints old x new z a c) (sym e) h
+
+pub does-line : (old s new : SessionState) (l : LineAsked) (z : Result Unit WriteFailed) (a c : Output) → TakesUp old s → DoesTakenUpAndPrints s l new z a c → DoesLineAndPrints old l new z a c
+does-line old s new l z a c taken h = record { text = h.text; serves = (s, taken, h.serves); prints = h.prints }
 
 -- ---- the end
 

@@ -1,6 +1,6 @@
 -- Locks that are kept.
-use Rattle.std.proofs.Common.{◌≡◌, ◌⊎◌, true, inl, inr, drop, Result, Ok, Err, ℕ, ◌+◌, ◌<◌, List, [], ◌∷◌, ◌++◌, length, take, get_or, refl, sym, ap, ◌∙◌, subst, false, arith}
-use Rattle.std.specs.Prelude.{map, IfErr, IfOk}
+use Rattle.std.proofs.Common.{◌≡◌, ◌⊎◌, Bool, true, inl, inr, drop, Result, Ok, Err, ℕ, ◌+◌, ◌<◌, List, [], ◌∷◌, ◌++◌, length, take, get_or, refl, sym, ap, ◌∙◌, subst, false, arith}
+use Rattle.std.specs.Prelude.{map, IfErr, IfOk, ◌==◌}
 use Rattle.std.proofs.lemmas.List.{flat_map_more}
 use Rattle.oca_types.specs.declared.words.Ono.{Ono}
 use Rattle.oca_script.specs.Ends.{Input, Output}
@@ -11,7 +11,7 @@ use Rattle.oca_program.specs.declared.fault.RunFault.{RunFault}
 use Rattle.oca_program.specs.declared.fault.RunFault.TheVariants.{NoMemory, Write}
 use Rattle.oca_panel.specs.Panels.{PanelState}
 use Rattle.ocactl_cli.specs.declared.object_line.ObjectLine.{ObjectLine}
-use Rattle.ocactl_cli.specs.Objects.{AsksAll, HoldsAll, HoldsPart, StopsHolding, StopsLocking, StopsUnlocking, reported_line, reported_lines, KeepsHeld, KeepsUntilEnd, Locks, NoneAsked, OneAsked, max_severity, held_if, held_of, held_one}
+use Rattle.ocactl_cli.specs.Objects.{AsksAll, HoldsAll, HoldsPart, StopsHolding, StopsLocking, StopsUnlocking, reported_line, reported_lines, KeepsHeld, KeepsUntilEnd, LooksAlways, LooksWhileHeld, Locks, NoneAsked, OneAsked, max_severity, held_if, held_of, held_one}
 use Rattle.ocactl_cli.specs.PrivateObjects.{KeepsOrFails, LocksEach, LocksNext, ReportsAll, ReportsOne, ReportsNext, ono_number}
 use Rattle.ocactl_cli.proofs.ObjectLemmas.{line-reported, map-split, map-take, reports-next, writes-none, writes-then}
 
@@ -54,6 +54,15 @@ kept-some (o ∷ held) before after status r s t i j a b some keeps unlocks wors
 
 pub kept-none : (held : List Ono) (before : ℕ) (s : PanelState) (i : Input) (a : Output) → held ≡ [] → KeepsHeld (map ono_number held) before s s before i i a a
 kept-none held before s i a none = subst (λ (os : List Ono). KeepsHeld (map ono_number os) before s s before i i a a) (sym none) (refl, refl, refl, refl)
+
+-- while some were kept the input was looked at
+pub looked-while : {R : Type 0} (held : List Ono) (ready : R → Bool) (input_of : R → Input) (s t : PanelState) (i j : R) → (length held == 0) ≡ false → LooksAlways ready input_of s t i j
+    → LooksWhileHeld (map ono_number held) ready input_of s i j
+looked-while [] ready input_of s t i j some looks = absurd (not-false some)
+  where
+    not-false : true ≡ false → ⊥
+    not-false e = cc e
+looked-while (o ∷ held) ready input_of s t i j some looks = (t, looks)
 
 -- locked, and kept
 pub held-all : (targets : List ℕ) (held : List Ono) (before status : ℕ) (r s t : PanelState) (i j : Input) (a b c : Output)

@@ -1,5 +1,5 @@
 -- The outcomes of commands that are sent over a network, one or those of lines (*profile*).
-use Rattle.std.specs.Prelude.{IfSome, MatchOption, Option, ◌≡◌, ℕ, ℤ, ◌-◌, ◌<◌, ◌≤◌, ◌==◌, Bool, ◌||◌, ◌&&◌, not, min}
+use Rattle.std.specs.Prelude.{IfSome, MatchOption, Option, ◌≡◌, ◌⊎◌, ℕ, ℤ, ◌+◌, ◌-◌, ◌<◌, ◌≤◌, ◌==◌, Bool, ◌||◌, ◌&&◌, not, min}
 use Rattle.std.specs.Prelude.{true, false, Some, None, if◌then◌else◌, List, [], ◌∷◌, ◌++◌, length, codes, Result, Ok}
 use Rattle.std.specs.Prelude.{Err}
 use Rattle.oca_types.specs.declared.words.Handle.{Handle}
@@ -7,6 +7,7 @@ use Rattle.oca_types.specs.Peers.{RequestFields}
 use Rattle.oca_net.specs.Ends.{last_u64}
 use Rattle.oca_net.specs.EndStates.{EndState}
 use Rattle.oca_control.specs.declared.fault.ControlFault.{ControlFault}
+use Rattle.oca_control.specs.declared.fault.ControlFault.TheVariants as faults
 use Rattle.oca_control.specs.declared.outcome.Outcome.{Outcome}
 use Rattle.oca_control.specs.declared.outcome.Outcome.TheVariants as outcomes
 use Rattle.oca_control.specs.declared.report.DriveReport.{DriveReport}
@@ -58,7 +59,7 @@ most_turns = 4294967295
 
 -- A link, what the end that it is driven over says of itself, the handles of the commands in flight in the order of
 -- their lines, how many may be, and whether a command got no answer so far; the end's descriptor, where it has one that
--- is awaited beside input; and whether a command was submitted.
+-- is awaited beside input; whether a command was submitted; and, where the next line was read, since when it is at hand.
 pub record SessionState : Type 0 where
   pub link : LinkState
   pub end_state : EndState
@@ -67,6 +68,7 @@ pub record SessionState : Type 0 where
   pub unanswered : Bool
   pub socket : Option ℤ
   pub is_open : Bool
+  pub at_hand : Option ℕ
 
 -- no command is in flight
 abbrev pub NoneInFlight : SessionState → Type 0
@@ -111,6 +113,7 @@ pub record AwaitsFirst (old new : SessionState) (outcome : Outcome) : Type 0 whe
   pub unanswered : new.unanswered ≡ (old.unanswered || outcome_status outcome == 3)
   pub socket : new.socket ≡ old.socket
   pub is_open : new.is_open ≡ old.is_open
+  pub at_hand : new.at_hand ≡ old.at_hand
 
 -- Commands in flight were waited for, one after another, while more than `left` were; how each came out is printed.
 pub data Awaits (left : ℕ) : (old new : SessionState) (text : List ℕ) → Type 0 where
@@ -137,6 +140,7 @@ pub record TakesOne (old new : SessionState) : Type 0 where
   pub unanswered : new.unanswered ≡ old.unanswered
   pub socket : new.socket ≡ old.socket
   pub is_open : new.is_open ≡ old.is_open
+  pub at_hand : new.at_hand ≡ old.at_hand
 
 -- WHILE INPUT IS AWAITED turns are taken, and it is printed how commands came out, in the order of their lines. A turn
 -- is taken only where the first command in flight has not come out yet.
@@ -147,7 +151,29 @@ pub data Idles : (old new : SessionState) (text : List ℕ) → Type 0 where
   OnePrinted : {r s t : SessionState} {text : List ℕ} (outcome : Outcome) → Idles r s text → AwaitsFirst s t outcome
       → Idles r t (text ++ outcome_line outcome)
 
--- The command got this handle and was sent at once, and is in flight behind the others.
+-- Before a read no line is at hand.
+abbrev pub AwaitsLine : (old new : SessionState) (text : List ℕ) → Type 0
+AwaitsLine old new text = Idles (record old { at_hand = None }) new text
+
+-- ---- a line
+
+-- A line is at hand since it was read, or since the line before it was submitted, whichever came last; the first one
+-- that is served behind a read, since now.
+abbrev pub since : (at_hand : Option ℕ) → (now : ℕ) → ℕ
+since None now = now
+since (Some moment) now = moment
+
+pub record TakesUp (old new : SessionState) : Type 0 where
+  pub now : ℕ
+  pub present : IsPresent now old.end_state
+  pub at_hand : new ≡ record old { at_hand = Some (since old.at_hand now) }
+
+-- how long a line may be at hand before its command is submitted, in milliseconds
+abbrev pub longest_at_hand : ℕ
+longest_at_hand = 15000
+
+-- The command got this handle and was sent at once, and is in flight behind the others. Its line was not at hand for
+-- longer than it may be.
 pub record SubmitsCommand (request : RequestFields) (handle : Handle) (old new : SessionState) : Type 0 where
   pub begins : Begins request (Ok handle) old.link new.link old.end_state new.end_state
   pub in_flight : new.in_flight ≡ old.in_flight ++ handle.0 ∷ []
@@ -155,10 +181,21 @@ pub record SubmitsCommand (request : RequestFields) (handle : Handle) (old new :
   pub unanswered : new.unanswered ≡ old.unanswered
   pub socket : new.socket ≡ old.socket
   pub is_open : new.is_open ≡ true
+  pub now : ℕ
+  pub present : IsPresent now old.end_state
+  pub in_time : now ≤ since old.at_hand now + longest_at_hand
+  pub at_hand : new.at_hand ≡ Some now
 
--- The command was refused, which changes nothing.
+-- The line was at hand for longer than it may be: its command counts as one of a link that is lost.
+pub record ComesLate (fault : ControlFault) (s : SessionState) : Type 0 where
+  pub now : ℕ
+  pub present : IsPresent now s.end_state
+  pub late : since s.at_hand now + longest_at_hand < now
+  pub counts : fault ≡ faults.Lost
+
+-- The command was refused, which changes nothing: its line came late, or the link took none.
 abbrev pub Refuses : RequestFields → ControlFault → SessionState → Type 0
-Refuses request fault s = Begins request (Err fault) s.link s.link s.end_state s.end_state
+Refuses request fault s = ComesLate fault s ⊎ Begins request (Err fault) s.link s.link s.end_state s.end_state
 
 -- A command is submitted, and no more are waited for than need be, so that one more may be in flight. Where it is
 -- refused all that are in flight are waited for first, and that is printed behind them.
@@ -169,12 +206,16 @@ SendsCommand request (Err fault) old new text =
     (s : SessionState) × (x : List ℕ) × Refuses request fault old × AwaitsUntil 0 old s x
     × (new ≡ record s { unanswered = true }) × (text ≡ x ++ outcome_line (refused_by fault))
 
--- WHAT A LINE DOES, from a session to the one after it, with the text that it prints.
-abbrev pub DoesLine : SessionState → LineAsked → SessionState → List ℕ → Type 0
-DoesLine old (Send request) new text =
+-- what a line does that was taken up
+abbrev pub DoesTakenUp : SessionState → LineAsked → SessionState → List ℕ → Type 0
+DoesTakenUp old (Send request) new text =
     (s : SessionState) × (x : List ℕ) × (y : List ℕ) × (returned : Result Handle ControlFault)
     × AwaitsUntil (old.ahead - 1) old s x × SendsCommand request returned s new y × (text ≡ x ++ y)
-DoesLine old Wait new text = AwaitsUntil 0 old new text
+DoesTakenUp old Wait new text = AwaitsUntil 0 old new text
+
+-- WHAT A LINE DOES, from a session to the one after it, with the text that it prints.
+abbrev pub DoesLine : SessionState → LineAsked → SessionState → List ℕ → Type 0
+DoesLine old line new text = (s : SessionState) × TakesUp old s × DoesTakenUp s line new text
 
 -- ---- all lines
 
@@ -210,6 +251,6 @@ pub record SendsLines (old new : SessionState) (was is : Output) (had has : Inpu
   pub middle : SessionState
   pub between : Output
   pub ended : Result Unit ReplayFault
-  pub known : IfSome had.remaining (λ given. Replays asked_line DoesLine Idles old middle was between ended given)
-  pub reads : ReadsLines asked_line DoesLine Idles old middle was between had has ended
+  pub known : IfSome had.remaining (λ given. Replays asked_line DoesLine AwaitsLine old middle was between ended given)
+  pub reads : ReadsLines asked_line DoesLine AwaitsLine old middle was between had has ended
   pub finishes : FinishesLines ended middle new between is result

@@ -427,6 +427,43 @@ pub record KeepsUntilEnd (old new : PanelState) (had has : Input) : Type 0 where
   pub keeps : KeepsOn turns old last had left
   pub stops : StopsKeeping turns last new left has
 
+-- the input was read, unless it was not ready
+abbrev pub ReadsWhereReady : (ready ended : Bool) → Input → Input → Type 0
+ReadsWhereReady ready ended had has =
+    (ready ≡ false) ⊎ ((read : Result ℕ ReadFailed) × ReadsOnce read had has × (ended ≡ ends_input read))
+
+-- So many turns were taken, and before each a reader looked at the input: where a read does not wait it was read, and
+-- it had not ended.
+pub data LooksOn {R : Type 0} (ready : R → Bool) (input_of : R → Input)
+    : (turns : ℕ) (old new : PanelState) (had has : R) → Type 0 where
+  LookedNever : {s : PanelState} {i : R} → LooksOn ready input_of 0 s s i i
+  LookedBefore : {n : ℕ} {r s t : PanelState} {i j k : R} → LooksOn ready input_of n r s i j
+      → ReadsWhereReady (ready k) false (input_of j) (input_of k) → TurnsOnce s t true
+      → LooksOn ready input_of (n + 1) r t i k
+
+-- there was one more look at the input, with which it was over or behind which the link did not go on from a turn; or
+-- there were as many turns as a number of 64 bits counts
+abbrev pub StopsLooking : {R : Type 0} → (R → Bool) → (R → Input) → (turns : ℕ) → PanelState → PanelState → R → R → Type 0
+StopsLooking ready input_of n s t i j =
+    ((t ≡ s) × ReadsWhereReady (ready j) true (input_of i) (input_of j))
+    ⊎ ((ReadsWhereReady (ready j) false (input_of i) (input_of j) × TurnsOnce s t false)
+    ⊎ ((n ≡ last_u64) × (t ≡ s) × (j ≡ i)))
+
+-- THE INPUT WAS LOOKED AT before each turn in which the link was driven.
+pub record LooksAlways {R : Type 0} (ready : R → Bool) (input_of : R → Input) (old new : PanelState)
+    (had has : R) : Type 0 where
+  pub turns : ℕ
+  pub last : PanelState
+  pub left : R
+  pub looks : LooksOn ready input_of turns old last had left
+  pub stops : StopsLooking ready input_of turns last new left has
+
+-- while any were held
+abbrev pub LooksWhileHeld : {R : Type 0} → List ℕ → (R → Bool) → (R → Input) → PanelState → R → R → Type 0
+LooksWhileHeld [] ready input_of old had has = has ≡ had
+LooksWhileHeld (target ∷ held) ready input_of old had has =
+    (kept : PanelState) × LooksAlways ready input_of old kept had has
+
 -- Their locks were kept until the input ended, and then taken off; the exit status is the worse one.
 pub record KeepsLocks (held : List ℕ) (before : ℕ) (old new : PanelState) (status : ℕ) (had has : Input)
     (was is : Output) : Type 0 where
@@ -452,6 +489,14 @@ pub record HoldsAll (targets : List ℕ) (old new : PanelState) (status : ℕ) (
   pub locks : InTurn (Locks true) targets lines old locked
   pub writes : WritesWhole was between (reported_lines lines)
   pub keeps : KeepsHeld (held_of lines) (most_severe lines) locked new status had has between is
+
+-- OBJECTS WERE LOCKED, and while those that are locked were kept so the input was looked at.
+pub record HoldsLooking {R : Type 0} (targets : List ℕ) (ready : R → Bool) (input_of : R → Input) (old : PanelState)
+    (had has : R) : Type 0 where
+  pub lines : List (ℕ × ObjectLine)
+  pub locked : PanelState
+  pub locks : InTurn (Locks true) targets lines old locked
+  pub looks : LooksWhileHeld (held_of lines) ready input_of locked had has
 
 -- The first of these objects were asked for their locks, and the line of each was written; the last one of them is
 -- locked.

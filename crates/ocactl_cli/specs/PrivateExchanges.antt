@@ -13,8 +13,8 @@ use Rattle.oca_control.specs.declared.outcome.Outcome.{Outcome}
 use Rattle.ocactl_cli.specs.declared.commands.Asked.{Asked}
 use Rattle.ocactl_cli.specs.declared.commands.Asked.TheVariants as asked
 use Rattle.ocactl_cli.specs.Requests.{LineAsked, Send, Wait}
-use Rattle.ocactl_cli.specs.Exchanges.{SessionState, AwaitsFirst, FirstIsOpen, Idles, DoesLine, SendsCommand}
-use Rattle.ocactl_cli.specs.Exchanges.{AwaitsUntil, SubmitsCommand, Refuses}
+use Rattle.ocactl_cli.specs.Exchanges.{SessionState, AwaitsFirst, FirstIsOpen, Idles, DoesLine, DoesTakenUp}
+use Rattle.ocactl_cli.specs.Exchanges.{AwaitsUntil, SendsCommand, SubmitsCommand, Refuses}
 
 -- The text is printed, unless a write failed before.
 abbrev pub PrintsUnlessFailed : Result Unit WriteFailed → Result Unit WriteFailed → Output → Output → List ℕ → Type 0
@@ -46,6 +46,13 @@ pub record SendsAndPrints (request : RequestFields) (written : Result Unit Write
   pub text : List ℕ
   pub sends : SendsCommand request returned old new text
   pub prints : PrintsUnlessFailed written result was is text
+
+-- a line that was taken up was served, and printed as far as the writes went
+pub record DoesTakenUpAndPrints (old : SessionState) (line : LineAsked) (new : SessionState)
+    (result : Result Unit WriteFailed) (was is : Output) : Type 0 where
+  pub text : List ℕ
+  pub serves : DoesTakenUp old line new text
+  pub prints : Prints result was is text
 
 -- a line was served, and printed as far as the writes went
 pub record DoesLineAndPrints (old : SessionState) (line : LineAsked) (new : SessionState)

@@ -225,11 +225,6 @@ LocksNextOr target old new status (Err failure) held more was is =
     ((failure.fault ≡ Write) × (e : WriteFailed) × ReportsOne (Locks true) target old new (Err e) was is)
     ⊎ ((failure.fault ≡ NoMemory) × ReportsOne (Locks true) target old new (Ok 0) was is)
 
--- the input was read, unless it was not ready
-abbrev pub ReadsWhereReady : (ready ended : Bool) → Input → Input → Type 0
-ReadsWhereReady ready ended had has =
-    (ready ≡ false) ⊎ ((read : Result ℕ ReadFailed) × ReadsOnce read had has × (ended ≡ ends_input read))
-
 -- what was held is kept and taken off, or a write failed meanwhile
 abbrev pub KeepsOrFails : List ℕ → ℕ → PanelState → PanelState → Result ℕ Failure → Input → Input → Output → Output
     → Type 0

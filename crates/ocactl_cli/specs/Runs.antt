@@ -144,6 +144,7 @@ new_session link end_state ahead socket =
       unanswered = false;
       socket = socket;
       is_open = false;
+      at_hand = None;
     }
 
 -- The commands on standard input were sent over this session; the status is 3 where one of them got no answer.

@@ -6,9 +6,10 @@ ghost use Rattle.oca_script.specs.Fields.{fields};
 ghost use Rattle.oca_script.specs.Printing.{Prints};
 ghost use Rattle.oca_types.specs.Peers.{request_of};
 ghost use Rattle.ocactl_cli.specs.Requests.{LineAsked, asked_line, is_wait as wait_line};
-ghost use Rattle.ocactl_cli.specs.Exchanges.{FirstIsOpen, Idles, NoneInFlight, DoesLine, SendsLines, outcome_line};
+ghost use Rattle.ocactl_cli.specs.Exchanges.{AwaitsLine, FirstIsOpen, NoneInFlight, DoesLine, SendsLines, outcome_line};
 ghost use Rattle.ocactl_cli.specs.PrivateExchanges.{AwaitsAndPrints, IdlesAndPrints, SendsAndPrints, DoesLineAndPrints};
-ghost use Rattle.ocactl_cli.specs.PrivateExchanges.{PrintsUnlessFailed, is_write_failure, line_in, line_asked};
+ghost use Rattle.ocactl_cli.specs.PrivateExchanges.{DoesTakenUpAndPrints, PrintsUnlessFailed, is_write_failure};
+ghost use Rattle.ocactl_cli.specs.PrivateExchanges.{line_in, line_asked};
 
 use super::exchange::print_outcome;
 use super::session::Session;
@@ -42,7 +43,7 @@ impl<E: End> Language for Commands<E> {
 
     ghost rests = { NoneInFlight };
 
-    ghost idles = { Idles };
+    ghost idles = { AwaitsLine };
 
     ghost serves = { DoesLine };
 
@@ -68,6 +69,7 @@ impl<E: End> Language for Commands<E> {
         reader: &mut R,
         printer: &mut Printer<W>,
     ) -> Result<(), WriteFailed> {
+        session.await_line();
         idle(session, reader, printer)
     }
 }
@@ -112,6 +114,18 @@ fn serve<E: End, W: Sink>(
     printer: &mut Printer<W>,
 ) -> Result<(), WriteFailed>
     ensures { DoesLineAndPrints session.old (line_in asked.entry) session.new result printer.old printer.new }
+{
+    session.take_up();
+    serve_taken_up(session, asked, printer)
+}
+
+/// Does what a line asks for that was taken up.
+fn serve_taken_up<E: End, W: Sink>(
+    session: &mut Session<E>,
+    asked: Asked<'_>,
+    printer: &mut Printer<W>,
+) -> Result<(), WriteFailed>
+    ensures { DoesTakenUpAndPrints session.old (line_in asked.entry) session.new result printer.old printer.new }
 {
     match asked {
         Asked::Send(request) => {

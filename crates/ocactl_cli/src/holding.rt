@@ -2,9 +2,9 @@
 ghost use Rattle.std.specs.Prelude.{◌≡◌, [], IfErr, IfOk, map};
 ghost use Rattle.oca_program.specs.declared.fault.RunFault.TheVariants.{NoMemory};
 ghost use Rattle.oca_script.specs.Ends.{input};
-ghost use Rattle.ocactl_cli.specs.Objects.{HoldsAll, KeepsUntilEnd, LooksAtInput, StopsHolding, StopsLocking};
-ghost use Rattle.ocactl_cli.specs.Objects.{ends_input};
-ghost use Rattle.ocactl_cli.specs.PrivateObjects.{KeepsOrFails, ReadsWhereReady, ListsHeld, LocksEach, LocksNextOr};
+ghost use Rattle.ocactl_cli.specs.Objects.{HoldsAll, HoldsLooking, KeepsUntilEnd, LooksAlways, LooksAtInput};
+ghost use Rattle.ocactl_cli.specs.Objects.{LooksWhileHeld, ReadsWhereReady, StopsHolding, StopsLocking, ends_input};
+ghost use Rattle.ocactl_cli.specs.PrivateObjects.{KeepsOrFails, ListsHeld, LocksEach, LocksNextOr};
 ghost use Rattle.ocactl_cli.specs.PrivateObjects.{ono_number};
 
 use super::object_line::max_severity;
@@ -36,6 +36,8 @@ pub fn hold<E: End, R: Source, W: Sink>(
     ensures stops { IfErr result (λ failure. StopsHolding (map ono_number onos.now) failure.fault panel.old panel.new
         (input (R.remaining reader.old) (R.failed reader.old))
         (input (R.remaining reader.new) (R.failed reader.new)) printer.old printer.new) }
+    ensures looks { IfOk result (λ _. HoldsLooking (map ono_number onos.now) R.ready
+        (λ r. input (R.remaining r) (R.failed r)) panel.old reader.old reader.new) }
 {
     let mut held = Vec::new(alloc);
     match lock_each(panel, onos, &mut held, printer) {
@@ -101,9 +103,11 @@ fn keep_held<E: End, R: Source, W: Sink>(
     reader: &mut R,
     printer: &mut Printer<W>,
 ) -> Result<u8, Failure>
-    ensures { KeepsOrFails (map ono_number held.now) status panel.old panel.new result
+    ensures keeps { KeepsOrFails (map ono_number held.now) status panel.old panel.new result
         (input (R.remaining reader.old) (R.failed reader.old))
         (input (R.remaining reader.new) (R.failed reader.new)) printer.old printer.new }
+    ensures looks { LooksWhileHeld (map ono_number held.now) R.ready (λ r. input (R.remaining r) (R.failed r))
+        panel.old reader.old reader.new }
 {
     if held.is_empty() {
         return Ok(status);
@@ -117,9 +121,11 @@ fn keep_held<E: End, R: Source, W: Sink>(
 
 /// Drives the link, which sends keep-alives, until the input ends.
 fn keep<E: End, R: Source>(panel: &mut Panel<E>, reader: &mut R)
-    ensures { KeepsUntilEnd panel.old panel.new
+    ensures keeps { KeepsUntilEnd panel.old panel.new
         (input (R.remaining reader.old) (R.failed reader.old))
         (input (R.remaining reader.new) (R.failed reader.new)) }
+    ensures looks { LooksAlways R.ready (λ r. input (R.remaining r) (R.failed r)) panel.old panel.new
+        reader.old reader.new }
 {
     for turn in 0..u64::MAX {
         if has_ended(reader) {

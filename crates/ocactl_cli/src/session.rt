@@ -1,7 +1,8 @@
 //! A panel, and the commands in flight on it.
-ghost use Rattle.std.specs.Prelude.{◌≡◌, ◌==◌, ◌||◌, ◌<◌, length, true};
+ghost use Rattle.std.specs.Prelude.{◌≡◌, ◌==◌, ◌||◌, ◌<◌, ◌≤◌, ◌+◌, length, true, false};
 ghost use Rattle.oca_types.specs.Peers.{request_of};
-ghost use Rattle.ocactl_cli.specs.Exchanges.{AwaitsFirst, IsLostNow, IsWaitTime, NoneInFlight, TakesOne, is_over};
+ghost use Rattle.ocactl_cli.specs.Exchanges.{AwaitsFirst, IsLostNow, IsWaitTime, NoneInFlight, TakesOne, TakesUp};
+ghost use Rattle.ocactl_cli.specs.Exchanges.{is_over, longest_at_hand, since};
 ghost use Rattle.ocactl_cli.specs.Exchanges.{time_beside, time_until};
 ghost use Rattle.ocactl_cli.specs.PrivateExchanges.{Submitted, TakesFirst};
 
@@ -19,8 +20,13 @@ const TURNS: u32 = u32::MAX;
 /// The longest wait for input, in milliseconds: an hour.
 const LONGEST_WAIT_MS: u64 = 3_600_000;
 
+/// How long a line may be at hand before its command is submitted, in milliseconds: while the program is awake no
+/// answer is awaited for so long.
+const LONGEST_AT_HAND_MS: u64 = 15_000;
+
 /// A panel, the commands in flight on it in the order of their lines, how many may be, and whether one was refused so
-/// far. Besides the end's descriptor, where it has one, and whether a command was submitted.
+/// far. Besides the end's descriptor, where it has one, whether a command was submitted, and since when the next
+/// line is at hand, where it was read.
 pub struct Session<E: End> {
     panel: Panel<E>,
     in_flight: InFlight<()>,
@@ -28,6 +34,7 @@ pub struct Session<E: End> {
     refused: bool,
     socket: Option<RawFd>,
     is_open: bool,
+    at_hand: Option<u64>,
 }
 
 impl<E: End> Model for Session<E> {
@@ -44,6 +51,7 @@ impl<E: End> Model for Session<E> {
       unanswered = s.refused || s.panel.unanswered;
       socket = s.socket;
       is_open = s.is_open;
+      at_hand = s.at_hand;
     } };
 
     ghost invariant = { λ s. (1 ≤ s.ahead) × (s.ahead ≤ 32) × (s.panel.turns ≡ most_turns) };
@@ -59,6 +67,7 @@ impl<E: End + Drop> Drop for Session<E> {
             refused: _,
             socket: _,
             is_open: _,
+            at_hand: _,
         } = self;
     }
 }
@@ -78,6 +87,7 @@ impl<E: End> Session<E> {
           unanswered = false;
           socket = socket;
           is_open = false;
+          at_hand = None;
         } }
     {
         Session {
@@ -87,6 +97,7 @@ impl<E: End> Session<E> {
             refused: false,
             socket,
             is_open: false,
+            at_hand: None,
         }
     }
 
@@ -131,6 +142,7 @@ impl<E: End> Session<E> {
             refused: _,
             socket: _,
             is_open: _,
+            at_hand: _,
         } = self;
         panel.into_end()
     }
@@ -149,14 +161,36 @@ impl<E: End> Session<E> {
         self.refused = true;
     }
 
-    /// Submits a command and sends it at once. What the link refuses changes nothing.
+    /// Before a read: no line is at hand.
+    pub fn await_line(&mut self)
+        ensures { self.new ≡ record self.old { at_hand = None } }
+    {
+        self.at_hand = None;
+    }
+
+    /// Takes a line up. The first one behind a read is at hand since the end's present moment; the others are since
+    /// then, or since the line before them was submitted.
+    pub fn take_up(&mut self)
+        ensures { TakesUp self.old self.new }
+    {
+        let now = self.panel.end().now();
+        self.at_hand = Some(since(self.at_hand, now));
+    }
+
+    /// Submits the command of a line and sends it at once. Refusals, which change nothing: `Lost` where the line was at
+    /// hand for more than 15,000 ms by the end's clock, and those of the link.
     pub fn submit(&mut self, request: Request<'_>) -> Result<Handle, ControlFault>
         requires { length self.old.in_flight < 32 }
         ensures { Submitted (request_of request.entry) result self.old self.new }
     {
+        let now = self.panel.end().now();
+        if comes_late(self.at_hand, now) {
+            return Err(ControlFault::Lost);
+        }
         match self.in_flight.begin_behind(&mut self.panel, request, ()) {
             Ok(handle) => {
                 self.is_open = true;
+                self.at_hand = Some(now);
                 Ok(handle)
             }
             Err(fault) => Err(fault),
@@ -213,6 +247,21 @@ impl<E: End> Session<E> {
         };
         outcome
     }
+}
+
+/// Since when a line is at hand; now, where it is the first one behind a read.
+fn since(at_hand: Option<u64>, now: u64) -> u64
+    ensures { result ≡ since at_hand now }
+{
+    at_hand.unwrap_or(now)
+}
+
+/// Whether a line was at hand for longer than it may be.
+fn comes_late(at_hand: Option<u64>, now: u64) -> bool
+    ensures late { result ≡ true → since at_hand now + longest_at_hand < now }
+    ensures in_time { result ≡ false → now ≤ since at_hand now + longest_at_hand }
+{
+    now.saturating_sub(since(at_hand, now)) > LONGEST_AT_HAND_MS
 }
 
 /// How long input may be awaited beside a descriptor, where there is one, until this moment.

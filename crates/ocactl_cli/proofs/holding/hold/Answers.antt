@@ -3,8 +3,8 @@ use Rattle.ocactl_cli.proofs.holding.hold.Goals as goal
 
 pub returns-in-Ok-clause-holds : goal.returns-in-Ok-clause-holds
 returns-in-Ok-clause-holds g c =
-    held-so _ c.lock_each.new.held.items _ _ _ _ _ _ _ _ _ _ c.in-Ok.ensures.locks (rw c.as_slice.ensures.value at c.keep_held.ensures)
+    held-so _ c.lock_each.new.held.items _ _ _ _ _ _ _ _ _ _ c.in-Ok.ensures.locks (rw c.as_slice.ensures.value at c.keep_held.ensures.keeps)
 
 pub returns-in-Ok-clause-stops : goal.returns-in-Ok-clause-stops
 returns-in-Ok-clause-stops g c =
-    held-stopped _ c.lock_each.new.held.items _ _ _ _ _ _ _ _ _ _ c.in-Ok.ensures.locks (rw c.as_slice.ensures.value at c.keep_held.ensures)
+    held-stopped _ c.lock_each.new.held.items _ _ _ _ _ _ _ _ _ _ c.in-Ok.ensures.locks (rw c.as_slice.ensures.value at c.keep_held.ensures.keeps)

@@ -1,0 +1,370 @@
+#!/usr/bin/env python3
+"""The built `ocactl` where it stands still with commands at hand: stopped by signals, or since nobody reads what it prints.
+
+Usage: standstill.py BIN     BIN is the folder with `ocadev` and `ocactl`
+
+Between the controller and the device lies a relay that loses what the row says. All clocks of both programs are set forward by the layer
+of `ahead.c` while the controller stands still, so that minutes pass in no time. Another controller changes the same object
+meanwhile: what the first one was asked for before must not be done behind that, and is told as lost.
+The last line is 'N passed, M failed'."""
+import contextlib
+import fcntl
+import os
+import select
+import signal
+import socket
+import struct
+import subprocess
+import sys
+import tempfile
+import threading
+import time
+from pathlib import Path
+
+import oca_profile as oca
+from own_ports import free_port
+
+HERE = Path(__file__).resolve().parent
+HOST = "127.0.0.1"
+MUTE, MUTED, UNMUTED = 4097, 1, 2
+GET_LINE, MUTE_LINE = b"4097 4 1 0 -\n", b"4097 4 2 1 01\n"
+PATIENCE = 60  # seconds that a busy machine may take for what takes none
+
+
+def wait_for(holds, patience=PATIENCE):
+    """Whether something comes to hold."""
+    until = time.monotonic() + patience
+    while not holds():
+        if time.monotonic() > until:
+            return False
+        time.sleep(0.002)
+    return True
+
+
+def commands_in(datagram):
+    with contextlib.suppress(oca.Fault):
+        return [it[2] for it in oca.check(datagram) if it[0] == "command"]
+    return []
+
+
+def answered_in(datagram):
+    with contextlib.suppress(oca.Fault):
+        return [it[1] for it in oca.check(datagram) if it[0] == "response"]
+    return []
+
+
+def sets(command):
+    return (command.target, command.level, command.index) == (MUTE, 4, 2)
+
+
+class Relay:
+    """A way between one controller and the device. It counts the copies of the commands that set; lost are the answers to them, while
+    `loses_answers`, their copies behind the first, while `loses_copies`, all answers under handles above `last`, and all that the
+    controller sends, while it `is_cut`."""
+
+    def __init__(self, device):
+        self.front, self.back = (socket.socket(socket.AF_INET, socket.SOCK_DGRAM) for _ in range(2))
+        self.front.bind((HOST, 0))
+        self.back.connect((HOST, device))
+        self.port = self.front.getsockname()[1]
+        self.loses_answers = self.loses_copies = True
+        self.is_cut, self.last = False, 2**32
+        self.copies = self.commands = self.answers = self.passed = 0
+        self.handles, self.controller = set(), None
+        self.ends = False
+        self.thread = threading.Thread(target=self.run, daemon=True)
+        self.thread.start()
+
+    def run(self):
+        while not self.ends:
+            for ready in select.select([self.front, self.back], [], [], 0.05)[0]:
+                with contextlib.suppress(OSError):
+                    self.forth() if ready is self.front else self.reply()
+
+    def forth(self):
+        datagram, self.controller = self.front.recvfrom(2000)
+        found = commands_in(datagram)
+        setting = [command.handle for command in found if sets(command)]
+        self.handles.update(setting)
+        self.commands += len(found)
+        is_first = not self.copies
+        self.copies += bool(setting)
+        if not self.is_cut and (not setting or is_first or not self.loses_copies):
+            self.back.send(datagram)
+            self.passed += bool(setting)
+
+    def reply(self):
+        datagram = self.back.recv(2000)
+        found = answered_in(datagram)
+        if any(handle > self.last or self.loses_answers and handle in self.handles for handle in found):
+            return
+        self.front.sendto(datagram, self.controller)
+        self.answers += len(found)
+
+    def close(self):
+        self.ends = True
+        self.thread.join()
+        self.front.close()
+        self.back.close()
+
+
+class Peer:
+    """Another controller of the device."""
+
+    def __init__(self, device):
+        self.socket = socket.socket(socket.AF_INET, socket.SOCK_DGRAM)
+        self.socket.connect((HOST, device))
+        self.socket.settimeout(0.3)
+        self.handle = 0
+
+    def ask(self, index, count=0, params=b""):
+        self.handle += 1
+        command = oca.pdu(1, [oca.Command(self.handle, MUTE, 4, index, count, params).body()])
+        for _ in range(PATIENCE):
+            with contextlib.suppress(TimeoutError):
+                self.socket.send(command)
+                while True:
+                    answers = [it for it in oca.check(self.socket.recv(2000)) if it[0] == "response" and it[1] == self.handle]
+                    if answers:
+                        return answers[0][2], answers[0][4]
+        return None, b""
+
+    def set(self, state):
+        return self.ask(2, 1, bytes([state]))[0]
+
+    def state(self):
+        return self.ask(1)[1]
+
+
+class Scene:
+    """A device, a way to it, another controller, and the time of both programs."""
+
+    def __init__(self, checks):
+        self.checks, self.folder, self.runs = checks, tempfile.TemporaryDirectory(), []
+        self.time = os.open(f"{self.folder.name}/time", os.O_RDWR | os.O_CREAT, 0o600)
+        self.is_at(0)
+        device = self.start("ocadev", "serve", "--port", "0", stderr=subprocess.PIPE)
+        self.device = int(device.stderr.readline().split(b":")[1])
+        threading.Thread(target=device.stderr.read, daemon=True).start()
+        self.relay, self.peer = Relay(self.device), Peer(self.device)
+
+    def is_at(self, seconds):
+        """It is so many seconds later than it was at first, and what passed besides."""
+        os.pwrite(self.time, struct.pack("q", seconds * 1000), 0)
+
+    def start(self, *words, **streams):
+        env = dict(os.environ, LD_PRELOAD=self.checks.layer, AHEAD=f"{self.folder.name}/time")
+        run = subprocess.Popen([f"{self.checks.programs}/{words[0]}", *words[1:]], env=env, **streams)
+        self.runs.append(run)
+        return run
+
+    def control(self, command, *words, stdout=subprocess.PIPE):
+        """A run of `ocactl` at a port of its own."""
+        return self.start("ocactl", command, "--device", f"{HOST}:{self.relay.port}", "--port", str(free_port()), "--first-handle", "1",
+                          *words, stdin=subprocess.PIPE, stdout=stdout, stderr=subprocess.DEVNULL)
+
+    def close(self):
+        for run in self.runs:
+            with contextlib.suppress(ProcessLookupError):
+                run.kill()
+            run.wait()
+        self.relay.close()
+        os.close(self.time)
+        self.folder.cleanup()
+
+
+class Checks:
+    def __init__(self, programs, layer):
+        self.programs, self.layer, self.passed, self.failed = programs, layer, 0, 0
+
+    def same(self, what, got, expected):
+        if got == expected:
+            self.passed += 1
+        else:
+            self.failed += 1
+            print(f"WRONG: {what}: {got!r:.300} in place of {expected!r:.300}")
+
+    @contextlib.contextmanager
+    def scene(self):
+        scene = Scene(self)
+        try:
+            yield scene
+        finally:
+            scene.close()
+
+    def stands(self, what, scene, passed=1):
+        """What another controller set stands, and the command that sets came to the device so often."""
+        self.same(f"{what}: the state", scene.peer.state(), bytes([UNMUTED]))
+        self.same(f"{what}: copies that came to the device", scene.relay.passed, passed)
+
+
+# a command of each kind that mutes, what it is given on its input, and what it prints where the command is lost
+STOPPED = {
+    "run": ([], MUTE_LINE, b"lost\n"),
+    "send": (["--target", "4097", "--level", "4", "--index", "2", "--count", "1", "--params", "01", "--turns", "4000000000"], b"", b"lost\n"),
+    "set": (["--turns", "4000000000", "4097", "muted"], b"", b"4097 lost\n"),
+}
+
+
+def stopped(checks):
+    """Copies at second 0, which is executed, its answer lost; 95, which is lost; and 190, when the device has forgotten the controller.
+    The program is stopped between them, and another controller unmutes in second 60."""
+    for name, (words, given, told) in STOPPED.items():
+        with checks.scene() as scene:
+            relay, run = scene.relay, scene.control(name, *words)
+            run.stdin.write(given)
+            run.stdin.close()
+            run.stdin = None
+            checks.same(f"{name}: the first copy", wait_for(lambda: relay.passed == 1), True)
+            run.send_signal(signal.SIGSTOP)
+            scene.is_at(60)
+            checks.same(f"{name}: another unmutes", scene.peer.set(UNMUTED), 0)
+            before = relay.copies
+            for moment in (95, 190):
+                scene.is_at(moment)
+                relay.loses_copies = moment < 190
+                run.send_signal(signal.SIGCONT)
+                wait_for(lambda: relay.copies > before or run.poll() is not None)
+                before = relay.copies
+                run.send_signal(signal.SIGSTOP)
+            relay.loses_answers = False
+            run.send_signal(signal.SIGCONT)
+            try:
+                out = run.communicate(timeout=PATIENCE)[0]
+            except subprocess.TimeoutExpired:
+                out = b"it did not end"
+            checks.same(f"{name}: what it printed, and its status", (out, run.returncode), (told, 3))
+            checks.stands(name, scene)
+
+
+class Reader:
+    """Who reads what a program prints, and lets it wait: at first and behind each look the pipe is full."""
+
+    def __init__(self):
+        self.out, self.into = os.pipe()
+        fcntl.fcntl(self.into, fcntl.F_SETPIPE_SZ, 4096)
+        self.fills = os.open(f"/proc/self/fd/{self.into}", os.O_WRONLY | os.O_NONBLOCK)
+        self.text = b""
+        self.fill()
+
+    def fill(self):
+        with contextlib.suppress(BlockingIOError):
+            while True:
+                os.write(self.fills, b"\0" * 4096)
+                time.sleep(0)
+
+    def is_blocked(self, run):
+        """Whether a program waits in a write to its standard output, by the number of this call on x86-64 or on AArch64."""
+        with contextlib.suppress(OSError, IndexError):  # it is `running`, or is gone
+            call = Path(f"/proc/{run.pid}/syscall").read_text(encoding="ascii").split()
+            return call[0] in ("1", "64") and call[1] == "0x1"
+        return False
+
+    def look(self):
+        """Reads once what there is."""
+        self.text += os.read(self.out, 4096)
+
+    def rest(self):
+        """What is printed from here on, to the end."""
+        for it in (self.into, self.fills):
+            os.close(it)
+        while more := os.read(self.out, 4096):
+            self.text += more
+        os.close(self.out)
+        return self.text.replace(b"\0", b"")
+
+
+def read_rarely(checks):
+    """Lines whose outcomes are read once in 95 seconds: a command that is executed at second 0, its answer lost, is in flight meanwhile."""
+    with checks.scene() as scene:
+        relay, reader = scene.relay, Reader()
+        run = scene.control("run", "--ahead", "4", stdout=reader.into)
+        run.stdin.write(GET_LINE * 2 + MUTE_LINE + GET_LINE * 5)
+        run.stdin.close()
+        checks.same("a slow reader: the first copy", wait_for(lambda: relay.passed == 1 and reader.is_blocked(run)), True)
+        scene.is_at(60)
+        checks.same("a slow reader: another unmutes", scene.peer.set(UNMUTED), 0)
+        scene.is_at(95)
+        relay.is_cut, before = True, relay.commands
+        reader.look()
+        wait_for(lambda: relay.commands > before or run.poll() is not None, 2)
+        reader.fill()
+        wait_for(lambda: reader.is_blocked(run) or run.poll() is not None, 2)
+        scene.is_at(190)
+        relay.is_cut = relay.loses_copies = relay.loses_answers = False
+        lines = reader.rest().split(b"\n")
+        checks.same("a slow reader: its status", run.wait(timeout=PATIENCE), 3)
+        checks.same("a slow reader: the outcome of the command, and of those that were read and waited", lines[2:3] + lines[4:],
+                    [b"lost"] * 5 + [b""])
+        checks.stands("a slow reader", scene)
+
+
+def waits_behind(checks):
+    """A line that was read and waited for 20 seconds, since nobody read the outcome of the one before it, is not sent; nor are those that
+    were read with it."""
+    with checks.scene() as scene:
+        relay, reader = scene.relay, Reader()
+        relay.loses_answers = False
+        run = scene.control("run", stdout=reader.into)
+        run.stdin.write(GET_LINE + MUTE_LINE * 3)
+        run.stdin.flush()
+        checks.same("a line that waits: it waits", wait_for(lambda: relay.answers == 1 and reader.is_blocked(run)), True)
+        scene.is_at(20)
+        checks.same("a line that waits: another unmutes", scene.peer.set(UNMUTED), 0)
+        reader.look()
+        checks.same("a line that waits: all are told", wait_for(lambda: told_in(reader) == 4), True)
+        checks.stands("a line that waits", scene, 0)
+        # what is read now is sent
+        run.stdin.write(MUTE_LINE)
+        run.stdin.close()
+        lines = reader.rest().split(b"\n")
+        checks.same("a line that waits: what it printed, and its status", (lines, run.wait(timeout=PATIENCE)),
+                    ([b"answer 0 1 01", *[b"lost"] * 3, b"answer 0 0 -", b""], 3))
+        checks.same("a line that waits: the state at last", scene.peer.state(), bytes([MUTED]))
+
+
+def told_in(reader):
+    """How many outcomes were read."""
+    while select.select([reader.out], [], [], 0)[0]:
+        reader.look()
+    return reader.text.count(b"\n")
+
+
+def in_time(checks):
+    """Lines that come minutes after one another are sent, and so are those that were read with others which were answered late."""
+    with checks.scene() as scene:
+        relay = scene.relay
+        relay.loses_answers = relay.loses_copies = False
+        run = scene.control("run")
+        for moment in (0, 100, 300):
+            scene.is_at(moment)
+            run.stdin.write(MUTE_LINE)
+            run.stdin.flush()
+            checks.same(f"a line in second {moment}", run.stdout.readline(), b"answer 0 0 -\n")
+        relay.last = 3
+        run.stdin.write(MUTE_LINE * 4)
+        run.stdin.flush()
+        for handle in range(4, 8):
+            checks.same(f"line {handle} of 7: it is sent", wait_for(lambda: handle in relay.handles), True)
+            scene.is_at(300 + 7 * (handle - 3))
+            relay.last = handle
+            checks.same(f"line {handle} of 7, which is answered late", run.stdout.readline(), b"answer 0 0 -\n")
+        run.stdin.close()
+        run.stdin = None
+        checks.same("lines in time: the end", (run.communicate(timeout=PATIENCE)[0], run.returncode), (b"", 0))
+
+
+def main():
+    programs = os.path.abspath(sys.argv[1])
+    with tempfile.TemporaryDirectory() as folder:
+        layer = f"{folder}/ahead.so"
+        subprocess.run(["gcc", "-O1", "-Wall", "-shared", "-fPIC", "-o", layer, f"{HERE}/ahead.c"], check=True)
+        checks = Checks(programs, layer)
+        for part in (stopped, read_rarely, waits_behind, in_time):
+            part(checks)
+    print(f"{checks.passed} passed, {checks.failed} failed")
+    return 1 if checks.failed else 0
+
+
+if __name__ == "__main__":
+    sys.exit(main())
