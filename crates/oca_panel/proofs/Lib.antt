@@ -2,3 +2,4 @@ mod FlightLemmas
 mod OwnLemmas
 pub mod RequestLemmas
 mod WalkLemmas
+mod ProbeLemmas

@@ -9,3 +9,5 @@ pub mod PrivateInFlight
 pub mod Beginnings
 pub mod Renewals
 pub mod WalksApart
+pub mod Watching
+pub mod Probes

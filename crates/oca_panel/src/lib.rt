@@ -12,6 +12,7 @@
 //! locks. No copy of a command is sent more than 100,000 ms after the one before it: the command is then lost.
 #![tactic(auto)]
 
+mod answering;
 mod asked;
 mod beginning;
 mod in_flight;
@@ -21,7 +22,9 @@ mod own_port;
 mod panel;
 mod trouble;
 mod walk;
+mod watched;
 
+pub use answering::{Probed, keep_alive, probe};
 pub use beginning::answer_of;
 pub use in_flight::InFlight;
 pub use outcomes::done_in;
@@ -29,3 +32,4 @@ pub use own_port::{OwnPort, law_of_turns};
 pub use panel::Panel;
 pub use trouble::Trouble;
 pub use walk::{Description, Found, MOST_PLACES, Place, ROOT, Visit, Walk};
+pub use watched::Watched;

@@ -2,3 +2,4 @@ pub mod Commands
 pub mod Faults
 pub mod Options
 pub mod Sockets
+pub mod Notes

@@ -8,11 +8,13 @@
 pub mod fault;
 pub mod form;
 pub mod options;
+mod other_port;
 pub mod socket;
 pub mod start;
 mod version;
 
 pub use fault::{Failure, RunFault, print_note, report};
 pub use form::{Form, Rule};
+pub use other_port::note_other_port;
 pub use start::words_of;
 pub use version::VERSION;

@@ -6,7 +6,6 @@ mod TurnLemmas
 mod ObjectLemmas
 mod TreeLemmas
 mod HoldLemmas
-mod ProbeLemmas
 mod MatchLemmas
 mod SocketLemmas
 mod RowLemmas

@@ -13,5 +13,4 @@ pub mod Runs
 pub mod CommandLine
 pub mod PrivateCommandLine
 pub mod Matching
-pub mod Probes
 pub mod PrivateSockets

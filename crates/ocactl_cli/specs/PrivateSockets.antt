@@ -4,7 +4,7 @@ use Rattle.oca_net.specs.Sockets.{SocketState}
 use Rattle.oca_control.specs.Links.{LinkState}
 use Rattle.oca_panel.specs.declared.own_port.OwnPort.{OwnPort}
 use Rattle.oca_program.specs.declared.fault.Failure.{Failure}
-use Rattle.ocactl_cli.specs.Reasons.{WatchState}
+use Rattle.oca_panel.specs.Watching.{WatchState}
 use Rattle.ocactl_cli.specs.Sockets.{IsLinkedOver, asks_first}
 use Rattle.ocactl_cli.specs.declared.words.Reach.{Reach}
 

@@ -9,10 +9,11 @@ use Rattle.oca_panel.specs.OwnPorts.{IsPortByClock}
 use Rattle.oca_panel.specs.declared.own_port.OwnPort.{OwnPort}
 use Rattle.oca_program.specs.declared.fault.RunFault.{RunFault}
 use Rattle.oca_program.specs.declared.fault.RunFault.TheVariants as fault
-use Rattle.ocactl_cli.specs.Probes.{Probes}
-use Rattle.ocactl_cli.specs.Reasons.{WatchState, first_handle_for}
-use Rattle.ocactl_cli.specs.declared.probe.Found.{Found}
-use Rattle.ocactl_cli.specs.declared.probe.Found.TheVariants as found
+use Rattle.oca_panel.specs.Probes.{Probes}
+use Rattle.oca_panel.specs.Watching.{WatchState}
+use Rattle.ocactl_cli.specs.Reasons.{first_handle_for}
+use Rattle.oca_panel.specs.declared.answering.Probed.{Probed}
+use Rattle.oca_panel.specs.declared.answering.Probed.TheVariants as probed
 use Rattle.ocactl_cli.specs.declared.words.Reach.{Reach}
 
 -- ---- the socket
@@ -71,19 +72,19 @@ pub record IsLinkedElsewhere (reach : Reach) (own : OwnPort) (link : LinkState) 
 
 -- by whether the device answers commands from the first port: where it was heard and does not, over the other one, if
 -- that can be had
-abbrev pub IsLinkedBy : Found → Reach → OwnPort → (before : EndState) → LinkState → EndState → Type 0
-IsLinkedBy found.NotAnswering reach own before link end_state =
+abbrev pub IsLinkedBy : Probed → Reach → OwnPort → (before : EndState) → LinkState → EndState → Type 0
+IsLinkedBy probed.NotAnswering reach own before link end_state =
     IsLinkedElsewhere reach own link end_state ⊎ IsLinkedFurther reach own.first_handle.0 before link end_state
-IsLinkedBy found.Answering reach own before link end_state =
+IsLinkedBy probed.Answering reach own before link end_state =
     IsLinkedFurther reach own.first_handle.0 before link end_state
-IsLinkedBy found.NotHeard reach own before link end_state =
+IsLinkedBy probed.NotHeard reach own before link end_state =
     IsLinkedFurther reach own.first_handle.0 before link end_state
 
 -- THE DEVICE WAS ASKED from a socket whether it answers commands from there, and linked by what was found.
 pub record IsLinkedBehind (reach : Reach) (own : OwnPort) (before : EndState) (link : LinkState)
     (end_state : EndState) : Type 0 where
   pub asked : WatchState
-  pub found : Found
+  pub found : Probed
   pub probes : Probes reach.device own.first_handle.0 before asked found
   pub linked : IsLinkedBy found reach own asked.end_state link end_state
 

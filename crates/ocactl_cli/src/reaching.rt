@@ -1,19 +1,17 @@
 //! How a device is reached: the socket's port, and a link with its first handle.
 ghost use Rattle.std.specs.Prelude.{◌≡◌, ◌<◌, IfErr, IfOk};
 ghost use Rattle.oca_net.specs.Sockets.{IsBoundAt, new_socket};
-ghost use Rattle.ocactl_cli.specs.declared.probe.Found.TheVariants.{NotAnswering};
+ghost use Rattle.oca_panel.specs.declared.answering.Probed.TheVariants.{NotAnswering};
 ghost use Rattle.ocactl_cli.specs.PrivateSockets.{IsLinkedIfBound, IsMarked, IsSameButNoted};
 ghost use Rattle.ocactl_cli.specs.Sockets.{IsBoundByChoice, IsLinkedBehind, IsLinkedBy, IsLinkedFurther, IsLinkedOver};
 ghost use Rattle.ocactl_cli.specs.Sockets.{IsReached, IsSocketFor, IsUnreached, asks_first};
 
-use super::probe::{Found, probe};
-use super::watched::Watched;
 use super::words::Reach;
 use oca_control::Link;
 use oca_net::UdpEnd;
-use oca_panel::OwnPort;
+use oca_panel::{OwnPort, Probed, Watched, probe};
 use oca_program::socket::bind;
-use oca_program::{Failure, print_note};
+use oca_program::{Failure, note_other_port};
 use oca_script::{Printer, Sink};
 use oca_types::Peer;
 use std::alloc::Global;
@@ -176,8 +174,8 @@ fn answering<'a, N: Net + Clock, F: Sink>(
     ensures { IsLinkedBehind reach own end.entry.end_state result.0 result.1.end_state }
 {
     match probe(&mut end, reach.device, own.first_handle) {
-        Found::NotAnswering => elsewhere(alloc, system, reach, own, end, faults),
-        Found::Answering | Found::NotHeard => further(reach, own, end),
+        Probed::NotAnswering => elsewhere(alloc, system, reach, own, end, faults),
+        Probed::Answering | Probed::NotHeard => further(reach, own, end),
     }
 }
 
@@ -196,7 +194,7 @@ fn elsewhere<'a, N: Net + Clock, F: Sink>(
     let bound = bind_at(alloc, system, reach, own.other);
     match bound {
         Ok(other) => {
-            note_other(alloc, reach.device, own, faults);
+            note_other_port(alloc, reach.device, own.port, own.other, faults);
             (
                 reach.link(own.first_handle.0, 0),
                 Watched::new(other, reach.device),
@@ -261,16 +259,5 @@ fn naming(alloc: Global, failure: Failure, port: u16) -> Failure
     match format!(in alloc; "port {port}: {note}") {
         Ok(named) => Failure::noted(failure.fault, named),
         Err(_) => failure,
-    }
-}
-
-/// Prints that the other port is taken.
-fn note_other<F: Sink>(alloc: Global, device: Peer, own: OwnPort, faults: &mut Printer<F>) {
-    let OwnPort { port, other, .. } = own;
-    let note = format!(in alloc;
-        "{device} answers no command from port {port}: port {other} is used instead"
-    );
-    if let Ok(note) = note {
-        print_note(note.as_str(), faults);
     }
 }

@@ -3,9 +3,9 @@ ghost use Rattle.std.specs.Prelude.{◌≡◌};
 ghost use Rattle.ocactl_cli.specs.Reasons.{reason_by, reason_unheard};
 
 use super::probe::is_there;
-use super::watched::Watched;
 use super::words::Reach;
 use oca_net::{UdpEnd, is_refused};
+use oca_panel::Watched;
 use oca_program::print_note;
 use oca_script::{Printer, Sink};
 use oca_types::Peer;

@@ -3,9 +3,8 @@ use super::DEVICE;
 use crate::tests::Row;
 use crate::tests::coming::Coming::{self, Datagram};
 use crate::tests::coming::end;
+use oca_panel::{Probed, Watched, probe};
 use oca_types::{Handle, Peer};
-use ocactl_cli::probe::{Found, probe};
-use ocactl_cli::watched::Watched;
 use std::alloc::Global;
 
 const STRANGER: Peer = Peer {
@@ -21,22 +20,22 @@ const ANSWER: &[u8] =
     b"\x3b\x00\x01\x00\x00\x00\x13\x03\x00\x01\x00\x00\x00\x0a\x00\x00\x00\x07\x00\x00";
 
 /// What comes from where, and what is found by it.
-pub struct Finds(&'static [Coming], Found);
+pub struct Finds(&'static [Coming], Probed);
 
 pub const FOUND: &[Finds] = &[
-    Finds(&[], Found::NotHeard),
-    Finds(&[Datagram(DEVICE, ALIVE, 10)], Found::NotAnswering),
+    Finds(&[], Probed::NotHeard),
+    Finds(&[Datagram(DEVICE, ALIVE, 10)], Probed::NotAnswering),
     Finds(
         &[Datagram(DEVICE, ALIVE, 10), Datagram(DEVICE, ANSWER, 10)],
-        Found::Answering,
+        Probed::Answering,
     ),
-    Finds(&[Datagram(DEVICE, ANSWER, 10)], Found::Answering),
+    Finds(&[Datagram(DEVICE, ANSWER, 10)], Probed::Answering),
     Finds(
         &[
             Datagram(STRANGER, ANSWER, 10),
             Datagram(STRANGER, ALIVE, 10),
         ],
-        Found::NotHeard,
+        Probed::NotHeard,
     ),
 ];
 

@@ -1,6 +1,6 @@
 //! An end that remembers when a peer was last heard.
 ghost use Rattle.std.specs.Prelude.{◌≡◌};
-ghost use Rattle.ocactl_cli.specs.Reasons.{heard_after};
+ghost use Rattle.oca_panel.specs.Watching.{heard_after};
 
 use oca_net::{End, Heard};
 use oca_types::{Packet, Peer};
@@ -14,7 +14,7 @@ pub struct Watched<E: End> {
 }
 
 impl<E: End> Model for Watched<E> {
-    ghost use Rattle.ocactl_cli.specs.Reasons.{WatchState};
+    ghost use Rattle.oca_panel.specs.Watching.{WatchState};
 
     ghost Value = { WatchState };
 
@@ -72,7 +72,7 @@ impl<E: End> End for Watched<E> {
     ghost use Rattle.std.specs.Prelude.{◌≡◌, ◌≤◌, ◌<◌, IfSome, length};
     ghost use Rattle.oca_net.specs.Ends.{largest_datagram};
     ghost use Rattle.oca_net.specs.EndStates.{Receives, Sends};
-    ghost use Rattle.ocactl_cli.specs.Reasons.{heard_after, state_watched};
+    ghost use Rattle.oca_panel.specs.Watching.{heard_after, state_watched};
 
     ghost state = { state_watched };
 

@@ -6,7 +6,7 @@ use Rattle.oca_net.specs.EndStates.{EndState}
 use Rattle.oca_control.specs.declared.report.DriveReport.{DriveReport}
 use Rattle.oca_control.specs.Driving.{GivesOut}
 use Rattle.oca_control.specs.Links.{LinkState, new_link, submission, submitted}
-use Rattle.ocactl_cli.specs.Probes.{AsksQuestion, AsksRounds, handle_in, question}
+use Rattle.oca_panel.specs.Probes.{AsksQuestion, AsksRounds, handle_in, question}
 
 abbrev number_or_none : Option Handle → ℕ
 number_or_none None = 0

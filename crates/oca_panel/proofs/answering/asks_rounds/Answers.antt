@@ -1,5 +1,5 @@
-use Rattle.ocactl_cli.specs.Probes.{NoRound, OneRound}
-use Rattle.ocactl_cli.proofs.probe.asks_rounds.Goals as goal
+use Rattle.oca_panel.specs.Probes.{NoRound, OneRound}
+use Rattle.oca_panel.proofs.answering.asks_rounds.Goals as goal
 
 pub loop-round-init : goal.loop-round-init
 loop-round-init g c = NoRound

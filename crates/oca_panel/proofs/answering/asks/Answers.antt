@@ -1,5 +1,5 @@
-use Rattle.ocactl_cli.proofs.ProbeLemmas.{asked-all}
-use Rattle.ocactl_cli.proofs.probe.asks.Goals as goal
+use Rattle.oca_panel.proofs.ProbeLemmas.{asked-all}
+use Rattle.oca_panel.proofs.answering.asks.Goals as goal
 
 pub returns : goal.returns
 returns g c =

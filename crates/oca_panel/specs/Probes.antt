@@ -14,8 +14,8 @@ use Rattle.oca_control.specs.declared.report.DriveReport.{DriveReport}
 use Rattle.oca_control.specs.Asking.{Waits}
 use Rattle.oca_control.specs.Driving.{GivesOut}
 use Rattle.oca_control.specs.Links.{LinkState, new_link, submitted}
-use Rattle.ocactl_cli.specs.Reasons.{WatchState, found_by}
-use Rattle.ocactl_cli.specs.declared.probe.Found.{Found}
+use Rattle.oca_panel.specs.Watching.{WatchState, found_by}
+use Rattle.oca_panel.specs.declared.answering.Probed.{Probed}
 
 -- THE QUESTION: GetClassIdentification (1.1) of the root block, object 100, without parameters.
 abbrev pub question : RequestFields
@@ -69,7 +69,7 @@ pub record AsksQuestion (device : Peer) (first : ℕ) (answered : Bool) (before 
 
 -- A DEVICE WAS ASKED whether it answers commands of a port, by a question that changes nothing and by keep-alives; and
 -- this was found, by whether the question was answered and when the device was heard.
-pub record Probes (device : Peer) (first : ℕ) (before : EndState) (asked : WatchState) (found : Found) : Type 0 where
+pub record Probes (device : Peer) (first : ℕ) (before : EndState) (asked : WatchState) (found : Probed) : Type 0 where
   pub answered : Bool
   pub asks : AsksQuestion device first answered before asked.end_state
   pub by : found ≡ found_by answered asked.heard

@@ -1,0 +1,32 @@
+-- An end that remembers when a peer was last heard, and what is found by that (*profile*).
+use Rattle.std.specs.Prelude.{ℕ, Bool, true, false, if◌then◌else◌, Option, Some, None}
+use Rattle.oca_types.specs.declared.words.Peer.{Peer}
+use Rattle.oca_types.specs.Peers.{same_peer}
+use Rattle.oca_net.specs.declared.end.Heard.{Heard}
+use Rattle.oca_net.specs.declared.end.Heard.TheVariants as heards
+use Rattle.oca_net.specs.EndStates.{EndState}
+use Rattle.oca_panel.specs.declared.answering.Probed.{Probed}
+use Rattle.oca_panel.specs.declared.answering.Probed.TheVariants as probed
+
+-- What an end says of itself, a peer, and the moment of the last datagram that it delivered from there.
+pub record WatchState : Type 0 where
+  pub end_state : EndState
+  pub peer : Peer
+  pub heard : Option ℕ
+
+abbrev pub state_watched : WatchState → EndState
+state_watched w = w.end_state
+
+-- the moment of the last datagram from a peer, behind a receive
+abbrev pub heard_after : Heard → Peer → Option ℕ → Option ℕ
+heard_after (heards.Datagram from now) peer before = if same_peer from peer then Some now else before
+heard_after (heards.Quiet now) peer before = before
+heard_after (heards.Oversize now) peer before = before
+heard_after heards.Failed peer before = before
+heard_after heards.Closed peer before = before
+
+-- whether a device answers the commands of a port, by whether it answered one, and when it was heard
+abbrev pub found_by : Bool → Option ℕ → Probed
+found_by true heard = probed.Answering
+found_by false (Some moment) = probed.NotAnswering
+found_by false None = probed.NotHeard

@@ -1,0 +1,126 @@
+//! Whether a device answers the commands of a port.
+//!
+//! A device may leave a command unanswered whose handle is not above those that it has heard from the same port: then
+//! nothing but its keep-alives comes back. This is found out before a command is sent that does something, by one that
+//! reads.
+ghost use Rattle.std.specs.Prelude.{◌≡◌};
+ghost use Rattle.oca_control.specs.Links.{new_link, submission, submitted};
+ghost use Rattle.oca_panel.specs.Probes.{AsksQuestion, AsksRound, AsksRounds, Probes, SendsKeepAlive, handle_in};
+ghost use Rattle.oca_panel.specs.Probes.{has_answer, question};
+ghost use Rattle.oca_panel.specs.Watching.{found_by};
+
+use crate::walk::ROOT;
+use crate::watched::Watched;
+use oca_control::{Link, Outcome, give_out, wait_for};
+use oca_net::End;
+use oca_pdu::{Form, write_keepalive};
+use oca_types::{Handle, MethodId, Packet, Peer, Span};
+
+/// How often a keep-alive is sent.
+const ROUNDS: u32 = 4;
+
+/// How many turns are taken behind each.
+const TURNS: u32 = 5;
+
+/// GetClassIdentification of OcaRoot, which changes nothing.
+const GET_CLASS: MethodId = MethodId { level: 1, index: 1 };
+
+/// Whether a device answers the commands of a port, as [`probe`] finds it.
+#[derive(Clone, Copy, PartialEq)]
+pub enum Probed {
+    /// It answered one.
+    Answering,
+    /// It was heard, and answered none.
+    NotAnswering,
+    /// It was not heard.
+    NotHeard,
+}
+
+/// Asks a device whether it answers the commands of the end's port: for the class of its root, under this handle, and
+/// beside it for keep-alives, for a second at most.
+///
+/// The question changes nothing on the device. It uses the handle up: a link over the same end begins above it. Where
+/// the device was heard, also before this call, and did not answer, another port is to be taken.
+pub fn probe<E: End>(end: &mut Watched<E>, device: Peer, handle: Handle) -> Probed
+    ensures { Probes device handle.0 end.old.end_state end.new result }
+{
+    let mut link = Link::new(device, handle, 0, Span::default());
+    let answered = asks(&mut link, end, device, handle);
+    by_answer(answered, end.heard())
+}
+
+/// What was found, by whether a command was answered, and when the device was heard.
+fn by_answer(answered: bool, heard: Option<u64>) -> Probed
+    ensures { result ≡ found_by answered heard }
+{
+    if answered {
+        return Probed::Answering;
+    }
+    match heard {
+        Some(_) => Probed::NotAnswering,
+        None => Probed::NotHeard,
+    }
+}
+
+/// Asks for the class of the root, and beside it for keep-alives: whether the command was answered.
+fn asks<E: End>(link: &mut Link, end: &mut Watched<E>, device: Peer, first: Handle) -> bool
+    requires { link.old ≡ new_link device first.0 0 16 }
+    ensures { AsksQuestion device first.0 result end.old.end_state end.new.end_state }
+{
+    let Some(handle) = submit(link) else {
+        return false;
+    };
+    give_out(link, end, 0);
+    asks_rounds(link, end, device, handle)
+}
+
+/// Waits for the answer, and asks for keep-alives beside it: whether it came.
+fn asks_rounds<E: End>(link: &mut Link, end: &mut Watched<E>, device: Peer, handle: Handle) -> bool
+    ensures { AsksRounds device handle.0 result link.old link.new end.old.end_state end.new.end_state }
+{
+    for round in 0..ROUNDS {
+        if asks_round(link, end, device, handle) {
+            return true;
+        }
+    }
+    false
+}
+
+/// Sends a keep-alive, and waits for the answer: whether it came.
+fn asks_round<E: End>(link: &mut Link, end: &mut Watched<E>, device: Peer, handle: Handle) -> bool
+    ensures { AsksRound device handle.0 result link.old link.new end.old.end_state end.new.end_state }
+{
+    keep_alive(end, device);
+    let outcome = wait_for(link, end, handle, TURNS);
+    is_answer(&outcome)
+}
+
+/// Whether an answer came.
+fn is_answer(outcome: &Outcome) -> bool
+    ensures { result ≡ has_answer outcome.now }
+{
+    match outcome {
+        Outcome::Answered(_) => true,
+        _ => false,
+    }
+}
+
+/// Submits the command that asks for the class of the root.
+fn submit(link: &mut Link) -> Option<Handle>
+    ensures handle { result ≡ handle_in (submission question link.old) }
+    ensures link { link.new ≡ submitted question 0 link.old }
+{
+    match link.submit(ROOT, GET_CLASS, 0, &[], 0) {
+        Ok(handle) => Some(handle),
+        Err(_) => None,
+    }
+}
+
+/// Sends a device a keep-alive, which it echoes. It is one of five seconds, as those of a link.
+pub fn keep_alive<E: End>(end: &mut E, device: Peer) -> bool
+    ensures { SendsKeepAlive device (E.state end.old) (E.state end.new) }
+{
+    let mut packet = Packet::new();
+    let _ = write_keepalive(&mut packet, Form::Seconds(5));
+    end.send(device, packet.as_slice())
+}

@@ -1,0 +1,16 @@
+-- A note that a program prints beside its task (*profile*).
+use Rattle.std.specs.Prelude.{◌≡◌, ◌⊎◌, ℕ, List, Result}
+use Rattle.oca_script.specs.declared.fault.WriteFailed.{WriteFailed}
+use Rattle.oca_script.specs.Ends.{Output}
+use Rattle.oca_script.specs.Printing.{WritesOut}
+use Rattle.oca_program.specs.Faults.{note_text}
+
+-- one note was printed, as far as the writes went
+pub record PrintsOneNote (old new : Output) : Type 0 where
+  pub note : List ℕ
+  pub written : Result Unit WriteFailed
+  pub writes : WritesOut written old new (note_text note)
+
+-- ONE NOTE, OR NOTHING, was printed.
+abbrev pub PrintsANote : Output → Output → Type 0
+PrintsANote old new = (new ≡ old) ⊎ PrintsOneNote old new

@@ -1,0 +1,27 @@
+//! What is printed where a device answers no command from a port, so that another one is taken.
+ghost use Rattle.oca_program.specs.Notes.{PrintsANote};
+
+use super::fault::print_note;
+use oca_script::{Printer, Sink};
+use oca_types::Peer;
+use std::alloc::Global;
+
+/// Prints the note that this device answers no command from this port, and that another is used instead, as far as the
+/// writes go. Without memory for it, nothing is printed.
+pub fn note_other_port<F: Sink>(
+    alloc: Global,
+    device: Peer,
+    port: u16,
+    other: u16,
+    faults: &mut Printer<F>,
+)
+    ensures { PrintsANote faults.old faults.new }
+{
+    let note = format!(in alloc;
+        "{device} answers no command from port {port}: port {other} is used instead"
+    );
+    match note {
+        Ok(note) => print_note(note.as_str(), faults),
+        Err(_) => {}
+    }
+}
