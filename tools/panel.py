@@ -16,6 +16,7 @@ import random
 import re
 import select
 import shutil
+import signal
 import socket
 import subprocess
 import sys
@@ -25,7 +26,7 @@ import time
 from pathlib import Path
 
 import oca_profile as oca
-from hands import SETS, Deaf, stagebox
+from hands import SETS, Deaf, OldSession, stagebox
 from own_ports import by_turns, free_port
 from served import Served
 
@@ -63,10 +64,11 @@ class Device:
 class Panel:
     """`ocapanel` at a port that the system chose."""
 
-    def __init__(self, folder, device_port, *words, address=None, ip="127.0.0.1", **more):
+    def __init__(self, folder, device_port, *words, address=None, ip="127.0.0.1", notes=0, **more):
         device = address or f"127.0.0.1:{device_port}"
         self.process = subprocess.Popen([f"{folder}/ocapanel", "--device", device, "--listen", f"{ip}:0", *words],
                                         stdout=subprocess.DEVNULL, stderr=subprocess.PIPE, text=True, env=dict(os.environ, **more))
+        self.notes = [self.process.stderr.readline() for _ in range(notes)]
         line = self.process.stderr.readline()
         found = re.fullmatch(r"listening http://(127\.[\d.]+):(\d+)/\n", line)
         self.told_ip, port = found.groups() if found else sys.exit(f"panel: ocapanel said {line!r}")
@@ -96,15 +98,15 @@ class Panel:
     def get(self, path):
         return json.loads(self.ask("GET", path)[2])
 
-    def order(self, path, ono, value=None):
+    def order(self, path, ono, value=None, **more):
         """The status, and the ticket where it was taken."""
-        body = {"ono": ono} | ({} if value is None else {"value": value})
+        body = {"ono": ono} | ({} if value is None else {"value": value}) | more
         headers = {"Host": self.host, "Origin": f"http://{self.host}", "Content-Type": "application/json"}
         status, _, text = self.ask("POST", path, json.dumps(body), headers)
         return status, json.loads(text) if status == 202 else None
 
-    def look(self, extra=""):
-        """Asks for what changed, as a page does."""
+    def look(self, extra="&first=0&count=512"):
+        """Asks for what changed, as a page does that shows all."""
         values = self.get(f"/values?since={self.since}{extra}")
         if values["epoch"] != self.epoch:
             self.epoch, self.since, self.shown = values["epoch"], 0, {}
@@ -686,19 +688,24 @@ def of_other_classes(folder):
 
 
 def visible_first(folder):
-    """What a page shows is read twice in a round, and all else once."""
+    """What a page shows is read at most ten times a second, and all else once in five seconds."""
     tree = oca.bench(60)
     with Served(tree) as device, Panel(folder, device.port) as panel:
         panel.wait(lambda v: v["walked"], 60)
         places = {o["ono"]: at for at, o in enumerate(panel.get("/tree")["objects"])}
         *_, other, seen = (o for o in sorted(places, key=places.get) if next(t for t in tree if t.ono == o).kind == "int16")
-        device.heard.clear()
-        until = time.monotonic() + 4
-        while time.monotonic() < until:
-            panel.look(f"&first={places[seen]}&count=1")
-            time.sleep(0.02)
-        asked = [m[2].target for data, _ in list(device.heard) for m in oca.check(data) if m[0] == "command" and m[2].level == 5]
-        check(asked.count(seen) > 1.5 * asked.count(other) > 0, f"what is visible is read first: {asked.count(seen)} times, another {asked.count(other)} times")
+        for seconds in (3, 12):  # what a page showed counts as shown for a while
+            device.heard.clear()
+            begun = time.monotonic()
+            while time.monotonic() < begun + seconds:
+                panel.look(f"&first={places[seen]}&count=1")
+                time.sleep(0.02)
+        took = time.monotonic() - begun
+        asked = {m[2].handle: m[2].target for data, _ in list(device.heard) for m in oca.check(data) if m[0] == "command"}
+        counts = {ono: list(asked.values()).count(ono) for ono in places}
+        check(2 * counts[other] < counts[seen] <= 10 * took + 2, f"what is visible is read {counts[seen]} times in {took:.1f} s")
+        check(0 < counts[other] <= took / 5 + 1, f"what is not visible is read {counts[other]} times in {took:.1f} s")
+        check(sum(counts.values()) <= counts[seen] + (took / 5 + 1) * len(counts), f"{sum(counts.values())} commands in {took:.1f} s")
 
 
 class Timed(Served):
@@ -881,7 +888,7 @@ def asleep(folder):
         layer = layer_in(place)
         silent.bind(("127.0.0.1", 0))
         silent.settimeout(0.2)
-        for seconds, again in ((101, False), (60, True)):
+        for seconds, again in ((16, False), (10, True)):
             heard, until = [], time.monotonic() + 2
             with Panel(folder, silent.getsockname()[1], LD_PRELOAD=layer, SLEPT=str(seconds)):
                 while time.monotonic() < until:
@@ -892,6 +899,117 @@ def asleep(folder):
             with contextlib.suppress(TimeoutError):
                 while True:
                     silent.recv(2000)
+
+
+class Ahead:
+    """Clocks that are set forward while a program runs: the words of its environment, and `set` for so many seconds."""
+
+    def __init__(self, place):
+        self.file = Path(place) / "ahead"
+        self.file.write_bytes(bytes(8))
+        layer = f"{place}/ahead.so"
+        subprocess.run(["gcc", "-O1", "-Wall", "-shared", "-fPIC", "-o", layer, str(TOP / "tools/ahead.c")], check=True)
+        self.words = {"LD_PRELOAD": layer, "AHEAD": str(self.file)}
+
+    def set(self, seconds):
+        with open(self.file, "r+b") as file:
+            file.write(int(1000 * seconds).to_bytes(8, sys.byteorder))
+
+
+def post_of(panel, **body):
+    """A request that orders something, on a connection that is kept."""
+    text = json.dumps(body)
+    return (f"POST /set HTTP/1.1\r\nHost: {panel.host}\r\nOrigin: http://{panel.host}\r\nContent-Type: {JSON}\r\n"
+            f"Content-Length: {len(text)}\r\n\r\n{text}").encode()
+
+
+def stop(panel):
+    """A panel's process stands still from now on."""
+    panel.process.send_signal(signal.SIGSTOP)
+    while "T (stopped)" not in Path(f"/proc/{panel.process.pid}/status").read_text():
+        time.sleep(0.01)
+
+
+def late_orders(folder):
+    """An order that waited while the panel stood still is told as not sent, on a connection that was there and on one
+    that came meanwhile, and so is one whose last moment has passed; the next one is carried out."""
+    late = "not sent: too late"
+    with tempfile.TemporaryDirectory() as place:
+        ahead = Ahead(place)
+        with Device(folder) as device, Panel(folder, device.port, **ahead.words) as panel:
+            panel.wait(lambda v: v["walked"] and panel.value(MUTE) is not None)
+            check(panel.fare("/set", MUTE, "muted") is None, "an order beside no standstill")
+            now = panel.look()["now"]
+            for before, told in ((0, late), (now - 1, late), (now + 60_000, None), (2**64 - 1, None)):
+                status, ticket = panel.order("/set", TRIM, "7", before=before)
+                panel.wait(lambda _, t=ticket: t in panel.told)
+                said = (status, panel.told.get(ticket, "nothing"))
+                check(said == (202, told), f"an order until {before}, at a clock that reads {now}: {said}")
+            for before in ("7", -1, 1.5, None, 2**64):
+                status, _ = panel.order("/set", TRIM, "8", before=before)
+                check(status == 400, f"an order until {before!r} is answered {status}")
+            with socket.create_connection((panel.ip, panel.port), timeout=20) as old:
+                old.sendall(f"GET /nothing HTTP/1.1\r\nHost: {panel.host}\r\n\r\n".encode())
+                check(old.recv(65536).startswith(b"HTTP/1.1 404"), "a connection is there")
+                now = panel.look()["now"]
+                stop(panel)
+                old.sendall(post_of(panel, ono=MUTE, value="unmuted"))
+                with socket.create_connection((panel.ip, panel.port), timeout=20) as new, \
+                        socket.create_connection((panel.ip, panel.port), timeout=20) as page:
+                    new.sendall(post_of(panel, ono=MUTE, value="unmuted"))
+                    page.sendall(post_of(panel, ono=TRIM, value="9", before=now + 4000))
+                    ahead.set(6)
+                    panel.process.send_signal(signal.SIGCONT)
+                    answers = [s.recv(65536) for s in (old, new, page)]
+            tickets = [int(answer.rsplit(b"\r\n\r\n", 1)[1]) if answer.startswith(b"HTTP/1.1 202") else 0 for answer in answers]
+            panel.wait(lambda _: all(t in panel.told for t in tickets))
+            told = [panel.told.get(t) for t in tickets]
+            check(told == 3 * [late], f"orders that waited for 6 s: {told} {answers}")
+            said = ocactl(folder, device.port, "get", str(MUTE), str(TRIM))
+            check(said == f"{MUTE} muted\n{TRIM} 7\n", f"and did nothing: {said}")
+            check(panel.fare("/set", MUTE, "unmuted") is None, "the next order is carried out")
+
+
+class Forgetful(Deaf):
+    """The same, which counts the copies of each command of these methods."""
+
+    def __init__(self, tree, methods):
+        super().__init__(tree, methods)
+        self.copies, self.deaf, self.device.datagram = {}, self.device.datagram, self.count
+
+    def count(self, peer, data, now):
+        for message in oca.check(data):
+            if message[0] == "command" and (message[2].level, message[2].index) in self.methods:
+                self.copies[message[2].handle] = self.copies.get(message[2].handle, 0) + 1
+        return self.deaf(peer, data, now)
+
+
+def over_a_stop(folder):
+    """An order in flight, without an answer, while the panel stands still for 20 seconds: it is told as lost, and is
+    not sent again. It is tried again where the machine was so busy that the link was lost before."""
+    with tempfile.TemporaryDirectory() as place:
+        for _ in range(9):
+            ahead = Ahead(place)
+            with Forgetful(stagebox(), SETS) as device, Panel(folder, device.port, **ahead.words) as panel:
+                panel.wait(lambda v: v["walked"])
+                _, ticket = panel.order("/set", 4097, "unmuted")
+                until = time.monotonic() + 20
+                while not device.copies and time.monotonic() < until:
+                    time.sleep(0.01)
+                stop(panel)
+                time.sleep(0.2)
+                before = dict(device.copies)
+                ahead.set(20)
+                panel.process.send_signal(signal.SIGCONT)
+                panel.wait(lambda _: ticket in panel.told)
+                time.sleep(0.6)
+                if max(before.values(), default=20) > 15:
+                    continue
+                told = panel.told.get(ticket)
+                check(told == "lost", f"an order in flight over a stop of 20 s: {told}")
+                check(device.copies == before, f"its copies: {before}, and then {device.copies}")
+                return
+    check(False, "an order in flight is lost before the stop")
 
 
 def bound_for(folder):
@@ -1063,16 +1181,16 @@ const of=(t,k)=>k in t?t[k]:k===Symbol.toPrimitive?()=>"":k===Symbol.iterator?un
 const made=()=>new Proxy(function(){},{get:of,set:(t,k,v)=>(t[k]=v,true),apply:()=>made()});
 globalThis.document={createElement:made,getElementById:made,addEventListener(){},body:made(),hidden:false};
 globalThis.window=globalThis;globalThis.IntersectionObserver=class{observe(){}unobserve(){}disconnect(){}};
-let polls=0,orders=0;const told=[];
+let polls=0,orders=0;const told=[],last=[];
 const mute={ono:7,in:100,class:"mute",role:"m",lockable:true,names:[]};
 const shown={ono:7,value:"muted",limits:null,trouble:null,lock:"free",enabled:true,label:"",flags:[]};
 const link={heard:1,lost_for:null,in_flight:0,commands:1,again:0,lost:0};
 const said=more=>({status:200,ok:true,json:async()=>({epoch:1,walked:true,...more})});
 globalThis.fetch=async(path,how)=>{
- if(how){const ticket=++orders;setTimeout(()=>told.push({ticket,ono:7,trouble:ticket===1?"Locked":null}),100);
+ if(how){const ticket=++orders;last.push(JSON.parse(how.body).before);setTimeout(()=>told.push({ticket,ono:7,trouble:ticket===1?"Locked":null}),100);
   return{status:202,ok:true,json:async()=>ticket}}
  if(path==="/tree")return said({objects:[mute]});
- return said({change:++polls,objects:[shown],link,told:told.slice()})};
+ return said({change:++polls,now:700000,objects:[shown],link,told:told.slice()})};
 const script=require("fs").readFileSync(0,"utf8");
 const page=new Function(script+";return{order,times,row:()=>rows.get(7)}")();
 const pause=ms=>new Promise(done=>setTimeout(done,ms));
@@ -1083,7 +1201,7 @@ const pause=ms=>new Promise(done=>setTimeout(done,ms));
   page.order("/set",row,value);
   for(let n=0;n<100&&page.times.length<count;n++)await pause(50);
   await pause(600);said.push([page.times.length,row.why,row.ticket])}
- console.log(JSON.stringify([polls>5,said]));process.exit(0)})();
+ console.log(JSON.stringify([polls>5,said,last]));process.exit(0)})();
 """
 SET = ["unmuted", "muted", "non-inverted", "inverted", "off", "on", "5", "6", "5", "6", "5", "1"]
 
@@ -1099,6 +1217,8 @@ def controls(panel):
         done = subprocess.run(["node", file.name], input=script, capture_output=True, text=True, timeout=60)
     told = [line.split(" ", 1) for line in done.stdout.splitlines()]
     got = [(path, json.loads(body)) for path, body in told]
+    last = [body.pop("before", None) for _, body in got]
+    check(all(isinstance(moment, int) and moment >= 5000 for moment in last), f"the last moments of the page's orders: {last}")
     rows = [("/set", {"ono": 7, "value": value}) for value in SET] + [(path, {"ono": 7}) for path in ("/lock", "/unlock", "/lock")]
     check(got == rows, f"what the page's controls order: {got} {done.stderr[-300:]}")
     settles(script)
@@ -1110,8 +1230,43 @@ def settles(script):
         file.write(POLLING_SCRIPT)
         file.flush()
         done = subprocess.run(["node", file.name], input=script, capture_output=True, text=True, timeout=60)
-    got = json.loads(done.stdout or "null")
+    *got, last = json.loads(done.stdout or "[null]")
     check(got == [True, [[1, "Locked", 0], [2, "", 0]]], f"how orders are settled: {got} {done.stderr[-300:]}")
+    in_time = bool(last) and all(705_000 <= moment < 706_000 for moment in last)
+    check(in_time, f"orders of a page are good for 5 s by the clock of its program, which reads 700 s: {last}")
+    hides(script)
+
+
+# The page's script in a window that is shown, hidden, and shown again: how often it asks for values in each.
+HIDING_SCRIPT = r"""
+const of=(t,k)=>k in t?t[k]:k===Symbol.toPrimitive?()=>"":k===Symbol.iterator?undefined:made();
+const made=()=>new Proxy(function(){},{get:of,set:(t,k,v)=>(t[k]=v,true),apply:()=>made()});
+let changed=null,asked=0;
+globalThis.document={createElement:made,getElementById:made,addEventListener(what,f){if(what==="visibilitychange")changed=f},
+ body:made(),hidden:false};
+globalThis.window=globalThis;globalThis.IntersectionObserver=class{observe(){}unobserve(){}disconnect(){}};
+const link={heard:1,lost_for:null,in_flight:0,commands:1,again:0,lost:0};
+globalThis.fetch=async path=>{if(path.startsWith("/values"))asked++;
+ return{status:200,ok:true,json:async()=>({epoch:1,walked:false,now:1,change:1,objects:[],link,told:[]})}};
+const script=require("fs").readFileSync(0,"utf8");
+new Function(script)();
+const pause=ms=>new Promise(done=>setTimeout(done,ms)),counts=[];
+(async()=>{
+ for(const hidden of[false,true,false]){
+  document.hidden=hidden;changed&&changed();await pause(300);
+  asked=0;await pause(2500);counts.push(asked)}
+ console.log(JSON.stringify(counts));process.exit(0)})();
+"""
+
+
+def hides(script):
+    """A window that is hidden asks for nothing, and again once it is shown."""
+    with tempfile.NamedTemporaryFile("w", suffix=".js") as file:
+        file.write(HIDING_SCRIPT)
+        file.flush()
+        done = subprocess.run(["node", file.name], input=script, capture_output=True, text=True, timeout=60)
+    shown, hidden, again = json.loads(done.stdout or "[0, 0, 0]")
+    check(shown > 2 and hidden == 0 and again > 2, f"a window asks {shown} times, hidden {hidden}, shown again {again} {done.stderr[-300:]}")
 
 
 def asked_at_once(folder, *given):
@@ -1203,6 +1358,18 @@ def at_its_port(folder):
     check(answered[1], "a panel that follows another one at its port is answered")
 
 
+def at_an_old_port(folder):
+    """A panel at a port whose session has higher handles at the device, as one that is started again behind the moment at
+    which handles begin anew: it says so, and is answered at another port."""
+    port = free_port()
+    with OldSession(stagebox(), [port]) as device, Panel(folder, device.port, "--port", str(port), notes=1) as panel:
+        begins = f"note: 127.0.0.1:{device.port} answers no command from port {port}: port "
+        told = re.fullmatch(re.escape(begins) + r"(\d+) is used instead\n", panel.notes[0])
+        check(told and int(told[1]) != port, f"a panel at the port of an old session: {panel.notes}")
+        check(panel.wait(lambda v: v["walked"]) is not None, "it finds the objects")
+        check(panel.fare("/set", 4097, "unmuted") is None, "and its orders are carried out")
+
+
 def by_its_names(folder):
     """A panel is asked by its own address, and one at 127.0.0.1 also as localhost; a page orders under the name by
     which it was asked, and under no other."""
@@ -1255,8 +1422,8 @@ def main():
     words(folder)
     spans(folder)
     for part in (bound_for, classes, seldom, of_other_classes, visible_first, often, newer_than_an_answer,
-                 beside_an_order, asleep, failing, unwatched, troubled, ailing, counted, without_a_page, at_its_port,
-                 by_its_names, a_mute, limits_of_orders):
+                 beside_an_order, late_orders, over_a_stop, asleep, failing, unwatched, troubled, ailing, counted, without_a_page, at_its_port,
+                 at_an_old_port, by_its_names, a_mute, limits_of_orders):
         part(folder)
     with Device(folder) as device, Panel(folder, device.port) as panel:
         page(panel)

@@ -1,8 +1,8 @@
 -- Walks that go on, and others that begin.
-use Rattle.std.proofs.Common.{◌≡◌, ◌≤◌, inl, inr, ◌∙◌, arith}
+use Rattle.std.proofs.Common.{◌≡◌, ◌≤◌, ℕ, inl, inr, ◌∙◌, arith}
 use Rattle.oca_panel.specs.Panels.{PanelState}
 use Rattle.oca_web.specs.declared.inventory.Inventory.{Inventory}
-use Rattle.oca_web.specs.Orders.{OrdersState, SubmitsOrders}
+use Rattle.oca_web.specs.Orders.{OrdersState, SubmitsOrders, with_passed}
 use Rattle.oca_web.specs.Views.{RenewsLost, SubmitsAll}
 use Rattle.oca_web.specs.Walking.{KeepsWalk, OtherWalk, BeginsAnew, StaysOver}
 
@@ -32,7 +32,7 @@ pub keeps_begins : (a b c : Inventory) → KeepsWalk a b → BeginsAnew b c → 
 keeps_begins a b c k (inl o) = inl (record { epoch = omega (arith, k.epoch, o.epoch); walked = o.walked })
 keeps_begins a b c k (inr o) = inr (record { epoch = o.epoch ∙ k.epoch; walked = o.walked ∙ k.walked })
 
-pub submits_behind : (o s t : OrdersState) (p q r : PanelState) → RenewsLost o p s q → SubmitsOrders s q t r → SubmitsAll o p t r
-submits_behind o s t p q r l h = record { is_lost = l.is_lost; between = s; renewed = q; loses = l.loses; same = l.same; submits = h }
+pub submits_behind : (ahead now : ℕ) (o s u t : OrdersState) (p q r : PanelState) → RenewsLost o p s q → u ≡ with_passed now s → SubmitsOrders ahead u q t r → SubmitsAll ahead now o p t r
+submits_behind ahead now o s u t p q r l e h = record { is_lost = l.is_lost; between = s; renewed = q; loses = l.loses; same = l.same; submits = rw e at h }
 
 pub ruleset walk_rules = (begins_stays, keeps_stays, stays_on, submits_behind)

@@ -18,6 +18,10 @@ ono_in d = option_and_then as_u64 (option_and_then as_number (get (codes "ono") 
 abbrev pub word_for_value : Data → Option (List ℕ)
 word_for_value d = option_and_then as_str (get (codes "value") d)
 
+-- the moment after which the order must not be submitted; none where it gives none
+abbrev pub last_in : Data → Option ℕ
+last_in d = option_and_then as_u64 (option_and_then as_number (get (codes "before") d))
+
 -- a value that the word is for, in an object of some class
 abbrev pub IsForWord : List ℕ → Value → Type 0
 IsForWord word value = (class : Class) × IsRead class word (Some value)
@@ -33,8 +37,9 @@ pub record IsOrderOf (d : Data) (ono : Ono) (action : Action) : Type 0 where
   pub object : ono_in d ≡ Some ono.0
   pub value : IsValueIn (word_for_value d) action
 
--- THE ORDER IS THE ONE THAT THE BODY SAYS.
-pub record IsOrderIn (body : List ℕ) (ono : Ono) (action : Action) : Type 0 where
+-- THE ORDER IS THE ONE THAT THE BODY SAYS, with the last moment that it gives, where it gives one.
+pub record IsOrderIn (body : List ℕ) (ono : Ono) (action : Action) (given : Option ℕ) : Type 0 where
   pub parsed : Data
   pub text : read body ≡ Some parsed
   pub order : IsOrderOf parsed ono action
+  pub last : given ≡ last_in parsed

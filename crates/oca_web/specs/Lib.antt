@@ -1,6 +1,8 @@
 pub mod Admission
 pub mod Asking
 pub mod Objects
+pub mod Polling
+pub mod Readings
 pub mod Orders
 pub mod Bodies
 pub mod Sites

@@ -19,6 +19,13 @@ pub record ChangesOne (place : ℕ) (old new : ObjectsState) : Type 0 where
 abbrev pub Changes : ℕ → ObjectsState → ObjectsState → Type 0
 Changes place old new = (new ≡ old) ⊎ ChangesOne place old new
 
+-- An object is asked at this moment: that is kept of it, and all others are as they were.
+pub record AsksAt (place now : ℕ) (old new : ObjectsState) : Type 0 where
+  pub changes : new.changes ≡ old.changes
+  pub length : length new.list ≡ length old.list
+  pub asked : IfSome (slice_get new.list place) (λ o. o.asked ≡ now)
+  pub others : (k : ℕ) → k ≢ place → slice_get new.list k ≡ slice_get old.list k
+
 -- An object was added behind all others, with the number of that change.
 pub record AddsObject (old new : ObjectsState) : Type 0 where
   pub object : Object

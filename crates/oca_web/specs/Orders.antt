@@ -1,6 +1,6 @@
 -- Orders: what pages want done with objects, in the order in which they came (*profile*).
 use Rattle.std.specs.Prelude.{◌≡◌, ◌⊎◌, ℕ, ◌+◌, ◌==◌, ◌||◌, Bool, true, false, if◌then◌else◌, List, [], ◌∷◌, ◌++◌}
-use Rattle.std.specs.Prelude.{length, nat_lt, drop, remove, slice_get, Option, Some, None, Result, Ok, Err}
+use Rattle.std.specs.Prelude.{length, nat_lt, ◌≤◌, drop, remove, slice_get, Option, Some, None, Result, Ok, Err}
 use Rattle.std.specs.List.{list_any}
 use Rattle.oca_types.specs.declared.class.Class.{Class}
 use Rattle.oca_types.specs.declared.class.Class.TheVariants as class
@@ -8,6 +8,7 @@ use Rattle.oca_types.specs.declared.words.Ono.{Ono}
 use Rattle.oca_types.specs.declared.words.Handle.{Handle}
 use Rattle.oca_control.specs.declared.fault.ControlFault.TheVariants as faults
 use Rattle.oca_control.specs.declared.outcome.Outcome.{Outcome}
+use Rattle.oca_control.specs.Asking.{IsPresent}
 use Rattle.oca_model.specs.declared.request.Request.{Request}
 use Rattle.oca_model.specs.declared.request.Request.TheVariants as requests
 use Rattle.oca_model.specs.Values.{class_of_value}
@@ -19,6 +20,8 @@ use Rattle.oca_panel.specs.Beginnings.{BeginsAsking}
 use Rattle.oca_panel.specs.Renewals.{IsFoundLost}
 use Rattle.oca_web.specs.declared.order.Action.{Action}
 use Rattle.oca_web.specs.declared.order.Action.TheVariants as actions
+use Rattle.oca_web.specs.declared.order.NotDone.{NotDone}
+use Rattle.oca_web.specs.declared.order.NotDone.TheVariants as why
 use Rattle.oca_web.specs.declared.order.Order.{Order}
 use Rattle.oca_web.specs.declared.order.Sent.{Sent}
 use Rattle.oca_web.specs.declared.order.OrderResult.{OrderResult}
@@ -54,17 +57,21 @@ request_asked actions.Unlock = requests.Unlock
 
 -- ---- an order comes
 
--- ONE ORDER WAS ADDED, behind all others, with a ticket of its own: one more than that of the order before it.
-abbrev pub order_added : Ono → Action → OrdersState → Order
-order_added ono action s = record { ticket = s.tickets + 1; ono = ono; action = action }
+-- ONE ORDER WAS ADDED, behind all others, with the moment after which it must not be submitted, and a ticket of its own:
+-- one more than that of the order before it.
+abbrev pub order_added : Ono → Action → ℕ → OrdersState → Order
+order_added ono action last s = record { ticket = s.tickets + 1; ono = ono; action = action; last = last }
 
-abbrev pub with_order : Ono → Action → OrdersState → OrdersState
-with_order ono action s = record s { waiting = s.waiting ++ order_added ono action s ∷ []; tickets = s.tickets + 1 }
+abbrev pub with_order : Ono → Action → ℕ → OrdersState → OrdersState
+with_order ono action last s = record s {
+  waiting = s.waiting ++ order_added ono action last s ∷ [];
+  tickets = s.tickets + 1;
+}
 
 -- Where it was added, this is its ticket; where 64 wait, or no ticket is left, none was.
-abbrev pub AddsTicket : Ono → Action → OrdersState → Option ℕ → OrdersState → Type 0
-AddsTicket ono action old (Some ticket) new = (ticket ≡ old.tickets + 1) × (new ≡ with_order ono action old)
-AddsTicket ono action old None new = (new ≡ old) × ((length old.waiting ≡ 64) ⊎ (old.tickets ≡ 18446744073709551615))
+abbrev pub AddsTicket : Ono → Action → ℕ → OrdersState → Option ℕ → OrdersState → Type 0
+AddsTicket ono action last old (Some ticket) new = (ticket ≡ old.tickets + 1) × (new ≡ with_order ono action last old)
+AddsTicket ono action last old None new = (new ≡ old) × ((length old.waiting ≡ 64) ⊎ (old.tickets ≡ 18446744073709551615))
 
 -- ---- an order is submitted
 
@@ -77,8 +84,9 @@ abbrev pub ready_of : List Order → List Sent → Option Order
 ready_of [] sent = None
 ready_of (o ∷ os) sent = if is_in_flight o.ono.0 sent || (length sent == 32) then None else Some o
 
--- THAT ORDER WAS SUBMITTED, once: it no longer waits, and is in flight under the handle of its command.
-pub record SubmitsOrder (old : OrdersState) (before : PanelState) (new : OrdersState) (after : PanelState) : Type 0
+-- THAT ORDER WAS SUBMITTED, once: it no longer waits, and is in flight under the handle of its command. It was so at a
+-- moment not after its last one; the program's clock is so far ahead of the end's.
+pub record SubmitsOrder (ahead : ℕ) (old : OrdersState) (before : PanelState) (new : OrdersState) (after : PanelState) : Type 0
   where
     pub order : Order
     pub handle : Handle
@@ -87,12 +95,15 @@ pub record SubmitsOrder (old : OrdersState) (before : PanelState) (new : OrdersS
     pub in_flight : new.in_flight ≡ old.in_flight ++ (record { handle = handle; order = order }) ∷ []
     pub results : new.results ≡ old.results
     pub tickets : new.tickets ≡ old.tickets
+    pub now : ℕ
+    pub present : IsPresent now before.end_state
+    pub in_time : ahead + now ≤ order.last
     pub asks : BeginsAsking order.ono.0 (class_asked order.action) (request_asked order.action) (Ok handle) before after
 
 -- whether one was submitted: where none was, nothing changed
-abbrev pub SubmitsFirst : Bool → OrdersState → PanelState → OrdersState → PanelState → Type 0
-SubmitsFirst true old before new after = SubmitsOrder old before new after
-SubmitsFirst false old before new after = (new ≡ old) × (after ≡ before)
+abbrev pub SubmitsFirst : ℕ → Bool → OrdersState → PanelState → OrdersState → PanelState → Type 0
+SubmitsFirst ahead true old before new after = SubmitsOrder ahead old before new after
+SubmitsFirst ahead false old before new after = (new ≡ old) × (after ≡ before)
 
 -- ---- an order is answered
 
@@ -100,8 +111,13 @@ SubmitsFirst false old before new after = (new ≡ old) × (after ≡ before)
 abbrev pub with_result : List OrderResult → OrderResult → List OrderResult
 with_result results t = (if length results == 128 then drop 1 results else results) ++ t ∷ []
 
+-- why its command was not carried out
+abbrev pub not_done : Result Unit Trouble → Result Unit NotDone
+not_done (Ok u) = Ok u
+not_done (Err e) = Err (why.Trouble e)
+
 -- how an order fared
-abbrev pub result_of : Order → Result Unit Trouble → OrderResult
+abbrev pub result_of : Order → Result Unit NotDone → OrderResult
 result_of order done = record { ticket = order.ticket; ono = order.ono; done = done }
 
 -- AN ORDER IN FLIGHT CAME OUT SO, under its ticket: as the answer says that the link held under its handle, or
@@ -115,7 +131,7 @@ pub record SettlesOrder (at : ℕ) (sent : Sent) (done : Result Unit Trouble) (o
   pub orders : new ≡ record old {
     in_flight = remove old.in_flight at;
     results = with_result old.results
-        (result_of sent.order done);
+        (result_of sent.order (not_done done));
   }
 
 abbrev pub SettlesAt : ℕ → Option (Sent × Result Unit Trouble) → OrdersState → PanelState → OrdersState → PanelState
@@ -126,18 +142,20 @@ SettlesAt at None old before new after = (new ≡ old) × (after ≡ before)
 -- ---- the link is lost
 
 abbrev pub lost_result : Sent → OrderResult
-lost_result sent = result_of sent.order (Err trouble.Lost)
+lost_result sent = result_of sent.order (Err (why.Trouble trouble.Lost))
 
-abbrev pub unsent_result : Order → OrderResult
-unsent_result order = result_of order (Err (trouble.NotSubmitted faults.Lost))
+-- it was never sent, since the link was lost
+abbrev pub link_was_lost : NotDone
+link_was_lost = why.Trouble (trouble.NotSubmitted faults.Lost)
 
 abbrev pub with_lost : List Sent → List OrderResult → List OrderResult
 with_lost [] results = results
 with_lost (s ∷ sent) results = with_lost sent (with_result results (lost_result s))
 
-abbrev pub with_unsent : List Order → List OrderResult → List OrderResult
-with_unsent [] results = results
-with_unsent (o ∷ orders) results = with_unsent orders (with_result results (unsent_result o))
+-- none of these was sent, for this reason
+abbrev pub with_unsent : NotDone → List Order → List OrderResult → List OrderResult
+with_unsent reason [] results = results
+with_unsent reason (o ∷ orders) results = with_unsent reason orders (with_result results (result_of o (Err reason)))
 
 -- ALL ORDERS ARE LOST with the link: those in flight, which may have been carried out, and those that wait, which were
 -- never sent.
@@ -145,7 +163,7 @@ abbrev pub lost_orders : OrdersState → OrdersState
 lost_orders s = record s {
   waiting = [];
   in_flight = [];
-  results = with_unsent s.waiting
+  results = with_unsent link_was_lost s.waiting
       (with_lost s.in_flight s.results);
 }
 
@@ -154,15 +172,36 @@ abbrev pub LosesOrders : Bool → PanelState → OrdersState → OrdersState →
 LosesOrders true p old new = IsFoundLost p true × (new ≡ lost_orders old)
 LosesOrders false p old new = IsFoundLost p false × (new ≡ old)
 
+-- ---- an order waits for too long
+
+-- the orders that are left where those in front whose last moment has passed are taken away
+abbrev pub in_time : ℕ → List Order → List Order
+in_time now [] = []
+in_time now (o ∷ os) = if nat_lt o.last now then in_time now os else o ∷ os
+
+-- of each of those it is kept that it was not submitted in time
+abbrev pub with_late : ℕ → List Order → List OrderResult → List OrderResult
+with_late now [] results = results
+with_late now (o ∷ os) results =
+    if nat_lt o.last now then with_late now os (with_result results (result_of o (Err why.TooLate))) else results
+
+-- ORDERS PASSED THEIR LAST MOMENT, those in front of all that wait: they wait no longer, and were never sent.
+abbrev pub with_passed : ℕ → OrdersState → OrdersState
+with_passed now s = record s { waiting = in_time now s.waiting; results = with_late now s.waiting s.results }
+
+-- THE PROGRAM STOOD STILL: no order waits any longer, and those that did were never sent; those in flight stay so.
+abbrev pub without_waiting : OrdersState → OrdersState
+without_waiting s = record s { waiting = []; results = with_unsent why.TooLate s.waiting s.results }
+
 -- ---- one step after another
 
 pub data Steps {S P : Type 0} (Step : S → P → S → P → Type 0) : S → P → S → P → Type 0 where
   NoStep : {s : S} {p : P} → Steps Step s p s p
   OneMore : {s t u : S} {p q r : P} → Steps Step s p t q → Step t q u r → Steps Step s p u r
 
--- ORDERS WERE SUBMITTED, in the order in which they came, each once; nothing else was asked.
-abbrev pub SubmitsOrders : OrdersState → PanelState → OrdersState → PanelState → Type 0
-SubmitsOrders = Steps SubmitsOrder
+-- ORDERS WERE SUBMITTED, in the order in which they came, each once and in time; nothing else was asked.
+abbrev pub SubmitsOrders : ℕ → OrdersState → PanelState → OrdersState → PanelState → Type 0
+SubmitsOrders ahead = Steps (SubmitsOrder ahead)
 
 -- WHAT TICKETS WERE TOLD: of one order after another, how it came out.
 abbrev pub SettlesOne : OrdersState → PanelState → OrdersState → PanelState → Type 0

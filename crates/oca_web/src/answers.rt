@@ -9,12 +9,15 @@ ghost use Rattle.oca_web.specs.Results.{WritesResults, WritesResult, EndsWithRes
 use crate::inventory::Inventory;
 use crate::object::{Object, class_name, limits_of, word_in};
 use crate::objects::places_since;
-use crate::order::OrderResult;
+use crate::order::{NotDone, OrderResult};
 use crate::view::View;
 use json::Writer;
 use oca_model::{Reading, Value, word_of};
 use oca_panel::Trouble;
 use std::alloc::{AllocError, Global};
+
+/// What is said of an order that was not sent in time.
+const TOO_LATE: &str = "not sent: too late";
 
 /// A member that is a number.
 fn put_number(out: &mut Writer, name: &str, count: u64) -> Result<(), AllocError>
@@ -198,12 +201,13 @@ fn put_changes(
 }
 
 /// Whether an order was carried out: null, or why not.
-fn put_done(alloc: Global, out: &mut Writer, done: Result<(), Trouble>) -> Result<(), AllocError>
+fn put_done(alloc: Global, out: &mut Writer, done: Result<(), NotDone>) -> Result<(), AllocError>
     ensures { OnOk result (WritesTrouble done out.old.tokens out.new.tokens) }
 {
     match done {
         Ok(()) => out.null(),
-        Err(trouble) => put_words(alloc, out, trouble),
+        Err(NotDone::Trouble(trouble)) => put_words(alloc, out, trouble),
+        Err(NotDone::TooLate) => out.string(TOO_LATE),
     }
 }
 
@@ -259,10 +263,11 @@ fn put_link(out: &mut Writer, view: &View) -> Result<(), AllocError> {
     out.end_object()
 }
 
-/// What changed, and how the link is.
+/// What changed, by a clock that reads so, and how the link is.
 fn put_update(alloc: Global, out: &mut Writer, view: &View, since: u64) -> Result<(), AllocError> {
     let objects = view.inventory().objects();
     put_walk(out, view.inventory())?;
+    put_number(out, "now", view.news().now)?;
     put_number(out, "change", objects.changes())?;
     put_changes(alloc, out, objects.as_slice(), since)?;
     put_link(out, view)

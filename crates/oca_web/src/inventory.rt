@@ -33,7 +33,8 @@ pub struct Inventory {
 }
 
 impl Inventory {
-    ghost use Rattle.std.specs.Prelude.{◌≡◌, true, false};
+    ghost use Rattle.std.specs.Prelude.{◌≡◌, true, false, length};
+    ghost use Rattle.oca_web.specs.Readings.{AsksAgain};
     ghost use Rattle.oca_web.specs.Walking.{BeginsAnew, KeepsWalk};
 
     /// A device of which nothing is known: the walk is to begin at the root.
@@ -127,7 +128,9 @@ impl Inventory {
     }
 
     /// How many questions are in flight.
-    pub fn in_flight(&self) -> usize {
+    pub fn in_flight(&self) -> usize
+        ensures { result ≡ length self.now.asked.items }
+    {
         self.asked.len()
     }
 
@@ -231,7 +234,16 @@ impl Inventory {
         if !self.walked {
             return None;
         }
+        self.read_again(now)
+    }
+
+    /// What is read again now: of an object whose pause is over, where a page is open, and else nothing.
+    pub fn read_again(&mut self, now: u64) -> Option<Question>
+        ensures reads { AsksAgain now result self.old self.new }
+        ensures walk { KeepsWalk self.old self.new }
+    {
         let (place, ask) = self.poll.next(now, self.objects.as_slice())?;
+        self.objects.note_asked(place, now);
         let epoch = self.epoch;
         Some(Question { place, ask, epoch })
     }

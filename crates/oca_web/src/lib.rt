@@ -26,7 +26,7 @@ pub use admission::Name;
 pub use inventory::Inventory;
 pub use object::{Lock, Object, Shown};
 pub use objects::Objects;
-pub use order::{Action, MOST_RESULTS, MOST_WAITING, Order, OrderResult, Sent};
+pub use order::{Action, MOST_RESULTS, MOST_WAITING, NotDone, Order, OrderResult, Sent};
 pub use orders::Orders;
 pub use page::{PAGE, POLICY};
 pub use site::Site;

@@ -76,6 +76,10 @@ pub struct Object {
     pub shown: Shown,
     /// The number of the change after which it is as it stands here.
     pub changed: u64,
+    /// When it was read again last, in milliseconds.
+    pub asked: u64,
+    /// How often it was read again.
+    pub readings: u32,
 }
 
 impl Object {
@@ -92,6 +96,8 @@ impl Object {
             flags: Flags::new(),
             shown: Shown::unread(),
             changed: 0,
+            asked: 0,
+            readings: 0,
         }
     }
 }

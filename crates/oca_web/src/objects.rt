@@ -29,7 +29,7 @@ impl Model for Objects {
 impl Objects {
     ghost use Rattle.std.specs.Prelude.{◌≡◌, [], IfOk};
     ghost use Rattle.oca_net.specs.Ends.{one_more};
-    ghost use Rattle.oca_web.specs.Objects.{AddsObject, Changes};
+    ghost use Rattle.oca_web.specs.Objects.{AddsObject, AsksAt, Changes};
 
     /// None, and no change.
     pub fn new(alloc: Global) -> Objects
@@ -63,7 +63,7 @@ impl Objects {
         self.changes
     }
 
-    /// AddsObject an object behind all others, which is a change. Refusal: `NoMemory`.
+    /// Adds an object behind all others, which is a change. Refusal: `NoMemory`.
     pub fn add(&mut self, mut object: Object) -> Result<(), NoMemory>
         ensures ok { IfOk result (λ u. AddsObject self.old self.new) }
     {
@@ -153,6 +153,17 @@ impl Objects {
         self.changes = self.changes.saturating_add(1);
         self.list[place].shown = shown;
         self.list[place].changed = self.changes;
+    }
+
+    /// The object at this place is read again at this moment.
+    pub(crate) fn note_asked(&mut self, place: usize, now: u64)
+        ensures { AsksAt place now self.old self.new }
+    {
+        if place >= self.list.len() {
+            return;
+        }
+        self.list[place].asked = now;
+        self.list[place].readings = self.list[place].readings.wrapping_add(1);
     }
 
     /// Where the object with this number stands.

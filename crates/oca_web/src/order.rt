@@ -58,6 +58,8 @@ pub struct Order {
     pub ono: Ono,
     /// What is to be done with it.
     pub action: Action,
+    /// The moment, in milliseconds, after which it must not be submitted.
+    pub last: u64,
 }
 
 impl Default for Order {
@@ -67,6 +69,7 @@ impl Default for Order {
             ticket: 0,
             ono: Ono(0),
             action: Action::Unlock,
+            last: 0,
         }
     }
 }
@@ -90,6 +93,15 @@ impl Default for Sent {
     }
 }
 
+/// Why an order was not carried out.
+#[derive(Clone, Copy, PartialEq, Eq)]
+pub enum NotDone {
+    /// What became of its command, or why it had none.
+    Trouble(Trouble),
+    /// It was never sent: the moment after which it must not be submitted had passed.
+    TooLate,
+}
+
 /// How an order fared.
 #[derive(Clone, Copy, PartialEq, Eq)]
 pub struct OrderResult {
@@ -98,7 +110,7 @@ pub struct OrderResult {
     /// The object.
     pub ono: Ono,
     /// Whether it was carried out, or why not.
-    pub done: Result<(), Trouble>,
+    pub done: Result<(), NotDone>,
 }
 
 impl Default for OrderResult {
@@ -107,7 +119,7 @@ impl Default for OrderResult {
         OrderResult {
             ticket: 0,
             ono: Ono(0),
-            done: Err(Trouble::Unanswered),
+            done: Err(NotDone::Trouble(Trouble::Unanswered)),
         }
     }
 }

@@ -1,5 +1,10 @@
 //! The orders of the pages: those that wait, those in flight, and how the last ones fared.
-use crate::order::{Action, MOST_IN_FLIGHT, MOST_RESULTS, MOST_WAITING, Order, OrderResult, Sent};
+ghost use Rattle.std.specs.Prelude.{◌≡◌};
+ghost use Rattle.oca_web.specs.Orders.{not_done};
+
+use crate::order::{
+    Action, MOST_IN_FLIGHT, MOST_RESULTS, MOST_WAITING, NotDone, Order, OrderResult, Sent,
+};
 use arrayvec::ArrayVec;
 use oca_control::ControlFault;
 use oca_panel::Trouble;
@@ -32,8 +37,8 @@ impl Orders {
     ghost use Rattle.std.specs.Prelude.{◌≡◌, ◌∷◌, ◌++◌, remove, slice_get, length, [], Some};
     ghost use Rattle.oca_net.specs.Ends.{one_more};
     ghost use Rattle.oca_web.specs.Orders.{AddsTicket, is_in_flight, lost_orders, no_orders, ready_of};
-    ghost use Rattle.oca_web.specs.Orders.{result_of, has_waiting, with_lost, with_result};
-    ghost use Rattle.oca_web.specs.Orders.{with_unsent};
+    ghost use Rattle.oca_web.specs.Orders.{result_of, has_waiting, not_done, with_lost, with_passed, with_result};
+    ghost use Rattle.oca_web.specs.Orders.{with_unsent, without_waiting};
 
     /// No orders.
     pub fn new() -> Orders
@@ -54,9 +59,10 @@ impl Orders {
         self.tickets.saturating_add(1)
     }
 
-    /// Adds an order behind all others, and returns its ticket. `None` where 64 wait, which changes nothing.
-    pub fn add(&mut self, ono: Ono, action: Action) -> Option<u64>
-        ensures { AddsTicket ono action self.old result self.new }
+    /// Adds an order behind all others, which must not be submitted after this moment, and returns its ticket. `None`
+    /// where 64 wait, which changes nothing.
+    pub fn add(&mut self, ono: Ono, action: Action, last: u64) -> Option<u64>
+        ensures { AddsTicket ono action last self.old result self.new }
     {
         if self.waiting.is_full() || self.tickets == u64::MAX {
             return None;
@@ -66,6 +72,7 @@ impl Orders {
             ticket,
             ono,
             action,
+            last,
         });
         self.tickets = ticket;
         Some(ticket)
@@ -130,7 +137,7 @@ impl Orders {
     }
 
     /// Keeps how an order fared, and forgets the oldest of 128.
-    fn note_result(&mut self, order: Order, done: Result<(), Trouble>)
+    fn note_result(&mut self, order: Order, done: Result<(), NotDone>)
         ensures { self.new ≡ record self.old { results = with_result self.old.results (result_of order done) } }
     {
         if self.results.is_full() {
@@ -149,11 +156,11 @@ impl Orders {
         ensures { self.new ≡ record self.old {
           in_flight = remove self.old.in_flight at;
           results = with_result
-              self.old.results (result_of sent.order done);
+              self.old.results (result_of sent.order (not_done done));
         } }
     {
         let _ = self.in_flight.pop_at(at);
-        self.note_result(sent.order, done);
+        self.note_result(sent.order, not_done(done));
     }
 
     /// All orders are lost with the link: those in flight may have been carried out, and those that wait
@@ -162,7 +169,7 @@ impl Orders {
         ensures { self.new ≡ lost_orders self.old }
     {
         self.lose_sent();
-        self.lose_waiting();
+        self.lose_waiting(NotDone::Trouble(Trouble::NotSubmitted(ControlFault::Lost)));
     }
 
     /// Notes that the orders in flight are lost.
@@ -176,20 +183,46 @@ impl Orders {
         let Some(sent) = self.in_flight.pop_at(0) else {
             return;
         };
-        self.note_result(sent.order, Err(Trouble::Lost));
+        self.note_result(sent.order, Err(NotDone::Trouble(Trouble::Lost)));
         self.lose_sent();
     }
 
-    /// Notes that the orders that wait were not sent.
+    /// Notes that the orders that wait were not sent, for this reason.
     #[tactic(auto, using(crate::proofs::OrderLemmas::first_and_rest))]
-    fn lose_waiting(&mut self)
-        ensures { self.new ≡ record self.old { waiting = []; results = with_unsent self.old.waiting self.old.results } }
+    fn lose_waiting(&mut self, reason: NotDone)
+        ensures { self.new ≡ record self.old {
+          waiting = [];
+          results = with_unsent reason self.old.waiting self.old.results;
+        } }
     {
         let Some(order) = self.waiting.pop_at(0) else {
             return;
         };
-        self.note_result(order, Err(Trouble::NotSubmitted(ControlFault::Lost)));
-        self.lose_waiting();
+        self.note_result(order, Err(reason));
+        self.lose_waiting(reason);
+    }
+
+    /// Notes that the orders that wait were not sent, since it is too late for them.
+    pub(crate) fn drop_waiting(&mut self)
+        ensures { self.new ≡ without_waiting self.old }
+    {
+        self.lose_waiting(NotDone::TooLate);
+    }
+
+    /// Takes away those in front of the orders that wait whose last moment has passed: they were not sent.
+    #[tactic(auto, using(crate::proofs::OrderLemmas::first_and_rest))]
+    pub(crate) fn drop_late(&mut self, now: u64)
+        ensures { self.new ≡ with_passed now self.old }
+    {
+        let Some(order) = self.waiting.as_slice().first().copied() else {
+            return;
+        };
+        if now <= order.last {
+            return;
+        }
+        let _ = self.waiting.pop_at(0);
+        self.note_result(order, Err(NotDone::TooLate));
+        self.drop_late(now);
     }
 
     /// How the last orders fared, the last of them last, at most 128.
@@ -222,5 +255,15 @@ pub(crate) fn lower(lowest: Option<u32>, handle: u32) -> Option<u32> {
     match lowest {
         Some(least) => Some(least.min(handle)),
         None => Some(handle),
+    }
+}
+
+/// Why the command of an order was not carried out.
+fn not_done(done: Result<(), Trouble>) -> Result<(), NotDone>
+    ensures { result ≡ not_done done }
+{
+    match done {
+        Ok(()) => Ok(()),
+        Err(trouble) => Err(NotDone::Trouble(trouble)),
     }
 }

@@ -4,7 +4,7 @@
 /// hashes are those of the script and of the style below; `tools/panel.py` compares them.
 pub const POLICY: &str =
     "default-src 'none'; style-src 'sha256-Y/i9LSaffZAIzaSvKv58iOYmhMJUbD22okXE9k7yV1k='; \
-     script-src 'sha256-TXdBzYg4BviG75cliehzT/QvB4f7y02zotSGNxonNkE='; connect-src 'self'; \
+     script-src 'sha256-HDkUwBBhwpaXXUs81iHpIHFf/hFcKjLc+gk5FTmklJk='; connect-src 'self'; \
      frame-ancestors 'none'; base-uri 'none'; form-action 'none'";
 
 /// The page. It asks for `/tree` and `/values`, and sends orders to `/set`, `/lock` and `/unlock`. What comes from the
@@ -66,13 +66,15 @@ const by=id=>document.getElementById(id);
 const put=(e,text)=>{if(e.textContent!==text)e.textContent=text};
 const NOTHING="18446744073709551615";
 let epoch=0,since=NOTHING,rows=new Map(),awaited=new Map(),timer=0,busy=false,again=false,pace=2,told=[];
-let strips=[],near=null,seen=null,inView=new Set(),asked="";
+let strips=[],near=null,seen=null,inView=new Set(),asked="",ahead=0;
 const times=[];
-async function order(path,row,value){
- if(row.ticket){row.next=[path,value];return}
+// The clock of the panel's program, by its last answer: an order is not to be carried out later than 5 s after its click.
+const clock=()=>Math.floor(performance.now()+ahead);
+async function order(path,row,value,before=clock()+5000){
+ if(row.ticket){row.next=[path,value,before];return}
  row.ticket=-1;row.begun=performance.now();row.box.classList.add("sent");
  try{
-  const body={ono:row.ono};if(value!==undefined)body.value=value;
+  const body={ono:row.ono,before};if(value!==undefined)body.value=value;
   const sent=fetch(path,{method:"POST",headers:{"Content-Type":"application/json"},body:JSON.stringify(body)});
   pace=2;poll();
   const r=await sent;
@@ -86,7 +88,7 @@ function settle(row,why){
  row.ticket=0;row.box.classList.remove("sent");
  times.push(performance.now()-row.begun);if(times.length>1000)times.shift();
  row.why=why==="lost"?"lost: it may have been carried out":why||"";
- if(row.next){const n=row.next;row.next=null;order(n[0],row,n[1])}else show(row);
+ if(row.next){const n=row.next;row.next=null;order(n[0],row,n[1],n[2])}else show(row);
 }
 function toggle(row,cls,on,off){
  const c=node("button",cls);c.type="button";
@@ -252,6 +254,7 @@ async function poll(){
  clearTimeout(timer);if(busy){again=true;return}busy=true;again=false;
  try{
   const r=await fetch("/values?since="+since+asked);if(!r.ok)throw 0;const v=await r.json();
+  ahead=v.now-performance.now();
   if(v.epoch!==epoch)since=NOTHING;
   if(v.walked&&v.epoch!==epoch){const t=await fetch("/tree");if(!t.ok)throw 0;const tree=await t.json();
    if(tree.walked){build(tree);again=true}}
@@ -267,8 +270,10 @@ async function poll(){
   for(const t of told){const row=awaited.get(t.ticket);if(row){awaited.delete(t.ticket);settle(row,t.trouble)}}
   tell(v);
  }catch(e){put(by("note"),"the panel's program does not answer")}
- busy=false;timer=setTimeout(poll,again?0:awaited.size?pace=Math.min(40,1.5*pace):document.hidden?1000:100);
+ busy=false;
+ if(again||awaited.size||!document.hidden)timer=setTimeout(poll,again?0:awaited.size?pace=Math.min(40,1.5*pace):100);
 }
+document.addEventListener("visibilitychange",()=>{if(!document.hidden)poll()});
 poll();
 </script></body></html>
 "###;

@@ -1,56 +1,140 @@
-//! Which object is read again next.
+//! Which object is read again next, and when.
 use crate::ask::Ask;
 use crate::object::Object;
+use arrayvec::ArrayVec;
 use oca_types::Class;
 
-/// A round through the objects begins so many milliseconds after the one before it, at the earliest.
-const ROUND_MS: u64 = 100;
+/// A round begins so many milliseconds after the one before it, at the earliest.
+const ROUND_MS: u64 = 25;
+
+/// An object that a page shows is read again after so many milliseconds, at the earliest.
+const SHOWN_MS: u64 = 100;
+
+/// An object that no page shows is read again after so many milliseconds, at the earliest.
+const HIDDEN_MS: u64 = 5000;
+
+/// A round that took longer has as many objects that no page shows as one of this length, in milliseconds.
+const LONGEST_ROUND_MS: u64 = 1000;
 
 /// A page counts as open for so many milliseconds after it asked for values.
 const OPEN_MS: u64 = 2500;
 
-/// What changes seldom is read once in so many rounds.
-const SELDOM: u64 = 32;
+/// What changes seldom is read in three of so many readings.
+const SELDOM: u32 = 32;
 
 /// The most objects that a page can say it shows.
 const MOST_VISIBLE: usize = 512;
 
-/// Which object is read again next: in rounds, while a page is open. What a page shows at the moment comes first.
-#[derive(Clone, Copy)]
+/// What is kept of how many pages show.
+const MOST_PAGES: usize = 8;
+
+/// What a page showed when it asked for values.
+#[derive(Clone, Copy, PartialEq, Eq)]
+pub struct Page {
+    /// Where the first object stands that it shows.
+    pub first: usize,
+    /// How many it shows.
+    pub count: usize,
+    /// Until when it counts as open, in milliseconds.
+    pub until: u64,
+}
+
+impl Default for Page {
+    /// A page that was never open.
+    fn default() -> Self {
+        Page {
+            first: 0,
+            count: 0,
+            until: 0,
+        }
+    }
+}
+
+impl Page {
+    ghost use Rattle.std.specs.Prelude.{◌≡◌, ◌&&◌};
+    ghost use Rattle.oca_web.specs.Polling.{holds_place, is_live};
+
+    /// Whether it counts as open.
+    fn is_live(&self, now: u64) -> bool
+        ensures { result ≡ is_live now self.now }
+    {
+        now < self.until
+    }
+
+    /// Whether it is open and shows the object at this place.
+    fn shows(&self, now: u64, place: usize) -> bool
+        ensures { result ≡ (is_live now self.now && holds_place place self.now) }
+    {
+        self.is_live(now) && self.first <= place && place - self.first < self.count
+    }
+}
+
+/// Which object is read again next: in rounds, while a page is open. What pages show comes first, and then a part of all
+/// others.
+#[derive(Drop)]
 pub struct Poll {
+    pub(crate) pages: ArrayVec<Page, 8>,
     begun: u64,
-    round: u64,
     at: usize,
+    front: usize,
     end: usize,
-    first: usize,
-    visible: usize,
-    open_until: u64,
+    hidden: usize,
 }
 
 impl Poll {
+    ghost use Rattle.std.specs.Prelude.{◌≡◌, ◌-◌, ◌&&◌, nat_le};
+    ghost use Rattle.std.specs.Option.{option_map};
+    ghost use Rattle.oca_web.specs.Polling.{ReadsAgain, is_open, pause_of, shows};
+
     /// No round, and no page.
     pub fn new(now: u64) -> Poll {
         Poll {
+            pages: ArrayVec::new(),
             begun: now,
-            round: 0,
             at: 0,
+            front: 0,
             end: 0,
-            first: 0,
-            visible: 0,
-            open_until: 0,
+            hidden: 0,
         }
     }
 
     /// A page asked for values at this moment, which shows so many objects from this one on.
     pub fn open(&mut self, now: u64, first: usize, visible: usize) {
-        self.open_until = now.saturating_add(OPEN_MS);
-        self.first = first;
-        self.visible = visible.min(MOST_VISIBLE);
+        let page = Page {
+            first,
+            count: visible.min(MOST_VISIBLE),
+            until: now.saturating_add(OPEN_MS),
+        };
+        if !self.pages.is_full() && !self.has_same(page) {
+            self.pages.push(page);
+            return;
+        }
+        put_page(self.pages.as_mut_slice(), page);
+    }
+
+    /// Whether a page is kept that shows the same.
+    fn has_same(&self, page: Page) -> bool {
+        self.pages
+            .as_slice()
+            .iter()
+            .any(|one| one.first == page.first && one.count == page.count)
     }
 
     /// Whether a page is open.
-    pub fn is_open(&self, now: u64) -> bool {
-        now < self.open_until
+    pub fn is_open(&self, now: u64) -> bool
+        ensures { result ≡ is_open now self.now.pages.items }
+    {
+        self.pages.as_slice().iter().any(|page| page.is_live(now))
+    }
+
+    /// Whether an open page shows the object at this place.
+    fn shows(&self, now: u64, place: usize) -> bool
+        ensures { result ≡ shows now place self.now.pages.items }
+    {
+        self.pages
+            .as_slice()
+            .iter()
+            .any(|page| page.shows(now, place))
     }
 
     /// The round is over.
@@ -58,70 +142,165 @@ impl Poll {
         self.at = self.end;
     }
 
-    /// When the next round begins, where a page is open.
+    /// When the next round begins, where a page is open and the last one is over: one that is not goes on when an answer
+    /// comes.
     pub fn next_moment(&self, now: u64) -> Option<u64> {
-        if self.is_open(now) {
+        if self.is_open(now) && self.at >= self.end {
             Some(self.begun.saturating_add(ROUND_MS))
         } else {
             None
         }
     }
 
+    /// How many objects the open pages show, those that two of them show counted twice.
+    fn visible(&self, now: u64) -> usize {
+        let mut visible = 0usize;
+        for page in self.pages.as_slice() {
+            if page.is_live(now) {
+                visible = visible.saturating_add(page.count);
+            }
+        }
+        visible
+    }
+
     /// Begins a round through so many objects, where the last one is over, a page is open and it is time.
-    fn begin_round(&mut self, now: u64, objects: usize) {
+    fn begin_round(&mut self, now: u64, objects: usize)
+        ensures { self.new.pages ≡ self.old.pages }
+    {
         if self.at < self.end || !self.is_open(now) || now < self.begun.saturating_add(ROUND_MS) {
             return;
         }
+        let passed = now.saturating_sub(self.begun).min(LONGEST_ROUND_MS);
         self.begun = now;
-        self.round = self.round.wrapping_add(1);
         self.at = 0;
-        self.end = self.visible.saturating_add(objects).saturating_add(objects);
+        self.front = self.visible(now);
+        self.end = self.front.saturating_add(hidden_in(passed, objects));
     }
 
     /// What is read next: where an object stands, and what is asked of it. Nothing where the round is over.
-    pub fn next(&mut self, now: u64, objects: &[Object]) -> Option<(usize, Ask)> {
+    pub fn next(&mut self, now: u64, objects: &[Object]) -> Option<(usize, Ask)>
+        ensures reads { ReadsAgain now result objects.now self.old.pages.items }
+        ensures pages { self.new.pages ≡ self.old.pages }
+    {
         self.begin_round(now, objects.len());
-        for at in self.at..self.end {
-            self.at = at + 1;
-            let (place, seldom) = self.place_at(at, objects.len());
-            if let Some(object) = objects.get(place) {
-                if let Some(ask) = self.ask_of(object.class, seldom) {
-                    return Some((place, ask));
-                }
+        for _ in self.at..self.end {
+            let place = self.place(now);
+            let ask = self.ask_at(now, place, objects);
+            if ask.is_none() && self.waits_at(now, place, objects) {
+                self.end_here();
+                return None;
+            }
+            self.go_on(objects.len());
+            if let Some(ask) = ask {
+                return Some((place, ask));
             }
         }
         None
     }
 
-    /// Where the object stands that is read at this step of a round, and whether what changes seldom is read of it:
-    /// what is visible first, then all, then all once more.
-    fn place_at(&self, at: usize, objects: usize) -> (usize, bool) {
-        if at < self.visible {
-            return (self.first.saturating_add(at), false);
-        }
-        let behind = at - self.visible;
-        if behind < objects {
-            (behind, false)
-        } else {
-            (behind - objects, true)
-        }
+    /// Ends the round.
+    fn end_here(&mut self)
+        ensures { self.new.pages ≡ self.old.pages }
+    {
+        self.at = self.end;
     }
 
-    /// What is read of an object of this class, where anything is.
-    fn ask_of(&self, class: Option<Class>, seldom: bool) -> Option<Ask> {
-        let class = class?;
-        if !seldom {
-            return Some(if class == Class::Block {
-                Ask::Members
-            } else {
-                Ask::Value
-            });
+    /// Where the object stands that this step of a round is about: first those that pages show, then some of all.
+    fn place(&self, now: u64) -> usize {
+        let mut behind = self.at;
+        if behind >= self.front {
+            return self.hidden;
         }
-        match self.round % SELDOM {
-            8 => Some(Ask::Enabled),
-            16 => Some(Ask::Label),
-            24 if class == Class::Switch => Some(Ask::Flags),
-            _ => None,
+        for page in self.pages.as_slice() {
+            if page.is_live(now) {
+                if behind < page.count {
+                    return page.first.saturating_add(behind);
+                }
+                behind -= page.count;
+            }
         }
+        self.hidden
+    }
+
+    /// The next step of the round through so many objects.
+    fn go_on(&mut self, objects: usize)
+        ensures { self.new.pages ≡ self.old.pages }
+    {
+        if self.at >= self.front {
+            let next = self.hidden.saturating_add(1);
+            self.hidden = if next < objects { next } else { 0 };
+        }
+        self.at = self.at.saturating_add(1);
+    }
+
+    /// What is asked of the object at this place now; nothing where it is too early, or nothing is known to ask of it.
+    fn ask_at(&self, now: u64, place: usize, objects: &[Object]) -> Option<Ask>
+        ensures { ReadsAgain now (option_map (λ ask. record { 0 = place; 1 = ask }) result) objects.now self.now.pages.items }
+    {
+        let object = objects.get(place)?;
+        if !self.is_due(now, place, object) {
+            return None;
+        }
+        ask_of(object)
+    }
+
+    /// Whether the object at this place may be read again now.
+    fn is_due(&self, now: u64, place: usize, object: &Object) -> bool
+        ensures { result ≡ (is_open now self.now.pages.items
+            && nat_le (pause_of (shows now place self.now.pages.items)) (now - object.now.asked)) }
+    {
+        let pause = if self.shows(now, place) {
+            SHOWN_MS
+        } else {
+            HIDDEN_MS
+        };
+        self.is_open(now) && pause <= now.saturating_sub(object.asked)
+    }
+
+    /// Whether those that no page shows wait for the object at this place, which is the one that was read longest ago.
+    fn waits_at(&self, now: u64, place: usize, objects: &[Object]) -> bool {
+        let Some(object) = objects.get(place) else {
+            return false;
+        };
+        self.at >= self.front && object.class.is_some() && !self.shows(now, place)
+    }
+}
+
+/// How many of so many objects, of which each is looked at once in the pause of what no page shows, are looked at in a
+/// round behind one that took so many milliseconds.
+fn hidden_in(passed: u64, objects: usize) -> usize {
+    let share = (objects as u64).saturating_mul(passed) / HIDDEN_MS;
+    share.saturating_add(1) as usize
+}
+
+/// Puts a page in the place of the one that shows the same, or else of the one that asked longest ago.
+fn put_page(pages: &mut [Page], page: Page) {
+    let mut oldest = 0usize;
+    for at in 0..pages.len() {
+        if pages[at].first == page.first && pages[at].count == page.count {
+            pages[at] = page;
+            return;
+        }
+        if pages[at].until < pages[oldest].until {
+            oldest = at;
+        }
+    }
+    if oldest < pages.len() {
+        pages[oldest] = page;
+    }
+}
+
+/// What is read of an object, where its class is known.
+fn ask_of(object: &Object) -> Option<Ask> {
+    let class = object.class?;
+    match object.readings % SELDOM {
+        8 => Some(Ask::Enabled),
+        16 => Some(Ask::Label),
+        24 if class == Class::Switch => Some(Ask::Flags),
+        _ => Some(if class == Class::Block {
+            Ask::Members
+        } else {
+            Ask::Value
+        }),
     }
 }

@@ -1,7 +1,8 @@
 //! The service: which requests are let in, and what answers them.
 ghost use Rattle.std.specs.Prelude.{◌≡◌, ◌≢◌, IfErr, IfOk, Some};
 ghost use Rattle.serde_json.specs.View.{view};
-ghost use Rattle.oca_web.specs.Bodies.{ono_in};
+ghost use Rattle.oca_web.specs.Bodies.{last_in, ono_in};
+ghost use Rattle.oca_web.specs.Sites.{last_moment};
 
 use crate::admission::{Name, field, has_host, has_page, lets_in};
 use crate::answers::{tree_json, values_json};
@@ -16,6 +17,9 @@ use oca_types::Ono;
 use serde_json::Value;
 use std::alloc::{AllocError, Global};
 
+/// An order may be submitted for so many milliseconds behind the moment at which its request was read.
+const ORDER_MS: u64 = 5000;
+
 /// The service over a view, at the host names by which it may be asked.
 #[derive(Drop)]
 pub struct Site {
@@ -23,12 +27,13 @@ pub struct Site {
     view: View,
     names: Vec<Name>,
     calls: u64,
+    doubts: bool,
 }
 
 impl Site {
     ghost use Rattle.std.specs.Prelude.{◌≡◌, ◌≢◌, [], IfOk, IfErr, Some};
     ghost use Rattle.serde_json.specs.View.{view};
-    ghost use Rattle.oca_web.specs.Bodies.{IsOrderIn, IsOrderOf, IsValueIn, ono_in};
+    ghost use Rattle.oca_web.specs.Bodies.{IsOrderIn, IsOrderOf, IsValueIn, last_in, ono_in};
     ghost use Rattle.http_server.specs.Response.{IsBlank};
     ghost use Rattle.oca_web.specs.Admission.{lets_request_in};
     ghost use Rattle.oca_web.specs.Sites.{AnswersOrFails, IsActionFor, IsSetting, KeepsOrders, PostsOrder, TakesOrder};
@@ -40,12 +45,23 @@ impl Site {
             view,
             names,
             calls: 0,
+            doubts: false,
         }
     }
 
     /// The view.
     pub fn view(&mut self) -> &mut View {
         &mut self.view
+    }
+
+    /// Whether the requests from now on may have waited while the program stood still: orders that give no last moment
+    /// are then told as not sent.
+    pub fn doubt(&mut self, doubts: bool)
+        ensures doubts { self.new.doubts ≡ doubts }
+        ensures view { self.new.view ≡ self.old.view }
+        ensures names { self.new.names ≡ self.old.names }
+    {
+        self.doubts = doubts;
     }
 
     /// How many requests were answered.
@@ -160,7 +176,7 @@ impl Site {
         ensures { PostsOrder path.now body.now result self.old response.new self.new }
     {
         match self.order_in(path, body) {
-            Ok((ono, action)) => self.take_order(ono, action, response),
+            Ok((ono, action, given)) => self.take_order(ono, action, given, response),
             Err(status) => {
                 response.status = status;
                 Ok(())
@@ -168,15 +184,34 @@ impl Site {
         }
     }
 
-    /// What is ordered: the path says the action, and the body the object and, for `/set`, its value.
-    fn order_in(&self, path: &str, body: &[u8]) -> Result<(Ono, Action), StatusCode>
+    /// What is ordered: the path says the action, and the body the object, for `/set` its value, and the last moment at
+    /// which it may be submitted.
+    fn order_in(&self, path: &str, body: &[u8]) -> Result<(Ono, Action, Option<u64>), StatusCode>
         ensures action { IfOk result (λ o. IsActionFor path.now o.1) }
-        ensures body { IfOk result (λ o. IsOrderIn body.now o.0 o.1) }
+        ensures body { IfOk result (λ o. IsOrderIn body.now o.0 o.1 o.2) }
         ensures refused { IfErr result (λ status. status ≢ 202) }
     {
         match Value::from_slice(self.alloc, body) {
-            Ok(wanted) => self.order_of(path, &wanted),
+            Ok(wanted) => self.order_until(path, &wanted),
             Err(_) => Err(StatusCode::BAD_REQUEST),
+        }
+    }
+
+    /// What is ordered by a body that says this, and the last moment at which it may be submitted.
+    fn order_until(
+        &self,
+        path: &str,
+        wanted: &Value,
+    ) -> Result<(Ono, Action, Option<u64>), StatusCode>
+        ensures action { IfOk result (λ o. IsActionFor path.now o.1) }
+        ensures body { IfOk result (λ o. IsOrderOf (view wanted.now) o.0 o.1) }
+        ensures last { IfOk result (λ o. o.2 ≡ last_in (view wanted.now)) }
+        ensures refused { IfErr result (λ status. status ≢ 202) }
+    {
+        let given = last_in(wanted)?;
+        match self.order_of(path, wanted) {
+            Ok((ono, action)) => Ok((ono, action, given)),
+            Err(status) => Err(status),
         }
     }
 
@@ -239,16 +274,18 @@ impl Site {
         &mut self,
         ono: Ono,
         action: Action,
+        given: Option<u64>,
         response: &mut Response,
     ) -> Result<(), AllocError>
         requires { response.old.body.items ≡ [] }
-        ensures { TakesOrder result ono action self.old response.new self.new }
+        ensures { TakesOrder result ono action given self.old response.new self.new }
     {
         let mut buffer = Buffer::new();
         let ticket = self.view.next_ticket();
         put_kind(response)?;
         response.body.put_slice(buffer.format(ticket).as_bytes())?;
-        match self.view.order(ono, action) {
+        let last = last_moment(self.view.moment(), given, self.doubts);
+        match self.view.order(ono, action, last) {
             Some(_) => response.status = StatusCode::ACCEPTED,
             None => {
                 response.body.clear();
@@ -290,6 +327,34 @@ fn ono_in(wanted: &Value) -> Result<Ono, StatusCode>
     match u32::try_from(ono) {
         Ok(ono) => Ok(Ono(ono)),
         Err(_) => Err(StatusCode::BAD_REQUEST),
+    }
+}
+
+/// The last moment at which an order may be submitted that a body gives, in milliseconds of the program's clock; `None`
+/// where it gives none. What is no such number is refused.
+fn last_in(wanted: &Value) -> Result<Option<u64>, StatusCode>
+    ensures body { IfOk result (λ given. given ≡ last_in (view wanted.now)) }
+    ensures refused { IfErr result (λ status. status ≢ 202) }
+{
+    let Some(given) = wanted.get("before") else {
+        return Ok(None);
+    };
+    match given.as_u64() {
+        Some(moment) => Ok(Some(moment)),
+        None => Err(StatusCode::BAD_REQUEST),
+    }
+}
+
+/// The last moment at which an order may be submitted whose request is read at this moment and gives this one. `doubts`
+/// says that the request may have waited while the program stood still.
+fn last_moment(now: u64, given: Option<u64>, doubts: bool) -> u64
+    ensures { result ≡ last_moment now given doubts }
+{
+    let latest = now.saturating_add(ORDER_MS);
+    match given {
+        Some(moment) => moment.min(latest),
+        None if doubts => 0,
+        None => latest,
     }
 }
 

@@ -7,13 +7,18 @@ use arrayvec::ArrayVec;
 use oca_net::End;
 use oca_panel::{Panel, Trouble, done_in};
 
-/// Submits the order that is next, where one is, and the link takes its command. Returns whether it did.
-pub fn submit_first<E: End>(orders: &mut Orders, panel: &mut Panel<E>) -> bool
-    ensures { SubmitsFirst result orders.old panel.old orders.new panel.new }
+/// Submits the order that is next, where one is, its last moment has not passed, and the link takes its command. The
+/// program's clock, by which the orders have their last moments, is so many milliseconds ahead of the end's. Returns
+/// whether it did.
+pub fn submit_first<E: End>(orders: &mut Orders, panel: &mut Panel<E>, ahead: u64) -> bool
+    ensures { SubmitsFirst ahead result orders.old panel.old orders.new panel.new }
 {
     let Some(order) = orders.ready() else {
         return false;
     };
+    if order.last < ahead || order.last - ahead < panel.end().now() {
+        return false;
+    }
     match panel.begin_request(order.ono, order.action.class(), &order.action.request()) {
         Ok(handle) => {
             orders.note_sent(order, handle);
@@ -23,13 +28,13 @@ pub fn submit_first<E: End>(orders: &mut Orders, panel: &mut Panel<E>) -> bool
     }
 }
 
-/// Submits the orders that wait, as far as the link takes them, in the order in which they came and each once.
+/// Submits the orders that wait, as far as the link takes them, in the order in which they came, each once and in time.
 #[tactic(auto, using(crate::proofs::StepLemmas::one_submitted))]
-pub fn submit_orders<E: End>(orders: &mut Orders, panel: &mut Panel<E>)
-    ensures { SubmitsOrders orders.old panel.old orders.new panel.new }
+pub fn submit_orders<E: End>(orders: &mut Orders, panel: &mut Panel<E>, ahead: u64)
+    ensures { SubmitsOrders ahead orders.old panel.old orders.new panel.new }
 {
     for _order in 0..32u32 {
-        if !submit_first(orders, panel) {
+        if !submit_first(orders, panel, ahead) {
             return;
         }
     }

@@ -14,6 +14,9 @@ use oca_panel::{Panel, answer_of};
 use oca_types::{Class, Handle, NoMemory, Ono, Peer, Span};
 use std::alloc::Global;
 
+/// The longest time between two looks at the clock in which the program did not stand still, in milliseconds.
+const LONGEST_STANDSTILL_MS: u64 = 2000;
+
 /// Where the device is, and how many of its commands are in flight at most.
 #[derive(Clone, Copy)]
 pub struct Reach {
@@ -57,17 +60,21 @@ pub struct View {
     next_handle: u32,
     first_handle: u32,
     made: u64,
+    ahead: u64,
+    sent_before: u64,
+    submitted_before: u64,
     pub(crate) orders: Orders,
     inventory: Inventory,
     news: LinkNews,
 }
 
 impl View {
-    ghost use Rattle.std.specs.Prelude.{◌≡◌, IfOk};
+    ghost use Rattle.std.specs.Prelude.{◌≡◌, ◌-◌, ◌==◌, ◌&&◌, IfOk, length};
     ghost use Rattle.oca_net.specs.Ends.{one_more};
-    ghost use Rattle.oca_web.specs.Orders.{AddsTicket, SettlesOrders, has_orders};
+    ghost use Rattle.oca_web.specs.Orders.{AddsTicket, SettlesOrders, SubmitsOrders, has_orders};
     ghost use Rattle.oca_web.specs.Bodies.{IsForWord};
-    ghost use Rattle.oca_web.specs.Views.{Continues, RenewsLost, TurnsAndSettles};
+    ghost use Rattle.oca_web.specs.Views.{Continues, RenewsLost, TurnsAndSettles, half_spent, moment_of, orders_after};
+    ghost use Rattle.oca_web.specs.Views.{stood_still};
     ghost use Rattle.oca_web.specs.Walking.{BeginsAnew, KeepsWalk, StaysOver};
 
     /// A view of a device of which nothing is known, over a panel whose first handle this is.
@@ -83,6 +90,9 @@ impl View {
             first_handle: first.0,
             next_handle: first.0,
             made: now,
+            ahead: 0,
+            sent_before: 0,
+            submitted_before: 0,
             orders: Orders::new(),
             inventory: Inventory::new(alloc, now)?,
             news: LinkNews {
@@ -109,8 +119,17 @@ impl View {
     }
 
     /// How the link is.
-    pub fn news(&self) -> LinkNews {
+    pub fn news(&self) -> LinkNews
+        ensures { result ≡ self.now.news }
+    {
         self.news
+    }
+
+    /// The present moment of the program's clock, in milliseconds.
+    pub fn moment(&self) -> u64
+        ensures { result ≡ self.now.news.now }
+    {
+        self.news.now
     }
 
     /// How many commands are in flight.
@@ -129,12 +148,54 @@ impl View {
 
     /// How many commands were submitted.
     pub fn submitted(&self) -> u64 {
+        self.submitted_before.saturating_add(self.submitted_here())
+    }
+
+    /// How many commands were submitted over this end.
+    fn submitted_here(&self) -> u64 {
         u64::from(self.next_handle.saturating_sub(self.first_handle))
     }
 
-    /// Whether no handle is left: another link over another port is to be made.
-    pub fn is_spent(&self) -> bool {
-        self.next_handle == u32::MAX
+    /// Whether half of the handles above the first one of this end are used: nothing more is submitted over it.
+    pub fn is_spent(&self) -> bool
+        ensures { result ≡ half_spent self.now.first_handle self.now.next_handle }
+    {
+        let used = self.next_handle.saturating_sub(self.first_handle);
+        2 * u64::from(used) >= u64::from(u32::MAX - self.first_handle)
+    }
+
+    /// Whether the panel is to go on over another end, at another port: half of the handles are used, and nothing is in
+    /// flight any more. Then [`View::take_end`] is to be called.
+    pub fn wants_end(&self) -> bool
+        ensures { result ≡ (half_spent self.now.first_handle self.now.next_handle
+            && (length self.now.orders.in_flight == 0) && (length self.now.inventory.asked.items == 0)) }
+    {
+        self.is_spent() && self.orders.in_flight() == 0 && self.inventory.in_flight() == 0
+    }
+
+    /// The panel goes on over another end, whose present moment this is, with a new link whose first handle this is: the
+    /// orders that wait and what is known of the device stay.
+    pub fn take_end(&mut self, first: Handle, moment: u64)
+        ensures orders { self.new.orders ≡ self.old.orders }
+        ensures inventory { self.new.inventory ≡ self.old.inventory }
+        ensures first { self.new.first_handle ≡ first.0 }
+        ensures next { self.new.next_handle ≡ first.0 }
+        ensures ahead { self.new.ahead ≡ self.old.news.now - moment }
+        ensures now { self.new.news.now ≡ self.old.news.now }
+    {
+        self.submitted_before = self.submitted();
+        self.sent_before = self.news.sent;
+        self.first_handle = first.0;
+        self.next_handle = first.0;
+        self.made = moment;
+        self.ahead = self.news.now.saturating_sub(moment);
+    }
+
+    /// How many milliseconds the program's clock is ahead of that of the end.
+    pub fn ahead(&self) -> u64
+        ensures { result ≡ self.now.ahead }
+    {
+        self.ahead
     }
 
     /// A page asked for values at the present moment, which shows so many objects from this one on.
@@ -145,12 +206,22 @@ impl View {
         self.inventory.open(now, first, visible);
     }
 
-    /// The present moment, which never goes back, and how many datagrams were sent until then.
-    pub fn note(&mut self, now: u64, sent: u64)
-        ensures { self.new.orders ≡ self.old.orders }
+    /// The present moment of the end, and how many datagrams it sent until then. The program's clock, which never goes
+    /// back, reads that moment from now on. Returns whether the program stood still for more than 2,000 ms: then the
+    /// orders that wait were not sent, and what else came meanwhile is as old as nobody knows.
+    pub fn note(&mut self, moment: u64, sent: u64) -> bool
+        ensures now { self.new.news.now ≡ moment_of self.old.ahead moment self.old.news.now }
+        ensures stood { result ≡ stood_still self.old.news.now self.new.news.now }
+        ensures orders { self.new.orders ≡ orders_after result self.old.orders }
     {
-        self.news.now = self.news.now.max(now);
-        self.news.sent = sent;
+        let before = self.news.now;
+        self.news.now = before.max(self.ahead.saturating_add(moment));
+        self.news.sent = self.sent_before.saturating_add(sent);
+        if self.news.now - before <= LONGEST_STANDSTILL_MS {
+            return false;
+        }
+        self.orders.drop_waiting();
+        true
     }
 
     /// Whether an object has this number.
@@ -176,12 +247,13 @@ impl View {
         self.orders.next_ticket()
     }
 
-    /// Takes an order behind all others, and returns its ticket. `None` where 64 wait, which changes nothing.
-    pub fn order(&mut self, ono: Ono, action: Action) -> Option<u64>
-        ensures orders { AddsTicket ono action self.old.orders result self.new.orders }
+    /// Takes an order behind all others, which must not be submitted after this moment, and returns its ticket. `None`
+    /// where 64 wait, which changes nothing.
+    pub fn order(&mut self, ono: Ono, action: Action, last: u64) -> Option<u64>
+        ensures orders { AddsTicket ono action last self.old.orders result self.new.orders }
         ensures rest { self.new ≡ record self.old { orders = self.new.orders } }
     {
-        self.orders.add(ono, action)
+        self.orders.add(ono, action, last)
     }
 
     /// Takes one turn of the panel, which receives once and sends what is due, and takes the answers that came.
@@ -198,19 +270,35 @@ impl View {
         Ok(())
     }
 
-    /// Goes on: a link that is lost is renewed, and orders and then questions are submitted as far as there is room.
+    /// Goes on: a link that is lost is renewed, and orders, in time and else not at all, and then questions are submitted
+    /// as far as there is room. Where half of the handles are used nothing is.
     #[tactic(auto, using(crate::proofs::WalkLemmas::walk_rules))]
     pub fn go_on<E: End>(&mut self, panel: &mut Panel<E>) -> Result<(), NoMemory>
-        ensures orders { Continues result self.old.orders panel.old self.new.orders panel.new }
+        ensures orders { Continues self.old.ahead self.old.news.now result self.old.orders panel.old self.new.orders
+            panel.new }
         ensures walk { StaysOver self.old.inventory self.new.inventory }
     {
+        let now = self.news.now;
+        let ahead = self.ahead;
         if self.inventory.is_stale() {
             self.inventory.begin_anew()?;
         }
         self.renew_lost(panel)?;
-        submit_orders(&mut self.orders, panel);
-        self.next_handle = self.next_handle.max(self.orders.next_handle());
+        self.orders.drop_late(now);
+        self.submit_all(panel, ahead);
         self.ask_all(panel)
+    }
+
+    /// Submits the orders that wait, in time, unless half of the handles are used.
+    fn submit_all<E: End>(&mut self, panel: &mut Panel<E>, ahead: u64)
+        ensures orders { SubmitsOrders ahead self.old.orders panel.old self.new.orders panel.new }
+        ensures inventory { self.new.inventory ≡ self.old.inventory }
+    {
+        if self.is_spent() {
+            return;
+        }
+        submit_orders(&mut self.orders, panel, ahead);
+        self.next_handle = self.next_handle.max(self.orders.next_handle());
     }
 
     /// Notes when the device was heard: a link counts its own making.
@@ -293,6 +381,9 @@ impl View {
         ensures walk { KeepsWalk self.old.inventory self.new.inventory }
     {
         for _ in 0..32u32 {
+            if !self.may_ask() {
+                return Ok(());
+            }
             let Some(question) = self.inventory.next_question(self.news.now) else {
                 return Ok(());
             };
@@ -328,7 +419,9 @@ impl View {
             (Some(one), other) => lower(other, one),
             (None, other) => other,
         };
-        !self.inventory.asks_most() && leaves_half(lowest, self.next_handle, self.reach.span.get())
+        !self.is_spent()
+            && !self.inventory.asks_most()
+            && leaves_half(lowest, self.next_handle, self.reach.span.get())
     }
 
     /// The earliest moment at which there is something to do, but for what the link is due to send.

@@ -37,6 +37,8 @@ struct Client {
     moved: u64,
     /// Since when something is begun: a request that is not whole, or an answer that is not taken.
     begun: Option<u64>,
+    /// Whether what waits on it may have come while the program stood still.
+    doubts: bool,
 }
 
 /// What became of a connection.
@@ -102,6 +104,7 @@ impl Client {
     /// Reads, answers and writes what can be, with no wait. Behind an order that was taken the rest has time.
     fn serve(&mut self, site: &mut Site, now: u64) -> Stands {
         let ticket = site.view().next_ticket();
+        site.doubt(self.doubts);
         for _ in 0..ROUNDS {
             if site.view().next_ticket() != ticket {
                 return Stands::HasMore;
@@ -153,6 +156,7 @@ fn client_of(
     token: Token,
     keys: RandomState,
     now: u64,
+    doubts: bool,
 ) -> Client {
     Client {
         stream,
@@ -161,6 +165,7 @@ fn client_of(
         ready: true,
         moved: now,
         begun: Some(now),
+        doubts,
     }
 }
 
@@ -193,19 +198,33 @@ impl Clients {
     }
 
     /// Lets a connection in, where there are fewer than eight or one of them rests; else it is closed. Where the system
-    /// or memory refuses something, it is closed too.
-    pub fn add(&mut self, stream: TcpStream, poll: &Poll, keys: RandomState, now: u64) {
+    /// or memory refuses something, it is closed too. `doubts` says that it may have come while the program stood still.
+    pub fn add(
+        &mut self,
+        stream: TcpStream,
+        poll: &Poll,
+        keys: RandomState,
+        now: u64,
+        doubts: bool,
+    ) {
         if self.clients.len() < MOST || self.close_resting(now) {
-            self.keep(stream, poll, keys, now);
+            self.keep(stream, poll, keys, now, doubts);
         }
     }
 
     /// Keeps a connection, where the system takes it.
-    fn keep(&mut self, mut stream: TcpStream, poll: &Poll, keys: RandomState, now: u64) {
+    fn keep(
+        &mut self,
+        mut stream: TcpStream,
+        poll: &Poll,
+        keys: RandomState,
+        now: u64,
+        doubts: bool,
+    ) {
         let token = self.next_token();
         if is_waited_for(&mut stream, poll, token) {
             self.more = true;
-            self.push(client_of(self.alloc, stream, token, keys, now));
+            self.push(client_of(self.alloc, stream, token, keys, now, doubts));
         }
     }
 
@@ -257,6 +276,16 @@ impl Clients {
         }
     }
 
+    /// The program stood still: what waits on the connections may have come meanwhile. Each is looked at.
+    pub fn doubt(&mut self) {
+        for place in 0..self.clients.len() {
+            if let Some(client) = self.clients.get_mut(place) {
+                client.doubts = true;
+                client.ready = true;
+            }
+        }
+    }
+
     /// Serves each connection that is ready, and closes those that ended or are late.
     pub fn serve(&mut self, site: &mut Site, now: u64) {
         self.more = false;
@@ -280,7 +309,10 @@ impl Clients {
             return client.is_late(now);
         }
         match client.serve(site, now) {
-            Stands::Waits => client.ready = false,
+            Stands::Waits => {
+                client.ready = false;
+                client.doubts = false;
+            }
             Stands::HasMore => self.more = true,
             Stands::Ended => return true,
         }

@@ -6,9 +6,9 @@ use mio::net::TcpListener;
 use mio::unix::SourceFd;
 use mio::{Events, Interest, Poll, Token};
 use oca_net::{End, UdpEnd};
-use oca_panel::{OwnPort, Panel};
+use oca_panel::{OwnPort, Panel, Probed, Watched, probe};
 use oca_program::socket::bind;
-use oca_program::{Failure, RunFault, print_note};
+use oca_program::{Failure, RunFault, note_other_port, print_note};
 use oca_script::{Printer, Sink};
 use oca_types::{Handle, LOOPBACK, NoMemory, Peer};
 use oca_web::{Name, Site, View};
@@ -36,7 +36,7 @@ const ANSWER_MS: u64 = 4;
 /// The longest wait, in milliseconds: as often, connections on which nothing moves are looked at.
 const LONGEST_WAIT_MS: u64 = 1000;
 
-/// Serves until a call of the system fails, memory is refused, or no handle is left.
+/// Serves until a call of the system fails, or memory is refused.
 pub fn serve<R: Net + RandomSource, N: Net + Clock, F: Sink>(
     alloc: Global,
     rt: &R,
@@ -46,61 +46,190 @@ pub fn serve<R: Net + RandomSource, N: Net + Clock, F: Sink>(
 ) -> Result<(), Failure> {
     let first = OwnPort::now(system).first_handle;
     match bind(alloc, system, address_for(serving.device), serving.port) {
-        Ok(end) => serve_over(alloc, rt, serving, first, end, faults),
+        Ok(end) => {
+            let end = Watched::new(end, serving.device);
+            serve_over(alloc, rt, system, serving, first, end, faults)
+        }
         Err(failure) => Err(failure),
     }
 }
 
-/// Serves over the socket for the device.
-fn serve_over<'a, R: Net + RandomSource, C: Clock, F: Sink>(
+/// What is received from and sent to: the socket for the device.
+type DeviceEnd<'a, C> = Watched<UdpEnd<'a, C>>;
+
+/// Serves over this socket for the device; where that is at a port that was given, and the device is heard there and
+/// answers no command, over another one.
+fn serve_over<'a, R: Net + RandomSource, N: Net + Clock, C: Clock, F: Sink>(
     alloc: Global,
     rt: &R,
+    system: &N,
     serving: Serving,
     first: Handle,
-    end: UdpEnd<'a, C>,
+    mut end: DeviceEnd<'a, C>,
+    faults: &mut Printer<F>,
+) -> Result<(), Failure> {
+    if serving.port == 0 {
+        return serve_first(alloc, rt, system, serving, first, end, faults);
+    }
+    match probe(&mut end, serving.device, first) {
+        Probed::NotAnswering => serve_elsewhere(alloc, rt, system, serving, first, faults),
+        Probed::Answering | Probed::NotHeard => {
+            let next = Handle(first.0.saturating_add(1));
+            serve_first(alloc, rt, system, serving, next, end, faults)
+        }
+    }
+}
+
+/// Serves over a socket at a port of the system's choice, in place of the one that was given.
+fn serve_elsewhere<R: Net + RandomSource, N: Net + Clock, F: Sink>(
+    alloc: Global,
+    rt: &R,
+    system: &N,
+    serving: Serving,
+    first: Handle,
+    faults: &mut Printer<F>,
+) -> Result<(), Failure> {
+    match bind(alloc, system, address_for(serving.device), 0) {
+        Ok(end) => {
+            let other = end.local().port;
+            note_other_port(alloc, serving.device, serving.port, other, faults);
+            let end = Watched::new(end, serving.device);
+            serve_first(alloc, rt, system, serving, first, end, faults)
+        }
+        Err(failure) => Err(failure),
+    }
+}
+
+/// Serves, first over this socket for the device.
+fn serve_first<'a, R: Net + RandomSource, N: Net + Clock, C: Clock, F: Sink>(
+    alloc: Global,
+    rt: &R,
+    system: &N,
+    serving: Serving,
+    first: Handle,
+    end: DeviceEnd<'a, C>,
     faults: &mut Printer<F>,
 ) -> Result<(), Failure> {
     let own = Own {
-        descriptor: end.as_raw_fd(),
+        descriptor: end.end().as_raw_fd(),
         first,
         made: end.now(),
     };
-    let mut panel = Panel::open(serving.device, Ready::new(end), first, serving.span, 0);
-    serve_panel(alloc, rt, serving, own, &mut panel, faults)
-}
-
-/// Serves a panel to browsers.
-fn serve_panel<E: End, R: Net + RandomSource, F: Sink>(
-    alloc: Global,
-    rt: &R,
-    serving: Serving,
-    own: Own,
-    panel: &mut Panel<Ready<E>>,
-    faults: &mut Printer<F>,
-) -> Result<(), Failure> {
     match rounds_of(alloc, rt, serving, own) {
-        Ok(mut rounds) => serve_site(alloc, rt, serving, own, &mut rounds, panel, faults),
+        Ok(mut rounds) => { serve_site(alloc, rt, system, serving, own, &mut rounds, end, faults) }
         Err(failure) => Err(failure),
     }
 }
 
-/// Serves a panel to the browsers that are listened to.
-fn serve_site<E: End, R: Net + RandomSource, F: Sink>(
+/// Serves the browsers that are listened to, first over this socket for the device.
+fn serve_site<'a, R: Net + RandomSource, N: Net + Clock, C: Clock, F: Sink>(
     alloc: Global,
     rt: &R,
+    system: &N,
     serving: Serving,
     own: Own,
     rounds: &mut Rounds,
-    panel: &mut Panel<Ready<E>>,
+    end: DeviceEnd<'a, C>,
     faults: &mut Printer<F>,
 ) -> Result<(), Failure> {
     match site_of(alloc, serving, own, rounds.local) {
         Ok(mut site) => {
             print_listening(alloc, rounds.local, faults);
-            go_round(alloc, rt, rounds, panel, &mut site, faults)
+            serve_ends(
+                alloc, rt, system, serving, own.first, rounds, &mut site, end, faults,
+            )
         }
         Err(failure) => Err(failure),
     }
+}
+
+/// Serves a site over this socket for the device, and then over others.
+fn serve_ends<'a, R: Net + RandomSource, N: Net + Clock, C: Clock, F: Sink>(
+    alloc: Global,
+    rt: &R,
+    system: &N,
+    serving: Serving,
+    first: Handle,
+    rounds: &mut Rounds,
+    site: &mut Site,
+    end: DeviceEnd<'a, C>,
+    faults: &mut Printer<F>,
+) -> Result<(), Failure> {
+    match serve_end(alloc, rt, serving, first, rounds, site, end, faults) {
+        Ok(()) => serve_others(alloc, rt, system, serving, rounds, site, faults),
+        Err(failure) => Err(failure),
+    }
+}
+
+/// Serves over one socket for the device after another, each at a port of the system's choice.
+fn serve_others<R: Net + RandomSource, N: Net + Clock, F: Sink>(
+    alloc: Global,
+    rt: &R,
+    system: &N,
+    serving: Serving,
+    rounds: &mut Rounds,
+    site: &mut Site,
+    faults: &mut Printer<F>,
+) -> Result<(), Failure> {
+    for _ in 0..u64::MAX {
+        serve_another(alloc, rt, system, serving, rounds, site, faults)?;
+    }
+    Ok(())
+}
+
+/// Serves over another socket for the device, at a port of the system's choice: so the handles begin anew.
+fn serve_another<R: Net + RandomSource, N: Net + Clock, F: Sink>(
+    alloc: Global,
+    rt: &R,
+    system: &N,
+    serving: Serving,
+    rounds: &mut Rounds,
+    site: &mut Site,
+    faults: &mut Printer<F>,
+) -> Result<(), Failure> {
+    let first = OwnPort::now(system).first_handle;
+    match bind(alloc, system, address_for(serving.device), 0) {
+        Ok(end) => {
+            let end = Watched::new(end, serving.device);
+            serve_next(alloc, rt, serving, first, rounds, site, end, faults)
+        }
+        Err(failure) => Err(failure),
+    }
+}
+
+/// Serves over another socket for the device, which is waited for from now on.
+fn serve_next<'a, R: Net + RandomSource, C: Clock, F: Sink>(
+    alloc: Global,
+    rt: &R,
+    serving: Serving,
+    first: Handle,
+    rounds: &mut Rounds,
+    site: &mut Site,
+    end: DeviceEnd<'a, C>,
+    faults: &mut Printer<F>,
+) -> Result<(), Failure> {
+    match watch(&rounds.poll, end.end().as_raw_fd()) {
+        Ok(()) => {
+            site.view().take_end(first, end.now());
+            serve_end(alloc, rt, serving, first, rounds, site, end, faults)
+        }
+        Err(reason) => Err(failed(alloc, reason)),
+    }
+}
+
+/// Serves over a socket for the device, until another one is to be taken.
+fn serve_end<'a, R: Net + RandomSource, C: Clock, F: Sink>(
+    alloc: Global,
+    rt: &R,
+    serving: Serving,
+    first: Handle,
+    rounds: &mut Rounds,
+    site: &mut Site,
+    end: DeviceEnd<'a, C>,
+    faults: &mut Printer<F>,
+) -> Result<(), Failure> {
+    let mut panel = Panel::open(serving.device, Ready::new(end), first, serving.span, 0);
+    go_round(alloc, rt, rounds, &mut panel, site, faults)
 }
 
 /// What is known of the socket for the device.
@@ -127,6 +256,8 @@ struct Rounds {
     /// The ticket of the last order that was taken, and until when the browsers wait for its answer.
     ticket: u64,
     held_until: u64,
+    /// Whether the program stood still, and connections that came meanwhile may still wait.
+    doubts: bool,
 }
 
 /// What the loop waits for.
@@ -155,6 +286,7 @@ fn rounds_with<R: Net>(
             was_lost: false,
             ticket: 1,
             held_until: 0,
+            doubts: false,
         }),
         Err(failure) => Err(failure),
     }
@@ -274,7 +406,14 @@ fn poll_of<R: Net>(
 fn register(poll: &Poll, listener: &mut TcpListener, descriptor: i32) -> io::Result<()> {
     let registry = poll.registry();
     registry.register(listener, LISTENER, Interest::READABLE)?;
-    registry.register(&mut SourceFd(&descriptor), DEVICE, Interest::READABLE)
+    watch(poll, descriptor)
+}
+
+/// The device's socket is waited for.
+fn watch(poll: &Poll, descriptor: i32) -> io::Result<()> {
+    let mut source = SourceFd(&descriptor);
+    poll.registry()
+        .register(&mut source, DEVICE, Interest::READABLE)
 }
 
 /// Prints where browsers are listened to.
@@ -296,7 +435,8 @@ fn failed(alloc: Global, reason: io::Error) -> Failure {
     }
 }
 
-/// Goes round: what came from the device, what is to be sent to it, the browsers, and a wait.
+/// Goes round: what came from the device, what is to be sent to it, the browsers, and a wait. It ends where the panel is
+/// to go on over another socket.
 fn go_round<E: End, R: Net + RandomSource, F: Sink>(
     alloc: Global,
     rt: &R,
@@ -309,6 +449,9 @@ fn go_round<E: End, R: Net + RandomSource, F: Sink>(
         Ok(mut events) => {
             for _ in 0..u64::MAX {
                 go_once(alloc, rt, rounds, &mut events, panel, site, faults)?;
+                if site.view().wants_end() {
+                    return Ok(());
+                }
             }
             Ok(())
         }
@@ -326,13 +469,10 @@ fn go_once<E: End, R: Net + RandomSource, F: Sink>(
     site: &mut Site,
     faults: &mut Printer<F>,
 ) -> Result<(), Failure> {
-    let Ok(drained) = turn(panel, site.view()) else {
+    let Ok(drained) = turn(rounds, panel, site.view()) else {
         return Err(Failure::from(RunFault::NoMemory));
     };
     note_link(alloc, rounds, site.view(), faults);
-    if site.view().is_spent() {
-        return Err(Failure::told(alloc, RunFault::Socket, "no handle is left"));
-    }
     match answer(rt, rounds, panel, site, drained) {
         Ok(wait) => wait_in(alloc, rounds, events, wait),
         Err(NoMemory) => Err(Failure::from(RunFault::NoMemory)),
@@ -347,7 +487,8 @@ fn answer<E: End, R: RandomSource>(
     site: &mut Site,
     drained: bool,
 ) -> Result<u64, NoMemory> {
-    let now = panel.end().end().now();
+    look_at_clock(rounds, panel, site.view());
+    let now = site.view().moment();
     serve_browsers(rt, rounds, site, now);
     site.view().go_on(panel)?;
     if drained {
@@ -375,9 +516,13 @@ fn wait_in(
 }
 
 /// Takes in what came from the device, and sends what is to be sent. Returns whether nothing more is there.
-fn turn<E: End>(panel: &mut Panel<Ready<E>>, view: &mut View) -> Result<bool, NoMemory> {
+fn turn<E: End>(
+    rounds: &mut Rounds,
+    panel: &mut Panel<Ready<E>>,
+    view: &mut View,
+) -> Result<bool, NoMemory> {
     for _ in 0..MOST_TURNS {
-        view.note(panel.end().end().now(), panel.end().sent());
+        look_at_clock(rounds, panel, view);
         view.take_turn(panel)?;
         view.go_on(panel)?;
         if panel.end().is_quiet() {
@@ -385,6 +530,13 @@ fn turn<E: End>(panel: &mut Panel<Ready<E>>, view: &mut View) -> Result<bool, No
         }
     }
     Ok(false)
+}
+
+/// Reads the clock. Where the program stood still, what waits for it is as old as nobody knows.
+fn look_at_clock<E: End>(rounds: &mut Rounds, panel: &Panel<Ready<E>>, view: &mut View) {
+    if view.note(panel.end().end().now(), panel.end().sent()) {
+        rounds.doubts = true;
+    }
 }
 
 /// How long may be waited, in milliseconds.
@@ -396,7 +548,7 @@ fn wait_for<E: End>(rounds: &Rounds, panel: &Panel<Ready<E>>, view: &View, now: 
         return 0;
     }
     if let Some(due) = panel.next_due() {
-        moment = moment.min(due);
+        moment = moment.min(due.saturating_add(view.ahead()));
     }
     if let Some(next) = view.next_moment() {
         moment = moment.min(next);
@@ -423,22 +575,30 @@ impl Rounds {
 /// Lets the browsers in that wait, and answers their requests.
 fn serve_browsers<R: RandomSource>(rt: &R, rounds: &mut Rounds, site: &mut Site, now: u64) {
     if !rounds.holds(site.view(), now) {
-        accept(rt, rounds, now);
+        if rounds.doubts {
+            rounds.clients.doubt();
+        }
+        if accept(rt, rounds, now) {
+            rounds.doubts = false;
+        }
         rounds.clients.serve(site, now);
         rounds.note_orders(site.view(), now);
     }
 }
 
-/// Lets the browsers in that wait.
-fn accept<R: RandomSource>(rt: &R, rounds: &mut Rounds, now: u64) {
+/// Lets the browsers in that wait. Returns whether no more do.
+fn accept<R: RandomSource>(rt: &R, rounds: &mut Rounds, now: u64) -> bool {
     for _ in 0..16u32 {
         let Ok((stream, _)) = rounds.listener.accept() else {
-            return;
+            return true;
         };
         if let Ok(keys) = RandomState::new(rt) {
-            rounds.clients.add(stream, &rounds.poll, keys, now);
+            rounds
+                .clients
+                .add(stream, &rounds.poll, keys, now, rounds.doubts);
         }
     }
+    false
 }
 
 /// Prints when the device is lost and when it is heard again, where that is asked for.
