@@ -9,23 +9,31 @@
 #include <stdlib.h>
 struct tried { bool ok; void *at; };
 static long blocks, requests, refused = -1; /* the request of this number is refused, counted from 0 */
-static size_t asked; /* bytes, in all */
+static size_t asked, held; /* bytes: in all, and of the blocks that were not given back; before each block its size stands */
 struct tried rattle_alloc(size_t size, size_t align) {
-    struct tried given = {requests++ != refused, NULL};
-    if (!given.ok) return given;
-    given.at = malloc(size > align ? size : align);
-    blocks++, asked += size;
+    struct tried given = {requests++ != refused && align <= 16, NULL};
+    size_t *block = given.ok ? (size_t *)malloc(size + 16) : NULL;
+    if (!block) return given;
+    *block = size;
+    given.at = (char *)block + 16;
+    blocks++, asked += size, held += size;
     return given;
 }
 struct tried rattle_realloc(void *old, size_t kept, size_t size, size_t align) {
-    (void)kept;
-    struct tried given = {requests++ != refused, NULL};
+    struct tried given = {requests++ != refused && align <= 16 && kept <= size, NULL};
+    size_t *block = (size_t *)(void *)((char *)old - 16);
     if (!given.ok) return given;
-    given.at = realloc(old, size > align ? size : align);
-    asked += size;
+    held += size - *block, asked += size;
+    block = (size_t *)realloc(block, size + 16);
+    *block = size;
+    given.at = (char *)block + 16;
     return given;
 }
-void rattle_dealloc(void *at) { free(at), blocks--; }
+void rattle_dealloc(void *at) {
+    size_t *block = (size_t *)(void *)((char *)at - 16);
+    held -= *block, blocks--;
+    free(block);
+}
 #else
 static const long blocks = 0;
 static const size_t asked = 0;
@@ -607,6 +615,26 @@ static void sets_each_class(void) {
     oca_device_close(&d);
 }
 
+/* A device takes memory for as many objects as were said, whatever their number: some 1.4 kB each. */
+#ifdef COUNTS_BLOCKS
+static void exact_room(void) {
+    for (uint16_t room = 1; room <= 600; room++) {
+        struct oca_device d = OCA_DEVICE_INIT;
+        const size_t before = held;
+        same("open", oca_device_open(&d, room), OCA_DONE);
+        same("memory for so many objects, and not for more", held - before <= 4096 + (size_t)room * 1480, true);
+        for (uint32_t k = 1; k < room; k++)
+            if (oca_device_add_mute(&d, 100, 4096 + k, text("mute"), 4, true, true) != OCA_DONE) same("an addition", k, room);
+        same("full", oca_device_add_mute(&d, 100, 9999, text("mute"), 4, true, true), OCA_FULL);
+        same("no more for their additions", held - before <= 4096 + (size_t)room * 1480, true);
+        oca_device_close(&d);
+        same("and all is given back", held == before, true);
+    }
+}
+#else
+static void exact_room(void) {}
+#endif
+
 /* Where a request for memory is refused at an opening or a start, the struct is closed, each call says so, and all memory is given back;
  * where it is refused at an addition, nothing is added. */
 #ifdef COUNTS_BLOCKS
@@ -1023,6 +1051,7 @@ int main(void) {
     reads_answers();
     sets_values();
     sets_each_class();
+    exact_room();
     without_memory();
     own_ports();
     objects_by_struct();

@@ -20,7 +20,7 @@ static void expect(bool good, size_t room, size_t size) {
 
 /* Asks for a block, writes each byte of it, and answers whether it was given. */
 static bool asks(size_t room, size_t size, size_t align) {
-    size_t before = heap_used, at = (before + 15) / 16 * 16;
+    size_t before = heap_used, at = (before + 15) / 16 * 16 + 16;
     struct tried given = rattle_alloc(size, align);
     bool fits = align <= 16 && at <= room && size <= room - at && (size > 0 || at < room);
     expect(given.ok == fits, room, size);
@@ -33,9 +33,39 @@ static bool asks(size_t room, size_t size, size_t align) {
     return true;
 }
 
+/* Two blocks of 40 bytes: each shrinks where it is, the last one gives back what it no longer has; what grows is copied, and a growth that
+ * finds no room leaves it whole. */
+static void resizes(size_t room) {
+    uint8_t kept[40];
+    heap_room = room;
+    heap_used = 0;
+    for (size_t i = 0; i < sizeof kept; i++) kept[i] = (uint8_t)(i * 7 + 1);
+    struct tried first = rattle_alloc(40, 16), last = rattle_alloc(40, 16);
+    if (!last.ok) return;
+    memcpy(first.at, kept, sizeof kept);
+    memcpy(last.at, kept, sizeof kept);
+    const size_t used = heap_used;
+    struct tried same = rattle_realloc(first.at, 3, 5, 16);
+    expect(same.ok && same.at == first.at && heap_used == used, room, 5);
+    same = rattle_realloc(first.at, 3, 40, 16);
+    expect(same.ok && same.at == first.at && heap_used == used, room, 40);
+    same = rattle_realloc(last.at, 0, 0, 16);
+    expect(same.ok && same.at == last.at && heap_used == used - 39, room, 0);
+    heap_used = 0;
+    first = rattle_alloc(40, 16), last = rattle_alloc(40, 16);
+    memcpy(last.at, kept, sizeof kept);
+    same = rattle_realloc(last.at, 9, 10, 16);
+    expect(same.ok && same.at == last.at && heap_used == used - 30, room, 10);
+    struct tried more = rattle_realloc(last.at, 9, 11, 16), none = rattle_realloc(last.at, 9, SIZE_MAX, 16);
+    const bool fits = (used - 30 + 15) / 16 * 16 + 16 + 11 <= room;
+    expect(more.ok == fits && (!fits || (more.at != last.at && memcmp(more.at, kept, 9) == 0)) && !none.ok, room, 11);
+    expect(memcmp(last.at, kept, 10) == 0, room, 10);
+}
+
 int main(void) {
     static const size_t sizes[] = {0, 1, 15, 16, 17, 40, 255, 1000, 4095, 4096, 4097, SIZE_MAX, SIZE_MAX - 15};
     for (size_t room = 0; room <= 4096; room++) {
+        resizes(room);
         for (size_t i = 0; i < sizeof sizes / sizeof *sizes; i++) {
             heap_room = room;
             heap_used = 0;

@@ -61,7 +61,9 @@ impl Objects {
     {
         let containers = Vec::with_capacity(alloc, room)?;
         let lengths = Vec::with_capacity(alloc, room)?;
-        let map = IndexMap::with_capacity(alloc, room)?;
+        // A map makes room by the sizes of its table, up to twice what was asked for: an object takes 1.4 kB.
+        let mut map = IndexMap::with_capacity(alloc, room)?;
+        map.shrink_to(room);
         Ok(Objects {
             map,
             containers,
