@@ -15,8 +15,49 @@ CALL = r"^(?:static inline )?(?:(?:enum|struct) oca_\w+|const char|u?int\d+_t|si
 
 # On each page anyway; and what the header's own functions call, which has no page.
 NAMED_ANYWAY = ("struct oca_device", "struct oca_link", "enum oca_result")
-HELPERS = {"oca_device_close_any", "oca_link_close_any", "oca_outcome_of", "oca_panel_give_out", "oca_panel_refused", "oca_panel_was_read",
-           "oca_panel_text", "oca_walk_put"}
+HELPERS = {"oca_device_close_any", "oca_link_close_any", "oca_moment_after", "oca_outcome_of", "oca_panel_give_out", "oca_panel_now",
+           "oca_panel_refused", "oca_panel_state_at", "oca_panel_text", "oca_panel_turn_until", "oca_panel_was_read", "oca_walk_ends_at",
+           "oca_walk_put"}
+
+# What calls answer besides OCA_DONE, in the order of the numbers: the first row that the name fits says it.
+SET, SUBMITTED = "NO_OBJECT NO_SETTING OTHER_KIND OUT_OF_RANGE", "LOST HANDLES_SPENT SPAN_FULL TOO_LONG"
+ADDED = "FULL RESERVED TAKEN NO_SUCH_BLOCK TOO_DEEP BAD_TEXT"
+ANSWERS = [
+    (r"oca_device_open_with", "BAD_TEXT NO_MEMORY OPEN BAD_SIZE"),
+    (r"oca_(device|link|panel)_open", "NO_MEMORY OPEN BAD_SIZE"),
+    (r"oca_device_add", f"{ADDED} BAD_RANGE NO_MEMORY CLOSED STARTED BAD_SIZE NO_VALUE"),
+    (r"oca_device_add_(block|mute|polarity|boolean)", f"{ADDED} NO_MEMORY CLOSED STARTED"),
+    (r"oca_device_add_\w+", f"{ADDED} BAD_RANGE NO_MEMORY CLOSED STARTED"),
+    (r"oca_device_start(_within)?", "NO_MEMORY CLOSED STARTED BAD_SIZE"),
+    (r"oca_device_(datagram(_words)?|tick|packets|left_out|objects)", "CLOSED NOT_STARTED"),
+    (r"oca_device_(next_lapse|setting|lock|object(_words)?)", "CLOSED NOT_STARTED NOTHING"),
+    (r"oca_device_packet", "CLOSED NOT_STARTED NOTHING TOO_SMALL"),
+    (r"oca_device_written", "CLOSED NOT_STARTED TOO_SMALL"),
+    (r"oca_device_spec", "CLOSED NOT_STARTED NOTHING BAD_SIZE"),
+    (r"oca_device_set", f"CLOSED NOT_STARTED {SET} NO_VALUE"),
+    (r"oca_device_set_\w+", f"CLOSED NOT_STARTED {SET}"),
+    (r"oca_link_(submit|ask|call)|oca_panel_begin", f"CLOSED {SUBMITTED}"),
+    (r"oca_panel_begin_[sg]et", f"CLOSED {SUBMITTED} NO_VALUE"),
+    (r"oca_link_due", "CLOSED TOO_SMALL"),
+    (r"oca_link_take", "CLOSED NOTHING TOO_SMALL"),
+    (r"oca_link_(next_due|answered|next_handle)", "CLOSED NOTHING"),
+    (r"oca_link_(datagram|last_heard|is_lost|is_late|in_flight)", "CLOSED"),
+    (r"oca_(value|text)_put", "TOO_SMALL NO_VALUE"),
+    (r"oca_((value|text|names|members|class)_read|[sg]et_request)", "NO_VALUE"),
+]
+
+
+def answers_of(name):
+    """The results that a call answers with."""
+    said = next((said for form, said in ANSWERS if re.fullmatch(form, name)), None)
+    return [f"OCA_{it}" for it in ["DONE", *said.split()]] if said else []
+
+
+def answers_text(header, name):
+    """They with their numbers and what a log says of them, a line each."""
+    numbers = dict(re.findall(r"(OCA_\w+) = (\d+)", header))
+    texts = dict(re.findall(r'case (OCA_\w+): return "([^"]*)";', header))
+    return "\n".join(f"{it} ({numbers[it]}): {texts[it]}" for it in answers_of(name))
 
 
 def comment_in(text):
@@ -56,7 +97,7 @@ def pages(header):
             named = [types[it] for it in types if re.search(rf"\b{it}\b", declared + of_functions) and it not in NAMED_ANYWAY]
             more = [about for about, _ in named if about != said]
             found[name] = ("\n.PP\n".join(map(roff, [said, *more])), declared, [of for _, of in named])
-    return found, general, types["enum oca_result"][1]
+    return found, general
 
 
 def roff(text):
@@ -65,12 +106,12 @@ def roff(text):
     return re.sub(r"^([.'])", r"\\&\1", safe, flags=re.M)
 
 
-def page(name, said, declared, types, general, results, version):
+def page(name, said, declared, types, general, answers, version):
     about = said.split("\n")[0].split(". ")[0].split("; ")[0].rstrip(".")
     parts = [f'.TH {name} 3 "" "oca {version}" "OCA (AES70) for C"', ".SH NAME", f"{name} \\- {about}", ".SH SYNOPSIS", ".nf", "#include <oca.h>", "",
              *[roff(of) + "\n" for of in types], roff(declared), ".fi", ".SH DESCRIPTION", said]
     if "enum oca_result oca_" in declared:
-        parts += [".SH RETURN VALUE", ".nf", roff(results), ".fi"]
+        parts += [".SH RETURN VALUE", ".nf", roff(answers), ".fi"]
     return "\n".join([*parts, ".SH NOTES", roff(general), ""])
 
 
@@ -78,10 +119,10 @@ def write(folder):
     header = HEADER.read_text()
     number = int(re.search(r"OCA_VERSION 0x(\w+)u", header)[1], 16)
     version = f"{number >> 16}.{number >> 8 & 255}.{number & 255}"
-    found, general, results = pages(header)
+    found, general = pages(header)
     folder.mkdir(parents=True, exist_ok=True)
     for name, (said, declared, types) in found.items():
-        (folder / f"{name}.3").write_text(page(name, said, declared, types, general, results, version))
+        (folder / f"{name}.3").write_text(page(name, said, declared, types, general, answers_text(header, name), version))
     return found
 
 

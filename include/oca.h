@@ -17,7 +17,7 @@
  *    signal handler or from the forked child of a process with threads;
  *  - enough stack (docs/EMBEDDING.md has figures).
  * Only the calls that open and start take memory, by malloc, realloc and free or by a heap of the program's own, whose blocks are
- * aligned to 16; close gives it back. After OCA_NO_MEMORY at a start: close. */
+ * aligned to 16; close gives it back. Behind OCA_NO_MEMORY at an opening or at a start the struct is closed. */
 #ifndef OCA_H
 #define OCA_H
 #include <stdbool.h>
@@ -240,7 +240,9 @@ uint32_t oca_class_with(const uint16_t *fields, size_t fields_len) OCA_NONNULL;
  * block's class is OCA_CLASS_BLOCK, and nothing else of its reading is looked at; the limits of a mute, a polarity, a Boolean and a position
  * are not looked at either), whether it can be locked and is enabled (0 no, any other byte yes), its role, its label, and of a switch
  * its positions: how many there are, the name of each, and which are enabled. There is no pointer in it, and no byte between its fields.
- * Its size comes first: a struct of another size than the library's is refused with OCA_BAD_SIZE. */
+ * Its size comes first, also where it is to be written, and the zeros are 0: a struct of another size than the library's, or with another
+ * byte there, is refused with OCA_BAD_SIZE. Of one that is only written to the size alone is looked at: struct oca_spec spec =
+ * OCA_SPEC_INIT; */
 struct oca_spec {
     uint32_t size;
     uint8_t lockable, enabled;
@@ -249,11 +251,12 @@ struct oca_spec {
     struct oca_name role, label, names[16];
     uint8_t enableds[16], zeros[6];
 };
+#define OCA_SPEC_INIT {(uint32_t)sizeof(struct oca_spec), 1, 1, 0, {{0, 0, 0}, {0, 0, 0}, {0, 0, 0}}, {0, {0}}, {0, {0}}, {{0, {0}}}, {0}, {0}}
 
 /* An object of this role that is read so, lockable and enabled, with an empty label and no positions; a block; and one more position of a
  * switch, enabled. */
 static inline struct oca_spec oca_spec_of(const char *role, struct oca_reading reading) {
-    struct oca_spec spec = {(uint32_t)sizeof(struct oca_spec), 1, 1, 0, {{0, 0, 0}, {0, 0, 0}, {0, 0, 0}}, {0, {0}}, {0, {0}}, {{0, {0}}}, {0}, {0}};
+    struct oca_spec spec = OCA_SPEC_INIT;
     spec.reading = reading;
     spec.role = oca_name_of(role);
     return spec;
@@ -277,8 +280,8 @@ struct oca_device { void *at; bool is_open; };
 /* Opens a device that has its root alone (the block 100), with room for so many objects, the root counted: 1 to 4,096. */
 enum oca_result oca_device_open(struct oca_device *device, uint16_t room) OCA_CHECKED;
 
-/* The same with what was stored of the root: its label, and whether it is enabled; all else of the struct but its size is not
- * looked at. The first that applies: OCA_BAD_SIZE, OCA_BAD_TEXT for a label that is none, OCA_NO_MEMORY. */
+/* The same with what was stored of the root: its label, and whether it is enabled; all else of the struct but its size and its zeros is
+ * not looked at. The first that applies: OCA_BAD_SIZE, OCA_BAD_TEXT for a label that is none, OCA_NO_MEMORY. */
 enum oca_result oca_device_open_with(struct oca_device *device, uint16_t room, const struct oca_spec *root) OCA_CHECKED;
 
 /* Closes a device and gives its memory back; a closed one stays closed, and at a null pointer nothing is done. */
@@ -312,8 +315,8 @@ enum oca_result oca_device_add_switch(struct oca_device *device, uint32_t contai
 
 /* Starts the device, with reply windows of this size (1 to 64; 32 is usual; at least twice the panels' span less one) and sessions of so
  * many peers (1 to 64; 16 is usual).
- * Where it is started already it is OCA_STARTED, whatever is asked for. OCA_NO_MEMORY loses the objects: close the struct, and begin
- * anew. */
+ * Where it is started already it is OCA_STARTED, whatever is asked for. OCA_NO_MEMORY loses the objects and closes the struct: each call
+ * then answers OCA_CLOSED, and it can be opened anew. */
 enum oca_result oca_device_start(struct oca_device *device, uint8_t window, uint8_t peers) OCA_CHECKED;
 
 /* The same for a small device: with room for so many packets that answer a datagram (1 to 122), of some 1,480 bytes each. oca_device_start
@@ -363,8 +366,8 @@ enum oca_result oca_device_set_truth(struct oca_device *device, uint32_t ono, bo
 enum oca_result oca_device_set_signed(struct oca_device *device, uint32_t ono, int64_t number) OCA_NONNULL;
 enum oca_result oca_device_set_unsigned(struct oca_device *device, uint32_t ono, uint64_t number) OCA_NONNULL;
 
-/* The same by a value: its class is not looked at, but for the kind: states of a mute and of a polarity are of one kind, and so are integers
- * of every type, as in the calls above. OCA_NO_VALUE, before all others but OCA_CLOSED and OCA_NOT_STARTED, where the words are those of no value. */
+/* The same by a value of the object's class: OCA_OTHER_KIND for one of another class, as for a polarity's at a mute, and for an integer of
+ * another type. OCA_NO_VALUE, before all others but OCA_CLOSED and OCA_NOT_STARTED, where the words are those of no value. */
 enum oca_result oca_device_set(struct oca_device *device, uint32_t ono, const struct oca_value *value) OCA_NONNULL;
 
 /* How an object is set: kind 1 a state, 2 a position, 3 a truth (0 or 1), 4 a number, `negative` (0 or 1) where it is below 0.
@@ -385,7 +388,7 @@ static inline enum oca_result oca_device_object(struct oca_device *device, size_
 }
 
 /* What an object is now, by its index from 0 at the root in order of adding: an addition of the struct makes the same object again, but for
- * its lock, and of the root oca_device_open_with does. OCA_NOTHING behind the last. So a device saves what was set, by peers and at its
+ * its lock, and of the root oca_device_open_with does. OCA_BAD_SIZE, where the struct does not say its size; OCA_NOTHING behind the last. So a device saves what was set, by peers and at its
  * front; oca_device_object has the object's number and that of its block. */
 enum oca_result oca_device_spec(struct oca_device *device, size_t index, struct oca_spec *spec) OCA_NONNULL;
 
@@ -437,6 +440,10 @@ enum oca_result oca_link_next_due(struct oca_link *link, uint64_t *moment) OCA_N
 /* The lowest handle whose answer came and was not taken yet; OCA_NOTHING where there is none. */
 enum oca_result oca_link_answered(struct oca_link *link, uint32_t *handle) OCA_NONNULL;
 
+/* Whether the command under a handle is in flight: it was submitted, and has no answer so far. Where it is not, and oca_link_take gives no
+ * answer, its answer was taken, or no command has that handle. */
+enum oca_result oca_link_in_flight(struct oca_link *link, uint32_t handle, bool *in_flight) OCA_NONNULL;
+
 /* The handle that the next command gets: a link that is opened after this one to the same device begins there or above. OCA_NOTHING
  * after the last one, 4294967295. */
 enum oca_result oca_link_next_handle(struct oca_link *link, uint32_t *handle) OCA_NONNULL;
@@ -447,8 +454,8 @@ enum oca_result oca_link_last_heard(struct oca_link *link, uint64_t *moment) OCA
 /* Whether the link is lost: a command got no answer to 20 sendings. It stays so; answers that still come are taken as before. */
 enum oca_result oca_link_is_lost(struct oca_link *link, bool *lost) OCA_NONNULL;
 
-/* Whether the link is late at a moment: a command was given out more than 100,000 ms before it and has no answer, as where the program stood
- * still. A copy of it now could be carried out a second time: do not call oca_link_due, and open a new link. */
+/* Whether the link is late at a moment: a command was submitted more than 15,000 ms before it and has no answer, sent or not, as where the
+ * program stood still. Nothing is to act so late: do not call oca_link_due, and open a new link. */
 enum oca_result oca_link_is_late(struct oca_link *link, uint64_t now, bool *late) OCA_NONNULL;
 
 /* Takes the answer to a command: its status and ParamCount, and its parameters. `out` has room for 1,452 bytes. */
@@ -459,7 +466,8 @@ enum oca_result oca_link_take(struct oca_link *link, uint32_t handle, uint32_t *
 /* The caller's socket, by which a panel reaches its device: the size of the struct first, what the three functions are handed, and they.
  * `now` reads the clock. `send` hands a datagram to the device; what is not sent is as if lost. `receive` waits for a datagram until that
  * moment at most, puts it into room for `out_len` bytes with its length and its sender, and answers whether there was one: one that is
- * longer than the room has that length or more, and is dropped. It may answer sooner that there is none. */
+ * longer than the room has that length or more, and is dropped. It may answer sooner that there is none. None of them calls the panel or
+ * its link. */
 struct oca_end {
     size_t size;
     void *context;
@@ -468,26 +476,28 @@ struct oca_end {
     bool (*receive)(void *context, uint64_t until, uint8_t *out, size_t out_len, size_t *len, uint32_t *ip, uint16_t *port);
 };
 
-/* A panel: a link to one device, driven over the caller's socket. A closed one: struct oca_panel panel = OCA_PANEL_INIT; */
-struct oca_panel { struct oca_link link; struct oca_end end; uint32_t turns; };
+/* A panel: a link to one device, driven over the caller's socket, and for how many milliseconds a call waits for its answer. A closed one:
+ * struct oca_panel panel = OCA_PANEL_INIT; */
+struct oca_panel { struct oca_link link; struct oca_end end; uint32_t wait_ms; };
 #define OCA_PANEL_INIT {OCA_LINK_INIT, {0, NULL, NULL, NULL, NULL}, 0}
 
 /* What became of what was asked. OCA_ASKED_DONE: the device did it. OCA_ASKED_REFUSED: it refused, with a status of enum oca_status.
  * OCA_ASKED_UNREADABLE: its answer is none to what was asked. OCA_ASKED_NO_VALUE: nothing of the object's class can be asked so, or there
  * is no such value; it was not sent. OCA_ASKED_NOT_SENT: the link did not take it, with a result of enum oca_result. OCA_ASKED_LOST and
  * OCA_ASKED_LATE: the link is lost, or stood still too long, and sends nothing any more: it may have been carried out, or not, and a new
- * panel is to be opened. OCA_ASKED_UNANSWERED: no answer came in the panel's turns; it stays in flight, under the handle that `result`
- * has. Wait for it again by oca_panel_finish: until its answer is taken, no command can be begun whose handle is the span or more above
- * it (OCA_SPAN_FULL). With 210 turns, as long as a link retransmits, an answer comes or the link is lost. */
+ * panel is to be opened. OCA_ASKED_UNANSWERED: no answer came in the time that the panel waits; it stays in flight, under the handle that
+ * `result` has. Wait for it again by oca_panel_finish: until its answer is taken, no command can be begun whose handle is the span or more
+ * above it (OCA_SPAN_FULL). Where the panel waits for 10,500 ms, longer than a link retransmits, an answer comes or the link is lost.
+ * OCA_ASKED_NO_HANDLE: there is no command under the handle, which `result` has: its answer was taken, or it was never begun. */
 enum oca_asked {
     OCA_ASKED_DONE = 0, OCA_ASKED_REFUSED = 1, OCA_ASKED_UNREADABLE = 2, OCA_ASKED_NO_VALUE = 3, OCA_ASKED_NOT_SENT = 4, OCA_ASKED_LOST = 5,
-    OCA_ASKED_LATE = 6, OCA_ASKED_UNANSWERED = 7
+    OCA_ASKED_LATE = 6, OCA_ASKED_UNANSWERED = 7, OCA_ASKED_NO_HANDLE = 8
 };
 struct oca_outcome { uint32_t asked, status, result; };
 
 /* An outcome in words, for a log: the name of a status, why it was not sent, or what else became of it. */
 static inline const char *oca_outcome_text(struct oca_outcome outcome) {
-    static const char *const texts[] = {"done", "a status of a later version", "unreadable answer", "no value", "not sent", "lost", "late", "no answer"};
+    static const char *const texts[] = {"done", "a status of a later version", "unreadable answer", "no value", "not sent", "lost", "late", "no answer", "no such handle"};
     if (outcome.asked == OCA_ASKED_REFUSED && oca_status_text(outcome.status)) return oca_status_text(outcome.status);
     if (outcome.asked == OCA_ASKED_NOT_SENT) return oca_result_text(outcome.result);
     return outcome.asked < sizeof texts / sizeof *texts ? texts[outcome.asked] : "an outcome of a later version";
@@ -497,16 +507,31 @@ static inline struct oca_outcome oca_outcome_of(uint32_t asked, uint32_t status,
     return outcome;
 }
 
+/* A port to bind the panel's socket to, the other one, and a first handle that is safe there, by the time of day: the handle rises by 100,000
+ * a second, faster than commands are answered, so that each run at that port goes on above the last one. When it would reach 2,147,483,648,
+ * every six hours, it begins again at 0, and it is the other port's turn. So a program that runs often takes one session of the device, and
+ * not one more each time, each of which the device keeps for two minutes. The time of day is in seconds and microseconds since the beginning
+ * of 1970, and is not to be set back. */
+struct oca_own_port { uint16_t port, other; uint32_t first_handle; };
+static inline struct oca_own_port oca_own_port(uint64_t seconds, uint32_t microseconds) {
+    const uint64_t since = seconds * 100000 + microseconds / 10;
+    const uint32_t turn = since >> 31 & 1;
+    struct oca_own_port own = {(uint16_t)(65001 + turn), (uint16_t)(65002 - turn), (uint32_t)(since & 0x7fffffff)};
+    return own;
+}
+
 /* Opens a panel for the device at this address, over a socket of the caller's, which is copied. Its first command gets this handle: on a
  * port that the device heard before, one above all that were used there since the last pause of more than two minutes in which nothing was
- * sent from it. The span is that of oca_link_open. A command waits for its answer for so many turns, of at most 50 ms each: a turn ends sooner with each datagram that comes. 210 are as long
- * as a link retransmits, 20 are a second at most; where a device is silent the link is lost after some 5 seconds.
+ * sent from it (oca_own_port gives one). The span is that of oca_link_open. A call waits for the answer to its command for so many milliseconds by the clock of
+ * the end, whatever else comes: datagrams of strangers cost none of it. 10,500 are longer than a link retransmits; with 0 no call waits.
+ * Where a device is silent the link is lost after some 5 seconds. As a last resort a wait ends where the clock shows no later moment in
+ * 100,000 receives.
  * OCA_OPEN where the panel is open; OCA_BAD_SIZE also for a struct of another size. */
-static inline enum oca_result oca_panel_open(struct oca_panel *panel, const struct oca_end *end, uint32_t ip, uint16_t port, uint32_t first_handle, uint8_t span, uint32_t turns) {
+static inline enum oca_result oca_panel_open(struct oca_panel *panel, const struct oca_end *end, uint32_t ip, uint16_t port, uint32_t first_handle, uint8_t span, uint32_t wait_ms) {
     if (panel->link.is_open) return OCA_OPEN;
     if (end->size != sizeof *end) return OCA_BAD_SIZE;
     panel->end = *end;
-    panel->turns = turns;
+    panel->wait_ms = wait_ms;
     return oca_link_open(&panel->link, ip, port, first_handle, end->now(end->context), span);
 }
 
@@ -515,22 +540,28 @@ static inline void oca_panel_close(struct oca_panel *panel) {
     if (panel) oca_link_close_any(&panel->link);
 }
 
-/* Whether the panel can go on: OCA_ASKED_DONE, or OCA_ASKED_LOST or OCA_ASKED_LATE; OCA_ASKED_NOT_SENT with OCA_CLOSED where it is closed. */
-static inline struct oca_outcome oca_panel_state(struct oca_panel *panel) {
+/* The present moment of a panel's end, and whether its link can go on then. */
+static inline uint64_t oca_panel_now(const struct oca_panel *panel) { return panel->end.now(panel->end.context); }
+static inline struct oca_outcome oca_panel_state_at(struct oca_panel *panel, uint64_t now) {
     bool lost = false, late = false;
-    if (!panel->link.is_open) return oca_outcome_of(OCA_ASKED_NOT_SENT, 0, OCA_CLOSED);
     const enum oca_result found = oca_link_is_lost(&panel->link, &lost);
     if (found != OCA_DONE) return oca_outcome_of(OCA_ASKED_NOT_SENT, 0, found);
     if (lost) return oca_outcome_of(OCA_ASKED_LOST, 0, 0);
-    (void)oca_link_is_late(&panel->link, panel->end.now(panel->end.context), &late);
+    (void)oca_link_is_late(&panel->link, now, &late);
     return oca_outcome_of(late ? OCA_ASKED_LATE : OCA_ASKED_DONE, 0, 0);
+}
+
+/* Whether the panel can go on: OCA_ASKED_DONE, or OCA_ASKED_LOST or OCA_ASKED_LATE; OCA_ASKED_NOT_SENT with OCA_CLOSED where it is closed. */
+static inline struct oca_outcome oca_panel_state(struct oca_panel *panel) {
+    if (!panel->link.is_open) return oca_outcome_of(OCA_ASKED_NOT_SENT, 0, OCA_CLOSED);
+    return oca_panel_state_at(panel, oca_panel_now(panel));
 }
 static inline struct oca_outcome oca_panel_give_out(struct oca_panel *panel) {
     uint8_t bytes[OCA_MOST_BYTES] = {0};
     uint32_t due = OCA_DUE_NOTHING, handle = 0;
     size_t len = 0;
-    struct oca_outcome state = oca_panel_state(panel);
-    const uint64_t now = state.asked == OCA_ASKED_DONE ? panel->end.now(panel->end.context) : 0;
+    const uint64_t now = oca_panel_now(panel);
+    const struct oca_outcome state = oca_panel_state_at(panel, now);
     while (state.asked == OCA_ASKED_DONE) {
         const enum oca_result found = oca_link_due(&panel->link, now, bytes, sizeof bytes, &len, &due, &handle);
         if (found != OCA_DONE) return oca_outcome_of(OCA_ASKED_NOT_SENT, 0, found);
@@ -541,21 +572,26 @@ static inline struct oca_outcome oca_panel_give_out(struct oca_panel *panel) {
     return state;
 }
 
-/* Takes one turn: receives once, for at most 50 ms or until something is due, whichever is sooner, and sends what is due, keep-alives too. Tells what
- * oca_panel_state does. */
-static inline struct oca_outcome oca_panel_turn(struct oca_panel *panel) {
+/* The moment so many milliseconds behind another one, and at most the last there is; a turn that receives until a moment at most. */
+static inline uint64_t oca_moment_after(uint64_t moment, uint32_t ms) { return moment > UINT64_MAX - ms ? UINT64_MAX : moment + ms; }
+static inline struct oca_outcome oca_panel_turn_until(struct oca_panel *panel, uint64_t until) {
     uint8_t bytes[OCA_MOST_BYTES + 1] = {0};
     size_t len = 0;
     uint32_t ip = 0, reception = 0, answered = 0;
     uint16_t port = 0;
-    uint64_t until = 0, due = 0;
+    uint64_t due = 0;
     if (!panel->link.is_open) return oca_panel_state(panel);
-    const uint64_t now = panel->end.now(panel->end.context);
-    until = now > UINT64_MAX - 50 ? UINT64_MAX : now + 50;
     if (oca_link_next_due(&panel->link, &due) == OCA_DONE && due < until) until = due;
     if (panel->end.receive(panel->end.context, until, bytes, sizeof bytes, &len, &ip, &port) && len <= OCA_MOST_BYTES)
-        (void)oca_link_datagram(&panel->link, ip, port, bytes, len, panel->end.now(panel->end.context), &reception, &answered);
+        (void)oca_link_datagram(&panel->link, ip, port, bytes, len, oca_panel_now(panel), &reception, &answered);
     return oca_panel_give_out(panel);
+}
+
+/* Takes one turn: receives once, for at most 50 ms or until something is due, whichever is sooner, and sends what is due, keep-alives too. Tells what
+ * oca_panel_state does: of a link that this turn finds lost or late that it is. */
+static inline struct oca_outcome oca_panel_turn(struct oca_panel *panel) {
+    if (!panel->link.is_open) return oca_panel_state(panel);
+    return oca_panel_turn_until(panel, oca_moment_after(oca_panel_now(panel), 50));
 }
 
 /* Submits a command by a method of enum oca_method, or one that sets or reads an object by its value, sends it at once and tells its handle:
@@ -565,7 +601,7 @@ static inline enum oca_result oca_panel_begin(struct oca_panel *panel, uint32_t 
     const struct oca_outcome state = oca_panel_state(panel);
     if (state.asked == OCA_ASKED_LATE) return OCA_LOST;
     if (!panel->link.is_open) return OCA_CLOSED;
-    const enum oca_result taken = oca_link_call(&panel->link, ono, method, count, params, params_len, panel->end.now(panel->end.context), handle);
+    const enum oca_result taken = oca_link_call(&panel->link, ono, method, count, params, params_len, oca_panel_now(panel), handle);
     if (taken == OCA_DONE) (void)oca_panel_give_out(panel);
     return taken;
 }
@@ -589,8 +625,10 @@ struct oca_answer { uint32_t count; size_t params_len; uint8_t params[OCA_MOST_A
  * changes nothing. */
 static inline struct oca_outcome oca_panel_try_finish(struct oca_panel *panel, uint32_t handle, struct oca_answer *answer) {
     uint32_t status = 0;
+    bool in_flight = true;
     const enum oca_result taken = oca_link_take(&panel->link, handle, &status, &answer->count, answer->params, sizeof answer->params, &answer->params_len);
     if (taken == OCA_DONE) return oca_outcome_of(status == OCA_STATUS_OK ? OCA_ASKED_DONE : OCA_ASKED_REFUSED, status, 0);
+    if (oca_link_in_flight(&panel->link, handle, &in_flight) == OCA_DONE && !in_flight) return oca_outcome_of(OCA_ASKED_NO_HANDLE, 0, handle);
     const struct oca_outcome state = oca_panel_state(panel);
     return state.asked == OCA_ASKED_DONE ? oca_outcome_of(OCA_ASKED_UNANSWERED, 0, handle) : state;
 }
@@ -598,9 +636,18 @@ static inline struct oca_outcome oca_panel_try_finish(struct oca_panel *panel, u
 /* Waits for a command that was begun, and takes its answer. After OCA_ASKED_UNANSWERED it can be waited for again. */
 static inline struct oca_outcome oca_panel_finish(struct oca_panel *panel, uint32_t handle, struct oca_answer *answer) {
     struct oca_outcome outcome = oca_panel_try_finish(panel, handle, answer);
-    for (uint32_t turn = 0; turn < panel->turns && outcome.asked == OCA_ASKED_UNANSWERED; turn++) {
-        (void)oca_panel_turn(panel);
+    if (outcome.asked != OCA_ASKED_UNANSWERED) return outcome;
+    uint64_t now = oca_panel_now(panel), latest = now;
+    const uint64_t until = oca_moment_after(now, panel->wait_ms);
+    for (uint32_t still = 0; now < until && still < 100000 && outcome.asked == OCA_ASKED_UNANSWERED; still++) {
+        const uint64_t turn = oca_moment_after(now, 50);
+        (void)oca_panel_turn_until(panel, turn < until ? turn : until);
         outcome = oca_panel_try_finish(panel, handle, answer);
+        now = oca_panel_now(panel);
+        if (now > latest) {
+            latest = now;
+            still = 0;
+        }
     }
     return outcome;
 }
@@ -751,16 +798,20 @@ static inline void oca_walk_put(struct oca_walk *walk, uint32_t ono, uint32_t co
     walk->places[first].container = container;
 }
 
+/* Whether a walk can't go on after a question that fared so. */
+static inline bool oca_walk_ends_at(struct oca_outcome outcome) { return outcome.asked == OCA_ASKED_NOT_SENT || outcome.asked == OCA_ASKED_UNANSWERED; }
+
 /* What a walk calls at each object, with what the caller gave for it: it goes on where this answers true. It may ask the panel too. */
 typedef bool (*oca_visitor)(void *context, const struct oca_visit *visit);
 
 /* Visits the objects of the device from the root on, each block's members behind it in their order: each object once, at most 4,096, in the
  * place of a walk that the caller has for it. Each is asked for its class and its role, and a block for its members; nothing is set. Each
- * answer is waited for until it is there or the link is lost, whatever the panel's turns are. OCA_ASKED_DONE where all were visited, or the
- * visitor ended it; else why it could not go on. */
+ * answer is waited for until it is there or the link is lost, for 20,000 ms at most, however long the panel waits. OCA_ASKED_DONE where all
+ * were visited, or the visitor ended it; else why it could not go on: OCA_ASKED_UNANSWERED where in that time neither was so, as where the
+ * clock stands still. */
 static inline struct oca_outcome oca_panel_walk(struct oca_panel *panel, struct oca_walk *walk, oca_visitor visit, void *context) {
     struct oca_members members = {0, {0}};
-    const uint32_t turns = panel->turns;
+    const uint32_t wait_ms = panel->wait_ms;
     bool goes_on = true;
     walk->visited = walk->waiting = 0;
     oca_walk_put(walk, 100, 0);
@@ -769,7 +820,7 @@ static inline struct oca_outcome oca_panel_walk(struct oca_panel *panel, struct 
         struct oca_visit found = {walk->places[next].ono, walk->places[next].container, {0, 0, 0}, {0, {0}, 0}, {0, {0}}, {0, 0, 0}};
         walk->places[walk->visited].ono = found.ono;
         walk->places[walk->visited++].container = found.container;
-        panel->turns = UINT32_MAX; /* until the answer is there, or the link is lost */
+        panel->wait_ms = 20000; /* a link is lost, or late, before that */
         found.described = oca_panel_class(panel, found.ono, &found.id);
         if (found.described.asked == OCA_ASKED_DONE) found.described = oca_panel_role(panel, found.ono, &found.role);
         if (found.described.asked != OCA_ASKED_DONE) found.listed = found.described;
@@ -777,11 +828,11 @@ static inline struct oca_outcome oca_panel_walk(struct oca_panel *panel, struct 
             found.listed = oca_panel_members(panel, found.ono, &members);
             for (uint32_t i = found.listed.asked == OCA_ASKED_DONE ? members.count : 0; i > 0; i--) oca_walk_put(walk, members.onos[i - 1], found.ono);
         }
-        panel->turns = turns;
+        panel->wait_ms = wait_ms;
         const struct oca_outcome state = oca_panel_state(panel);
         if (state.asked != OCA_ASKED_DONE) return state;
-        if (found.described.asked == OCA_ASKED_NOT_SENT) return found.described;
-        if (found.listed.asked == OCA_ASKED_NOT_SENT) return found.listed;
+        if (oca_walk_ends_at(found.described)) return found.described;
+        if (oca_walk_ends_at(found.listed)) return found.listed;
         goes_on = visit(context, &found);
     }
     return oca_outcome_of(OCA_ASKED_DONE, 0, 0);

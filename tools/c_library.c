@@ -8,16 +8,20 @@
 /* A heap that counts the blocks that were not given back. */
 #include <stdlib.h>
 struct tried { bool ok; void *at; };
-static long blocks;
+static long blocks, requests, refused = -1; /* the request of this number is refused, counted from 0 */
 static size_t asked; /* bytes, in all */
 struct tried rattle_alloc(size_t size, size_t align) {
-    struct tried given = {true, malloc(size > align ? size : align)};
+    struct tried given = {requests++ != refused, NULL};
+    if (!given.ok) return given;
+    given.at = malloc(size > align ? size : align);
     blocks++, asked += size;
     return given;
 }
 struct tried rattle_realloc(void *old, size_t kept, size_t size, size_t align) {
     (void)kept;
-    struct tried given = {true, realloc(old, size > align ? size : align)};
+    struct tried given = {requests++ != refused, NULL};
+    if (!given.ok) return given;
+    given.at = realloc(old, size > align ? size : align);
     asked += size;
     return given;
 }
@@ -153,6 +157,7 @@ static void closed_link(struct oca_link *l) {
     same("closed: next handle", oca_link_next_handle(l, &a) == OCA_CLOSED && a == 0, 1);
     same("closed: last heard", oca_link_last_heard(l, &moment), OCA_CLOSED);
     bool lost = true;
+    same("closed: in flight", oca_link_in_flight(l, 1, &lost) == OCA_CLOSED && lost, 1);
     same("closed: is lost", oca_link_is_lost(l, &lost), OCA_CLOSED);
     same("closed: is late", oca_link_is_late(l, 0, &lost) == OCA_CLOSED && lost, 1);
     same("closed: take", oca_link_take(l, 1, &a, &b, bytes, sizeof bytes, &size), OCA_CLOSED);
@@ -543,7 +548,7 @@ static void sets_values(void) {
     struct oca_device d = OCA_DEVICE_INIT;
     struct oca_setting s = {9, 9, 9};
     const struct oca_value no_value = {14, 0, 0}, minus_7 = oca_int16(-7), wide = oca_int32(-8), far = oca_int16(101), position = oca_position(1),
-        unmuted = oca_mute(false), most = oca_uint64(UINT64_MAX - 1);
+        unmuted = oca_mute(false), most = oca_uint64(UINT64_MAX - 1), inverted = oca_polarity(true), truth = oca_boolean(true);
     same("closed: set", oca_device_set(&d, 4097, &minus_7), OCA_CLOSED);
     same("open", oca_device_open(&d, 8), OCA_DONE);
     same("set before the start", oca_device_set(&d, 4097, &no_value), OCA_NOT_STARTED);
@@ -555,11 +560,14 @@ static void sets_values(void) {
     same("start", oca_device_start(&d, 8, 2), OCA_DONE);
     same("set", oca_device_set(&d, 4097, &minus_7), OCA_DONE);
     same("minus 7", oca_device_setting(&d, 4097, &s) == OCA_DONE && s.kind == 4 && s.negative == 1 && s.magnitude == 7, 1);
-    same("of a wider type", oca_device_set(&d, 4097, &wide), OCA_DONE);
-    same("minus 8", oca_device_setting(&d, 4097, &s) == OCA_DONE && s.negative == 1 && s.magnitude == 8, 1);
+    same("of a wider type", oca_device_set(&d, 4097, &wide), OCA_OTHER_KIND);
+    same("still minus 7", oca_device_setting(&d, 4097, &s) == OCA_DONE && s.negative == 1 && s.magnitude == 7, 1);
     same("above its greatest", oca_device_set(&d, 4097, &far), OCA_OUT_OF_RANGE);
     same("no value", oca_device_set(&d, 9, &no_value), OCA_NO_VALUE);
     same("another kind", oca_device_set(&d, 4097, &position), OCA_OTHER_KIND);
+    same("a polarity at a mute", oca_device_set(&d, 4099, &inverted), OCA_OTHER_KIND);
+    same("a Boolean at a mute", oca_device_set(&d, 4099, &truth), OCA_OTHER_KIND);
+    same("it is muted still", oca_device_setting(&d, 4099, &s) == OCA_DONE && s.kind == 1 && s.magnitude == OCA_MUTED, 1);
     same("no object", oca_device_set(&d, 9, &position), OCA_NO_OBJECT);
     same("no setting", oca_device_set(&d, 4096, &position), OCA_NO_SETTING);
     same("position", oca_device_set(&d, 4098, &position), OCA_DONE);
@@ -570,6 +578,98 @@ static void sets_values(void) {
     same("that number", oca_device_setting(&d, 4100, &s) == OCA_DONE && s.negative == 0 && s.magnitude == UINT64_MAX - 1, 1);
     oca_device_close(&d);
     oca_device_close(NULL);
+}
+
+/* An object of each class is set by a value of its own class alone; any other leaves it as it was. */
+static void sets_each_class(void) {
+    const struct oca_value values[] = {oca_mute(false), oca_polarity(true), oca_position(1), oca_boolean(true), oca_int8(1), oca_int16(1), oca_int32(1),
+        oca_int64(1), oca_uint8(1), oca_uint16(1), oca_uint32(1), oca_uint64(1)};
+    const size_t count = sizeof values / sizeof *values;
+    struct oca_device d = OCA_DEVICE_INIT;
+    same("open", oca_device_open(&d, 16), OCA_DONE);
+    for (uint32_t i = 0; i < count; i++) {
+        const uint32_t class_number = values[i].class_number;
+        struct oca_spec spec = oca_spec_of("each", oca_alone(oca_value_of(class_number, class_number < OCA_CLASS_SWITCH ? 1 : 0)));
+        if (class_number > OCA_CLASS_BOOLEAN) spec.reading.greatest = oca_value_of(class_number, 2);
+        if (class_number == OCA_CLASS_SWITCH) oca_spec_position(&spec, "off"), oca_spec_position(&spec, "on");
+        same("an object", oca_device_add(&d, 100, 5000 + i, &spec), OCA_DONE);
+    }
+    same("start", oca_device_start(&d, 8, 2), OCA_DONE);
+    for (uint32_t i = 0; i < count; i++) {
+        struct oca_setting before = {9, 9, 9}, behind = {8, 8, 8};
+        same("a setting", oca_device_setting(&d, 5000 + i, &before), OCA_DONE);
+        for (size_t j = 0; j < count; j++)
+            if (j != i) same("a value of another class", oca_device_set(&d, 5000 + i, &values[j]), OCA_OTHER_KIND);
+        same("the setting is as it was", oca_device_setting(&d, 5000 + i, &behind) == OCA_DONE && memcmp(&before, &behind, sizeof before) == 0, 1);
+        same("a value of its class", oca_device_set(&d, 5000 + i, &values[i]), OCA_DONE);
+        same("that is set", oca_device_setting(&d, 5000 + i, &behind) == OCA_DONE && behind.magnitude == values[i].bits, 1);
+    }
+    oca_device_close(&d);
+}
+
+/* Where a request for memory is refused at an opening or a start, the struct is closed, each call says so, and all memory is given back;
+ * where it is refused at an addition, nothing is added. */
+#ifdef COUNTS_BLOCKS
+static void without_memory(void) {
+    const struct oca_value value = oca_mute(false);
+    const long before = blocks;
+    bool is_done = false;
+    for (long number = 0; !is_done && number < 1000; number++) {
+        struct oca_device d = OCA_DEVICE_INIT;
+        struct oca_verdict v = {9, 9, 9, 9, 9, 9, 9};
+        struct oca_spec spec = OCA_SPEC_INIT;
+        size_t count = 7;
+        requests = 0, refused = number;
+        enum oca_result result = oca_device_open(&d, 3);
+        if (result == OCA_DONE) {
+            result = oca_device_add_mute(&d, 100, 4097, text("mute"), 4, true, true);
+            if (result == OCA_NO_MEMORY) same("an addition without memory leaves it open", d.is_open, true), oca_device_close(&d);
+        }
+        if (result == OCA_DONE) result = oca_device_start(&d, 2, 2);
+        is_done = result == OCA_DONE;
+        if (is_done) oca_device_close(&d);
+        else same("no memory", result, OCA_NO_MEMORY);
+        same("it is closed", !d.is_open && !d.at, true);
+        same("all memory is given back", (uint32_t)(blocks - before), 0);
+        same("start", oca_device_start(&d, 2, 2), OCA_CLOSED);
+        same("add", oca_device_add_mute(&d, 100, 4098, text("mute"), 4, true, true), OCA_CLOSED);
+        same("set", oca_device_set(&d, 4097, &value), OCA_CLOSED);
+        same("tick", oca_device_tick(&d, 1), OCA_CLOSED);
+        same("datagram", oca_device_datagram(&d, 1, 2, get_state, sizeof get_state, 0, &v), OCA_CLOSED);
+        same("packets", oca_device_packets(&d, &count), OCA_CLOSED);
+        same("spec", oca_device_spec(&d, 0, &spec), OCA_CLOSED);
+        refused = -1;
+        same("it can be opened anew", oca_device_open(&d, 3), OCA_DONE);
+        same("and started", oca_device_start(&d, 2, 2), OCA_DONE);
+        oca_device_close(&d);
+    }
+    same("it is done once all is given", is_done, true);
+    for (is_done = false, refused = 0; !is_done && refused < 9; refused++) {
+        struct oca_link link = OCA_LINK_INIT;
+        requests = 0;
+        const enum oca_result result = oca_link_open(&link, 1, 2, 3, 4, 5);
+        is_done = result == OCA_DONE;
+        same("a link", is_done ? link.is_open : result == OCA_NO_MEMORY && !link.is_open, true);
+        oca_link_close(&link);
+    }
+    refused = -1;
+}
+#else
+static void without_memory(void) {}
+#endif
+
+/* The port whose turn it is, and the first handle there, at moments before and behind the turns' ends. */
+static void own_ports(void) {
+    const struct { uint64_t seconds; uint32_t microseconds; uint16_t port; uint32_t handle; } rows[] = {{0, 0, 65001, 0}, {0, 9, 65001, 0},
+        {0, 10, 65001, 1}, {21474, 836479, 65001, 2147483647}, {21474, 836480, 65002, 0}, {42949, 672950, 65002, 2147483647},
+        {42949, 672960, 65001, 0}, {1764283200, 123456, 65002, 1800910905}, {UINT64_MAX, 999999, 65002, 2147483647},
+        {UINT64_MAX, UINT32_MAX, 65001, 429396729}};
+    for (size_t i = 0; i < sizeof rows / sizeof *rows; i++) {
+        const struct oca_own_port own = oca_own_port(rows[i].seconds, rows[i].microseconds);
+        same("an own port", own.port, rows[i].port);
+        same("the other one", own.other, 130003 - rows[i].port);
+        same("a first handle", own.first_handle, rows[i].handle);
+    }
 }
 
 /* An object of each class and a switch: as it is added, as it is told, and made again in another device; then as peers set it. */
@@ -599,7 +699,15 @@ static void refuses_specs(struct oca_device *d) {
     same("another size", spec_added(d, s), OCA_BAD_SIZE);
     s.size += 2;
     same("a larger size", spec_added(d, s), OCA_BAD_SIZE);
-    s.size--, s.role.size = 65;
+    s.size = 0;
+    same("no size", spec_added(d, s), OCA_BAD_SIZE);
+    s.size = (uint32_t)sizeof s;
+    for (size_t i = 0; i < sizeof s.zeros; i++) {
+        s.zeros[i] = (uint8_t)(1u << i);
+        same("a byte that is no zero", spec_added(d, s), OCA_BAD_SIZE);
+        s.zeros[i] = 0;
+    }
+    s.role.size = 65;
     same("17 positions", spec_added(d, s), OCA_BAD_RANGE);
     s.positions = 0, s.reading.value.class_number = 14;
     same("a role above 64 bytes", spec_added(d, s), OCA_BAD_TEXT);
@@ -667,19 +775,22 @@ static bool same_object(const struct oca_spec *told, const struct oca_spec *give
 
 static void objects_by_struct(void) {
     struct oca_device d = OCA_DEVICE_INIT, again = OCA_DEVICE_INIT;
-    struct oca_spec specs[16], told[16], block = oca_spec_of_block("desk"), root = oca_spec_of_block("root"), none = gain_spec();
+    struct oca_spec specs[16], told[16] = {OCA_SPEC_INIT}, kept = gain_spec(), block = oca_spec_of_block("desk"), root = oca_spec_of_block("root"), none = gain_spec();
     struct oca_object o = {9, 9, 9, 9, {0}};
     struct oca_verdict v = {9, 9, 9, 9, 9, 9, 9};
     uint8_t bytes[OCA_MOST_BYTES] = {0};
     size_t size = 9;
     const size_t count = specs_of_each_class(specs);
+    for (size_t i = 1; i < 16; i++) told[i] = told[0];
     same("closed: add", oca_device_add(&d, 100, 4096, &block), OCA_CLOSED);
     same("closed: spec", oca_device_spec(&d, 0, &none), OCA_CLOSED);
     same("left alone", none.label.size, 6);
     same("room for none", oca_device_open_with(&d, 0, &root), OCA_BAD_SIZE);
     root.size++;
     same("another size", oca_device_open_with(&d, 16, &root), OCA_BAD_SIZE);
-    root.size--, root.label.size = 65;
+    root.size--, root.zeros[5] = 1;
+    same("a byte that is no zero", oca_device_open_with(&d, 16, &root), OCA_BAD_SIZE);
+    root.zeros[5] = 0, root.label.size = 65;
     same("a label above 64 bytes", oca_device_open_with(&d, 16, &root), OCA_BAD_TEXT);
     root.label = oca_name_of("FOH"), root.enabled = 0;
     same("open", oca_device_open_with(&d, 16, &root), OCA_DONE);
@@ -695,6 +806,13 @@ static void objects_by_struct(void) {
     same("the block", oca_device_spec(&d, 1, &told[0]) == OCA_DONE && same_object(&told[0], &block), 1);
     for (size_t i = 0; i < count; i++) same("told as it was added", oca_device_spec(&d, 2 + i, &told[i]) == OCA_DONE && same_object(&told[i], &specs[i]), 1);
     same("behind the last", oca_device_spec(&d, 3 + count, &none) == OCA_NOTHING && none.label.size == 6, 1);
+    static const uint32_t sizes[] = {0, 1, 1247, 1249, 4096, UINT32_MAX};
+    for (size_t i = 0; i < sizeof sizes / sizeof *sizes; i++) {
+        kept.size = none.size = sizes[i];
+        same("a struct of another size", oca_device_spec(&d, 1, &none), OCA_BAD_SIZE);
+        same("also behind the last", oca_device_spec(&d, 3 + count, &none), OCA_BAD_SIZE);
+        same("is not written to", memcmp(&none, &kept, sizeof none) == 0, 1);
+    }
     /* peers set a label, whether it is enabled, a position, a name of one and the flags; and the root's label */
     const uint16_t gain = (uint16_t)(4100 + count - 2), mode = (uint16_t)(gain + 1);
     const uint64_t late = UINT64_C(3) << 33;
@@ -801,9 +919,14 @@ static void link(void) {
     same("last heard", oca_link_last_heard(&l, &moment), OCA_DONE);
     same("at the opening", moment == 0, 1);
     same("the first handle is next", oca_link_next_handle(&l, &a) == OCA_DONE && a == 1, 1);
+    bool in_flight = true;
     same("above 1,445 bytes", oca_link_submit(&l, 4097, 4, 1, 0, bytes, 1446, 0, &handle), OCA_TOO_LONG);
+    same("none is in flight", oca_link_in_flight(&l, 1, &in_flight) == OCA_DONE && !in_flight, 1);
     same("submit", oca_link_submit(&l, 4097, 4, 1, 0, bytes, 0, 0, &handle), OCA_DONE);
     same("its handle", handle, 1);
+    same("it is in flight", oca_link_in_flight(&l, 1, &in_flight) == OCA_DONE && in_flight, 1);
+    for (uint32_t k = 0; k < 34; k++)
+        if (k != 1) same("no other is", oca_link_in_flight(&l, k, &in_flight) == OCA_DONE && !in_flight, 1);
     same("the second is next", oca_link_next_handle(&l, &a) == OCA_DONE && a == 2, 1);
     same("due at once", oca_link_next_due(&l, &moment) == OCA_DONE && moment == 0, 1);
     same("a full span", oca_link_submit(&l, 4097, 4, 1, 0, bytes, 0, 0, &handle), OCA_SPAN_FULL);
@@ -823,6 +946,7 @@ static void link(void) {
     same("not heard by these", oca_link_last_heard(&l, &moment) == OCA_DONE && moment == 0, 1);
     same("the answer", oca_link_datagram(&l, 1, 2, muted, sizeof muted, 7, &a, &b), OCA_DONE);
     same("one answered", a == OCA_ANSWERED && b == 1, 1);
+    same("it is in flight no longer", oca_link_in_flight(&l, 1, &in_flight) == OCA_DONE && !in_flight, 1);
     same("heard by it", oca_link_last_heard(&l, &moment) == OCA_DONE && moment == 7, 1);
     same("its handle is named", oca_link_answered(&l, &a) == OCA_DONE && a == 1, 1);
     same("a keep-alive is next", oca_link_next_due(&l, &moment) == OCA_DONE && moment == 2500, 1);
@@ -841,6 +965,7 @@ static void link(void) {
     for (uint64_t k = 0; k <= 20; k++) oca_link_due(&l, 2500 + 250 * k, bytes, sizeof bytes, &size, &a, &b);
     same("lost after 20 sendings", a, OCA_DUE_LOST);
     same("it says so", oca_link_is_lost(&l, &lost) == OCA_DONE && lost, 1);
+    same("the last one is in flight still", oca_link_in_flight(&l, 2, &in_flight) == OCA_DONE && in_flight, 1);
     same("submit when lost", oca_link_submit(&l, 4097, 4, 1, 0, bytes, 0, 9000, &handle), OCA_LOST);
     oca_link_close(&l);
     same("the last moments", oca_link_open(&l, 1, 2, 1, UINT64_MAX - 2000, 16), OCA_DONE);
@@ -875,9 +1000,15 @@ static void asks(void) {
     same("a full datagram", size == OCA_MOST_BYTES && bytes[23] == 2 && bytes[25] == 9 && bytes[26] == 7 && bytes[27] == 0xa5 && bytes[1471] == 0xa5, 1);
     same("due again", oca_link_next_due(&l, &moment) == OCA_DONE && moment == late + 251, 1);
     bool is_late = true;
-    same("not late", oca_link_is_late(&l, late + 100001, &is_late) == OCA_DONE && !is_late, 1);
-    same("late", oca_link_is_late(&l, late + 100002, &is_late) == OCA_DONE && is_late, 1);
+    same("not late", oca_link_is_late(&l, late + 15000, &is_late) == OCA_DONE && !is_late, 1);
+    same("late", oca_link_is_late(&l, late + 15001, &is_late) == OCA_DONE && is_late, 1);
     same("asked and left as it was", oca_link_is_late(&l, late, &is_late) == OCA_DONE && !is_late, 1);
+    oca_link_close(&l);
+    same("open", oca_link_open(&l, 1, 2, 3, late, 3), OCA_DONE);
+    same("nothing is late where nothing was asked", oca_link_is_late(&l, UINT64_MAX, &is_late) == OCA_DONE && !is_late, 1);
+    same("submit", oca_link_submit(&l, 4097, 4, 1, 0, params, 0, late + 7, &handle), OCA_DONE);
+    same("not late", oca_link_is_late(&l, late + 15007, &is_late) == OCA_DONE && !is_late, 1);
+    same("what was never sent is late too", oca_link_is_late(&l, late + 15008, &is_late) == OCA_DONE && is_late, 1);
     oca_link_close(&l);
     oca_link_close(NULL);
 }
@@ -891,6 +1022,9 @@ int main(void) {
     values();
     reads_answers();
     sets_values();
+    sets_each_class();
+    without_memory();
+    own_ports();
     objects_by_struct();
     numbers();
     alone();

@@ -8,7 +8,8 @@ flags of oca.pc (the former with the shared library, the latter with the static 
 against `ocadev` and `ocactl`, also under valgrind, for AArch64 under emulation, and on an emulated x86-64 of the first kind; what
 is not installed here is named as NOT TRIED. The mixer is killed and started anew behind a network that loses one datagram of five, as
 it is and under the sanitizers. Each call is tried on a closed handle and at its limits (c_library.c), and the panel that the header
-writes over a network that loses, doubles and delays, and at peers that answer wrongly (c_library_panel.c). Each request
+writes over a network that loses, doubles and delays, and at peers that answer wrongly (c_library_panel.c); and calls of
+anything are made in any order (c_library_random.c). Each request
 for memory is refused in turn. Header and library name the same functions, and the library needs what EMBEDDING names. What is
 installed lies below its folder, also with a space in its name or a relative one, and `make uninstall` leaves nothing of it; what
 is installed of another kind of processor lies in a folder of its own. The last line is 'N passed, M failed'."""
@@ -27,6 +28,8 @@ import threading
 import time
 from pathlib import Path
 
+sys.path.insert(0, str(Path(__file__).resolve().parent.parent / "gate"))
+import reference
 from embedded import bound_at
 from own_ports import free_port
 
@@ -36,6 +39,8 @@ AMPLIFIER = "1: open 0 dB/10, 2: muted 0 dB/10\n1: open -60 dB/10, 2: muted 0 dB
 PANEL = "open channel 1: status 0\ngain to -6 dB: status 0\ngain: -60 dB/10\n"
 STRICT = ["-O2", "-Wall", "-Wextra", "-Werror"]
 LANGUAGES = {"c11": ["cc", "-std=c11"], "c++17": ["c++", "-x", "c++", "-std=c++17"]}
+RESULTS = {name: int(number) for name, number in re.findall(r"(OCA_\w+) = (\d+)", (TOP / "include/oca.h").read_text())}
+CALLS = 1_500_000  # of a run of random ones
 SANITIZED = ["-O1", "-g", "-fsanitize=address,undefined", "-fno-sanitize-recover=all"]
 
 
@@ -140,6 +145,22 @@ def panels(checks, made, prefix, folder):
             checks.same(f"the walk ({language}) at `ocadev` {words}", said_by([made / f"network-{language}-sanitized", port]), told)
         run.kill()
         checks.same(f"the walk of a device that is gone {words}", said_by([made / "network-c11-sanitized", port]), ("lost\n", 1))
+
+
+def random_calls(checks, made, prefix):
+    """Calls of devices, links and panels in any order, with any numbers, under the sanitizers: what each answers, and what it writes."""
+    for seed, (language, compiler) in enumerate(LANGUAGES.items(), 1):
+        program = made / f"random-{language}"
+        subprocess.run([*compiler, *STRICT, *SANITIZED, f"-I{prefix}/include", "-o", program, HERE / "c_library_random.c", "-x", "none", prefix / "lib/liboca.a"],
+                       check=True)
+        out, status = said_by([program, CALLS, seed])
+        counts = re.search(r"(\d+) passed, (\d+) failed\n$", out)
+        checks.same(f"calls of anything ({language})", (counts is not None and int(counts[1]) > CALLS, counts and counts[2], status), (True, "0", 0))
+        print(out, end="") if status else None
+        for line in out.splitlines()[:-1] if not status else ():
+            name, *results = line.split()
+            unsaid = {int(it) for it in results} - {RESULTS[it] for it in reference.answers_of(name)}
+            checks.same(f"what {name} answered and its page does not say", unsaid, set())
 
 
 def full_datagram(checks, made):
@@ -268,7 +289,7 @@ CARELESS = [("unused-result", it) for it in (
     "oca_link_submit(&link, 1, 2, 3, 0, text, 0, 4, &number)")]
 CARELESS += [("nonnull", f"(void)!{it}") for it in (
     "oca_device_open(NULL, 1)", "oca_device_tick(NULL, 1)", "oca_device_packets(&device, NULL)",
-    "oca_device_set(&device, 4096, NULL)",
+    "oca_device_set(&device, 4096, NULL)", "oca_device_spec(&device, 0, NULL)", "oca_link_in_flight(&link, 1, NULL)",
     "oca_link_next_due(&link, NULL)", "oca_link_due(&link, 1, NULL, 1472, &size, &number, &number)",
     "oca_text_put(NULL, text, 4, &size)")]
 ONE_CALL = """#include <oca.h>
@@ -803,6 +824,7 @@ def main():
         against_each_other(checks, made)
         against_the_programs(checks, made, folder)
         panels(checks, made, prefix, folder)
+        random_calls(checks, made, prefix)
         full_datagram(checks, made)
         mixers(checks, made, prefix)
         oversize(checks, made)

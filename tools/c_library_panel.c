@@ -60,6 +60,8 @@ struct network {
     uint32_t answer_len, answer_count, answer_status, stranger, more; /* so many bytes more stand behind an answer */
     bool cuts; /* a datagram that has no room is told with the length of the room */
     bool hurries; /* a receive waits for a millisecond at most */
+    bool stands; /* the clock stands still, and nothing comes */
+    uint32_t receives, flood; /* with a flood of 8 for a millisecond, but each eighth receive gets a stranger's datagram at once */
 };
 
 static bool happens(struct network *network, uint32_t of_100) {
@@ -142,6 +144,17 @@ static uint64_t now_of(void *context) { return ((struct network *)context)->now;
 static bool receive(void *context, uint64_t until, uint8_t *out, size_t out_len, size_t *len, uint32_t *ip, uint16_t *port) {
     struct network *network = (struct network *)context;
     size_t first = QUEUED;
+    network->receives++;
+    if (network->stands) return false;
+    if (network->flood && network->receives % 8) {
+        if (network->receives % network->flood == 0) network->now++;
+        *len = 3;
+        *ip = DEVICE_IP + 1;
+        *port = DEVICE_PORT;
+        memcpy(out, "\x3b\0\1", 3);
+        return true;
+    }
+    if (network->flood) until = network->now;
     if (network->hurries && until > network->now + 1) until = network->now + 1;
     for (size_t i = 0; i < network->queued; i++)
         if (network->queue[i].at <= until && (first == QUEUED || network->queue[i].at < network->queue[first].at)) first = i;
@@ -161,7 +174,7 @@ static bool receive(void *context, uint64_t until, uint8_t *out, size_t out_len,
 
 static void opens(struct oca_panel *panel, struct network *network, uint32_t first) {
     const struct oca_end end = {sizeof end, network, now_of, send_to, receive};
-    same("open", oca_panel_open(panel, &end, DEVICE_IP, DEVICE_PORT, first, 16, 400), OCA_DONE);
+    same("open", oca_panel_open(panel, &end, DEVICE_IP, DEVICE_PORT, first, 16, 10500), OCA_DONE);
 }
 
 static bool is_name(const struct oca_name *name, const char *text) {
@@ -237,7 +250,7 @@ static void reads(struct oca_panel *panel) {
     seen.len = 0;
     seen.at_most = 3;
     same("a walk that is ended", oca_panel_walk(panel, &walk, visits, &seen).asked == OCA_ASKED_DONE && seen.len == 3, 1);
-    same("its turns behind that", panel->turns, 400);
+    same("its wait behind that", panel->wait_ms, 10500);
 }
 
 static void sets(struct oca_panel *panel) {
@@ -278,7 +291,13 @@ static void begins_several(struct oca_panel *panel) {
     same("handles rise", handles[8] - handles[0], 8);
     same("the last", oca_panel_finish_get(panel, handles[8], OCA_CLASS_INT16, &reading).asked, OCA_ASKED_DONE);
     for (int k = 7; k >= 0; k--) same("finish", oca_panel_finish_set(panel, handles[k]).asked, OCA_ASKED_DONE);
-    same("taken once", oca_panel_finish_set(panel, handles[0]).asked, OCA_ASKED_UNANSWERED);
+    const uint32_t others[] = {handles[0], handles[8], handles[8] + 1, handles[0] - 1, 0, UINT32_MAX};
+    for (size_t k = 0; k < sizeof others / sizeof *others; k++) {
+        const struct oca_outcome outcome = oca_panel_finish_set(panel, others[k]);
+        same("a handle whose answer was taken, or that no command had", outcome.asked, OCA_ASKED_NO_HANDLE);
+        same("it is told", outcome.result, others[k]);
+        says("in words", oca_outcome_text(outcome), "no such handle");
+    }
 }
 
 static void locks(struct oca_panel *panel, struct oca_panel *other) {
@@ -326,7 +345,7 @@ static void at_device(uint32_t seed, uint32_t lost, uint32_t doubled, uint32_t d
         seen.len = 0;
         seen.at_most = 4100;
         same("nor walks", oca_panel_walk(&panels[0], &walk, visits, &seen).asked == OCA_ASKED_LOST && seen.len == 0, 1);
-        same("its turns behind that", panels[0].turns, 400);
+        same("its wait behind that", panels[0].wait_ms, 10500);
         says("in words", oca_outcome_text(oca_panel_state(&panels[0])), "lost");
     }
     oca_panel_close(&panels[0]);
@@ -368,9 +387,9 @@ static void walks_all(void) {
     oca_device_close(&device);
 }
 
-/* A panel whose calls wait for one turn alone walks all objects, over a network that loses datagrams and one on which a
+/* A panel whose calls wait for a millisecond alone walks all objects, over a network that loses datagrams and one on which a
  * receive hardly waits: it waits for each answer. */
-static void walks_in_single_turns(uint32_t seed, bool hurries) {
+static void walks_of_no_patience(uint32_t seed, bool hurries) {
     static struct network network;
     struct oca_device device = OCA_DEVICE_INIT;
     struct oca_panel panel = OCA_PANEL_INIT;
@@ -389,20 +408,20 @@ static void walks_in_single_turns(uint32_t seed, bool hurries) {
     network.delayed = hurries ? 30 : 0;
     network.hurries = hurries;
     opens(&panel, &network, 1);
-    panel.turns = 1;
+    panel.wait_ms = 1;
     seen.len = 0;
     seen.at_most = 4100;
-    same("a walk in single turns", oca_panel_walk(&panel, &walk, visits, &seen).asked, OCA_ASKED_DONE);
+    same("a walk of a panel that hardly waits", oca_panel_walk(&panel, &walk, visits, &seen).asked, OCA_ASKED_DONE);
     same("of all objects", seen.len, 65);
     for (uint32_t i = 0; i < seen.len && i < 4100; i++) unknown += seen.classes[i] == 99;
     same("each is described", unknown, 0);
-    same("the turns are the panel's own again", panel.turns, 1);
+    same("the wait is the panel's own again", panel.wait_ms, 1);
     oca_panel_close(&panel);
     oca_device_close(&device);
 }
 
-/* A visitor that asks the panel itself where nobody answers: it waits for the panel's own turns, 50 ms each, and then
- * takes the answer to what the link sends again. */
+/* A visitor that asks the panel itself where nobody answers: it waits as long as the panel does, and then takes the answer to
+ * what the link sends again. */
 struct asking { struct oca_panel *panel; struct network *network; uint32_t visits, waits, answers; };
 
 static bool asks_too(void *context, const struct oca_visit *visit) {
@@ -412,7 +431,7 @@ static bool asks_too(void *context, const struct oca_visit *visit) {
     asking->visits++;
     asking->network->silent = true;
     struct oca_outcome outcome = oca_panel_read(asking->panel, visit->ono, OCA_GET_ROLE, &answer);
-    asking->waits += outcome.asked == OCA_ASKED_UNANSWERED && asking->network->now - before == 150;
+    asking->waits += outcome.asked == OCA_ASKED_UNANSWERED && asking->network->now - before == 130;
     asking->network->silent = false;
     for (uint32_t k = 0; k < 10 && outcome.asked == OCA_ASKED_UNANSWERED; k++)
         outcome = oca_panel_finish(asking->panel, outcome.result, &answer);
@@ -429,12 +448,12 @@ static void walks_and_asks(void) {
     network.device = &device;
     network.port = 40000;
     opens(&panel, &network, 1);
-    panel.turns = 3;
+    panel.wait_ms = 130;
     same("a walk whose visitor asks", oca_panel_walk(&panel, &walk, asks_too, &asking).asked, OCA_ASKED_DONE);
     same("of all objects", asking.visits, 8);
-    same("each question waits for the panel's turns", asking.waits, 8);
+    same("each question waits as long as the panel", asking.waits, 8);
     same("each is answered at last", asking.answers, 8);
-    same("the turns are the panel's own again", panel.turns, 3);
+    same("the wait is the panel's own again", panel.wait_ms, 130);
     oca_panel_close(&panel);
     oca_device_close(&device);
 }
@@ -608,7 +627,7 @@ static void refuses_a_smaller_end(void) {
     memset(&panel, 0, sizeof panel);
     memset(&before, 0, sizeof before);
     memcpy(small, &size, sizeof size);
-    panel.turns = before.turns = 7;
+    panel.wait_ms = before.wait_ms = 7;
     same("a smaller struct", oca_panel_open(&panel, small, 1, 2, 3, 4, 5), OCA_BAD_SIZE);
     same("the panel is as it was", memcmp(&panel, &before, sizeof panel) == 0, 1);
     free(small);
@@ -631,13 +650,13 @@ static void drops_what_is_too_long(bool cuts) {
     static const uint32_t more[] = {1, 2, 50};
     for (size_t k = 0; k < sizeof more / sizeof *more; k++) {
         network.more = more[k];
-        panel.turns = 20;
+        panel.wait_ms = 1000;
         const uint32_t before = handed_over;
         const struct oca_outcome outcome = oca_panel_read(&panel, 4097, OCA_GET_ROLE, &answer);
         same("what is longer is dropped", outcome.asked, OCA_ASKED_UNANSWERED);
         same("and handed to no link", handed_over, before);
         network.more = 0;
-        panel.turns = 400;
+        panel.wait_ms = 10500;
         same("and without it taken", oca_panel_finish(&panel, outcome.result, &answer).asked, OCA_ASKED_DONE);
         same("as a link is handed it", handed_over, before + 1);
     }
@@ -663,12 +682,125 @@ static void asks_in_vain(void) {
     struct oca_panel panel = OCA_PANEL_INIT;
     begins_network(&network, &panel);
     network.silent = true;
-    panel.turns = 0;
+    panel.wait_ms = 0;
     for (int question = 0; question < QUESTIONS; question++)
         same("no answer to a question", asked(&panel, (enum question)question), OCA_ASKED_UNANSWERED);
-    while (oca_panel_turn(&panel).asked == OCA_ASKED_DONE) {}
+    same("which no turn was taken for", network.receives, 0);
+    for (bool lost = false; !lost;) {
+        const uint32_t told = oca_panel_turn(&panel).asked;
+        if (oca_link_is_lost(&panel.link, &lost) != OCA_DONE) lost = true;
+        same("the turn that loses the link says so", told, lost ? OCA_ASKED_LOST : OCA_ASKED_DONE);
+    }
     for (int question = 0; question < QUESTIONS; question++)
         same("a question of a lost link", asked(&panel, (enum question)question), OCA_ASKED_LOST);
+    same("a panel that does not wait is open", panel.link.is_open, true);
+    oca_panel_close(&panel);
+    same("and is closed as any other", !panel.link.is_open && !panel.link.at && oca_panel_state(&panel).result == OCA_CLOSED, true);
+}
+
+/* A turn in which nothing comes and nothing is due lasts 50 ms, and one before something is due ends there. */
+static void turns_last(void) {
+    static struct network network;
+    struct oca_panel panel = OCA_PANEL_INIT;
+    begins_network(&network, &panel);
+    const uint64_t opened = network.now;
+    for (uint32_t k = 1; k < 4; k++) same("a turn", oca_panel_turn(&panel).asked == OCA_ASKED_DONE && network.now == opened + 50 * k, true);
+    network.now = opened + 2470;
+    same("a turn until a keep-alive is due", oca_panel_turn(&panel).asked == OCA_ASKED_DONE && network.now == opened + 2500, true);
+    same("which it sends", network.sent, 1);
+    oca_panel_close(&panel);
+}
+
+/* A turn says that the link is late where it is so behind the receive, and sends nothing: a millisecond sooner it is not late. */
+static void turns_late(void) {
+    static struct network network;
+    struct oca_panel panel = OCA_PANEL_INIT;
+    uint32_t handle = 0;
+    bool late = true;
+    begins_network(&network, &panel);
+    network.silent = true;
+    same("begin", oca_panel_begin_set(&panel, 4097, oca_mute(true), &handle), OCA_DONE);
+    const uint64_t begun = network.now;
+    network.now = begun + 15000;
+    same("15 seconds behind", oca_link_is_late(&panel.link, network.now, &late) == OCA_DONE && !late, true);
+    same("nothing is late", oca_panel_state(&panel).asked, OCA_ASKED_DONE);
+    network.now++;
+    same("a millisecond later", oca_link_is_late(&panel.link, network.now, &late) == OCA_DONE && late, true);
+    same("it is", oca_panel_state(&panel).asked, OCA_ASKED_LATE);
+    network.now--;
+    network.hurries = true;
+    same("it becomes so in a turn", oca_panel_begin_set(&panel, 4097, oca_mute(true), &handle), OCA_DONE);
+    const uint32_t sent = network.sent;
+    network.now--;
+    same("which goes by the moment behind the receive", oca_panel_turn(&panel).asked, OCA_ASKED_DONE);
+    network.now = begun + 15001;
+    same("a turn of a late link", oca_panel_turn(&panel).asked, OCA_ASKED_LATE);
+    same("and nothing was sent", network.sent, sent);
+    oca_panel_close(&panel);
+}
+
+/* A flood of strangers' datagrams costs none of the wait: an answer that comes in time is taken, and without one the call waits until
+ * its last moment, and no longer. */
+static void waits_in_a_flood(void) {
+    static struct network network;
+    struct oca_panel panel = OCA_PANEL_INIT;
+    uint32_t handle = 0;
+    begins_network(&network, &panel);
+    panel.wait_ms = 700;
+    network.flood = 33;
+    network.silent = true;
+    same("begin", oca_panel_begin_set(&panel, 4097, oca_mute(true), &handle), OCA_DONE);
+    const uint64_t before = network.now;
+    same("no answer in a flood", oca_panel_finish_set(&panel, handle).asked, OCA_ASKED_UNANSWERED);
+    same("after the whole wait", (uint32_t)(network.now - before), 700);
+    same("in which much came", network.receives > 700 * 30, true);
+    same("and the command was sent again", network.sent, 3);
+    network.silent = false;
+    same("an answer in a flood", oca_panel_finish_set(&panel, handle).asked, OCA_ASKED_DONE);
+    same("as soon as it is sent again", network.now - before < 760, true);
+    panel.wait_ms = 10500;
+    network.silent = true;
+    same("a link in a flood", oca_panel_set(&panel, 4097, oca_mute(true)).asked, OCA_ASKED_LOST);
+    oca_panel_close(&panel);
+}
+
+/* Where the clock stands still, at any moment, a call ends all the same, and so does a walk. */
+static void waits_by_no_clock(uint64_t moment) {
+    static struct network network;
+    struct oca_panel panel = OCA_PANEL_INIT;
+    uint32_t handle = 0;
+    const uint32_t most = moment == UINT64_MAX ? 0 : 100000;
+    begins_network(&network, &panel);
+    network.now = moment;
+    network.stands = network.silent = true;
+    same("begin", oca_panel_begin_set(&panel, 4097, oca_mute(true), &handle), OCA_DONE);
+    same("no answer", oca_panel_finish_set(&panel, handle).asked, OCA_ASKED_UNANSWERED);
+    same("after so many receives", network.receives, most);
+    network.receives = 0;
+    seen.len = 0;
+    seen.at_most = 4100;
+    same("a walk", oca_panel_walk(&panel, &walk, visits, &seen).asked, OCA_ASKED_UNANSWERED);
+    same("ends as soon", network.receives, most);
+    same("it visits nothing", seen.len, 0);
+    same("its wait behind that", panel.wait_ms, 10500);
+    oca_panel_close(&panel);
+}
+
+/* A link that was handed the last moment there is sends nothing again: a walk ends in its time by the clock, which is set back. */
+static void walks_behind_the_last_moment(void) {
+    static struct network network;
+    struct oca_panel panel = OCA_PANEL_INIT;
+    begins_network(&network, &panel);
+    const uint64_t before = network.now;
+    network.now = UINT64_MAX;
+    same("a turn at the last moment", oca_panel_turn(&panel).asked, OCA_ASKED_DONE);
+    network.now = before;
+    network.silent = true;
+    seen.len = 0;
+    seen.at_most = 4100;
+    same("a walk behind it", oca_panel_walk(&panel, &walk, visits, &seen).asked, OCA_ASKED_UNANSWERED);
+    same("ends in its time", (uint32_t)(network.now - before), 20000);
+    same("and visits nothing", seen.len, 0);
     oca_panel_close(&panel);
 }
 
@@ -701,7 +833,7 @@ static void walks_without_commands(void) {
     struct oca_outcome outcome = oca_panel_walk(&panel, &walk, visits, &seen);
     same("a walk over a full span", outcome.asked, OCA_ASKED_NOT_SENT);
     same("says so, and visits nothing", outcome.result == OCA_SPAN_FULL && seen.len == 0, 1);
-    same("its turns behind that", panel.turns, 400);
+    same("its wait behind that", panel.wait_ms, 10500);
     oca_panel_close(&panel);
     memset(&network, 0, sizeof network);
     network.answers = answers_without_end;
@@ -709,7 +841,7 @@ static void walks_without_commands(void) {
     outcome = oca_panel_walk(&panel, &walk, visits, &seen);
     same("a walk without handles", outcome.asked, OCA_ASKED_NOT_SENT);
     same("says so, and visits nothing", outcome.result == OCA_HANDLES_SPENT && seen.len == 0, 1);
-    same("its turns behind that", panel.turns, 400);
+    same("its wait behind that", panel.wait_ms, 10500);
     oca_panel_close(&panel);
 }
 
@@ -742,7 +874,7 @@ static void outcome_texts(void) {
         {{OCA_ASKED_UNREADABLE, 0, 0}, "unreadable answer"}, {{OCA_ASKED_NO_VALUE, 0, 0}, "no value"},
         {{OCA_ASKED_NOT_SENT, 0, OCA_HANDLES_SPENT}, "no handle is left"},
         {{OCA_ASKED_LOST, 0, 0}, "lost"}, {{OCA_ASKED_LATE, 0, 0}, "late"}, {{OCA_ASKED_UNANSWERED, 0, 1}, "no answer"},
-        {{OCA_ASKED_UNANSWERED + 1, 0, 0}, "an outcome of a later version"}};
+        {{OCA_ASKED_NO_HANDLE, 0, 1}, "no such handle"}, {{OCA_ASKED_NO_HANDLE + 1, 0, 0}, "an outcome of a later version"}};
     for (size_t i = 0; i < sizeof rows / sizeof *rows; i++)
         says("the text of an outcome", oca_outcome_text(rows[i].outcome), rows[i].text);
 }
@@ -781,29 +913,29 @@ static void waits(void) {
     same("a struct of another size", oca_panel_open(&panel, &end, 1, 2, 3, 4, 5), OCA_BAD_SIZE);
     refuses_a_smaller_end();
     begins_network(&network, &panel);
-    panel.turns = 3;
+    panel.wait_ms = 130;
     network.silent = true;
     same("begin", oca_panel_begin_set(&panel, 4097, oca_mute(true), &handle), OCA_DONE);
     const uint64_t before = network.now;
     same("no answer", oca_panel_finish_set(&panel, handle).asked, OCA_ASKED_UNANSWERED);
-    same("after three turns", (uint32_t)(network.now - before), 150);
+    same("after the whole wait", (uint32_t)(network.now - before), 130);
     says("in words", oca_outcome_text(oca_panel_finish_set(&panel, handle)), "no answer");
     network.silent = false;
-    panel.turns = 20;
+    panel.wait_ms = 1000;
     same("an answer after all", oca_panel_finish_set(&panel, handle).asked, OCA_ASKED_DONE);
-    panel.turns = 0;
+    panel.wait_ms = 0;
     network.silent = true;
     struct oca_outcome given_up = oca_panel_set(&panel, 4097, oca_mute(true));
     same("a call that gives up", given_up.asked, OCA_ASKED_UNANSWERED);
     network.silent = false;
-    panel.turns = 20;
+    panel.wait_ms = 1000;
     for (int k = 0; k < 15; k++) same("behind it", oca_panel_set(&panel, 4097, oca_mute(true)).asked, OCA_ASKED_DONE);
     same("the span is full of it", oca_panel_set(&panel, 4097, oca_mute(true)).result, OCA_SPAN_FULL);
     same("its handle is told", oca_panel_finish_set(&panel, given_up.result).asked, OCA_ASKED_DONE);
     same("and the span is free", oca_panel_set(&panel, 4097, oca_mute(true)).asked, OCA_ASKED_DONE);
     same("begin", oca_panel_begin_set(&panel, 4097, oca_mute(true), &handle), OCA_DONE);
     network.queued = 0;
-    network.now += 100001;
+    network.now += 15001;
     const uint32_t sent = network.sent;
     struct oca_outcome outcome = oca_panel_finish_set(&panel, handle);
     same("late", outcome.asked, OCA_ASKED_LATE);
@@ -880,7 +1012,7 @@ static int prints_objects(uint16_t port) {
     to.sin_addr.s_addr = htonl(INADDR_LOOPBACK);
     if (file < 0 || connect(file, (const struct sockaddr *)&to, sizeof to) != 0) return 2;
     const struct oca_end end = {sizeof end, &file, socket_now, socket_send, socket_receive};
-    if (oca_panel_open(&panel, &end, INADDR_LOOPBACK, port, 1, 16, 400) != OCA_DONE) return 2;
+    if (oca_panel_open(&panel, &end, INADDR_LOOPBACK, port, 1, 16, 10500) != OCA_DONE) return 2;
     const struct oca_outcome outcome = oca_panel_walk(&panel, &walk, prints, NULL);
     if (outcome.asked != OCA_ASKED_DONE) printf("%s\n", oca_outcome_text(outcome));
     oca_panel_close(&panel);
@@ -892,7 +1024,7 @@ int main(int count, char **words) {
     at_device(1, 0, 0, 0);
     for (uint32_t seed = 0; seed < 20; seed++) at_device(seed, 20, 20, 30);
     walks_all();
-    for (uint32_t seed = 0; seed < 5; seed++) walks_in_single_turns(seed, seed > 2);
+    for (uint32_t seed = 0; seed < 5; seed++) walks_of_no_patience(seed, seed > 2);
     walks_and_asks();
     hostile();
     classes();
@@ -901,6 +1033,13 @@ int main(int count, char **words) {
     waits_until_the_last_moment();
     asks_for_both_bytes();
     asks_in_vain();
+    turns_last();
+    turns_late();
+    waits_in_a_flood();
+    waits_by_no_clock(UINT64_C(1) << 40);
+    waits_by_no_clock(UINT64_MAX);
+    waits_by_no_clock(UINT64_MAX - 1);
+    walks_behind_the_last_moment();
     sends_all_that_is_due();
     walks_without_commands();
     walks_where_all_is_refused();

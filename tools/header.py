@@ -28,7 +28,7 @@ RENAMED = {
     ("oca_device_datagram_words", "out"): "verdict", ("oca_device_object_words", "out"): "object", ("oca_device_setting", "reading"): "setting",
     ("oca_link_submit", "command"): "handle", ("oca_link_due", "kind"): "due", ("oca_link_due", "command"): "handle",
     ("oca_link_datagram", "kind"): "reception", ("oca_link_take", "command"): "handle", ("oca_link_answered", "command"): "handle",
-    ("oca_link_next_handle", "command"): "handle",
+    ("oca_link_next_handle", "command"): "handle", ("oca_link_in_flight", "command"): "handle",
 }
 LENGTHS = {"bytes": "len", "verdict": "words", "object": "words"}
 
@@ -295,8 +295,7 @@ def page_faults(name, page, header, comment, version):
         ("does not have its declaration", stands(declared, part(page, "SYNOPSIS"))),
         ("does not say what the header says", comment and words(part(page, "DESCRIPTION"))[:len(comment)] == comment),
         ("does not show what its declaration names", all(f"{it} {{" in part(page, "SYNOPSIS") for it in types)),
-        ("does not say what it can answer",
-         f"enum oca_result {name}(" not in declared or numbered(header, "oca_result").keys() <= results),
+        ("does not say what it can answer", results == set(reference.answers_of(name)) and bool(results) == (f"enum oca_result {name}(" in declared)),
         ("does not say what all calls want",
          words(part(page, "NOTES")) == words(header[:header.index("#ifndef OCA_H")])),
     ]
@@ -310,6 +309,8 @@ def pages_wrong(header, texts):
     version = re.search(r"^Version: (.+)$", (TOP / "include/oca.pc.in").read_text(), re.M)[1]
     said = comments(header)
     wrong = [f"{name}: a page in one of both alone" for name in sorted(calls ^ texts.keys())]
+    unsaid = numbered(header, "oca_result").keys() - {it for name in calls for it in reference.answers_of(name)}
+    wrong += [f"{it}: no call answers with it" for it in sorted(unsaid)]
     for name in sorted(calls & texts.keys()):
         wrong += page_faults(name, texts[name], header, said[name], version)
     return 8 * len(calls), wrong
@@ -321,7 +322,7 @@ WRONG_PAGES = [
     ("oca_device_tick", "uint64_t now", "uint32_t now"), ("oca_device_tick", "sessions and locks lapse", "locks lapse"),
     ("oca_device_datagram", r"struct oca_verdict \{", "struct oca_verdicts {"),
     ("oca_panel_walk", r"struct oca_walk \{", "struct {"),
-    ("oca_link_due", r"OCA_SPAN_FULL = 22, ", ""),
+    ("oca_link_due", r"OCA_TOO_SMALL", "OCA_TOO_LONG"), ("oca_link_due", r"OCA_TOO_SMALL.*\n", ""),
     ("oca_panel_get", "one call at a time for a struct", "calls for a struct"),
 ]
 

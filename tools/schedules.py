@@ -232,6 +232,41 @@ def lossy(r, window, span):
     return schedule
 
 
+def slow(r, window, span):
+    """Links that are asked what is due for 15,000 ms after a submit at most, over a network that holds datagrams for up to
+    100,000 ms. Between their commands the device forgets them; now and then something is a little too late."""
+    schedule = Schedule(window, span, starts(r, r.choice([1, 1, 2])), r.choice(PEERS))
+    network, left = schedule.network, {}
+
+    def ask(link):
+        while True:
+            said = schedule.timed("due", link).split()
+            if said[0] != "sent":
+                break
+            left[int(said[1])] = schedule.now
+
+    for _ in range(r.choice([2, 3, 4])):
+        for i in range(len(schedule.starts)):
+            first, begun = len(network.to_device), schedule.now
+            for _ in range(r.choice([1, 1, 2])):
+                submit(r, schedule, i)
+            ask(i)
+            for k in range(first, len(network.to_device)):
+                if r.randrange(4):
+                    schedule.timed("to-device", k)
+            schedule.now = begun + r.choice([250, 14999, 15000, 15000] + [15001] * (r.randrange(8) == 0))
+            ask(i)
+            schedule.now += r.choice([0, 99999, 100000, 100000] + [105001] * (r.randrange(8) == 0))
+            for k in range(first, len(network.to_device)):
+                if schedule.now - left[k] <= 100000 or r.randrange(8) == 0:
+                    schedule.timed("to-device", k)
+        for k in range(len(network.to_links)):
+            schedule.timed("to-link", k)
+        schedule.take_all()
+        schedule.now += r.choice([119999, 120000, 120001, 200000])
+    return schedule
+
+
 def directed(window, span, r=None):
     """The last command of a full span overtakes the others and stays untaken, while the others are answered and taken
     and as many more follow; then a copy of it comes. With r in another order, with noise, and several times."""

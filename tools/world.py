@@ -23,6 +23,10 @@ made on a transcript alone. A peer keeps its session where its admitted datagram
              meets is taken), a command that is unanswered was submitted at most ms ago or given out, with its own
              bytes, less than 250 + ms ago; and after ms + 20 * (250 + ms) it is answered, or its link is lost
  once        no command is executed twice where the peer kept its session
+ in time     nor, whatever the device forgets, where the link is in time: it is never asked what is due while a command
+             of it is unanswered that was submitted more than 15,000 ms ago, and each of its datagrams comes to the
+             device, by the device's clock, no earlier than it left by the link's, and at most 100,000 ms later. And an
+             answer of such a link is that of the only execution under its handle
  second      the transcript is, byte for byte, that of the second implementation
  premises    there are schedules in which every datagram of a link is within the premises, and that lose, double and
              overtake datagrams
@@ -42,7 +46,7 @@ import subprocess
 import sys
 
 import oca_profile as oca
-from schedules import PAIRS, PEERS, Schedule, crowd, directed, lossy, visitors, wander
+from schedules import PAIRS, PEERS, Schedule, crowd, directed, lossy, slow, visitors, wander
 
 BATCH = 40
 
@@ -93,6 +97,8 @@ class Laws:
         self.clocks, self.waiting = [0 for _ in self.peers], [{} for _ in self.peers]
         self.heard = {"to-device": collections.Counter(), "to-link": collections.Counter()}
         self.latest = {}
+        # what a link in time is: when its unanswered commands were submitted, and when its datagrams left
+        self.unanswered, self.left, self.out_of_time = [{} for _ in self.peers], {}, set()
 
     def walk(self):
         for self.number, (step, said) in enumerate(zip(self.steps, self.outcomes)):
@@ -163,11 +169,16 @@ class Laws:
             self.submitted[step[2]][handle] = self.untaken[step[2]][handle] = oca.Command(handle, *step[3:])
             self.go_on(step[2], step[1])
             self.waiting[step[2]][handle] = Waiting(self.clocks[step[2]])
+            self.unanswered[step[2]][handle] = self.clocks[step[2]]
             self.called(step[2])
 
     def due(self, step, said):
         _, now, link = step
         self.go_on(link, now)
+        if any(self.clocks[link] - at > 15000 for at in self.unanswered[link].values()):
+            self.out_of_time.add(link)
+        if said.startswith("sent "):
+            self.left[int(said.split(" ")[1])] = self.clocks[link]
         if said == "lost":
             self.waiting[link].clear()
         p, data = self.sent["to-device"][int(said.split(" ")[1])] if said.startswith("sent ") else (None, None)
@@ -217,6 +228,7 @@ class Laws:
         if message[0] == "response" and said == "answered 1":
             self.answered[link].add(message[1])
             self.waiting[link].pop(message[1], None)
+            self.unanswered[link].pop(message[1], None)
         self.called(link)
 
     def came_back(self, said, link, handle, reply):
@@ -237,6 +249,9 @@ class Laws:
         p, data = self.sent["to-device"][k]
         self.note_delivery("to-device", k)
         finds_room = self.came_from(p, now, data, said)
+        link = self.peers.index(p)
+        if not self.left[k] <= self.clock <= self.left[k] + 100000:
+            self.out_of_time.add(link)
         (message,) = oca.check(data)
         executed, kept = {"served 1 0 0": (1, 0), "served 0 1 0": (0, 1)}.get(said, (0, 0))
         answered = said.startswith("served") and (executed + kept > 0 or message[0] == "keep-alive")
@@ -251,9 +266,14 @@ class Laws:
         if executed:
             if p not in self.forgotten and any(c.handle == command.handle for c, _ in self.executions[p]):
                 raise Break("once", 0, f"handle {command.handle} of {oca.peer_text(p)} is executed twice")
+            if link not in self.out_of_time:
+                self.count["in time"] += 1
+                self.count["in time, of a forgotten peer"] += p in self.forgotten
+                if any(c.handle == command.handle for c, _ in self.executions[p]):
+                    raise Break("in time", 0, f"handle {command.handle} of {oca.peer_text(p)}, in time, is executed twice")
             self.executions[p].append((command, reply))
             self.count["once"] += p not in self.forgotten
-        link = self.peers.index(p)
+        self.count["in time, copies to a forgotten peer"] += kept and link not in self.out_of_time and p in self.forgotten
         held = self.untaken[link].get(command.handle)
         if finds_room and held and data == oca.pdu(1, [held.body()]):
             self.untaken_came(p, command, said, reply)
@@ -305,6 +325,8 @@ class Laws:
             self.count["only, of a peer that found no room before"] += p in self.refused
             if len(under) != 1:
                 raise Break("only", 0, f"{len(under)} executions under {handle}")
+        if link not in self.out_of_time and len(under) != 1:
+            raise Break("in time", 0, f"{len(under)} executions under {handle} of a link in time")
         self.untaken[link].pop(handle, None)
 
 
@@ -355,7 +377,7 @@ def made(seed, number):
         window, span = r.randrange(1, 65), r.randrange(1, 33)
     if r.randrange(3) == 0:
         return [directed(window, span, r).take_all()]
-    schedule = r.choice([crowd, visitors, lossy] + [wander] * 10)(r, window, span)
+    schedule = r.choice([crowd, visitors, lossy, slow] + [wander] * 10)(r, window, span)
     if r.randrange(20) == 0:
         return [schedule.refused(r)]
     if len(schedule.steps) <= 24 and r.randrange(8) == 0:
@@ -410,7 +432,7 @@ def work(job):
 def wrong_rules():
     """Devices and links with one rule changed, each with the law that must refuse them and what is changed."""
     judge, submit_to, serve, hear = oca.Session.judge, oca.Link.submit, oca.Device.datagram, oca.Link.datagram
-    due = oca.Link.due
+    due, advance = oca.Link.due, oca.Device.advance
 
     def no_floor(session, window, command):
         kept = [reply for c, reply in session.accepted[-window:] if c.handle == command.handle]
@@ -455,6 +477,12 @@ def wrong_rules():
         device.shut = device.now if said == "no-room" else None
         return said, packets
 
+    def forgets_sooner(device, now):
+        again, known = getattr(device, "again", set()), {s.peer for s in device.sessions}
+        advance(device, now)
+        device.again = again | (known - {s.peer for s in device.sessions})
+        device.sessions = [s for s in device.sessions if s.peer not in again or device.now - s.heard < 115000]
+
     def hears_once(link, sender, data, now):
         again = [u for u in link.untaken if u[1] > 1]
         for u in again:
@@ -498,6 +526,7 @@ def wrong_rules():
         "room for one fewer": ("room", oca.Device, "datagram", fewer_sessions),
         "a place is never given up": ("room", oca.Device, "datagram", never_given_up),
         "where one finds no room a known peer finds none": ("untaken", oca.Device, "datagram", shut_for_all),
+        "who was forgotten is forgotten sooner": ("in time", oca.Device, "advance", forgets_sooner),
         "no answer to what was given out twice": ("round trip", oca.Link, "datagram", hears_once),
         "one answer at a time": ("round trip", oca.Link, "datagram", one_answer),
         "an answer takes the others' place": ("round trip", oca.Link, "datagram", last_answer),
@@ -613,7 +642,10 @@ HELD = [("answers", "answers"), ("only", "answers of an only execution"),
         ("waiting", "times that a command waits after a call"),
         ("waiting, asked every 250 ms", "of these, on a link that is asked every 250 ms"),
         ("waiting, asked so, and given out again", "of these, given out more than once"),
-        ("once", "executions of peers that kept their sessions")]
+        ("once", "executions of peers that kept their sessions"),
+        ("in time", "executions of links in time"),
+        ("in time, of a forgotten peer", "of these, of a peer that was forgotten before"),
+        ("in time, copies to a forgotten peer", "duplicates of such peers")]
 MET = [("said too old", "old"), ("said no-room", "without room"), ("said refused", "refused submits"),
        ("said lost", "lost"), ("refused", "refused schedules"), ("front set", "changes at the front"),
        ("front refused", "refused ones")]
@@ -679,6 +711,7 @@ def main():
         "answers": total["answers"], "only": total["only"] and total["only, of a peer that found no room before"],
         "untaken": total["untaken, the oldest of a full window"] and total["untaken, of more peers ever"],
         "room": total["room, of more peers ever"], "once": total["once"],
+        "in time": total["in time, of a forgotten peer"] and total["in time, copies to a forgotten peer"],
         "round trip": total["round trips of a command that is still untaken"],
         "through": total["waiting, asked so, and given out again"],
         "second": total["schedules"] >= count and total["refused"],

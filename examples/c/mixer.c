@@ -158,6 +158,7 @@ static bool tell(struct state *state) {
     bool good = oca_device_objects(&device, &count) == OCA_DONE && count == OBJECTS;
     for (size_t i = 0; i < OBJECTS && good; i++) {
         struct oca_object object = {0, 0, 0, 0, {0}};
+        state->objects[i].spec.size = (uint32_t)sizeof state->objects[i].spec;
         good = oca_device_object(&device, i, &object) == OCA_DONE && oca_device_spec(&device, i, &state->objects[i].spec) == OCA_DONE;
         state->objects[i].ono = object.ono;
         state->objects[i].container = object.container;
@@ -183,11 +184,11 @@ static bool turn_knob(const char *line) {
     uint32_t block = block_of(channel - 1);
     struct oca_value value = oca_mute(strcmp(word, "mute") == 0);
     uint32_t ono = block + MUTE;
-    if (strcmp(word, "gain") == 0 && read == 3) value = oca_value_of(OCA_CLASS_INT64, (uint64_t)number), ono = block + GAIN;
+    if (strcmp(word, "gain") == 0 && read == 3) ono = block + GAIN;
     else if (strcmp(word, "source") == 0 && read == 3) value = oca_value_of(OCA_CLASS_SWITCH, (uint64_t)number), ono = block + SOURCE;
     else if (strcmp(word, "mute") != 0 && strcmp(word, "open") != 0) return false;
     pthread_mutex_lock(&lock);
-    bool good = oca_device_set(&device, ono, &value) == OCA_DONE;
+    bool good = ono == block + GAIN ? oca_device_set_signed(&device, ono, number) == OCA_DONE : oca_device_set(&device, ono, &value) == OCA_DONE;
     if (good) was_set();
     pthread_mutex_unlock(&lock);
     return good;

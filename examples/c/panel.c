@@ -57,7 +57,7 @@ int main(int count, char **words) {
     line.to.sin_addr.s_addr = htonl(INADDR_LOOPBACK);
     setsockopt(line.file, SOL_SOCKET, SO_SNDTIMEO, &briefly, sizeof briefly);
     const struct oca_end end = {sizeof end, &line, now_ms, send_to, receive};
-    const enum oca_result opened = oca_panel_open(&panel, &end, INADDR_LOOPBACK, (uint16_t)atoi(words[1]), 1, 16, 400);
+    const enum oca_result opened = oca_panel_open(&panel, &end, INADDR_LOOPBACK, (uint16_t)atoi(words[1]), 1, 16, 10500);
     if (opened != OCA_DONE) {
         fprintf(stderr, "not opened: %u\n", (unsigned)opened);
         return 1;

@@ -81,7 +81,7 @@ pub extern "C" fn oca_device_start_within(
         return Answer::Closed.number();
     };
     let answer = behind.start(alloc, window, peers, packets);
-    handle.put(behind);
+    handle.put_started(behind, answer);
     answer.number()
 }
 

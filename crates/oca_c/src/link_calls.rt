@@ -6,7 +6,8 @@ ghost use Rattle.oca_pdu.specs.Messages.{Msg};
 ghost use Rattle.oca_control.specs.Contents.{IsContent};
 ghost use Rattle.oca_control.specs.Links.{decision, due_answer, due_bytes, gone_on, late_at, new_link, received};
 ghost use Rattle.oca_control.specs.Links.{reception, submission, submitted, taken};
-ghost use Rattle.oca_control.specs.Untaken.{answer_under, first_answered};
+ghost use Rattle.oca_control.specs.Untaken.{answer_under, first_answered, waits};
+ghost use Rattle.std.specs.List.{list_any};
 ghost use Rattle.oca_calls.specs.Calls.{RefusesClosed};
 ghost use Rattle.oca_calls.specs.LinkCalls.{HoldsLink, LiesIn, OpensLink, WritesNextDue, WritesNumber, WritesAnswer};
 ghost use Rattle.oca_calls.specs.LinkCalls.{WritesSubmission, answered_count, due_handle, due_kind, reception_kind};
@@ -209,6 +210,28 @@ pub extern "C" fn oca_link_answered(
         return Answer::Closed.number();
     };
     let number = behind.answered(command);
+    handle.put(behind);
+    number
+}
+
+/// Tells whether the command under a handle is in flight.
+#[unsafe(no_mangle)]
+pub extern "C" fn oca_link_in_flight(
+    alloc: Global,
+    handle: &mut LinkHandle,
+    command: u32,
+    in_flight: &mut bool,
+) -> u32
+    ensures closed { RefusesClosed handle.old.slot.inner handle.new.slot.inner result }
+    ensures kept { handle.new.slot.inner ≡ handle.old.slot.inner }
+    ensures writes { IfSome handle.old.slot.inner (λ b.
+        (result ≡ 0) × (in_flight.new ≡ list_any (waits command) b.link.untaken)) }
+    ensures unwritten { (result ≡ 0) ⊎ (in_flight.new ≡ in_flight.old) }
+{
+    let Some(behind) = handle.take(alloc) else {
+        return Answer::Closed.number();
+    };
+    let number = behind.is_in_flight(command, in_flight);
     handle.put(behind);
     number
 }

@@ -15,7 +15,7 @@ use oca_calls::laws::law_of_specs;
 use oca_calls::name::text_of;
 use oca_calls::opening::open_over;
 use oca_calls::spec_adding::start_with;
-use oca_calls::spec_words::{SPEC_SIZE, SpecWords};
+use oca_calls::spec_words::SpecWords;
 use oca_tree::{Room, TreeBuilder};
 use std::alloc::Global;
 
@@ -36,7 +36,7 @@ pub extern "C" fn oca_device_open_with(
     let Some(room) = Room::new(room) else {
         return Answer::BadSize.number();
     };
-    if root.size != SPEC_SIZE {
+    if !root.is_of_this_version() {
         return Answer::BadSize.number();
     }
     let Some(label) = text_of(&root.label) else {

@@ -16,7 +16,7 @@ use Rattle.oca_calls.specs.declared.value_words.ValueWords.{ValueWords}
 use Rattle.oca_calls.specs.CValues.{AreWordsOf}
 use Rattle.oca_calls.specs.FrontCalls.{FrontNumber, HandleSetsEntry, HandleSetsFound, HandleSetsValue, HandleSetsWords, SetsEntry, SetsFrontFound, SetsWords}
 use Rattle.oca_calls.specs.Numbers.{answer_number}
-use Rattle.oca_calls.specs.Calls.{AddedBy, Builds, HandleBuilds, HandleStarts, RunsBehind, IsName, IsSwitch, Starts, SwitchAddedBy, name_bytes}
+use Rattle.oca_calls.specs.Calls.{AddedBy, Builds, HandleBuilds, HandleStarts, RunsBehind, IsName, IsSwitch, Starts, SwitchAddedBy, left_by_start, name_bytes}
 
 -- an addition
 pub adds_behind : (old new : Option DeviceBehind) (u u' : DeviceBehind) (number : ℕ) (answer : Answer) (By : Answer → Store → Store → Type 0)
@@ -28,15 +28,15 @@ adds_behind old new u u' number answer By o n e k B h =
 
 -- a start
 pub starts_behind : (old new : Option DeviceBehind) (u u' : DeviceBehind) (number : ℕ) (answer : Answer) (window peers packets : ℕ)
-    → old ≡ Some u → new ≡ Some u' → number ≡ answer_number answer
+    → old ≡ Some u → new ≡ left_by_start answer u' → number ≡ answer_number answer
     → ((B : Store) → Builds u B → Starts answer u u' window peers packets B.list)
     → (B : Store) → HandleBuilds old B → HandleStarts number old new window peers packets B.list
 starts_behind old new u u' number answer window peers packets o n e k B h = rw (o, n, e) (here (k B (rw o at h)))
   where
-    here : Starts answer u u' window peers packets B.list → HandleStarts (answer_number answer) (Some u) (Some u') window peers packets B.list
-    here (inl (is, w, p, r, runs, none)) = inl (rw is refl, w, p, r, runs, none)
-    here (inr (inl (is, w, p, r, spent))) = inr (inl (rw is refl, w, p, r, spent))
-    here (inr (inr (is, bad, same))) = inr (inr (rw is refl, bad, rw same refl))
+    here : Starts answer u u' window peers packets B.list → HandleStarts (answer_number answer) (Some u) (left_by_start answer u') window peers packets B.list
+    here (inl (is, w, p, r, runs, none)) = rw is (inl (refl, w, p, r, runs, none))
+    here (inr (inl (is, w, p, r, spent))) = rw is (inr (inl (refl, w, p, r, refl)))
+    here (inr (inr (is, bad, same))) = rw is (inr (inr (refl, bad, rw same refl)))
 
 -- an addition of a switch, once its names were read
 pub added_switch : (u : DeviceBehind) (answer : Answer) (B : Store) (container ono : ℕ) (role : List ℕ) (lockable : Bool) (names : List Name) (position : ℕ) (kind : Kind)
@@ -69,4 +69,4 @@ sets_behind old new u u' number answer ono words o n e k w T E h =
   where
     by : (value : Option Value) → SetsWords w answer u' T E ono value → HandleSetsValue w (answer_number answer) (Some u') T E ono value
     by None (is, runs) = (rw is refl, runs)
-    by (Some value) r = (r.0, r.1, found_behind w u' answer ono T E r.0 r.2)
+    by (Some value) r = found_behind w u' answer ono T E (Ok value) r

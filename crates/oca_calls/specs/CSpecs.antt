@@ -1,5 +1,5 @@
 -- What an object is to be, and what it is, as C has it: one struct.
-use Rattle.std.specs.Prelude.{◌≡◌, ◌⊎◌, ℕ, ◌-◌, ◌==◌, ◌<◌, ◌≤◌, not, ℤ, pos, Bool, List, map, take, length, Option}
+use Rattle.std.specs.Prelude.{◌≡◌, ◌⊎◌, ℕ, ◌-◌, ◌==◌, ◌<◌, ◌≤◌, not, ℤ, pos, Bool, List, [], ◌∷◌, map, take, length, Option}
 use Rattle.std.specs.Prelude.{Some, None, IfSome, IsSome, Result, Ok, Err, FitsSigned}
 use Rattle.std.specs.Int.{w64, FitsUnsigned, cast_unsigned, from_bool}
 use Rattle.std.specs.List.{AllByRecursion}
@@ -159,9 +159,14 @@ pub record GivesStart (w : SpecWords) (kind : Kind) (start : Start) : Type 0 whe
   pub enabled : start.enabled ≡ is_yes w.enabled
   pub flags : flags_of start ≡ flags_for kind (position_flags w)
 
--- the struct is of this version's size, and has at most 16 positions
-pub record IsSized (w : SpecWords) : Type 0 where
+-- a struct is of this version: of its size, and the bytes that a later one may use are 0
+pub record IsOfThisVersion (w : SpecWords) : Type 0 where
   pub size : w.size ≡ spec_size
+  pub zeros : w.zeros ≡ 0 ∷ 0 ∷ 0 ∷ 0 ∷ 0 ∷ 0 ∷ []
+
+-- the struct is of this version, and has at most 16 positions
+pub record IsSized (w : SpecWords) : Type 0 where
+  pub version : IsOfThisVersion w
   pub positions : w.positions ≤ 16
 
 -- its role and its label are of at most 64 bytes, in UTF-8
@@ -173,7 +178,7 @@ abbrev pub start_answers : {X : Type 0} → Result X StartFault → Answer
 start_answers (Ok _) = answers.Done
 start_answers (Err fault) = start_answer fault
 
--- AN ADDITION BY A STRUCT answered this, the first that applies: bad size, where the struct is of another size; bad
+-- AN ADDITION BY A STRUCT answered this, the first that applies: bad size, where the struct is of another version; bad
 -- range, where it has more than 16 positions; bad text, where a text is none; no value, where the reading is none; none
 -- of which changes anything; else as the builder's own addition of what the struct says.
 abbrev pub GivenAddedBy : Answer → Store → Store → ℕ → ℕ → SpecWords → Type 0
@@ -198,8 +203,8 @@ SizedAddedBy answer old new container ono w =
 
 abbrev pub SpecAddedBy : Answer → Store → Store → ℕ → ℕ → SpecWords → Type 0
 SpecAddedBy answer old new container ono w =
-    ((w.size ≡ spec_size → ⊥) × (answer ≡ answers.BadSize) × (new ≡ old))
-    ⊎ (((w.size ≡ spec_size) × (16 < w.positions) × (answer ≡ answers.BadRange) × (new ≡ old))
+    ((IsOfThisVersion w → ⊥) × (answer ≡ answers.BadSize) × (new ≡ old))
+    ⊎ ((IsOfThisVersion w × (16 < w.positions) × (answer ≡ answers.BadRange) × (new ≡ old))
     ⊎ (IsSized w × SizedAddedBy answer old new container ono w))
 
 -- the same behind an open handle
@@ -225,12 +230,12 @@ OpensBy number new (Ok built) = OpensOver number new built
 OpensBy number new (Err fault) = (number ≡ answer_number (start_answer fault)) × (new ≡ None)
 
 -- A closed struct is opened with the root that was stored, the first that applies: not, where that is no room or the
--- struct is of another size; nor where the label is none; else as the builder's own beginning with it.
+-- struct is of another version; nor where the label is none; else as the builder's own beginning with it.
 abbrev pub OpensWith : ℕ → Option DeviceBehind → ℕ → SpecWords → Type 0
 OpensWith number new room w =
-    ((number ≡ 15) × (IsRoom room → w.size ≡ spec_size → ⊥) × (new ≡ None))
-    ⊎ (((number ≡ 6) × IsRoom room × (w.size ≡ spec_size) × (IsName w.label → ⊥) × (new ≡ None))
-    ⊎ (IsRoom room × (w.size ≡ spec_size) × IsName w.label × (start : Start) × GivesRoot w start
+    ((number ≡ 15) × (IsRoom room → IsOfThisVersion w → ⊥) × (new ≡ None))
+    ⊎ (((number ≡ 6) × IsRoom room × IsOfThisVersion w × (IsName w.label → ⊥) × (new ≡ None))
+    ⊎ (IsRoom room × IsOfThisVersion w × IsName w.label × (start : Start) × GivesRoot w start
     × (r : Result Store StartFault) × BeginsWith r room start × OpensBy number new r))
 
 -- ---- what is written
@@ -302,10 +307,16 @@ pub record FitsSpec (tree : List Object) (ono : ℕ) : Type 0 where
 
 -- An object is written; or that it has no room in the struct, or that there is none at this index, and then nothing is
 -- written.
-abbrev pub WritesSpec : List Object → Option ObjectInfo → SpecWords → SpecWords → ℕ → Type 0
-WritesSpec tree None old new number = (number ≡ 13) × (new ≡ old)
-WritesSpec tree (Some info) old new number =
+abbrev pub WritesFound : List Object → Option ObjectInfo → SpecWords → SpecWords → ℕ → Type 0
+WritesFound tree None old new number = (number ≡ 13) × (new ≡ old)
+WritesFound tree (Some info) old new number =
     ((number ≡ 0) × IsSpecOf tree info new) ⊎ ((number ≡ 14) × (new ≡ old) × (FitsSpec tree info.ono.0 → ⊥))
+
+-- Before that, nothing is written to a struct that does not say this version's size.
+abbrev pub WritesSpec : List Object → Option ObjectInfo → SpecWords → SpecWords → ℕ → Type 0
+WritesSpec tree info old new number =
+    ((old.size ≡ spec_size → ⊥) × (number ≡ 15) × (new ≡ old))
+    ⊎ ((old.size ≡ spec_size) × WritesFound tree info old new number)
 
 -- ---- an addition of what was written
 

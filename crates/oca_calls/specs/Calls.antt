@@ -102,7 +102,7 @@ IsSize size = (1 ≤ size) × (size ≤ 64)
 abbrev pub IsPacketRoom : ℕ → Type 0
 IsPacketRoom packets = (1 ≤ packets) × (packets ≤ 122)
 
--- the objects are gone, and there is no device: neither is there before the struct is closed and opened again
+-- the objects are gone, and there is no device
 abbrev pub IsSpent : DeviceBehind → Type 0
 IsSpent behind = (behind.builder ≡ None) × (behind.device ≡ None)
 
@@ -115,12 +115,17 @@ Starts answer old new window peers packets tree =
     ⊎ (((answer ≡ answers.NoMemory) × IsSize window × IsSize peers × IsPacketRoom packets × IsSpent new)
     ⊎ ((answer ≡ answers.BadSize) × (IsSize window → IsSize peers → IsPacketRoom packets → ⊥) × (new ≡ old)))
 
--- the same behind an open handle
+-- what a start leaves behind its handle: nothing, where memory was refused
+abbrev pub left_by_start : Answer → DeviceBehind → Option DeviceBehind
+left_by_start answers.NoMemory behind = None
+left_by_start _ behind = Some behind
+
+-- the same behind an open handle, which is closed where memory was refused
 abbrev pub HandleStarts : ℕ → Option DeviceBehind → Option DeviceBehind → ℕ → ℕ → ℕ → List Object → Type 0
 HandleStarts number old new window peers packets tree =
     ((number ≡ 0) × IsSize window × IsSize peers × IsPacketRoom packets
     × HandleRuns (record { window = window; peers = peers }) new tree [] × HasPackets new (first_packets packets []))
-    ⊎ (((number ≡ 8) × IsSize window × IsSize peers × IsPacketRoom packets × IsSomeAnd new IsSpent)
+    ⊎ (((number ≡ 8) × IsSize window × IsSize peers × IsPacketRoom packets × (new ≡ None))
     ⊎ ((number ≡ 15) × (IsSize window → IsSize peers → IsPacketRoom packets → ⊥) × (new ≡ old)))
 
 -- ---- additions

@@ -1,11 +1,9 @@
--- What C sets at the local front panel of a device: a state, a position, a truth or an integer, without its class.
-use Rattle.std.specs.Prelude.{◌≡◌, ℕ, ℤ, pos, Bool, true, false, List, ◌∷◌, Option, Some, None, Result, Ok, Err}
+-- What C sets at the local front panel of a device: a value; or a state or an integer, without its class.
+use Rattle.std.specs.Prelude.{◌≡◌, ℕ, ℤ, Bool, true, false, List, ◌∷◌, Option, Some, None, Result, Ok, Err}
 use Rattle.oca_types.specs.declared.class.Class.{Class}
 use Rattle.oca_types.specs.declared.class.Class.TheVariants as classes
 use Rattle.oca_types.specs.Sizes.{DeviceSizes}
 use Rattle.oca_model.specs.declared.value.Value.{Value}
-use Rattle.oca_model.specs.declared.value.Value.TheVariants as values
-use Rattle.oca_model.specs.Values.{mute_number, polarity_number}
 use Rattle.oca_model.specs.ValueNumbers.{integer_in, state_in, IsValueWith}
 use Rattle.oca_tree.specs.declared.object.Object.{Object}
 use Rattle.oca_tree.specs.declared.setting.SetFault.{SetFault}
@@ -22,27 +20,10 @@ use Rattle.oca_calls.specs.Numbers.{answer_number, set_answer}
 use Rattle.oca_calls.specs.Calls.{HandleRuns, RunsBehind, set_answers}
 use Rattle.oca_calls.specs.CValues.{AreWordsOf}
 
--- the number of a state, a position, a truth or an integer
+-- the number of a state or an integer
 pub data FrontNumber : Type 0 where
   State : (number : ℕ) → FrontNumber
-  Position : (position : ℕ) → FrontNumber
-  Truth : (truth : Bool) → FrontNumber
   Integer : (number : ℤ) → FrontNumber
-
--- a value without its class
-abbrev pub entry_of : Value → FrontNumber
-entry_of (values.Mute state) = State (mute_number state)
-entry_of (values.Polarity state) = State (polarity_number state)
-entry_of (values.Switch position) = Position position
-entry_of (values.Boolean truth) = Truth truth
-entry_of (values.Int8 setting) = Integer setting
-entry_of (values.Int16 setting) = Integer setting
-entry_of (values.Int32 setting) = Integer setting
-entry_of (values.Int64 setting) = Integer setting
-entry_of (values.Uint8 setting) = Integer (pos setting)
-entry_of (values.Uint16 setting) = Integer (pos setting)
-entry_of (values.Uint32 setting) = Integer (pos setting)
-entry_of (values.Uint64 setting) = Integer (pos setting)
 
 -- whether objects of the class are set to a state, and whether to an integer
 abbrev pub has_states : Class → Bool
@@ -73,12 +54,9 @@ FindsWith part has (Some of) number (Ok value) = IsValueWith part of number (Som
 FindsWith part has (Some of) number (Err fault) =
     IsValueWith part of number None × (fault ≡ fault_of_class of (has of))
 
--- THE VALUE that an entry is at an object of the class; or why it is none. A position and a truth are values of one
--- class alone.
+-- THE VALUE that an entry is at an object of the class; or why it is none.
 abbrev pub FindsFrontValue : FrontNumber → Option Class → Result Value SetFault → Type 0
 FindsFrontValue (State number) of found = FindsWith state_in has_states of number found
-FindsFrontValue (Position position) of found = found ≡ Ok (values.Switch position)
-FindsFrontValue (Truth truth) of found = found ≡ Ok (values.Boolean truth)
 FindsFrontValue (Integer number) of found = FindsWith integer_in has_integers of number found
 
 -- A device is set to the value that was found, with this answer; where none was, it is as it was.
@@ -95,10 +73,10 @@ SetsEntry w answer new tree events ono entry =
     (found : Result Value SetFault) × FindsFrontValue entry (class_of_ono (state_after w tree events).tree ono) found
     × SetsFrontFound w answer new tree events ono found
 
--- It is set by the entry that a value is; where there is none, nothing is set.
+-- IT IS SET TO A VALUE, as a value of the object's class alone can be set; where there is none, nothing is set.
 abbrev pub SetsWords : DeviceSizes → Answer → DeviceBehind → List Object → List Event → ℕ → Option Value → Type 0
 SetsWords w answer new tree events ono None = (answer ≡ answers.NoValue) × RunsBehind w new tree events
-SetsWords w answer new tree events ono (Some value) = SetsEntry w answer new tree events ono (entry_of value)
+SetsWords w answer new tree events ono (Some value) = SetsFrontFound w answer new tree events ono (Ok value)
 
 -- ---- the same behind an open handle
 
@@ -124,9 +102,9 @@ HandleSetsEntry number old new ono entry =
 abbrev pub HandleSetsValue :
     DeviceSizes → ℕ → Option DeviceBehind → List Object → List Event → ℕ → Option Value → Type 0
 HandleSetsValue w number new tree events ono None = (number ≡ 24) × HandleRuns w new tree events
-HandleSetsValue w number new tree events ono (Some value) = HandleIsSet w number new tree events ono (entry_of value)
+HandleSetsValue w number new tree events ono (Some value) = HandleSetsFound w number new tree events ono (Ok value)
 
--- It is set by the entry that the value is whose words these are.
+-- It is set to the value whose words these are.
 abbrev pub HandleSetsWords : ℕ → Option DeviceBehind → Option DeviceBehind → ℕ → ValueWords → Type 0
 HandleSetsWords number old new ono words =
     (w : DeviceSizes) (tree : List Object) (events : List Event) → HandleRuns w old tree events →

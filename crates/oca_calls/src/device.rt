@@ -24,7 +24,7 @@ ghost use Rattle.oca_calls.specs.Outputs.{WritesLock, WritesNextLapse, WritesObj
 ghost use Rattle.oca_calls.specs.Outputs.{verdict_words};
 
 use crate::answer::Answer;
-use crate::front_values::{integer_at, state_at, value_at};
+use crate::front_values::{integer_at, state_at};
 use crate::name::{MOST_POSITIONS, Name, texts_of};
 use crate::reading::Reading;
 use crate::spec_adding::add_spec;
@@ -261,21 +261,20 @@ impl DeviceBehind {
         }
     }
 
-    /// Sets an object at the local front panel as the value with these words sets it, whatever its class.
+    /// Sets an object at the local front panel to the value with these words, which is to be one of the object's class.
     pub fn set_words(&mut self, ono: u32, words: ValueWords) -> Answer
         ensures sets { (w : DeviceSizes) (T : List Object) (E : List Event) → RunsBehind w self.old T E →
             (value : Option ValueItself) × AreWordsOf words value × SetsWords w result self.new T E ono value }
         ensures packets { self.new.outbox ≡ self.old.outbox }
         ensures building { self.old.device ≡ None → (result ≡ NotStarted) × (self.new ≡ self.old) }
     {
-        let Some(device) = &self.device else {
+        if self.device.is_none() {
             return Answer::NotStarted;
-        };
-        let Some(value) = words.value() else {
-            return Answer::NoValue;
-        };
-        let found = value_at(device.tree().class_of(Ono(ono)), value);
-        self.set_found(ono, found)
+        }
+        match words.value() {
+            Some(value) => self.set(ono, value),
+            None => Answer::NoValue,
+        }
     }
 
     /// Sets a mute or a polarity at the local front panel.

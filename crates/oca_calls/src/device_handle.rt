@@ -1,6 +1,8 @@
 //! What C holds of a device.
 ghost use Rattle.std.specs.Prelude.{◌≡◌, None, Some, is_some, MatchOption};
+ghost use Rattle.oca_calls.specs.Calls.{left_by_start};
 
+use crate::answer::Answer;
 use crate::device::DeviceBehind;
 use crate::device_slot::DeviceSlot;
 use crate::parts::Parts;
@@ -40,6 +42,18 @@ impl DeviceHandle {
         ensures { self.new.slot.inner ≡ None }
     {
         drop(self.take(alloc));
+    }
+
+    /// Puts back what a start that was answered so has left: where memory was refused the objects are lost, and the
+    /// handle stays closed.
+    pub fn put_started(&mut self, behind: Box<DeviceBehind>, answer: Answer)
+        requires { self.old.slot.inner ≡ None }
+        ensures { self.new.slot.inner ≡ left_by_start answer behind.value }
+    {
+        match answer {
+            Answer::NoMemory => drop(behind),
+            _ => self.put(behind),
+        }
     }
 
     /// Puts it back.

@@ -1,8 +1,7 @@
 //! What a number without a class sets at the local front panel: the value that it is at the object.
 ghost use Rattle.std.specs.Prelude.{◌≡◌};
 ghost use Rattle.oca_model.specs.ValueNumbers.{integer_in, state_in};
-ghost use Rattle.oca_calls.specs.FrontCalls.{FindsFrontValue, FindsWith, entry_of, fault_of_class, has_integers};
-ghost use Rattle.oca_calls.specs.FrontCalls.{has_states};
+ghost use Rattle.oca_calls.specs.FrontCalls.{FindsWith, fault_of_class, has_integers, has_states};
 
 use oca_tree::{SetFault, Value};
 use oca_types::Class;
@@ -58,24 +57,5 @@ pub fn integer_at(class: Option<Class>, number: i128) -> Result<Value, SetFault>
     match Value::of_integer(class, number) {
         Some(value) => Ok(value),
         None => Err(fault_of_class(class, has_integers(class))),
-    }
-}
-
-/// The value of the object's class that is this value without its own class; or why there is none.
-pub fn value_at(class: Option<Class>, value: Value) -> Result<Value, SetFault>
-    ensures { FindsFrontValue (entry_of value) class result }
-{
-    match value {
-        Value::Mute(state) => state_at(class, state as u8),
-        Value::Polarity(state) => state_at(class, state as u8),
-        Value::Switch(_) | Value::Boolean(_) => Ok(value),
-        Value::Int8(setting) => integer_at(class, i128::from(setting)),
-        Value::Int16(setting) => integer_at(class, i128::from(setting)),
-        Value::Int32(setting) => integer_at(class, i128::from(setting)),
-        Value::Int64(setting) => integer_at(class, i128::from(setting)),
-        Value::Uint8(setting) => integer_at(class, i128::from(setting)),
-        Value::Uint16(setting) => integer_at(class, i128::from(setting)),
-        Value::Uint32(setting) => integer_at(class, i128::from(setting)),
-        Value::Uint64(setting) => integer_at(class, i128::from(setting)),
     }
 }

@@ -8,7 +8,8 @@ ghost use Rattle.oca_control.specs.Answers.{answer_fields};
 ghost use Rattle.oca_control.specs.Contents.{IsContent};
 ghost use Rattle.oca_control.specs.Links.{decision, due_answer, due_bytes, gone_on, late_at, received, reception};
 ghost use Rattle.oca_control.specs.Links.{submission, submitted, taken};
-ghost use Rattle.oca_control.specs.Untaken.{answer_under, first_answered};
+ghost use Rattle.oca_control.specs.Untaken.{answer_under, first_answered, waits};
+ghost use Rattle.std.specs.List.{list_any};
 ghost use Rattle.oca_calls.specs.LinkCalls.{LiesIn, WritesNextDue, WritesNumber, WritesAnswer, WritesSubmission};
 ghost use Rattle.oca_calls.specs.LinkCalls.{answered_count, due_handle, due_kind, reception_kind};
 
@@ -167,6 +168,14 @@ impl LinkBehind {
             }
             None => Answer::Nothing.number(),
         }
+    }
+
+    /// Tells whether the command under a handle is in flight.
+    pub fn is_in_flight(&self, handle: u32, in_flight: &mut bool) -> u32
+        ensures { (result ≡ 0) × (in_flight.new ≡ list_any (waits handle) self.now.link.untaken) }
+    {
+        *in_flight = self.link.is_in_flight(Handle(handle));
+        Answer::Done.number()
     }
 
     /// Tells the handle that the next command gets.

@@ -7,7 +7,7 @@ ghost use Rattle.oca_calls.specs.CSpecs.{GivenAddedBy, NamedAddedBy, GivesSpec, 
 
 use crate::answer::Answer;
 use crate::name::{MOST_POSITIONS, text_of, texts_of};
-use crate::spec_words::{SPEC_SIZE, SpecWords, flags_for, flags_of, kind_of};
+use crate::spec_words::{SpecWords, flags_for, flags_of, kind_of};
 use oca_tree::{Spec, Start, TreeBuilder};
 use oca_types::Ono;
 
@@ -15,7 +15,7 @@ use oca_types::Ono;
 pub fn add_spec(builder: &mut TreeBuilder, container: u32, ono: u32, words: &SpecWords) -> Answer
     ensures { SpecAddedBy result builder.old builder.new container ono words.now }
 {
-    if words.size != SPEC_SIZE {
+    if !words.is_of_this_version() {
         return Answer::BadSize;
     }
     let positions = usize::from(words.positions);

@@ -3,7 +3,7 @@ ghost use Rattle.std.specs.Prelude.{◌≡◌, ◌⊎◌, ◌≤◌, length, map
 ghost use Rattle.std.specs.Option.{option_copied};
 ghost use Rattle.oca_tree.specs.Readers.{info_at};
 ghost use Rattle.oca_calls.specs.CSpecs.{AreSettingWords, FitsBits, FitsSetting, FitsSpec, HasBits, IsNumberWords};
-ghost use Rattle.oca_calls.specs.CSpecs.{IsSpecOf, WritesSpec, alone, is_yes};
+ghost use Rattle.oca_calls.specs.CSpecs.{IsSpecOf, WritesFound, WritesSpec, alone, is_yes};
 ghost use Rattle.oca_calls.specs.Numbers.{answer_number};
 ghost use Rattle.oca_calls.specs.declared.answer.Answer.TheVariants.{Done};
 ghost use Rattle.oca_calls.specs.Outputs.{class_number};
@@ -178,9 +178,20 @@ fn spec_of(tree: &Tree, object: &ObjectInfo) -> Option<SpecWords>
     })
 }
 
-/// Tells of the object at this index what it is; nothing is written where there is none or it has no room.
+/// Tells of the object at this index what it is; nothing is written to a struct of another size.
 pub fn read_spec(tree: &Tree, index: usize, out: &mut SpecWords) -> Answer
     ensures writes { WritesSpec tree.now (info_at tree.now index) out.old out.new (answer_number result) }
+    ensures unwritten { (result ≡ Done) ⊎ (out.new ≡ out.old) }
+{
+    if out.size != SPEC_SIZE {
+        return Answer::BadSize;
+    }
+    write_spec(tree, index, out)
+}
+
+/// The same of a struct of this size; nothing is written where there is no object or it has no room.
+fn write_spec(tree: &Tree, index: usize, out: &mut SpecWords) -> Answer
+    ensures writes { WritesFound tree.now (info_at tree.now index) out.old out.new (answer_number result) }
     ensures unwritten { (result ≡ Done) ⊎ (out.new ≡ out.old) }
 {
     let Some(object) = tree.object_at(index) else {

@@ -1,7 +1,7 @@
 //! What an object is to be, and what it is, as C has it: one struct.
-ghost use Rattle.std.specs.Prelude.{◌≡◌, ◌≤◌, length, map, take};
+ghost use Rattle.std.specs.Prelude.{◌≡◌, ◌≤◌, ◌↔◌, IsTrue, length, map, take};
 ghost use Rattle.std.specs.Option.{option_copied};
-ghost use Rattle.oca_calls.specs.CSpecs.{GivesKind, IsKindOf, flags_for, is_yes};
+ghost use Rattle.oca_calls.specs.CSpecs.{GivesKind, IsKindOf, IsOfThisVersion, flags_for, is_yes};
 
 use crate::limits::reading_of;
 use crate::name::{MOST_POSITIONS, Name};
@@ -33,6 +33,15 @@ pub struct SpecWords {
 }
 
 const _: () = prove!(std::mem::size_of::<SpecWords>() == 1248);
+
+impl SpecWords {
+    /// Whether the struct is of this version: it says its size, and the bytes that a later one may use are 0.
+    pub fn is_of_this_version(&self) -> bool
+        ensures { IsTrue result ↔ IsOfThisVersion self.now }
+    {
+        self.size == SPEC_SIZE && self.zeros == [0; 6]
+    }
+}
 
 /// What each of these bytes says.
 pub fn flags_of(bytes: &[u8]) -> ArrayVec<bool, MOST_POSITIONS>

@@ -1,5 +1,5 @@
 -- A link that runs is asked in time.
-use Rattle.std.proofs.Common.{◌≡◌, ℕ, zero, suc, ◌+◌, ◌-◌, ◌<◌, ◌≤◌, Bool, true, false, cond, not, ◌&&◌, ◌||◌, max, List, [], ◌∷◌, ◌++◌, length, map, Option, Some, None, Ok, Err, is_none, is_some, refl, sym, ap, ◌∙◌, arith, subst, append_assoc, append-nil}
+use Rattle.std.proofs.Common.{◌≡◌, ℕ, zero, suc, ◌+◌, ◌-◌, ◌*◌, ◌<◌, ◌≤◌, Bool, true, false, cond, not, ◌&&◌, ◌||◌, max, List, [], ◌∷◌, ◌++◌, length, map, Option, Some, None, Ok, Err, is_none, is_some, refl, sym, ap, ◌∙◌, arith, subst, append_assoc, append-nil}
 use Rattle.std.specs.Prelude.{nat_eq, nat_lt, nat_le}
 use Rattle.std.specs.List.{AllByRecursion, list_any}
 use Rattle.std.proofs.Math.Dec.{eqb}
@@ -18,12 +18,14 @@ use Rattle.oca_control.specs.Answering.{last_asked, IsAskedEvery, IsInFlight, Is
 use Rattle.oca_control.specs.Driving.{goes_on, link_from, HearsDelivery, DrivesTurn}
 use Rattle.oca_control.specs.Turning.{TurnsInTime}
 use Rattle.oca_control.specs.Asking.{beginning}
-use Rattle.oca_control.specs.Running.{NothingIsLeft, delivered_at, AreWithin, IsRun, NothingDone, DroveATurn, TookATurn, Began, Took, BecomesBy, IsAsked, CommandIsInTime}
+use Rattle.oca_control.specs.Running.{NothingIsLeft, HasTimeLeft, HaveTimeLeft, HasTimeAt, delivered_at, AreWithin, IsRun, NothingDone, DroveATurn, TookATurn, Began, Took, BecomesBy, IsAsked, CommandIsInTime}
 use Rattle.oca_control.proofs.Following.{is_at_most, each_map}
-use Rattle.oca_control.proofs.Calls.{is_given}
+use Rattle.oca_control.proofs.Calls.{is_given, each_without}
 use Rattle.oca_control.proofs.Dues.{Rises, none_first}
 use Rattle.oca_control.proofs.Histories.{holds_after}
 use Rattle.oca_control.proofs.InTime.{in_time}
+use Rattle.oca_control.proofs.Lifetimes.{few_sendings, Fits, fits_soon, fits_received, fits_from, fits_submitted, fits_at, calm_fits, time_of}
+use Rattle.oca_control.proofs.Copies.{dated}
 use Rattle.oca_control.proofs.Settling.{due_count, count_length, none_counted, fewer_given, decided_nothing, is_quiet, again, left_from, not_lost_before, moment_from}
 
 -- ---- moments
@@ -173,57 +175,6 @@ gave_from ms since (suc n) now calls l few at soon every = by (decision now l) r
     by GivesNothing e further = ends GivesNothing e refl refl
     by IsLost e further = ends IsLost e refl refl
 
--- ---- no command is late
-
-none_any : (p : Untaken → Bool) (us : List Untaken) → AllByRecursion (λ u. p u ≡ false) us → list_any p us ≡ false
-none_any p [] a = refl
-none_any p (u ∷ us) a = both (p u) (list_any p us) a.0 (none_any p us a.1)
-  where
-    both : (a b : Bool) → a ≡ false → b ≡ false → (a || b) ≡ false
-    both a b p q = cc
-
-not_late : (ms t now : ℕ) (u : Untaken) → ms + 250 ≤ 100000 → now ≤ t + ms → is_due t u ≡ false → is_late now u ≡ false
-not_late ms t now u short soon e = by (is_none u.answer) (nat_eq u.times 0) e
-  where
-    young : nat_le 250 (t - u.last) ≡ false → nat_lt 100000 (now - u.last) ≡ false
-    young p = by_number u.last p
-      where
-        by_number : (k : ℕ) → nat_le 250 (t - k) ≡ false → nat_lt 100000 (now - k) ≡ false
-        by_number k p = grind (arith, nat_tests)
-
-    by : (a z : Bool) → (a && (z || nat_le 250 (t - u.last))) ≡ false → (a && (not z && nat_lt 100000 (now - u.last))) ≡ false
-    by true true p = refl
-    by true false p = young p
-    by false z p = refl
-
-calm_answered : (t h : ℕ) (a : AnswerFields) (us : List Untaken) → AllByRecursion (λ u. is_late t u ≡ false) us → AllByRecursion (λ u. is_late t u ≡ false) (map (answered h a) us)
-calm_answered t h a [] q = tt
-calm_answered t h a (u ∷ us) q = (by (waits h u) q.0, calm_answered t h a us q.1)
-  where
-    by : (b : Bool) → is_late t u ≡ false → (is_none (cond b (Some a) u.answer) && (not (nat_eq u.times 0) && nat_lt 100000 (t - u.last))) ≡ false
-    by true p = refl
-    by false p = p
-
-calm_heard : (t : ℕ) (ms : List Msg) (us : List Untaken) → AllByRecursion (λ u. is_late t u ≡ false) us → AllByRecursion (λ u. is_late t u ≡ false) (hears_all ms us)
-calm_heard t [] us q = q
-calm_heard t (Response x ∷ ms) us q = calm_heard t ms (map (answered x.handle (answer_of_response x)) us) (calm_answered t x.handle (answer_of_response x) us q)
-calm_heard t (KeepAlive form ∷ ms) us q = calm_heard t ms us q
-calm_heard t (Command respond c ∷ ms) us q = calm_heard t ms us q
-
-calm_received : (t : ℕ) (b : Bool) (content : Option (List Msg)) (us : List Untaken) → AllByRecursion (λ u. is_late t u ≡ false) us → AllByRecursion (λ u. is_late t u ≡ false) (cond b (hears_content content us) us)
-calm_received t true None us q = q
-calm_received t true (Some ms) us q = calm_heard t ms us q
-calm_received t false content us q = q
-
--- of a link at which nothing is left
-calm_each : (ms now : ℕ) (l : LinkState) → ms + 250 ≤ 100000 → NothingIsLeft l → now ≤ l.moment + ms → AllByRecursion (λ u. is_late (present_moment now l) u ≡ false) l.untaken
-calm_each ms now l short left soon =
-    let q = is_quiet (max l.moment l.moment) l.sent l.lost l.untaken false left in
-    each_map (λ u p. not_late ms (max l.moment l.moment) (present_moment now l) u short (near l.moment) p) l.untaken (none_first (max l.moment l.moment) l.untaken q.none)
-  where
-    near : (m : ℕ) → max l.moment now ≤ max l.moment l.moment + ms
-    near m = omega arith
-
 -- ---- the steps of a run
 
 none_without : (t h : ℕ) (us : List Untaken) → first_due t us ≡ None → first_due t (without_handle h us) ≡ None
@@ -271,9 +222,9 @@ moment_heard (Datagram from bytes now) l between n x = by (nat_le (length bytes)
 moment_heard (Quiet now) l between n x = let e : between.moment ≡ l.moment = ap (λ (k : LinkState). k.moment) x.0 in omega arith
 moment_heard Failed l between n x = let e : between.moment ≡ l.moment = ap (λ (k : LinkState). k.moment) x.0 in omega arith
 
--- no command is late after what was heard
-calm_between : (ms : ℕ) → ms + 250 ≤ 100000 → (now : ℕ) (l between : LinkState) (d : Delivery) (n : ℕ) → delivered_at d ≡ now ∷ [] → HearsDelivery d l between n → NothingIsLeft l → now ≤ l.moment + ms → late_at now between ≡ false
-calm_between ms short now l between (Datagram from bytes t) n same x left soon = by (nat_le (length bytes) 1472) refl
+-- each command fits after what was heard, as soon
+fits_between : (ms now : ℕ) (l between : LinkState) (d : Delivery) (n : ℕ) → delivered_at d ≡ now ∷ [] → HearsDelivery d l between n → AllByRecursion (Fits ms (present_moment now l)) l.untaken → AllByRecursion (Fits ms (present_moment now between)) between.untaken
+fits_between ms now l between (Datagram from bytes t) n same x fits = by (nat_le (length bytes) 1472) refl
   where
     over : (k : ℕ) → nat_le k 1472 ≡ false → 1472 < k
     over k p = grind (arith, nat_tests)
@@ -281,20 +232,19 @@ calm_between ms short now l between (Datagram from bytes t) n same x left soon =
     moment : t ≡ now
     moment = cc
 
-    at_now : t ≡ now → (m : ℕ) → m ≡ max l.moment t → max m now ≡ max l.moment now
+    at_now : t ≡ now → (m : ℕ) → m ≡ max l.moment t → max l.moment now ≡ max m now
     at_now r m e = omega arith
 
-    by : (b : Bool) → nat_le (length bytes) 1472 ≡ b → late_at now between ≡ false
+    by : (b : Bool) → nat_le (length bytes) 1472 ≡ b → AllByRecursion (Fits ms (present_moment now between)) between.untaken
     by true q =
         let link = (x.short (is_at_most (length bytes) 1472 q)).1.link_is in
         let content = (x.short (is_at_most (length bytes) 1472 q)).1.content in
-        let us : List Untaken = cond (same_peer from l.device) (hears_content content l.untaken) l.untaken in
-        ap (λ k. list_any (is_late k) between.untaken) (at_now moment between.moment (ap (λ (k : LinkState). k.moment) link))
-        ∙ ap (λ (k : LinkState). list_any (is_late (present_moment now l)) k.untaken) link
-        ∙ none_any (is_late (present_moment now l)) us (calm_received (present_moment now l) (same_peer from l.device) content l.untaken (calm_each ms now l short left soon))
-    by false q = ap (late_at now) (x.long (over (length bytes) q)).0 ∙ none_any (is_late (present_moment now l)) l.untaken (calm_each ms now l short left soon)
-calm_between ms short now l between (Quiet t) n same x left soon = ap (late_at now) x.0 ∙ none_any (is_late (present_moment now l)) l.untaken (calm_each ms now l short left soon)
-calm_between ms short now l between Failed n same x left soon = cc
+        subst (λ (k : ℕ). AllByRecursion (Fits ms k) between.untaken) (at_now moment between.moment (ap (λ (k : LinkState). k.moment) link))
+        (subst (λ (us : List Untaken). AllByRecursion (Fits ms (present_moment now l)) us) (sym (ap (λ (k : LinkState). k.untaken) link))
+        (fits_received ms (present_moment now l) (same_peer from l.device) content l.untaken fits))
+    by false q = subst (λ (k : LinkState). AllByRecursion (Fits ms (present_moment now k)) k.untaken) (sym (x.long (over (length bytes) q)).0) fits
+fits_between ms now l between (Quiet t) n same x fits = subst (λ (k : LinkState). AllByRecursion (Fits ms (present_moment now k)) k.untaken) (sym x.0) fits
+fits_between ms now l between Failed n same x fits = cc
 
 -- a command that was begun
 accepted_now : (request : RequestFields) (now : ℕ) (l : LinkState) (h : Handle) → beginning request now l ≡ Ok h → submission request l ≡ Ok h
@@ -310,10 +260,22 @@ moment_submitted request now l h e = ap (λ a. (after_submission a request now l
 lost_submitted : (request : RequestFields) (now : ℕ) (l : LinkState) (h : Handle) → submission request l ≡ Ok h → (submitted request now l).lost ≡ l.lost
 lost_submitted request now l h e = ap (λ a. (after_submission a request now l).lost) e
 
-module _ (device : Peer) (first opened s : ℕ) (some : 0 < s) (ms : ℕ) (short : ms + 250 ≤ 100000) (before : List Call) (base : LinkState) (p : IsHistory device first opened s before base) (since : ℕ) where
+module _ (device : Peer) (first opened s : ℕ) (some : 0 < s) (ms : ℕ) (short : 20 * (250 + ms) ≤ 15000) (before : List Call) (base : LinkState) (p : IsHistory device first opened s before base) (since : ℕ) where
+  fits_then : (l : LinkState) (now : ℕ) → AllByRecursion (Fits ms (present_moment now l)) l.untaken → AllByRecursion (Fits ms (link_from now (l.span + 1) l).moment) (link_from now (l.span + 1) l).untaken
+  fits_then l now fits =
+      subst (λ (k : ℕ). AllByRecursion (Fits ms k) (link_from now (l.span + 1) l).untaken) (sym (moment_from (l.span + 1) now l (above l.span)))
+      (fits_from ms now (l.span + 1) l fits)
+    where
+      above : (n : ℕ) → 0 < n + 1
+      above n = omega arith
+
+  -- of a link that is asked, soon after
+  fits_on : (l : LinkState) (now : ℕ) → IsAsked ms since base l → now ≤ l.moment + ms → AllByRecursion (Fits ms (present_moment now l)) l.untaken
+  fits_on l now g soon = fits_soon ms now l g.left soon (few_sendings device first opened s (g.calls ++ before) l some (history_more device first opened s before base l g.calls p g.made)) g.time
+
   give_step : (calls : List Call) (l : LinkState) (now : ℕ) → BecomesBy base calls l → IsAskedEvery ms since calls → clock_of_calls since calls ≡ l.moment → present_moment now l ≤ last_asked since calls + ms →
-      (link_from now (l.span + 1) l).lost ≡ false → IsAsked ms since base (link_from now (l.span + 1) l)
-  give_step calls l now made every at soon going =
+      AllByRecursion (Fits ms (present_moment now l)) l.untaken → (link_from now (l.span + 1) l).lost ≡ false → IsAsked ms since base (link_from now (l.span + 1) l)
+  give_step calls l now made every at soon fits going =
       let small = few (due_count (present_moment now l) l.untaken) (length l.untaken) (count_length (present_moment now l) l.untaken)
       (few_untaken device first opened s (calls ++ before) l some (history_more device first opened s before base l calls p made)) in
       let r = gave_from ms since (l.span + 1) now calls l small at soon every in
@@ -324,6 +286,7 @@ module _ (device : Peer) (first opened s : ℕ) (some : 0 < s) (ms : ℕ) (short
         clock_is = r.clock_is;
         asked_is = r.asked_is;
         left = left_from (l.span + 1) now l small going;
+        time = time_of ms (link_from now (l.span + 1) l) (left_from (l.span + 1) now l small going) (fits_then l now fits);
       }
     where
       few : (a b : ℕ) → a ≤ b → b ≤ l.span → a < l.span + 1
@@ -334,7 +297,7 @@ module _ (device : Peer) (first opened s : ℕ) (some : 0 < s) (ms : ℕ) (short
 
   quiet_on : (l new : LinkState) (now : ℕ) → IsAsked ms since base l → now ≤ l.moment + ms → new ≡ link_from now (l.span + 1) l → new.lost ≡ false → IsAsked ms since base new
   quiet_on l new now g soon is going =
-      subst (IsAsked ms since base) (sym is) (give_step g.calls l now g.made g.every g.clock_is (at_once now l (last_asked since g.calls) g.asked_is soon) (sym (ap (λ (x : LinkState). x.lost) is) ∙ going))
+      subst (IsAsked ms since base) (sym is) (give_step g.calls l now g.made g.every g.clock_is (at_once now l (last_asked since g.calls) g.asked_is soon) (fits_on l now g soon) (sym (ap (λ (x : LinkState). x.lost) is) ∙ going))
 
   -- a datagram, or silence, and what is due after it
   hear_on : (d : Delivery) (now : ℕ) (l between new : LinkState) (n : ℕ) → delivered_at d ≡ now ∷ [] → HearsDelivery d l between n → IsAsked ms since base l → now ≤ l.moment + ms →
@@ -360,7 +323,7 @@ module _ (device : Peer) (first opened s : ℕ) (some : 0 < s) (ms : ℕ) (short
           let calls : List Call = Receives from bytes h.1.content t h.0 ∷ g.calls in
           subst (IsAsked ms since base) (sym is)
           (give_step calls between now (l, g.made, (h.1.holds, h.1.answer_is, h.1.link_is)) (behind moment (clock_of_calls since g.calls) (last_asked since g.calls) g.clock_is g.asked_is, g.every)
-          (ap (λ k. max k t) g.clock_is ∙ sym at) (after moment between.moment at (last_asked since g.calls) g.asked_is) (sym (ap (λ (k : LinkState). k.lost) is) ∙ going))
+          (ap (λ k. max k t) g.clock_is ∙ sym at) (after moment between.moment at (last_asked since g.calls) g.asked_is) (fits_between ms now l between (Datagram from bytes t) n same x (fits_on l now g soon)) (sym (ap (λ (k : LinkState). k.lost) is) ∙ going))
       by false q =
           let same_link : between ≡ l = (x.long (over (length bytes) q)).0 in
           quiet_on l new now g soon (is ∙ ap (λ (k : LinkState). link_from now (k.span + 1) k) same_link) going
@@ -376,10 +339,15 @@ module _ (device : Peer) (first opened s : ℕ) (some : 0 < s) (ms : ℕ) (short
     clock_is = g.clock_is;
     asked_is = g.asked_is;
     left = left_taken h l g.left;
+    time = by (is_some (answer_under h l.untaken));
   }
     where
       still : (a b : ℕ) → a ≡ l.moment → b ≡ l.moment → a ≤ b + ms
       still a b p q = omega arith
+
+      by : (b : Bool) → AllByRecursion (HasTimeLeft ms) (cond b (without_handle h l.untaken) l.untaken)
+      by true = each_without h (HasTimeLeft ms) l.untaken g.time
+      by false = g.time
 
   begin_on : (l new : LinkState) (request : RequestFields) (now : ℕ) (h : Handle) → IsAsked ms since base l → now ≤ l.moment + ms → beginning request now l ≡ Ok h →
       new ≡ link_from now ((submitted request now l).span + 1) (submitted request now l) → new.lost ≡ false → IsAsked ms since base new
@@ -389,7 +357,7 @@ module _ (device : Peer) (first opened s : ℕ) (some : 0 < s) (ms : ℕ) (short
       let at : x.moment ≡ max l.moment now = moment_submitted request now l h accepted in
       subst (IsAsked ms since base) (sym made)
       (give_step (Submits request now (Ok h) ∷ g.calls) x now (l, g.made, (sym accepted, refl)) (behind (clock_of_calls since g.calls) (last_asked since g.calls) g.clock_is g.asked_is, g.every)
-      (ap (λ k. max k now) g.clock_is ∙ sym at) (after x.moment at (last_asked since g.calls) g.asked_is) (sym (ap (λ (k : LinkState). k.lost) made) ∙ going))
+      (ap (λ k. max k now) g.clock_is ∙ sym at) (after x.moment at (last_asked since g.calls) g.asked_is) (fits_submitted ms request now l h accepted short (fits_on l now g soon)) (sym (ap (λ (k : LinkState). k.lost) made) ∙ going))
     where
       behind : (a b : ℕ) → a ≡ l.moment → b ≡ l.moment → max a now ≤ b + ms
       behind a b p q = omega arith
@@ -458,7 +426,7 @@ module _ (device : Peer) (first opened s : ℕ) (some : 0 < s) (ms : ℕ) (short
       calm =
           let w = within_more ms old.moment ts now (subst (λ (us : List ℕ). AreWithin ms old.moment (ts ++ us)) same within) in
           let g = rest w.0 (sym (lost_heard d l between n hears) ∙ lost_of (late_at now between) (sym (ap (λ (k : LinkState). k.lost) made) ∙ going)) in
-          calm_between ms short now l between d n same hears g.asked.left (soon_after ts old l now g w.1)
+          calm_fits ms now between (fits_between ms now l between d n same hears (fits_on l now g.asked (soon_after ts old l now g w.1)))
 
   took_on : (d : Delivery) (old l new : LinkState) (ts : List ℕ) (ds : List Decision) (n : ℕ) → TurnsInTime d l new ds n → (AreWithin ms old.moment ts → l.lost ≡ false → Goes old l ts) →
       AreWithin ms old.moment (ts ++ delivered_at d) → new.lost ≡ false → Goes old new (ts ++ delivered_at d)
@@ -495,11 +463,11 @@ module _ (device : Peer) (first opened s : ℕ) (some : 0 < s) (ms : ℕ) (short
 -- ---- the laws
 
 -- A link whose span is not 0 and that has nothing left to give out, and then runs at moments that follow one another
--- within `ms`, at most 99,750, is asked every `ms`, unless it is lost at the end.
-pub run_asked : (device : Peer) (first opened span ms : ℕ) (before : List Call) (old new : LinkState) (moments : List ℕ) → 0 < span → ms + 250 ≤ 100000 → IsHistory device first opened span before old → NothingIsLeft old →
-    IsRun moments old new → AreWithin ms old.moment moments → new.lost ≡ false → IsAsked ms old.moment old new
-run_asked device first opened span ms before old new moments some short p left run within going =
-    (run_on device first opened span some ms short before old p old.moment run (record { calls = []; made = refl; every = tt; clock_is = refl; asked_is = refl; left = left }) within going).asked
+-- within `ms`, at most 500, is asked every `ms`, unless it is lost at the end.
+pub run_asked : (device : Peer) (first opened span ms : ℕ) (before : List Call) (old new : LinkState) (moments : List ℕ) → 0 < span → 20 * (250 + ms) ≤ 15000 → IsHistory device first opened span before old → NothingIsLeft old →
+    HaveTimeLeft ms old → IsRun moments old new → AreWithin ms old.moment moments → new.lost ≡ false → IsAsked ms old.moment old new
+run_asked device first opened span ms before old new moments some short p left time run within going =
+    (run_on device first opened span some ms short before old p old.moment run (record { calls = []; made = refl; every = tt; clock_is = refl; asked_is = refl; left = left; time = time }) within going).asked
 
 -- a link that is lost stays so, over a run
 lost_before_run : {ts : List ℕ} {old new : LinkState} → IsRun ts old new → new.lost ≡ false → old.lost ≡ false
@@ -532,12 +500,12 @@ lost_before_run (Began {l = l} request now h run is made) going =
 lost_before_run (Took run_h run made) going = lost_before_run run (sym (ap (λ (k : LinkState). k.lost) made) ∙ going)
 
 -- A command that was begun is given out in time as long as it is in flight, over a run whose moments follow one another
--- within `ms`, at most 99,750, unless the link is lost at the end (span not 0).
-pub begun_in_time : (device : Peer) (first opened span ms : ℕ) (before : List Call) (old link new : LinkState) (request : RequestFields) (now : ℕ) (h : Handle) (moments : List ℕ) → 0 < span → ms + 250 ≤ 100000 →
-    IsHistory device first opened span before old → beginning request now old ≡ Ok h → link ≡ link_from now ((submitted request now old).span + 1) (submitted request now old) →
+-- within `ms`, at most 500, unless the link is lost at the end (span not 0).
+pub begun_in_time : (device : Peer) (first opened span ms : ℕ) (before : List Call) (old link new : LinkState) (request : RequestFields) (now : ℕ) (h : Handle) (moments : List ℕ) → 0 < span → 20 * (250 + ms) ≤ 15000 →
+    IsHistory device first opened span before old → beginning request now old ≡ Ok h → link ≡ link_from now ((submitted request now old).span + 1) (submitted request now old) → HaveTimeLeft ms link →
     IsRun moments link new → AreWithin ms link.moment moments → new.lost ≡ false → CommandIsInTime device first opened span ms before request now h link.moment new
-begun_in_time device first opened span ms before old link new request now h moments some short p is made run within going =
-    record { left = r.asked.left; later = r.asked.calls; history = history; in_time = by }
+begun_in_time device first opened span ms before old link new request now h moments some short p is made time run within going =
+    record { left = r.asked.left; time = r.asked.time; later = r.asked.calls; history = history; in_time = by }
   where
     x : LinkState
     x = submitted request now old
@@ -560,11 +528,28 @@ begun_in_time device first opened span ms before old link new request now h mome
     going_then : link.lost ≡ false
     going_then = lost_before_run run going
 
+    soon : (k : ℕ) → k ≡ max old.moment now → max k now ≤ k + ms
+    soon k e = omega arith
+
+    small : due_count (present_moment now x) x.untaken < x.span + 1
+    small = few (due_count (present_moment now x) x.untaken) (length x.untaken) (count_length (present_moment now x) x.untaken) (few_untaken device first opened span (Submits request now (Ok h) ∷ before) x some base)
+      where
+        few : (a b : ℕ) → a ≤ b → b ≤ x.span → a < x.span + 1
+        few a b p q = omega arith
+
+    gave : Gave ms x.moment [] x (link_from now (x.span + 1) x)
+    gave = gave_from ms x.moment (x.span + 1) now [] x small refl (soon x.moment at) tt
+
     started : IsAsked ms x.moment x link
-    started =
-        subst (IsAsked ms x.moment x) (sym made)
-        (give_step device first opened span some ms short (Submits request now (Ok h) ∷ before) x base x.moment [] x now refl tt refl
-        (subst (λ (k : ℕ). k ≤ x.moment + ms) (sym (no_later x.moment at)) (same x.moment)) (sym (ap (λ (k : LinkState). k.lost) made) ∙ going_then))
+    started = record {
+      calls = gave.more;
+      made = subst (λ (k : LinkState). BecomesBy x gave.more k) (sym made) gave.made;
+      every = subst (IsAskedEvery ms x.moment) (append-nil gave.more) gave.every;
+      clock_is = ap (clock_of_calls x.moment) (sym (append-nil gave.more)) ∙ gave.clock_is ∙ ap (λ (k : LinkState). k.moment) (sym made);
+      asked_is = ap (last_asked x.moment) (sym (append-nil gave.more)) ∙ gave.asked_is ∙ ap (λ (k : LinkState). k.moment) (sym made);
+      left = subst NothingIsLeft (sym made) (left_from (x.span + 1) now x small (sym (ap (λ (k : LinkState). k.lost) made) ∙ going_then));
+      time = time;
+    }
 
     r : Goes device first opened span some ms short (Submits request now (Ok h) ∷ before) x base x.moment link new moments
     r = run_on device first opened span some ms short (Submits request now (Ok h) ∷ before) x base x.moment run started within going
@@ -587,3 +572,36 @@ begun_in_time device first opened span ms before old link new request now h mome
         subst (λ (k : ℕ). IsGivenOutInTime ms k new.moment (sendings opened h.0 calls)) (since ∙ since_link)
         (subst (λ (k : ℕ). IsGivenOutInTime ms (max (clock_of_calls opened before) now) k (sendings opened h.0 calls)) (sym (holds_after device first opened span calls new some history).now.moment_is)
         (in_time device first opened span before r.asked.calls new request now ms h some history (subst (λ (k : ℕ). IsAskedEvery ms k r.asked.calls) (sym since) r.asked.every) w))
+
+-- Once a command was begun, each command of the link has time left, where each that waited before has time at that moment
+-- and the link is not lost (span not 0, `ms` at most 500).
+pub begun_time : (device : Peer) (first opened span ms : ℕ) (before : List Call) (old link : LinkState) (request : RequestFields) (now : ℕ) (h : Handle) → 0 < span → 20 * (250 + ms) ≤ 15000 →
+    IsHistory device first opened span before old → AllByRecursion (HasTimeAt ms (present_moment now old)) old.untaken → beginning request now old ≡ Ok h →
+    link ≡ link_from now ((submitted request now old).span + 1) (submitted request now old) → link.lost ≡ false → HaveTimeLeft ms link
+begun_time device first opened span ms before old link request now h some short p time is made going =
+    subst (HaveTimeLeft ms) (sym made) (time_of ms (link_from now (x.span + 1) x) (left_from (x.span + 1) now x small (sym (ap (λ (k : LinkState). k.lost) made) ∙ going))
+    (subst (λ (k : ℕ). AllByRecursion (Fits ms k) (link_from now (x.span + 1) x).untaken) (sym (moment_from (x.span + 1) now x (above x.span)))
+    (fits_from ms now (x.span + 1) x (fits_submitted ms request now old h accepted short fits))))
+  where
+    x : LinkState
+    x = submitted request now old
+
+    accepted : submission request old ≡ Ok h
+    accepted = accepted_now request now old h is
+
+    fits : AllByRecursion (Fits ms (present_moment now old)) old.untaken
+    fits = fits_at ms (present_moment now old) old.untaken
+        (each_map (λ u d. later u.last d.2) old.untaken (dated device first opened span before old some p)) time
+      where
+        later : (k : ℕ) → k ≤ old.moment → k ≤ max old.moment now
+        later k q = omega arith
+
+    small : due_count (present_moment now x) x.untaken < x.span + 1
+    small = few (due_count (present_moment now x) x.untaken) (length x.untaken) (count_length (present_moment now x) x.untaken)
+        (few_untaken device first opened span (Submits request now (Ok h) ∷ before) x some (old, p, (sym accepted, refl)))
+      where
+        few : (a b : ℕ) → a ≤ b → b ≤ x.span → a < x.span + 1
+        few a b p q = omega arith
+
+    above : (n : ℕ) → 0 < n + 1
+    above n = omega arith

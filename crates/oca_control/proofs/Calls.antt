@@ -55,7 +55,7 @@ is_accepted r h l e = by_lost l.lost e
     by_lost false e = by_next l.next refl e
 
 abbrev pub with_submit : ℕ → Request → ℕ → LinkState → LinkState
-with_submit h r now l = record l { moment = present_moment now l; next = handle_after h; untaken = l.untaken ++ new_untaken (command_under h r) ∷ [] }
+with_submit h r now l = record l { moment = present_moment now l; next = handle_after h; untaken = l.untaken ++ new_untaken (present_moment now l) (command_under h r) ∷ [] }
 
 -- A link whose span is not 0 and that follows its history follows it still after an accepted submit.
 pub submits : (device : Peer) (first s t now : ℕ) (accepted : List CommandFields) (sent : ℕ → List Sending) (came : ℕ → List AnswerFields) (open_at : ℕ → Bool) (l : LinkState) (h : Handle) (r : Request) →
@@ -66,11 +66,11 @@ submits device first s t now accepted sent came open_at l h r some a g = record 
   moment_is = ap (λ m. max m now) g.moment_is;
   span_is = g.span_is;
   next_is = let e : end_of (handle_after h.0) ≡ h.0 + 1 = end_after h.0 in one_more (length accepted) e number;
-  held = λ x. list_any-append (λ (u : Untaken). eqb u.command.handle x) l.untaken (new_untaken (command_under h.0 r) ∷ []) ∙ ap (λ b. b || (eqb h.0 x || false)) (g.held x) ∙ ap (λ b. open_at x || b) (or_false (eqb h.0 x));
-  are_sent = each_append _ l.untaken (new_untaken (command_under h.0 r) ∷ [])
+  held = λ x. list_any-append (λ (u : Untaken). eqb u.command.handle x) l.untaken (new_untaken (present_moment now l) (command_under h.0 r) ∷ []) ∙ ap (λ b. b || (eqb h.0 x || false)) (g.held x) ∙ ap (λ b. open_at x || b) (or_false (eqb h.0 x));
+  are_sent = each_append _ l.untaken (new_untaken (present_moment now l) (command_under h.0 r) ∷ [])
       (each_both (λ u p (q : h.0 < u.command.handle + l.span). still u.command u.times u.last p q) l.untaken g.are_sent (room_each l.span h.0 l.untaken a.room))
       (its, tt);
-  are_answered = each_append _ l.untaken (new_untaken (command_under h.0 r) ∷ [])
+  are_answered = each_append _ l.untaken (new_untaken (present_moment now l) (command_under h.0 r) ∷ [])
       (each_both (λ u p (q : u.answer ≡ first_of (came u.command.handle)). q ∙ sym (ap (λ b. first_of (cond b [] (came u.command.handle))) (older u.command.handle (below_of u.command u.times u.last p)))) l.untaken g.are_sent g.are_answered)
       (sym (ap (λ b. first_of (cond b [] (came h.0))) (equal_self h.0)), tt);
   fresh = λ x q. g.fresh x (further (length accepted) x q);

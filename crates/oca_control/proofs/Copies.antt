@@ -1,5 +1,5 @@
 -- No copy of a command is given out too late.
-use Rattle.std.proofs.Common.{◌≡◌, ℕ, zero, suc, ◌+◌, ◌-◌, ◌<◌, ◌≤◌, Bool, true, false, cond, not, ◌&&◌, ◌||◌, max, List, [], ◌∷◌, ◌++◌, length, map, Option, Result, Ok, Err, is_none, refl, sym, ap, ◌∙◌, arith, subst, inl, inr}
+use Rattle.std.proofs.Common.{◌≡◌, ℕ, zero, suc, ◌+◌, ◌-◌, ◌<◌, ◌≤◌, Bool, true, false, cond, not, ◌&&◌, ◌||◌, max, List, [], ◌∷◌, ◌++◌, length, map, Option, Some, None, Result, Ok, Err, is_none, is_some, refl, sym, ap, ◌∙◌, arith, subst, inl, inr}
 use Rattle.std.specs.Prelude.{nat_eq, nat_lt, nat_le}
 use Rattle.std.specs.List.{AllByRecursion, list_any}
 use Rattle.std.proofs.Math.Dec.{eqb}
@@ -7,7 +7,7 @@ use Rattle.std.proofs.lemmas.Bool.Decides.{nat_tests}
 use Rattle.std.proofs.lemmas.List.Folds.{list_any-append}
 use Rattle.oca_types.specs.declared.words.Peer.{Peer}
 use Rattle.oca_types.specs.declared.words.Handle.{Handle}
-use Rattle.oca_types.specs.Peers.{RequestFields, CommandFields}
+use Rattle.oca_types.specs.Peers.{RequestFields, CommandFields, same_peer}
 use Rattle.oca_net.specs.Deliveries.{Delivery, Datagram, Quiet, Failed}
 use Rattle.oca_net.specs.EndStates.{EndState}
 use Rattle.oca_control.specs.declared.due.Due.{Due}
@@ -16,17 +16,18 @@ use Rattle.oca_control.specs.declared.fault.ControlFault.TheVariants as faults
 use Rattle.oca_control.specs.declared.outcome.Outcome.{Outcome}
 use Rattle.oca_control.specs.declared.outcome.Outcome.TheVariants as outcomes
 use Rattle.oca_control.specs.declared.report.DriveReport.{DriveReport}
-use Rattle.oca_control.specs.Answers.{AnswerFields}
-use Rattle.oca_control.specs.Untaken.{Untaken, is_late, given_out, new_untaken, answer_under}
-use Rattle.oca_control.specs.Links.{LinkState, new_link, late_at, present_moment, command_under, submission, submitted, after_submission, Decision, GivesCommand, GivesKeepAlive, GivesNothing, IsLost, decision, due_answer, due_bytes, after_due, gone_on}
+use Rattle.oca_pdu.specs.Messages.{Msg, Command, Response, KeepAlive}
+use Rattle.oca_control.specs.Answers.{AnswerFields, answer_of_response}
+use Rattle.oca_control.specs.Untaken.{Untaken, is_late, given_out, new_untaken, answered, hears_all, answer_under, without_handle}
+use Rattle.oca_control.specs.Links.{LinkState, new_link, late_at, present_moment, command_under, submission, submitted, after_submission, Decision, GivesCommand, GivesKeepAlive, GivesNothing, IsLost, decision, due_answer, due_bytes, after_due, gone_on, hears_content}
 use Rattle.oca_control.specs.Histories.{Call, Submits, GivesOut, Receives, TakesAnswer, IsCall, IsHistory, clock_of_calls, commands, Sending, sending_of, sendings}
 use Rattle.oca_control.specs.Driving.{goes_on, link_from, HearsDelivery}
 use Rattle.oca_control.specs.Turning.{GivesIf, GivesInTime, GivesAfter, Turns}
 use Rattle.oca_control.specs.Asking.{TakesTurns, NoneTaken, OneTaken, Waits, Begins, Asks, HasOutcome}
-use Rattle.oca_control.specs.Copies.{AreNear, IsInTime, MakesInTime, IsMadeInTime, EveryStepIsInTime}
-use Rattle.oca_control.proofs.Following.{equal_is, is_at_most, both_true, IsLast, IsSent}
-use Rattle.oca_control.proofs.Calls.{is_given, each_first}
-use Rattle.oca_control.proofs.Histories.{HoldsAfter, holds_after}
+use Rattle.oca_control.specs.Copies.{submitted_at, LeavesInTime, IsInTime, MakesInTime, IsMadeInTime, EveryStepIsInTime}
+use Rattle.oca_control.proofs.Following.{equal_is, equal_self, unequal, is_at_most, both_true, each_map, each_both, each_append, end_of, IsSent}
+use Rattle.oca_control.proofs.Calls.{is_accepted, is_given, each_first, each_without}
+use Rattle.oca_control.proofs.Histories.{Now, holds_after}
 
 neither : (a b : Bool) → (a || b) ≡ false → (a ≡ false) × (b ≡ false)
 neither true b e = cc
@@ -36,67 +37,191 @@ none_of : (p : Untaken → Bool) (us : List Untaken) → list_any p us ≡ false
 none_of p [] e = tt
 none_of p (u ∷ us) e = let b = neither (p u) (list_any p us) e in (b.0, none_of p us b.1)
 
--- ---- the sendings
+-- ---- when commands were submitted
 
-near_more : (t at times last : ℕ) (answer : Option AnswerFields) (bytes : List ℕ) (xs : List Sending) → at ≡ t →
-    (is_none answer && (nat_eq times 0 || nat_le 250 (t - last))) ≡ true → (is_none answer && (not (nat_eq times 0) && nat_lt 100000 (t - last))) ≡ false →
-    times ≡ length xs → IsLast last xs → AreNear xs → AreNear ((let s : Sending = record { at = at; bytes = bytes } in s) ∷ xs)
-near_more t at times last answer bytes [] same due calm count is near = tt
-near_more t at times last answer bytes (x ∷ xs) same due calm count is near = (close (x.at) is short, near)
+-- what a link holds of when each untaken command was submitted
+-- and last given out
+abbrev pub AreDated : ℕ → (ℕ → Option ℕ) → List Untaken → Type 0
+AreDated t at us = AllByRecursion (λ u. (at u.command.handle ≡ Some u.submitted) × (u.submitted ≤ t) × (u.last ≤ t)) us
+
+dated_given_out : (t h : ℕ) (at : ℕ → Option ℕ) (us : List Untaken) → AreDated t at us → AreDated t at (map (given_out t h) us)
+dated_given_out t h at [] a = tt
+dated_given_out t h at (u ∷ us) a = ((a.0.0, a.0.1, by_test (eqb u.command.handle h)), dated_given_out t h at us a.1)
   where
-    never : (k : ℕ) → nat_eq (suc k) 0 ≡ false
-    never k = grind (arith, nat_tests)
+    by_test : (b : Bool) → cond b t u.last ≤ t
+    by_test true = omega arith
+    by_test false = a.0.2
 
-    short : nat_lt 100000 (t - last) ≡ false
-    short =
-        sym (ap (λ b. b && (not (nat_eq times 0) && nat_lt 100000 (t - last))) (both_true (is_none answer) (nat_eq times 0 || nat_le 250 (t - last)) due).0
-        ∙ ap (λ k. not (nat_eq k 0) && nat_lt 100000 (t - last)) count
-        ∙ ap (λ b. not b && nat_lt 100000 (t - last)) (never (length xs)))
-        ∙ calm
+dated_answered : (t h : ℕ) (a : AnswerFields) (at : ℕ → Option ℕ) (us : List Untaken) → AreDated t at us → AreDated t at (map (answered h a) us)
+dated_answered t h a at [] q = tt
+dated_answered t h a at (u ∷ us) q = (q.0, dated_answered t h a at us q.1)
 
-    close : (a : ℕ) → a ≡ last → nat_lt 100000 (t - last) ≡ false → at ≤ a + 100000
-    close a e p = grind (arith, nat_tests)
+dated_heard : (t : ℕ) (ms : List Msg) (at : ℕ → Option ℕ) (us : List Untaken) → AreDated t at us → AreDated t at (hears_all ms us)
+dated_heard t [] at us q = q
+dated_heard t (Response x ∷ ms) at us q = dated_heard t ms at (map (answered x.handle (answer_of_response x)) us) (dated_answered t x.handle (answer_of_response x) at us q)
+dated_heard t (KeepAlive form ∷ ms) at us q = dated_heard t ms at us q
+dated_heard t (Command respond c ∷ ms) at us q = dated_heard t ms at us q
 
-near_send : (device : Peer) (first opened s : ℕ) (before : List Call) (l : LinkState) (now h : ℕ) (bytes : List ℕ) (d : Decision) → HoldsAfter device first opened s before l →
-    late_at now l ≡ false → decision now l ≡ d → AreNear (sendings opened h before) →
-    AreNear (sending_of h (due_answer d) (record { at = max (clock_of_calls opened before) now; bytes = bytes }) (sendings opened h before))
-near_send device first opened s before l now h bytes GivesKeepAlive g calm e near = near
-near_send device first opened s before l now h bytes GivesNothing g calm e near = near
-near_send device first opened s before l now h bytes IsLost g calm e near = near
-near_send device first opened s before l now h bytes (GivesCommand c) g calm e near = by_test (eqb h c.handle) refl
+dated_received : (t : ℕ) (b : Bool) (content : Option (List Msg)) (at : ℕ → Option ℕ) (us : List Untaken) → AreDated t at us → AreDated t at (cond b (hears_content content us) us)
+dated_received t true None at us q = q
+dated_received t true (Some ms) at us q = dated_heard t ms at us q
+dated_received t false content at us q = q
+
+dated_later : (t now : ℕ) (at : ℕ → Option ℕ) (us : List Untaken) → AreDated t at us → AreDated (max t now) at us
+dated_later t now at us q = each_map (λ u a. (a.0, later u.submitted a.1, later u.last a.2)) us q
   where
-    at_now : max (clock_of_calls opened before) now ≡ present_moment now l
-    at_now = sym (ap (λ m. max m now) g.now.moment_is)
+    later : (k : ℕ) → k ≤ t → k ≤ max t now
+    later k p = omega arith
 
-    here : (k : ℕ) → k ≡ c.handle → AreNear (sendings opened k before) → AreNear ((let x : Sending = record { at = max (clock_of_calls opened before) now; bytes = bytes } in x) ∷ sendings opened k before)
-    here k same near =
-        let i = is_given (present_moment now l) l.sent l.lost c l.untaken e in
-        let sent = each_first (λ u. IsSent s (first + length (commands before)) (commands before) (λ x. sendings opened x before) u.command u.times u.last) (present_moment now l) l.untaken i.given g.now.are_sent i.first_is in
-        let quiet = each_first (λ u. is_late (present_moment now l) u ≡ false) (present_moment now l) l.untaken i.given (none_of (is_late (present_moment now l)) l.untaken calm) i.first_is in
-        let handle : i.given.command.handle ≡ k = ap (λ (x : CommandFields). x.handle) i.command_is ∙ sym same in
-        near_more (present_moment now l) (max (clock_of_calls opened before) now) i.given.times i.given.last i.given.answer bytes (sendings opened k before) at_now sent.1 quiet.0
-        (sent.0.count ∙ ap (λ x. length (sendings opened x before)) handle)
-        (subst (λ (x : ℕ). IsLast i.given.last (sendings opened x before)) handle sent.0.last_is) near
+dated_due : (now : ℕ) (at : ℕ → Option ℕ) (l : LinkState) (d : Decision) → AreDated l.moment at l.untaken → AreDated (max l.moment now) at (after_due d (present_moment now l) l).untaken
+dated_due now at l (GivesCommand c) q = dated_given_out (max l.moment now) c.handle at l.untaken (dated_later l.moment now at l.untaken q)
+dated_due now at l GivesKeepAlive q = dated_later l.moment now at l.untaken q
+dated_due now at l GivesNothing q = dated_later l.moment now at l.untaken q
+dated_due now at l IsLost q = dated_later l.moment now at l.untaken q
 
-    by_test : (b : Bool) → eqb h c.handle ≡ b → AreNear (cond b ((let x : Sending = record { at = max (clock_of_calls opened before) now; bytes = bytes } in x) ∷ sendings opened h before) (sendings opened h before))
-    by_test true q = here h (equal_is h c.handle q) near
-    by_test false q = near
+due_moment : (now : ℕ) (l : LinkState) (d : Decision) → (after_due d (present_moment now l) l).moment ≡ max l.moment now
+due_moment now l (GivesCommand c) = refl
+due_moment now l GivesKeepAlive = refl
+due_moment now l GivesNothing = refl
+due_moment now l IsLost = refl
 
 is_history : (device : Peer) (first opened s : ℕ) (calls : List Call) (after : LinkState) → MakesInTime (new_link device first opened s) calls after → IsHistory device first opened s calls after
 is_history device first opened s [] after m = m
 is_history device first opened s (call ∷ before) after m = (m.0, is_history device first opened s before m.0 m.1, m.2)
 
--- By calls in time of a new link whose span is not 0, each copy of a command is given out at most 100,000 ms after the
--- one before it.
-pub copies_near : (device : Peer) (first opened s : ℕ) (calls : List Call) (after : LinkState) → 0 < s → MakesInTime (new_link device first opened s) calls after → (h : ℕ) → AreNear (sendings opened h calls)
-copies_near device first opened s [] after some m h = tt
-copies_near device first opened s (Submits r now a ∷ before) after some m h = copies_near device first opened s before m.0 some m.1 h
-copies_near device first opened s (Receives from bytes content now a ∷ before) after some m h = copies_near device first opened s before m.0 some m.1 h
-copies_near device first opened s (TakesAnswer x a ∷ before) after some m h = copies_near device first opened s before m.0 some m.1 h
-copies_near device first opened s (GivesOut now a bytes ∷ before) after some m h =
-    subst (λ (x : Due). AreNear (sending_of h x (record { at = max (clock_of_calls opened before) now; bytes = bytes }) (sendings opened h before))) (sym m.2.0)
-    (near_send device first opened s before m.0 now h bytes (decision now m.0) (holds_after device first opened s before m.0 some (is_history device first opened s before m.0 m.1)) m.3 refl
-    (copies_near device first opened s before m.0 some m.1 h))
+-- By calls of a new link whose span is not 0, each untaken command holds when it was submitted, which is not to come.
+pub dated : (device : Peer) (first opened s : ℕ) (calls : List Call) (l : LinkState) → 0 < s → IsHistory device first opened s calls l → AreDated l.moment (λ h. submitted_at opened h calls) l.untaken
+dated device first opened s [] l some p = subst (λ (k : LinkState). AreDated k.moment (λ h. None) k.untaken) (sym p) tt
+dated device first opened s (Submits r now (Err fault) ∷ before) l some p =
+    let old = p.0 in
+    subst (λ (k : LinkState). AreDated k.moment (λ h. submitted_at opened h before) k.untaken)
+    (sym (p.2.1 ∙ ap (λ a. after_submission a r now old) (sym p.2.0))) (dated device first opened s before old some p.1)
+dated device first opened s (Submits r now (Ok x) ∷ before) l some p =
+    subst (λ (k : LinkState). AreDated k.moment at k.untaken) (sym (p.2.1 ∙ ap (λ a. after_submission a r now old) (sym p.2.0)))
+    (each_append _ old.untaken (new_untaken (present_moment now old) (command_under x.0 r) ∷ [])
+    (each_both {R = λ (u : Untaken). (at u.command.handle ≡ Some u.submitted) × (u.submitted ≤ max old.moment now) × (u.last ≤ max old.moment now)}
+    (λ u (q : IsSent s (first + length (commands before)) (commands before) (λ h. sendings opened h before) u.command u.times u.last) (a : (submitted_at opened u.command.handle before ≡ Some u.submitted) × (u.submitted ≤ max old.moment now) × (u.last ≤ max old.moment now)).
+    (ap (λ b. cond b (Some (max (clock_of_calls opened before) now)) (submitted_at opened u.command.handle before)) (older u.command u.times u.last q) ∙ a.0, a.1, a.2))
+    old.untaken g.are_sent (dated_later old.moment now (λ h. submitted_at opened h before) old.untaken (dated device first opened s before old some p.1)))
+    ((its, at_most (max old.moment now), none (max old.moment now)), tt))
+  where
+    old : LinkState
+    old = p.0
+
+    at : ℕ → Option ℕ
+    at h = cond (eqb h x.0) (Some (max (clock_of_calls opened before) now)) (submitted_at opened h before)
+
+    g : Now device first opened s before old
+    g = (holds_after device first opened s before old some p.1).now
+
+    older : (c : CommandFields) (times last : ℕ) → IsSent s (first + length (commands before)) (commands before) (λ h. sendings opened h before) c times last → eqb c.handle x.0 ≡ false
+    older c times last q =
+        let b : c.handle < first + length (commands before) = q.below in
+        let n : end_of old.next ≡ x.0 = ap end_of (is_accepted r x old (sym p.2.0)).next in
+        let m : end_of old.next ≡ first + length (commands before) = g.next_is in
+        unequal c.handle x.0 (omega arith)
+
+    its : at x.0 ≡ Some (present_moment now old)
+    its = ap (λ b. cond b (Some (max (clock_of_calls opened before) now)) (submitted_at opened x.0 before)) (equal_self x.0) ∙ ap (λ m. Some (max m now)) (sym g.moment_is)
+
+    at_most : (k : ℕ) → k ≤ k
+    at_most k = omega arith
+
+    none : (k : ℕ) → 0 ≤ k
+    none k = omega arith
+dated device first opened s (GivesOut now returned bytes ∷ before) l some p =
+    let old = p.0 in
+    subst (λ (k : LinkState). AreDated k.moment (λ h. submitted_at opened h before) k.untaken) (sym p.2.2)
+    (subst (λ (m : ℕ). AreDated m (λ h. submitted_at opened h before) (gone_on now old).untaken) (sym (due_moment now old (decision now old)))
+    (dated_due now (λ h. submitted_at opened h before) old (decision now old) (dated device first opened s before old some p.1)))
+dated device first opened s (Receives from bytes content now returned ∷ before) l some p =
+    let old = p.0 in
+    subst (λ (k : LinkState). AreDated k.moment (λ h. submitted_at opened h before) k.untaken) (sym p.2.2)
+    (dated_received (max old.moment now) (same_peer from old.device) content (λ h. submitted_at opened h before) old.untaken
+    (dated_later old.moment now (λ h. submitted_at opened h before) old.untaken (dated device first opened s before old some p.1)))
+dated device first opened s (TakesAnswer h answer ∷ before) l some p =
+    let old = p.0 in
+    subst (λ (k : LinkState). AreDated k.moment (λ x. submitted_at opened x before) k.untaken) (sym p.2.1)
+    (by (is_some (answer_under h old.untaken)) (dated device first opened s before old some p.1))
+  where
+    by : (b : Bool) → AreDated p.0.moment (λ x. submitted_at opened x before) p.0.untaken → AreDated p.0.moment (λ x. submitted_at opened x before) (cond b (without_handle h p.0.untaken) p.0.untaken)
+    by true q = each_without h _ p.0.untaken q
+    by false q = q
+
+-- ---- the sendings
+
+young : (t submitted : ℕ) (answer : Option AnswerFields) (times last : ℕ) →
+    (is_none answer && (nat_eq times 0 || nat_le 250 (t - last))) ≡ true → (is_none answer && nat_lt 15000 (t - submitted)) ≡ false → t ≤ submitted + 15000
+young t submitted answer times last due calm =
+    close (sym (ap (λ b. b && nat_lt 15000 (t - submitted)) (both_true (is_none answer) (nat_eq times 0 || nat_le 250 (t - last)) due).0) ∙ calm)
+  where
+    close : nat_lt 15000 (t - submitted) ≡ false → t ≤ submitted + 15000
+    close p = grind (arith, nat_tests)
+
+leaves_now : (device : Peer) (first opened s : ℕ) (before : List Call) (l : LinkState) (now h : ℕ) (bytes : List ℕ) (d : Decision) → 0 < s → IsHistory device first opened s before l →
+    late_at now l ≡ false → decision now l ≡ d → AllByRecursion (LeavesInTime (submitted_at opened h before)) (sendings opened h before) →
+    AllByRecursion (LeavesInTime (submitted_at opened h before)) (sending_of h (due_answer d) (record { at = max (clock_of_calls opened before) now; bytes = bytes }) (sendings opened h before))
+leaves_now device first opened s before l now h bytes GivesKeepAlive some p calm e all = all
+leaves_now device first opened s before l now h bytes GivesNothing some p calm e all = all
+leaves_now device first opened s before l now h bytes IsLost some p calm e all = all
+leaves_now device first opened s before l now h bytes (GivesCommand c) some p calm e all = by_test (eqb h c.handle) refl
+  where
+    at_now : present_moment now l ≡ max (clock_of_calls opened before) now
+    at_now = ap (λ m. max m now) (holds_after device first opened s before l some p).now.moment_is
+
+    it : Sending
+    it = record { at = max (clock_of_calls opened before) now; bytes = bytes }
+
+    here : h ≡ c.handle → LeavesInTime (submitted_at opened h before) it
+    here same =
+        let i = is_given (present_moment now l) l.sent l.lost c l.untaken e in
+        let date = each_first (λ u. (submitted_at opened u.command.handle before ≡ Some u.submitted) × (u.submitted ≤ l.moment) × (u.last ≤ l.moment)) (present_moment now l) l.untaken i.given (dated device first opened s before l some p) i.first_is in
+        let quiet = each_first (λ u. is_late (present_moment now l) u ≡ false) (present_moment now l) l.untaken i.given (none_of (is_late (present_moment now l)) l.untaken calm) i.first_is in
+        let handle : i.given.command.handle ≡ h = ap (λ (x : CommandFields). x.handle) i.command_is ∙ sym same in
+        let known : submitted_at opened h before ≡ Some i.given.submitted = ap (λ x. submitted_at opened x before) (sym handle) ∙ date.0.0 in
+        subst (λ (o : Option ℕ). LeavesInTime o it) (sym known)
+        (not_before i.given.submitted date.0.1, subst (λ (t : ℕ). t ≤ i.given.submitted + 15000) at_now (young (present_moment now l) i.given.submitted i.given.answer i.given.times i.given.last date.1 quiet.0))
+      where
+        not_before : (k : ℕ) → k ≤ l.moment → k ≤ max (clock_of_calls opened before) now
+        not_before k q = subst (λ (t : ℕ). k ≤ t) at_now (further k q)
+          where
+            further : (k : ℕ) → k ≤ l.moment → k ≤ max l.moment now
+            further k q = omega arith
+
+    by_test : (b : Bool) → eqb h c.handle ≡ b → AllByRecursion (LeavesInTime (submitted_at opened h before)) (cond b (it ∷ sendings opened h before) (sendings opened h before))
+    by_test true q = (here (equal_is h c.handle q), all)
+    by_test false q = all
+
+-- By calls in time of a new link whose span is not 0, each copy of a command leaves not before its submit, and at most
+-- 15,000 ms after.
+pub copies_in_time : (device : Peer) (first opened s : ℕ) (calls : List Call) (after : LinkState) → 0 < s → MakesInTime (new_link device first opened s) calls after →
+    (h : ℕ) → AllByRecursion (LeavesInTime (submitted_at opened h calls)) (sendings opened h calls)
+copies_in_time device first opened s [] after some m h = tt
+copies_in_time device first opened s (Submits r now (Err fault) ∷ before) after some m h = copies_in_time device first opened s before m.0 some m.1 h
+copies_in_time device first opened s (Submits r now (Ok x) ∷ before) after some m h = by_test (eqb h x.0) refl (copies_in_time device first opened s before m.0 some m.1 h)
+  where
+    p : IsHistory device first opened s before m.0
+    p = is_history device first opened s before m.0 m.1
+
+    g : Now device first opened s before m.0
+    g = (holds_after device first opened s before m.0 some p).now
+
+    fresh : h ≡ x.0 → sendings opened h before ≡ []
+    fresh same =
+        let n : end_of m.0.next ≡ x.0 = ap end_of (is_accepted r x m.0 (sym m.2.0)).next in
+        let k : end_of m.0.next ≡ first + length (commands before) = g.next_is in
+        g.fresh h (omega arith)
+
+    by_test : (b : Bool) → eqb h x.0 ≡ b → AllByRecursion (LeavesInTime (submitted_at opened h before)) (sendings opened h before) →
+        AllByRecursion (LeavesInTime (cond b (Some (max (clock_of_calls opened before) now)) (submitted_at opened h before))) (sendings opened h before)
+    by_test true q rest = subst (AllByRecursion (LeavesInTime (Some (max (clock_of_calls opened before) now)))) (sym (fresh (equal_is h x.0 q))) tt
+    by_test false q rest = rest
+copies_in_time device first opened s (Receives from bytes content now a ∷ before) after some m h = copies_in_time device first opened s before m.0 some m.1 h
+copies_in_time device first opened s (TakesAnswer x a ∷ before) after some m h = copies_in_time device first opened s before m.0 some m.1 h
+copies_in_time device first opened s (GivesOut now a bytes ∷ before) after some m h =
+    subst (λ (x : Due). AllByRecursion (LeavesInTime (submitted_at opened h before)) (sending_of h x (record { at = max (clock_of_calls opened before) now; bytes = bytes }) (sendings opened h before))) (sym m.2.0)
+    (leaves_now device first opened s before m.0 now h bytes (decision now m.0) some (is_history device first opened s before m.0 m.1) m.3 refl
+    (copies_in_time device first opened s before m.0 some m.1 h))
 
 -- ---- the steps
 
@@ -120,23 +245,10 @@ none_given_out : (t h : ℕ) (us : List Untaken) → list_any (is_late t) us ≡
 none_given_out t h [] e = refl
 none_given_out t h (u ∷ us) e =
     let b = neither (is_late t u) (list_any (is_late t) us) e in
-    both (is_late t (given_out t h u)) (list_any (is_late t) (map (given_out t h) us)) (by_test (eqb u.command.handle h) b.0) (none_given_out t h us b.1)
+    both (is_late t u) (list_any (is_late t) (map (given_out t h) us)) b.0 (none_given_out t h us b.1)
   where
     both : (a b : Bool) → a ≡ false → b ≡ false → (a || b) ≡ false
     both a b p q = cc
-
-    no_time : (k : ℕ) → nat_lt 100000 (k - k) ≡ false
-    no_time k = grind (arith, nat_tests)
-
-    and_false : (a b : Bool) → (a && (b && false)) ≡ false
-    and_false true true = refl
-    and_false true false = refl
-    and_false false b = refl
-
-    by_test : (b : Bool) → is_late t u ≡ false →
-        (is_none u.answer && (not (nat_eq (cond b (u.times + 1) u.times) 0) && nat_lt 100000 (t - cond b t u.last))) ≡ false
-    by_test true p = ap (λ z. is_none u.answer && (not (nat_eq (u.times + 1) 0) && z)) (no_time t) ∙ and_false (is_none u.answer) (not (nat_eq (u.times + 1) 0))
-    by_test false p = p
 
 calm_after : (now : ℕ) (l : LinkState) → late_at now l ≡ false → late_at now (gone_on now l) ≡ false
 calm_after now l calm = by (decision now l)
@@ -210,9 +322,12 @@ waits_made h turns old new outcomes.Unanswered e f w = turns_made w.0
 calm_submitted : (request : RequestFields) (now : ℕ) (h : Handle) (l : LinkState) → Ok h ≡ submission request l → late_at now l ≡ false → late_at now (submitted request now l) ≡ false
 calm_submitted request now h l is calm =
     ap (λ a. late_at now (after_submission a request now l)) (sym is)
-    ∙ ap (λ k. list_any (is_late k) (l.untaken ++ new_untaken (command_under h.0 request) ∷ [])) (again l.moment now)
-    ∙ list_any-append (is_late (present_moment now l)) l.untaken (new_untaken (command_under h.0 request) ∷ [])
-    ∙ ap (λ b. b || false) calm
+    ∙ ap (λ k. list_any (is_late k) (l.untaken ++ new_untaken (present_moment now l) (command_under h.0 request) ∷ [])) (again l.moment now)
+    ∙ list_any-append (is_late (present_moment now l)) l.untaken (new_untaken (present_moment now l) (command_under h.0 request) ∷ [])
+    ∙ ap (λ b. b || (nat_lt 15000 (present_moment now l - present_moment now l) || false)) calm ∙ ap (λ b. b || false) (no_time (present_moment now l))
+  where
+    no_time : (k : ℕ) → nat_lt 15000 (k - k) ≡ false
+    no_time k = grind (arith, nat_tests)
 
 begins_made : (request : RequestFields) (returned : Result Handle ControlFault) (old new : LinkState) (e f : EndState) → Begins request returned old new e f → IsMadeInTime old new
 begins_made request (Err fault) old new e f b = not_changed b.gives.0
@@ -242,13 +357,12 @@ every_step = record { giving = gives_made; turning = turn_made; beginning = begi
 pub stays_late : (now later : ℕ) (l : LinkState) → now ≤ later → late_at now l ≡ true → late_at later l ≡ true
 stays_late now later l le late = by l.untaken late
   where
-    more : (last : ℕ) → nat_lt 100000 (max l.moment now - last) ≡ true → nat_lt 100000 (max l.moment later - last) ≡ true
-    more last p = grind (arith, nat_tests)
+    more : (at : ℕ) → nat_lt 15000 (max l.moment now - at) ≡ true → nat_lt 15000 (max l.moment later - at) ≡ true
+    more at p = grind (arith, nat_tests)
 
-    one : (a b c d : Bool) → (c ≡ true → d ≡ true) → (a && (b && c)) ≡ true → (a && (b && d)) ≡ true
-    one true true c d f p = f p
-    one true false c d f p = p
-    one false b c d f p = p
+    one : (a c d : Bool) → (c ≡ true → d ≡ true) → (a && c) ≡ true → (a && d) ≡ true
+    one true c d f p = f p
+    one false c d f p = p
 
     either : (a b x y : Bool) → (a ≡ true → x ≡ true) → (b ≡ true → y ≡ true) → (a || b) ≡ true → (x || y) ≡ true
     either true b x y f g p = ap (λ z. z || y) (f refl)
@@ -262,4 +376,4 @@ stays_late now later l le late = by l.untaken late
     by [] p = cc
     by (u ∷ us) p =
         either (is_late (present_moment now l) u) (list_any (is_late (present_moment now l)) us) (is_late (present_moment later l) u) (list_any (is_late (present_moment later l)) us)
-        (one (is_none u.answer) (not (nat_eq u.times 0)) (nat_lt 100000 (present_moment now l - u.last)) (nat_lt 100000 (present_moment later l - u.last)) (more u.last)) (by us) p
+        (one (is_none u.answer) (nat_lt 15000 (present_moment now l - u.submitted)) (nat_lt 15000 (present_moment later l - u.submitted)) (more u.submitted)) (by us) p

@@ -36,7 +36,7 @@ due_more s (u ∷ us) vs = by_test (is_due s u) (due_more s us vs)
 one_due : (h s : ℕ) (o : Option Held) → some_due (untaken_at h o) s ≡ held_is_due s o
 one_due h s None = refl
 one_due h s (Some k) =
-    by_test (held_is_due s (Some k)) (record { command = command_under h k.request; times = k.times; last = k.last; answer = k.answer })
+    by_test (held_is_due s (Some k)) (record { command = command_under h k.request; submitted = k.submitted; times = k.times; last = k.last; answer = k.answer })
   where
     by_test : (b : Bool) (u : Untaken) → is_some (cond b (Some u) None) ≡ b
     by_test true u = refl

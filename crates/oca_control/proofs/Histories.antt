@@ -138,7 +138,7 @@ submit_others device first opened s before l after r now (Ok h) e f g q =
     (record {
       lost_is = q.lost_is;
       sent_is = q.sent_is;
-      rises = rises_more l.untaken (new_untaken (command_under h.0 r)) (each_map (λ u p. older u.command u.times u.last p) l.untaken g.are_sent) q.rises;
+      rises = rises_more l.untaken (new_untaken (present_moment now l) (command_under h.0 r)) (each_map (λ u p. older u.command u.times u.last p) l.untaken g.are_sent) q.rises;
     })
   where
     older : (c : CommandFields) (times last : ℕ) → IsSent s (first + length (commands before)) (commands before) (λ x. sendings opened x before) c times last → c.handle < h.0

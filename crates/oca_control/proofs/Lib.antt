@@ -17,5 +17,6 @@ pub mod Asks
 pub mod Copies
 pub mod DueTimes
 pub mod Settling
+pub mod Lifetimes
 pub mod Asked
 pub mod Runs

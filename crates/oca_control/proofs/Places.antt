@@ -86,7 +86,7 @@ unchanged f h lo (suc n) slots same far =
   where
     one : (o : Option Held) → map f (untaken_at lo o) ≡ untaken_at lo o
     one None = refl
-    one (Some k) = ap (λ u. u ∷ []) (same (record { command = record { handle = lo; target = k.request.target; level = k.request.level; index = k.request.index; count = k.request.count; params = k.request.params }; times = k.times; last = k.last; answer = k.answer }) (far lo (omega arith) (omega arith)))
+    one (Some k) = ap (λ u. u ∷ []) (same (record { command = record { handle = lo; target = k.request.target; level = k.request.level; index = k.request.index; count = k.request.count; params = k.request.params }; submitted = k.submitted; times = k.times; last = k.last; answer = k.answer }) (far lo (omega arith) (omega arith)))
 
 map_parts : (f : Untaken → Untaken) (front mid back mid' : List Untaken) → map f front ≡ front → map f back ≡ back → mid' ≡ map f mid →
     front ++ (mid' ++ back) ≡ map f (front ++ (mid ++ back))
@@ -359,7 +359,7 @@ not_due now lo hi slots below not_so = ap (first_due now) (step lo hi slots belo
   where
     by : (o : Option Held) → held_is_due now o ≡ false → first_due now (untaken_at lo o ++ untaken_from (lo + 1) (hi - (lo + 1)) slots) ≡ first_due now (untaken_from (lo + 1) (hi - (lo + 1)) slots)
     by None not_so = refl
-    by (Some k) not_so = ap (λ b. cond b (Some (record { command = record { handle = lo; target = k.request.target; level = k.request.level; index = k.request.index; count = k.request.count; params = k.request.params }; times = k.times; last = k.last; answer = k.answer })) (first_due now (untaken_from (lo + 1) (hi - (lo + 1)) slots))) not_so
+    by (Some k) not_so = ap (λ b. cond b (Some (record { command = record { handle = lo; target = k.request.target; level = k.request.level; index = k.request.index; count = k.request.count; params = k.request.params }; submitted = k.submitted; times = k.times; last = k.last; answer = k.answer })) (first_due now (untaken_from (lo + 1) (hi - (lo + 1)) slots))) not_so
 
 -- The first due command is that of the first handle where that one is due.
 pub due_here : (now lo hi : ℕ) (slots : List (Option Held)) → lo < hi → held_is_due now (held_at lo slots) ≡ true →
@@ -369,7 +369,7 @@ due_here now lo hi slots below due = ap (first_due now) (step lo hi slots below)
     by : (o : Option Held) → held_is_due now o ≡ true → first_due now (untaken_at lo o ++ untaken_from (lo + 1) (hi - (lo + 1)) slots) ≡ first_due now (untaken_at lo o)
     by None due = cc
     by (Some k) due =
-        let u : Untaken = record { command = record { handle = lo; target = k.request.target; level = k.request.level; index = k.request.index; count = k.request.count; params = k.request.params }; times = k.times; last = k.last; answer = k.answer } in
+        let u : Untaken = record { command = record { handle = lo; target = k.request.target; level = k.request.level; index = k.request.index; count = k.request.count; params = k.request.params }; submitted = k.submitted; times = k.times; last = k.last; answer = k.answer } in
         ap (λ b. cond b (Some u) (first_due now (untaken_from (lo + 1) (hi - (lo + 1)) slots))) due ∙ sym (ap (λ b. cond b (Some u) None) due)
 
 -- Where the first handle's slot is empty, the commands are those above it.

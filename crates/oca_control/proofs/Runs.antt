@@ -1,5 +1,5 @@
 -- What is done with a link over an end is a run.
-use Rattle.std.proofs.Common.{◌≡◌, ℕ, ◌+◌, ◌<◌, ◌≤◌, Bool, false, max, List, [], ◌∷◌, ◌++◌, Result, Ok, Err, refl, sym, ap, ◌∙◌, subst, inl, inr, append_assoc, append-nil}
+use Rattle.std.proofs.Common.{◌≡◌, ℕ, ◌+◌, ◌*◌, ◌<◌, ◌≤◌, Bool, false, max, List, [], ◌∷◌, ◌++◌, Result, Ok, Err, refl, sym, ap, ◌∙◌, subst, inl, inr, append_assoc, append-nil}
 use Rattle.std.specs.Prelude.{IsTrue}
 use Rattle.std.proofs.lemmas.Grind.{flat_map-append}
 use Rattle.oca_types.specs.declared.words.Peer.{Peer}
@@ -17,7 +17,7 @@ use Rattle.oca_control.specs.Histories.{Call, IsHistory}
 use Rattle.oca_control.specs.Driving.{Drives, NoTurn, OneMore, DrivesEnd}
 use Rattle.oca_control.specs.Turning.{Turns}
 use Rattle.oca_control.specs.Asking.{TakesTurns, NoneTaken, OneTaken, Waits, Begins, Asks, HasOutcome}
-use Rattle.oca_control.specs.Running.{NothingIsLeft, delivered_at, moments_delivered, AreWithin, ReturnsWithin, IsRun, NothingDone, DroveATurn, TookATurn, Began, Took, RunsOver, begun_at, EveryCallRuns, EveryRunGoesOn, IsAsked, EveryScriptIsKept}
+use Rattle.oca_control.specs.Running.{NothingIsLeft, HaveTimeLeft, delivered_at, moments_delivered, AreWithin, ReturnsWithin, IsRun, NothingDone, DroveATurn, TookATurn, Began, Took, RunsOver, begun_at, EveryCallRuns, EveryRunGoesOn, IsAsked, EveryScriptIsKept}
 use Rattle.oca_control.proofs.Asked.{run_asked}
 
 one_further : (ds : List Delivery) (d : Delivery) → moments_delivered (ds ++ d ∷ []) ≡ moments_delivered ds ++ delivered_at d
@@ -101,11 +101,11 @@ pub every_call : EveryCallRuns
 every_call = record { of_drive = drive_runs; of_turn = turn_runs; of_wait = wait_runs; of_begin = begin_runs; of_ask = ask_runs }
 
 -- A link whose span is not 0 and that has nothing left to give out, and then runs over an end that tells and whose
--- receives return within `ms`, at most 99,750, is asked every `ms`, unless it is lost at the end.
-pub end_serves : (device : Peer) (first opened span ms : ℕ) (before : List Call) (old new : LinkState) (begun : List ℕ) (e f : EndState) → 0 < span → ms + 250 ≤ 100000 → IsHistory device first opened span before old →
-    NothingIsLeft old → RunsOver begun old new e f → IsTrue e.tells → ReturnsWithin ms old.moment begun e f → new.lost ≡ false → IsAsked ms old.moment old new
-end_serves device first opened span ms before old new begun e f some short p left x tells returns going =
-    run_asked device first opened span ms before old new (begun ++ moments_delivered x.deliveries) some short p left x.run (returns x.deliveries (x.delivered tells)) going
+-- receives return within `ms`, at most 500, is asked every `ms`, unless it is lost at the end.
+pub end_serves : (device : Peer) (first opened span ms : ℕ) (before : List Call) (old new : LinkState) (begun : List ℕ) (e f : EndState) → 0 < span → 20 * (250 + ms) ≤ 15000 → IsHistory device first opened span before old →
+    NothingIsLeft old → HaveTimeLeft ms old → RunsOver begun old new e f → IsTrue e.tells → ReturnsWithin ms old.moment begun e f → new.lost ≡ false → IsAsked ms old.moment old new
+end_serves device first opened span ms before old new begun e f some short p left time x tells returns going =
+    run_asked device first opened span ms before old new (begun ++ moments_delivered x.deliveries) some short p left time x.run (returns x.deliveries (x.delivered tells)) going
 
 -- ---- an end in memory
 

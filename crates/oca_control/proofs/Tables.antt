@@ -80,6 +80,6 @@ table_taken lo hi h lo' slots x t above below held = record {
 }
 
 -- what the table then is
-pub submitted_is : (lo hi : ℕ) (slots : List (Option Held)) (r : Request) → IsSlotTable lo hi slots → hi < lo + 32 →
-    untaken_from lo (hi + 1 - lo) (set slots (hi % 32) (Some (new_held r))) ≡ untaken_from lo (hi - lo) slots ++ new_untaken (command_under hi r) ∷ []
-submitted_is lo hi slots r t near = put_at lo hi slots (Some (new_held r)) t.ordered near t.all
+pub submitted_is : (lo hi at : ℕ) (slots : List (Option Held)) (r : Request) → IsSlotTable lo hi slots → hi < lo + 32 →
+    untaken_from lo (hi + 1 - lo) (set slots (hi % 32) (Some (new_held at r))) ≡ untaken_from lo (hi - lo) slots ++ new_untaken at (command_under hi r) ∷ []
+submitted_is lo hi at slots r t near = put_at lo hi slots (Some (new_held at r)) t.ordered near t.all

@@ -33,12 +33,12 @@ in_range : (lo hi h : ℕ) → ((lo ≤ h) → (h < hi) → ⊥) → (k : ℕ) �
 in_range lo hi h out k l u e = out (omega arith) (omega arith)
 
 -- SUBMIT
-pub view_put : (lo hi p : ℕ) (slots : List (Option Held)) (r : Request) (x : Option Held) → IsSlotTable lo hi slots → hi < lo + 32 → p ≡ hi % 32 → x ≡ Some (new_held r) →
-    view lo (hi + 1) (set slots p x) ≡ table (hi + 1) (untaken_from lo (hi - lo) slots ++ new_untaken (command_under hi r) ∷ [])
-view_put lo hi p slots r x t near place is =
+pub view_put : (lo hi p at : ℕ) (slots : List (Option Held)) (r : Request) (x : Option Held) → IsSlotTable lo hi slots → hi < lo + 32 → p ≡ hi % 32 → x ≡ Some (new_held at r) →
+    view lo (hi + 1) (set slots p x) ≡ table (hi + 1) (untaken_from lo (hi - lo) slots ++ new_untaken at (command_under hi r) ∷ [])
+view_put lo hi p at slots r x t near place is =
     ap (λ i. view lo (hi + 1) (set slots i x)) place
     ∙ ap (λ y. view lo (hi + 1) (set slots (hi % 32) y)) is
-    ∙ ap (table (hi + 1)) (submitted_is lo hi slots r t near)
+    ∙ ap (table (hi + 1)) (submitted_is lo hi at slots r t near)
 
 -- ANSWER
 pub waits_out : (lo hi h : ℕ) (slots : List (Option Held)) → ((lo ≤ h) → (h < hi) → ⊥) → list_any (waits h) (untaken_from lo (hi - lo) slots) ≡ false
@@ -57,12 +57,12 @@ none_answered h a (u ∷ us) none = by (waits h u) refl none (none_answered h a 
     by : (b : Bool) → waits h u ≡ b → (b || list_any (waits h) us) ≡ false → (list_any (waits h) us ≡ false → map (answered h a) us ≡ us) → map (answered h a) (u ∷ us) ≡ u ∷ us
     by true p none more = cc
     by false p none more =
-        ap (λ b. (let v : Untaken = record { command = u.command; times = u.times; last = u.last; answer = cond b (Some a) u.answer } in v) ∷ map (answered h a) us) p
+        ap (λ b. (let v : Untaken = record { command = u.command; submitted = u.submitted; times = u.times; last = u.last; answer = cond b (Some a) u.answer } in v) ∷ map (answered h a) us) p
         ∙ ap (λ vs. u ∷ vs) (more none)
 
 answered_other : (h : ℕ) (a : AnswerFields) (u : Untaken) → u.command.handle ≢ h → answered h a u ≡ u
 answered_other h a u other =
-    ap (λ b. let v : Untaken = record { command = u.command; times = u.times; last = u.last; answer = cond (b && is_none u.answer) (Some a) u.answer } in v) (differ_nat u.command.handle h other)
+    ap (λ b. let v : Untaken = record { command = u.command; submitted = u.submitted; times = u.times; last = u.last; answer = cond (b && is_none u.answer) (Some a) u.answer } in v) (differ_nat u.command.handle h other)
 
 -- Putting an answer into the slot of a command that waits answers the command of that handle.
 pub view_answered : (lo hi h p : ℕ) (slots : List (Option Held)) (d x : Option Held) (a : AnswerFields) → IsSlotTable lo hi slots → (lo ≤ h) × (h < hi) × (p ≡ h % 32) →
@@ -77,13 +77,13 @@ view_answered lo hi h p slots d x a t at wait is =
 
     by : (o : Option Held) → held_waits o ≡ true → untaken_at h (option_map (held_answered a) o) ≡ map (answered h a) (untaken_at h o)
     by None w = refl
-    by (Some k) w = sym (ap (λ b. (let v : Untaken = record { command = command_under h k.request; times = k.times; last = k.last; answer = cond (b && is_none k.answer) (Some a) k.answer } in v) ∷ []) (same_nat h)
-        ∙ ap (λ b. (let v : Untaken = record { command = command_under h k.request; times = k.times; last = k.last; answer = cond b (Some a) k.answer } in v) ∷ []) w)
+    by (Some k) w = sym (ap (λ b. (let v : Untaken = record { command = command_under h k.request; submitted = k.submitted; times = k.times; last = k.last; answer = cond (b && is_none k.answer) (Some a) k.answer } in v) ∷ []) (same_nat h)
+        ∙ ap (λ b. (let v : Untaken = record { command = command_under h k.request; submitted = k.submitted; times = k.times; last = k.last; answer = cond b (Some a) k.answer } in v) ∷ []) w)
 
 -- GIVE OUT
 given_other : (now h : ℕ) (u : Untaken) → u.command.handle ≢ h → given_out now h u ≡ u
 given_other now h u other =
-    ap (λ b. let v : Untaken = record { command = u.command; times = cond b (u.times + 1) u.times; last = cond b now u.last; answer = u.answer } in v) (differ_nat u.command.handle h other)
+    ap (λ b. let v : Untaken = record { command = u.command; submitted = u.submitted; times = cond b (u.times + 1) u.times; last = cond b now u.last; answer = u.answer } in v) (differ_nat u.command.handle h other)
 
 -- Noting in the slot of the lowest due command that it was given out does so to the command of that handle.
 pub view_given : (now lo hi h p : ℕ) (slots : List (Option Held)) (d x : Option Held) → IsSlotTable lo hi slots → IsLowestDueSlot now slots lo hi (Some h) → p ≡ h % 32 →
@@ -95,7 +95,7 @@ view_given now lo hi h p slots d x t at place is =
   where
     by : (o : Option Held) → untaken_at h (option_map (held_given now) o) ≡ map (given_out now h) (untaken_at h o)
     by None = refl
-    by (Some k) = sym (ap (λ b. (let v : Untaken = record { command = command_under h k.request; times = cond b (k.times + 1) k.times; last = cond b now k.last; answer = k.answer } in v) ∷ []) (same_nat h))
+    by (Some k) = sym (ap (λ b. (let v : Untaken = record { command = command_under h k.request; submitted = k.submitted; times = cond b (k.times + 1) k.times; last = cond b now k.last; answer = k.answer } in v) ∷ []) (same_nat h))
 
 -- what is decided, from the slot of the lowest due command
 pub record FirstIs (now h : ℕ) (us : List Untaken) (k : Held) : Type 0 where
@@ -110,8 +110,8 @@ first_is now lo hi h p slots d k t at place is = record {
     kept : held_at h slots ≡ Some k
     kept = slot_read h p slots d t.all place ∙ is
 
-    here : held_is_due now (Some k) ≡ true → first_due now (untaken_at h (Some k)) ≡ Some (record { command = command_under h k.request; times = k.times; last = k.last; answer = k.answer })
-    here due = ap (λ b. cond b (Some (let v : Untaken = record { command = command_under h k.request; times = k.times; last = k.last; answer = k.answer } in v)) None) due
+    here : held_is_due now (Some k) ≡ true → first_due now (untaken_at h (Some k)) ≡ Some (record { command = command_under h k.request; submitted = k.submitted; times = k.times; last = k.last; answer = k.answer })
+    here due = ap (λ b. cond b (Some (let v : Untaken = record { command = command_under h k.request; submitted = k.submitted; times = k.times; last = k.last; answer = k.answer } in v)) None) due
 
 -- the slot of the lowest due command holds one
 due_kept : (now lo hi h p : ℕ) (slots : List (Option Held)) (d : Option Held) → IsSlotTable lo hi slots → IsLowestDueSlot now slots lo hi (Some h) → p ≡ h % 32 →

@@ -13,10 +13,11 @@ most_sendings = 20
 abbrev pub keep_alive_time : ℕ
 keep_alive_time = 2500
 
--- A command is given out again at most so long after it was given out last. Within this time no device forgets what it
--- executed of a controller, which takes it 120 seconds of silence.
-abbrev pub longest_pause : ℕ
-longest_pause = 100000
+-- A command leaves at most so long after its submit. A link that is asked in time has its answer by then, or is lost. A
+-- device forgets what it executed of a controller after 120 seconds of silence: so a copy that the network holds for no
+-- more than 100 seconds comes before that.
+abbrev pub longest_life : ℕ
+longest_life = 15000
 
 -- the last handle (AES70-3)
 abbrev pub last_handle : ℕ

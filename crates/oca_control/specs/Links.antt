@@ -87,7 +87,7 @@ after_submission (Ok h) r now l =
     record l {
       moment = present_moment now l;
       next = handle_after h.0;
-      untaken = l.untaken ++ new_untaken (command_under h.0 r) ∷ [];
+      untaken = l.untaken ++ new_untaken (present_moment now l) (command_under h.0 r) ∷ [];
     }
 
 abbrev pub submitted : RequestFields → ℕ → LinkState → LinkState

@@ -8,7 +8,7 @@ use Rattle.std.specs.Option.{option_map}
 use Rattle.oca_pdu.specs.Messages.{Msg, Command, Response, KeepAlive}
 use Rattle.oca_control.specs.Answers.{AnswerFields}
 use Rattle.oca_types.specs.Sizes.{most_parameter_bytes}
-use Rattle.oca_control.specs.Limits.{repeat_time, most_sendings, longest_pause}
+use Rattle.oca_control.specs.Limits.{repeat_time, most_sendings, longest_life}
 use Rattle.oca_control.specs.Untaken.{Untaken, first_due, given_out}
 use Rattle.oca_control.specs.Links.{Request, command_under, due_bytes, Decision, GivesCommand, GivesKeepAlive}
 use Rattle.oca_control.specs.Links.{GivesNothing, IsLost}
@@ -16,13 +16,14 @@ use Rattle.oca_control.specs.Links.{GivesNothing, IsLost}
 -- what a slot holds of a command
 pub record Held : Type 0 where
   pub request : Request
+  pub submitted : ℕ
   pub times : ℕ
   pub last : ℕ
   pub answer : Option AnswerFields
 
 -- what a slot holds of a command that was submitted now
-abbrev pub new_held : Request → Held
-new_held r = record { request = r; times = 0; last = 0; answer = None }
+abbrev pub new_held : ℕ → Request → Held
+new_held now r = record { request = r; submitted = now; times = 0; last = 0; answer = None }
 
 -- its command is due
 abbrev pub held_is_due : ℕ → Option Held → Bool
@@ -32,7 +33,7 @@ held_is_due now (Some k) = is_none k.answer && (k.times == 0 || nat_le repeat_ti
 -- its command is late
 abbrev pub held_is_late : ℕ → Option Held → Bool
 held_is_late now None = false
-held_is_late now (Some k) = is_none k.answer && (not (k.times == 0) && nat_lt longest_pause (now - k.last))
+held_is_late now (Some k) = is_none k.answer && nat_lt longest_life (now - k.submitted)
 
 -- its command has no answer yet
 abbrev pub held_waits : Option Held → Bool
@@ -46,17 +47,20 @@ held_answer (Some k) = k.answer
 
 -- given out once more
 abbrev pub held_given : ℕ → Held → Held
-held_given now k = record { request = k.request; times = k.times + 1; last = now; answer = k.answer }
+held_given now k =
+    record { request = k.request; submitted = k.submitted; times = k.times + 1; last = now; answer = k.answer }
 
 -- it gets the answer
 abbrev pub held_answered : AnswerFields → Held → Held
-held_answered answer k = record { request = k.request; times = k.times; last = k.last; answer = Some answer }
+held_answered answer k =
+    record { request = k.request; submitted = k.submitted; times = k.times; last = k.last; answer = Some answer }
 
 -- the command of the handle, where its slot holds one
 abbrev pub untaken_at : ℕ → Option Held → List Untaken
 untaken_at h None = []
 untaken_at h (Some k) = (record {
   command = command_under h k.request;
+  submitted = k.submitted;
   times = k.times;
   last = k.last;
   answer = k.answer;

@@ -1,8 +1,9 @@
 -- A LINK THAT RUNS OVER AN END (*profile*): what is done with it by the calls of this crate, at which moments, and that
 -- it is asked in time where the receives of the end return in time. Moments are in milliseconds, and stand in the order
 -- of time here.
-use Rattle.std.specs.Prelude.{◌≡◌, ℕ, ◌+◌, ◌<◌, ◌≤◌, max, false, ⊤, IsTrue, List, [], ◌∷◌, ◌++◌, Result, Ok, Err}
-use Rattle.std.specs.List.{flat_map}
+use Rattle.std.specs.Prelude.{◌≡◌, ℕ, ◌+◌, ◌-◌, ◌*◌, ◌<◌, ◌≤◌, max, true, false, ⊤, IsTrue, List, [], ◌∷◌, ◌++◌, Result, Ok}
+use Rattle.std.specs.Prelude.{Err, is_none}
+use Rattle.std.specs.List.{flat_map, AllByRecursion}
 use Rattle.oca_types.specs.declared.words.Peer.{Peer}
 use Rattle.oca_types.specs.declared.words.Handle.{Handle}
 use Rattle.oca_types.specs.Peers.{RequestFields}
@@ -12,8 +13,10 @@ use Rattle.oca_net.specs.Memory.{MemoryState, state_of_memory, after_receive, af
 use Rattle.oca_control.specs.declared.fault.ControlFault.{ControlFault}
 use Rattle.oca_control.specs.declared.outcome.Outcome.{Outcome}
 use Rattle.oca_control.specs.declared.report.DriveReport.{DriveReport}
-use Rattle.oca_control.specs.Limits.{repeat_time, longest_pause}
-use Rattle.oca_control.specs.Links.{LinkState, Decision, GivesNothing, decision, submitted, taken}
+use Rattle.oca_control.specs.Limits.{repeat_time, most_sendings, longest_life}
+use Rattle.oca_control.specs.Untaken.{Untaken}
+use Rattle.oca_control.specs.Links.{LinkState, present_moment, Decision, GivesNothing, decision, submitted}
+use Rattle.oca_control.specs.Links.{taken}
 use Rattle.oca_control.specs.Histories.{Call, Submits, IsCall, IsHistory, clock_of_calls, sendings}
 use Rattle.oca_control.specs.Answering.{last_asked, IsAskedEvery, IsInFlight, IsGivenOutInTime}
 use Rattle.oca_control.specs.Driving.{DrivesTurn, DrivesEnd, link_from}
@@ -108,8 +111,23 @@ abbrev pub BecomesBy : LinkState → List Call → LinkState → Type 0
 BecomesBy old [] new = new ≡ old
 BecomesBy old (call ∷ before) new = (l : LinkState) × BecomesBy old before l × IsCall l call new
 
+-- The time that a link may be left alone: 500 ms. A command that is given out at once, and then as often as that, is
+-- lost before it is late.
+abbrev pub IsShortPause : ℕ → Type 0
+IsShortPause ms = most_sendings * (repeat_time + ms) ≤ longest_life
+
+-- A command that was given out HAS TIME LEFT: it is answered; or the sendings that are left to it, where the link is
+-- asked every so many ms, and the call that finds it lost, come before it is late.
+abbrev pub HasTimeLeft : ℕ → Untaken → Type 0
+HasTimeLeft ms u = is_none u.answer ≡ true →
+    u.last + (most_sendings + 1 - u.times) * (repeat_time + ms) ≤ u.submitted + longest_life
+
+-- so has each command of a link
+abbrev pub HaveTimeLeft : ℕ → LinkState → Type 0
+HaveTimeLeft ms l = AllByRecursion (HasTimeLeft ms) l.untaken
+
 -- Calls make a link another, by which it IS ASKED EVERY so many ms from a moment on, and it was asked at the moment
--- that it has now: nothing is left.
+-- that it has now: nothing is left, and each command has time left.
 pub record IsAsked (ms since : ℕ) (old new : LinkState) : Type 0 where
   pub calls : List Call
   pub made : BecomesBy old calls new
@@ -117,18 +135,15 @@ pub record IsAsked (ms since : ℕ) (old new : LinkState) : Type 0 where
   pub clock_is : clock_of_calls since calls ≡ new.moment
   pub asked_is : last_asked since calls ≡ new.moment
   pub left : NothingIsLeft new
+  pub time : HaveTimeLeft ms new
 
--- The time that a link may be left alone: 99,750 ms. A command that waits is not late before.
-abbrev pub IsShortPause : ℕ → Type 0
-IsShortPause ms = ms + repeat_time ≤ longest_pause
-
--- A LINK THAT RUNS IS ASKED IN TIME. The moments of the run follow one another within so many ms, and nothing was left
--- when it began. Then the link is lost, or asked every so many ms.
+-- A LINK THAT RUNS IS ASKED IN TIME. The moments of the run follow one another within so many ms; when it began nothing
+-- was left, and each command had time left. Then the link is lost, or asked every so many ms.
 abbrev pub EveryRunIsAsked : Type 0
 EveryRunIsAsked =
     (device : Peer) (first opened span ms : ℕ) (before : List Call) (old new : LinkState) (moments : List ℕ) →
     0 < span → IsShortPause ms → IsHistory device first opened span before old → NothingIsLeft old →
-    IsRun moments old new → AreWithin ms old.moment moments → new.lost ≡ false →
+    HaveTimeLeft ms old → IsRun moments old new → AreWithin ms old.moment moments → new.lost ≡ false →
     IsAsked ms old.moment old new
 
 -- So it is OVER AN END that tells and whose receives return within so many ms.
@@ -137,31 +152,48 @@ EveryEndInTimeServes =
     (device : Peer) (first opened span ms : ℕ) (before : List Call) (old new : LinkState) (begun : List ℕ)
     (old_end new_end : EndState) →
     0 < span → IsShortPause ms → IsHistory device first opened span before old → NothingIsLeft old →
-    RunsOver begun old new old_end new_end → IsTrue old_end.tells → ReturnsWithin ms old.moment begun old_end new_end →
+    HaveTimeLeft ms old → RunsOver begun old new old_end new_end → IsTrue old_end.tells → ReturnsWithin ms old.moment begun old_end new_end →
     new.lost ≡ false →
     IsAsked ms old.moment old new
 
--- Nothing is left; and there are calls after the submit of which the command of a handle is given out in time as long
--- as it is in flight.
+-- Nothing is left, and each command has time left; and there are calls after the submit of which the command of a handle
+-- is given out in time as long as it is in flight.
 pub record CommandIsInTime (device : Peer) (first opened span ms : ℕ) (before : List Call) (request : RequestFields)
     (now : ℕ) (h : Handle) (since : ℕ) (new : LinkState) : Type 0 where
   pub left : NothingIsLeft new
+  pub time : HaveTimeLeft ms new
   pub later : List Call
   pub history : IsHistory device first opened span (later ++ Submits request now (Ok h) ∷ before) new
   pub in_time : IsInFlight device h.0 (later ++ Submits request now (Ok h) ∷ before) →
       IsGivenOutInTime ms since new.moment (sendings opened h.0 (later ++ Submits request now (Ok h) ∷ before))
 
--- EACH COMMAND THAT IS BEGUN IS GIVEN OUT IN TIME, whatever the link was before, where the moments of the run that
--- follows are within so many ms of one another, the first of that of the begin.
+-- EACH COMMAND THAT IS BEGUN IS GIVEN OUT IN TIME, where each command of the link has time left once it was, and the
+-- moments of the run that follows are within so many ms of one another, the first of that of the begin.
 abbrev pub EveryBegunCommandIsInTime : Type 0
 EveryBegunCommandIsInTime =
     (device : Peer) (first opened span ms : ℕ) (before : List Call) (old link new : LinkState) (request : RequestFields)
     (now : ℕ) (h : Handle) (moments : List ℕ) →
     0 < span → IsShortPause ms → IsHistory device first opened span before old →
     beginning request now old ≡ Ok h →
-    link ≡ link_from now ((submitted request now old).span + 1) (submitted request now old) →
+    link ≡ link_from now ((submitted request now old).span + 1) (submitted request now old) → HaveTimeLeft ms link →
     IsRun moments link new → AreWithin ms link.moment moments → new.lost ≡ false →
     CommandIsInTime device first opened span ms before request now h link.moment new
+
+-- a command that waits for its answer has time left at a moment: all sendings that are left to it come before it is late
+abbrev pub HasTimeAt : ℕ → ℕ → Untaken → Type 0
+HasTimeAt ms t u = is_none u.answer ≡ true →
+    t + (most_sendings + 1 - u.times) * (repeat_time + ms) ≤ u.submitted + longest_life
+
+-- THE OTHERS DECIDE: once a command was begun each command has time left, where each that waited before has time at that
+-- moment; as where none waited. So it is unless the link was lost.
+abbrev pub EveryBegunCommandHasTime : Type 0
+EveryBegunCommandHasTime =
+    (device : Peer) (first opened span ms : ℕ) (before : List Call) (old link : LinkState) (request : RequestFields)
+    (now : ℕ) (h : Handle) →
+    0 < span → IsShortPause ms → IsHistory device first opened span before old →
+    AllByRecursion (HasTimeAt ms (present_moment now old)) old.untaken → beginning request now old ≡ Ok h →
+    link ≡ link_from now ((submitted request now old).span + 1) (submitted request now old) → link.lost ≡ false →
+    HaveTimeLeft ms link
 
 -- AN END IN MEMORY keeps that promise where its script does: a receive and a send leave what it delivered and will
 -- deliver as a whole, and so the moments of what it delivers are those of the script.

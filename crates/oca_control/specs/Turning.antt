@@ -1,5 +1,5 @@
--- What is given out in time, and a turn (*profile*): a copy of a command is given out at most 100,000 ms after the one
--- before it, or never. Where the link is late, nothing is given out, and it counts as lost.
+-- What is given out in time, and a turn (*profile*): a copy of a command is given out at most 15,000 ms after its submit,
+-- or never. Where the link is late, nothing is given out, and it counts as lost.
 use Rattle.std.specs.Prelude.{◌≡◌, ◌⊎◌, ℕ, ◌+◌, Bool, true, false, if◌then◌else◌, List, [], ◌∷◌}
 use Rattle.oca_net.specs.declared.end.Heard.TheVariants as heard
 use Rattle.oca_net.specs.Deliveries.{Delivery, Datagram, Quiet, Failed}

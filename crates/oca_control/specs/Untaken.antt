@@ -4,20 +4,21 @@ use Rattle.std.specs.Prelude.{map, filter, Option, Some, None, is_none, is_some}
 use Rattle.std.specs.List.{list_any, list_all}
 use Rattle.oca_types.specs.Peers.{CommandFields}
 use Rattle.oca_pdu.specs.Messages.{Msg, Command, Response, KeepAlive}
-use Rattle.oca_control.specs.Limits.{repeat_time, longest_pause}
+use Rattle.oca_control.specs.Limits.{repeat_time, longest_life}
 use Rattle.oca_control.specs.Answers.{AnswerFields, answer_of_response}
 
--- A command, how often and when last it was given out, and its answer where one came. Moments are in milliseconds; the
--- last one of a command that was never given out says nothing.
+-- A command, when it was submitted, how often and when last it was given out, and its answer where one came. Moments are
+-- in milliseconds by the link's clock; the last one of a command that was never given out says nothing.
 pub record Untaken : Type 0 where
   pub command : CommandFields
+  pub submitted : ℕ
   pub times : ℕ
   pub last : ℕ
   pub answer : Option AnswerFields
 
 -- a command that was submitted now
-abbrev pub new_untaken : CommandFields → Untaken
-new_untaken c = record { command = c; times = 0; last = 0; answer = None }
+abbrev pub new_untaken : ℕ → CommandFields → Untaken
+new_untaken now c = record { command = c; submitted = now; times = 0; last = 0; answer = None }
 
 -- A new handle lies below each untaken one plus the span.
 abbrev pub span_has_room : ℕ → ℕ → List Untaken → Bool
@@ -27,9 +28,10 @@ span_has_room s h us = list_all (λ u. nat_lt h (u.command.handle + s)) us
 abbrev pub is_due : ℕ → Untaken → Bool
 is_due now u = is_none u.answer && (u.times == 0 || nat_le repeat_time (now - u.last))
 
--- A command is late while it is in flight, unanswered and given out, the last time more than 100,000 ms ago.
+-- A command is late while it is unanswered and was submitted more than 15,000 ms ago, whether it was ever given out or
+-- not.
 abbrev pub is_late : ℕ → Untaken → Bool
-is_late now u = is_none u.answer && (not (u.times == 0) && nat_lt longest_pause (now - u.last))
+is_late now u = is_none u.answer && nat_lt longest_life (now - u.submitted)
 
 -- the due command with the lowest handle
 abbrev pub first_due : ℕ → List Untaken → Option Untaken
@@ -41,6 +43,7 @@ abbrev pub given_out : ℕ → ℕ → Untaken → Untaken
 given_out now h u =
     record {
       command = u.command;
+      submitted = u.submitted;
       times = if u.command.handle == h then u.times + 1 else u.times;
       last = if u.command.handle == h then now else u.last;
       answer = u.answer;
@@ -53,7 +56,13 @@ waits h u = (u.command.handle == h) && is_none u.answer
 -- the command of the handle gets the answer, unless it has one
 abbrev pub answered : ℕ → AnswerFields → Untaken → Untaken
 answered h answer u =
-    record { command = u.command; times = u.times; last = u.last; answer = if waits h u then Some answer else u.answer }
+    record {
+      command = u.command;
+      submitted = u.submitted;
+      times = u.times;
+      last = u.last;
+      answer = if waits h u then Some answer else u.answer;
+    }
 
 -- after a message: a response brings an answer; commands and keep-alives are ignored
 abbrev pub hears : Msg → List Untaken → List Untaken

@@ -3,7 +3,8 @@ ghost use Rattle.oca_control.specs.Answering.{EveryAnswerIsKept, EveryDueCommand
 ghost use Rattle.oca_control.specs.Answering.{EveryCommandIsGivenOutInTime};
 ghost use Rattle.oca_control.specs.Copies.{EveryCopyIsInTime, EveryStepIsInTime, EveryLateLinkStaysLate};
 ghost use Rattle.oca_control.specs.Running.{EveryCallRuns, EveryRunGoesOn, EveryRunIsAsked, EveryEndInTimeServes};
-ghost use Rattle.oca_control.specs.Running.{EveryBegunCommandIsInTime, EveryScriptIsKept};
+ghost use Rattle.oca_control.specs.Running.{EveryBegunCommandIsInTime, EveryBegunCommandHasTime};
+ghost use Rattle.oca_control.specs.Running.{EveryScriptIsKept};
 ghost use Rattle.oca_control.specs.Receptions.{EveryDatagramIsCounted};
 ghost use Rattle.oca_control.specs.Histories.{EveryHistoryIsLawful, EveryLinkAgreesWithItsCalls, BytesHaveOneContent};
 
@@ -65,11 +66,13 @@ pub fn law_of_giving_out()
 ///
 /// What [`drive`](crate::drive), [`turn`](crate::turn), [`wait_for`](crate::wait_for), [`begin`](crate::begin) and
 /// [`ask`](crate::ask) do with a link is a run, over the moments of what the end delivered and those at which commands
-/// were begun. Where each of these moments is at most `ms` milliseconds after the latest one before it, and nothing was
-/// left to give out when the run began, the link is asked every `ms` milliseconds, which is the premise of
-/// [`law_of_giving_out`], or it is lost; `ms` is at most 99,750. After a [`begin`](crate::begin) nothing is left, so
-/// each command that is begun is given out at once, and from then on in time as long as it waits: with receives of at
-/// most 50 ms, again less than 300 ms after each sending.
+/// were begun. Where each of these moments is at most `ms` milliseconds after the latest one before it, and when the run
+/// began nothing was left to give out and each command had time left, the link is asked every `ms` milliseconds, which
+/// is the premise of [`law_of_giving_out`], or it is lost; `ms` is at most 500. A command has time left where the
+/// sendings that are left to it, `250 + ms` apart, end before it is late; so has each command that is begun in such a
+/// run, and where none else waited when it was begun, whatever the link did before. After a [`begin`](crate::begin)
+/// nothing is left, so each command that is begun is given out at once, and from then on in time as long as it waits:
+/// with receives of at most 50 ms, again less than 300 ms after each sending.
 ///
 /// Of an end that tells what it delivers the premise is a fact of its state: its receives return within `ms` of one
 /// another. An end in memory keeps it where its script does. Of an end at a socket it is a fact of what its receives
@@ -80,12 +83,13 @@ pub fn law_of_running()
     ensures asked { EveryRunIsAsked }
     ensures over_an_end { EveryEndInTimeServes }
     ensures begun { EveryBegunCommandIsInTime }
+    ensures others { EveryBegunCommandHasTime }
     ensures in_memory { EveryScriptIsKept }
 {}
 
 /// No copy of a command is given out too late. Where [`due`](crate::Link::due) is never called at a moment at which the
-/// link is late ([`is_late`](crate::is_late)), each copy of a command is given out at most 100,000 ms after the copy
-/// before it, by the clock, over every list of calls of a link.
+/// link is late ([`is_late`](crate::is_late)), each copy of a command is given out at most 15,000 ms after the submit of
+/// the command, by the clock, over every list of calls of a link.
 ///
 /// What [`give_in_time`](crate::give_in_time), [`turn`](crate::turn), [`begin`](crate::begin),
 /// [`wait_for`](crate::wait_for) and [`ask`](crate::ask) make of a link, they make by such calls. And a link that is

@@ -10,7 +10,8 @@ ghost use Rattle.oca_pdu.specs.Datagrams.{messages_left};
 ghost use Rattle.oca_control.specs.Answers.{answer_fields};
 ghost use Rattle.oca_control.specs.Contents.{IsContent};
 ghost use Rattle.oca_control.specs.Untaken.{Untaken, hears, answers_by, hears_all, answers_by_all, first_answered};
-ghost use Rattle.oca_control.specs.Untaken.{answer_under};
+ghost use Rattle.oca_control.specs.Untaken.{answer_under, waits};
+ghost use Rattle.std.specs.List.{list_any};
 ghost use Rattle.oca_control.specs.Links.{reception_counted, late_at, new_link, submission, submitted, decision};
 ghost use Rattle.oca_control.specs.Links.{due_answer, due_bytes, gone_on, IsNextDue, NeverIsDue, reception, received};
 ghost use Rattle.oca_control.specs.Links.{taken};
@@ -138,12 +139,13 @@ impl Link {
             return Err(ControlFault::TooLong);
         }
         self.moment = self.moment.max(now);
-        self.table.submit(Request {
+        let request = Request {
             target,
             method,
             count,
             params,
-        });
+        };
+        self.table.submit(request, self.moment);
         Ok(handle)
     }
 
@@ -233,6 +235,14 @@ impl Link {
         ensures { option_map (λ h. h.0) result ≡ first_answered self.now.untaken }
     {
         self.table.answered()
+    }
+
+    /// Whether the command under this handle is in flight: it was submitted, and has no answer yet. So a wait for a
+    /// handle whose answer was taken, or that no command has, can end at once.
+    pub fn is_in_flight(&self, handle: Handle) -> bool
+        ensures { result ≡ list_any (waits handle.0) self.now.untaken }
+    {
+        self.table.waits(handle)
     }
 
     /// The handle that the next command gets; nothing after the last one, 4294967295.

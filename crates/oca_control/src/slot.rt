@@ -25,8 +25,8 @@ use std::marker::Model;
 /// A command is given out again after so many milliseconds without an answer.
 const REPEAT_MS: u64 = 250;
 
-/// A command is given out again at most so many milliseconds after it was given out last.
-const LONGEST_PAUSE_MS: u64 = 100_000;
+/// An unanswered command is late more than so many milliseconds after its submit.
+const LONGEST_LIFE_MS: u64 = 15_000;
 
 /// A command is given out at most so often.
 const MOST_SENDINGS: u8 = 20;
@@ -37,6 +37,7 @@ pub struct Slot {
     held: bool,
     answered: bool,
     times: u8,
+    submitted: u64,
     last: u64,
     target: Ono,
     method: MethodId,
@@ -60,6 +61,7 @@ impl Model for Slot {
         count = s.count;
         params = s.params.items;
       };
+      submitted = s.submitted;
       times = s.times;
       last = s.last;
       answer = if s.answered then Some (answer_fields s.answer) else None;
@@ -73,6 +75,7 @@ impl Default for Slot {
             held: false,
             answered: false,
             times: 0,
+            submitted: 0,
             last: 0,
             target: Ono(0),
             method: MethodId { level: 0, index: 0 },
@@ -104,13 +107,11 @@ impl Slot {
             && (self.times == 0 || now.saturating_sub(self.last) >= REPEAT_MS)
     }
 
-    /// Whether a command is held and late: unanswered and given out, the last time more than 100,000 ms ago.
+    /// Whether a command is held and late: unanswered, and submitted more than 15,000 ms ago.
     pub fn is_late(&self, now: u64) -> bool
         ensures { result ≡ held_is_late now self.now }
     {
-        self.held
-            && !self.answered
-            && (self.times != 0 && now.saturating_sub(self.last) > LONGEST_PAUSE_MS)
+        self.waits() && now.saturating_sub(self.submitted) > LONGEST_LIFE_MS
     }
 
     /// From which moment on the command is due: from the first on where it was never given out, else 250 ms after it
@@ -148,14 +149,15 @@ impl Slot {
         self.times < MOST_SENDINGS
     }
 
-    /// Puts a command in.
-    pub fn put(&mut self, request: Request<'_>)
+    /// Puts a command in that is submitted now.
+    pub fn put(&mut self, request: Request<'_>, now: u64)
         requires { length request.params.now ≤ most_command_parameter_bytes }
-        ensures { self.new ≡ Some (new_held (request_of request.entry)) }
+        ensures { self.new ≡ Some (new_held now (request_of request.entry)) }
     {
         self.held = true;
         self.answered = false;
         self.times = 0;
+        self.submitted = now;
         self.last = 0;
         self.target = request.target;
         self.method = request.method;

@@ -69,17 +69,17 @@ impl Table {
         self.low == self.next || self.next < self.low + u64::from(span)
     }
 
-    /// Puts a command behind the others, under the next handle.
-    pub fn submit(&mut self, request: Request<'_>)
+    /// Puts a command behind the others, under the next handle, which is submitted now.
+    pub fn submit(&mut self, request: Request<'_>, now: u64)
         requires left { self.old.next < 4294967296 }
         requires room { span_has_room 32 self.old.next self.old.untaken ≡ true }
         requires short { length request.params.now ≤ most_command_parameter_bytes }
         ensures { self.new ≡ record {
           next = self.old.next + 1;
-          untaken = self.old.untaken ++ new_untaken (command_under self.old.next (request_of request.entry)) ∷ [];
+          untaken = self.old.untaken ++ new_untaken now (command_under self.old.next (request_of request.entry)) ∷ [];
         } }
     {
-        self.slots[place(self.next)].put(request);
+        self.slots[place(self.next)].put(request, now);
         self.next += 1;
     }
 
@@ -128,6 +128,16 @@ impl Table {
             Some(handle) => Some(Handle(handle as u32)),
             None => None,
         }
+    }
+
+    /// Whether a command waits for an answer under this handle.
+    pub fn waits(&self, handle: Handle) -> bool
+        ensures { result ≡ list_any (waits handle.0) self.now.untaken }
+    {
+        let Some(at) = place_of(handle, self.low, self.next) else {
+            return false;
+        };
+        self.slots[at].waits()
     }
 
     /// Stores an answer, and returns whether a command waited for it.

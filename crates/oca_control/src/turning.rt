@@ -14,13 +14,14 @@ use oca_types::Packet;
 /// How long a turn receives at most, in milliseconds.
 const WAIT_MS: u64 = 50;
 
-/// Whether a link is late at this moment: a command is in flight, submitted, unanswered and given out, and was given
-/// out last more than 100,000 ms before (*profile*). A moment that is earlier than one already seen counts as the one
+/// Whether a link is late at this moment: a command is unanswered, and was submitted more than 15,000 ms before
+/// (*profile*), whether it was ever given out or not. A moment that is earlier than one already seen counts as the one
 /// already seen.
 ///
-/// A device that hears nothing for 120 seconds forgets what it executed, and would execute a command once more that
-/// comes again. So a program that stood still may not give the command out again: it is lost. A link that is late stays
-/// so as long as the command is in it.
+/// A link that is asked in time has its answer by then or is lost, so this finds a program that stood still. What was
+/// asked of it long ago may not act now. And a device that hears nothing for 120 seconds forgets what it executed, and
+/// would execute a command once more that comes again: no copy leaves so late that one which the network holds for up to
+/// 100 seconds could come then. A link that is late stays so as long as the command is in it, and has no answer.
 pub fn is_late(link: &Link, now: u64) -> bool
     ensures { result ≡ late_at now link.now }
 {

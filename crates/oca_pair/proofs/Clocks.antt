@@ -25,6 +25,18 @@ moment_message w p (Command respond c) s = moment_command (judged_in w s p c) p 
 moment_message w p (KeepAlive form) s = refl
 moment_message w p (Response r) s = refl
 
+moment_messages : (w : DeviceSizes) (p : Peer) (ms : List Msg) (s : State) → (after_messages w p ms s).moment ≡ s.moment
+moment_messages w p [] s = refl
+moment_messages w p (m ∷ ms) s = moment_messages w p ms (after_message w p m s) ∙ moment_message w p m s
+
+pub moment_reading : (w : DeviceSizes) (p : Peer) (r : Result (List Msg) PduFault) (s : State) → (after_reading w p r s).moment ≡ s.moment
+moment_reading w p (Err fault) s = refl
+moment_reading w p (Ok ms) s = by_room (admits w s p)
+  where
+    by_room : (b : Bool) → (let x : State = cond b (after_messages w p ms (noted p (Admitted ms) s)) s in x).moment ≡ s.moment
+    by_room true = moment_messages w p ms (noted p (Admitted ms) s)
+    by_room false = refl
+
 -- ---- what one datagram notes
 
 -- The notes grow by those of one peer at one moment.

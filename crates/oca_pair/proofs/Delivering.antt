@@ -296,7 +296,7 @@ fair_submit p r now l g out back handed fits f = by_answer (submission r l) refl
         let low : h.0 < 2 ^ 32 = rw t.0 at f.fits in
         let c : CommandFields = command_under h.0 r in
         let new : SubmittedCommand = record { peer = p; command = c } in
-        fair_more p l.next (handle_after h.0) l.untaken (l.untaken ++ new_untaken c ∷ []) g out back handed (new ∷ []) (next_fits h.0 low)
+        fair_more p l.next (handle_after h.0) l.untaken (l.untaken ++ new_untaken (present_moment now l) c ∷ []) g out back handed (new ∷ []) (next_fits h.0 low)
         (each_append _ g.submitted (new ∷ [])
         (each_map (λ x a same. ((a same).0, higher x.command.handle (end_of l.next) (end_of (handle_after h.0)) h.0 was is (a same).1)) g.submitted f.sendable) (
           (λ same. (
@@ -307,7 +307,7 @@ fair_submit p r now l g out back handed fits f = by_answer (submission r l) refl
         ))
         (unique new h.0 was refl)
         (rising_more p g.submitted new h.0 (end_of l.next) (end_of (handle_after h.0)) refl refl was is f.rising)
-        (λ a. each_append _ l.untaken (new_untaken c ∷ []) a ((in_last new g.submitted, tt), tt)) f
+        (λ a. each_append _ l.untaken (new_untaken (present_moment now l) c ∷ []) a ((in_last new g.submitted, tt), tt)) f
       where
         higher : (x a b h : ℕ) → a ≡ h → b ≡ h + 1 → x < a → x < b
         higher x a b h e q k = omega arith

@@ -56,7 +56,7 @@ abbrev sent_third : SentDatagram
 sent_third = record { peer = controller; bytes = pdu_encoding (Commands true (third ∷ [])) }
 
 abbrev held : ℕ → Untaken
-held h = record { command = command_under h get_state; times = 1; last = 0; answer = None }
+held h = record { command = command_under h get_state; submitted = 0; times = 1; last = 0; answer = None }
 
 abbrev the_link : PeerLink
 the_link =
@@ -127,7 +127,7 @@ repeated_comes_back law tree =
     refl refl carries_third (finds_room law) (keeps law) (tt, (tt, (tt, tt)))
 
 abbrev again : Untaken
-again = record { command = command_under 1 get_state; times = 2; last = 410; answer = None }
+again = record { command = command_under 1 get_state; submitted = 0; times = 2; last = 410; answer = None }
 
 still_untaken : (tree : List Object) → HoldsUntaken 0 third (meanwhile 2 400 between (the_network tree))
 still_untaken tree = record {

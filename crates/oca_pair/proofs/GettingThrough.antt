@@ -62,7 +62,7 @@ sent_more : (p : Peer) (out more : List SentDatagram) (given : List Sending) →
 sent_more p out more given a = each_map (λ x q. in_more _ out more q) given a
 
 -- an element is put in at a place: there it stands, and elsewhere what stood
-put_here : {X : Type 0} (xs : List X) (i : ℕ) (y z : X) → slice_get xs i ≡ Some z → slice_get (slice_set xs i y) i ≡ Some y
+pub put_here : {X : Type 0} (xs : List X) (i : ℕ) (y z : X) → slice_get xs i ≡ Some z → slice_get (slice_set xs i y) i ≡ Some y
 put_here [] i y z e = cc
 put_here (x ∷ xs) zero y z e = refl
 put_here (x ∷ xs) (suc i) y z e = put_here xs i y z e
@@ -70,7 +70,7 @@ put_here (x ∷ xs) (suc i) y z e = put_here xs i y z e
 one_less : (a b : ℕ) → nat_eq (suc a) (suc b) ≡ false → nat_eq a b ≡ false
 one_less a b e = grind (arith, nat_tests)
 
-put_elsewhere : {X : Type 0} (xs : List X) (k i : ℕ) (y : X) → nat_eq k i ≡ false → slice_get (slice_set xs k y) i ≡ slice_get xs i
+pub put_elsewhere : {X : Type 0} (xs : List X) (k i : ℕ) (y : X) → nat_eq k i ≡ false → slice_get (slice_set xs k y) i ≡ slice_get xs i
 put_elsewhere [] k i y e = refl
 put_elsewhere (x ∷ xs) zero zero y e = cc
 put_elsewhere (x ∷ xs) zero (suc i) y e = refl

@@ -55,7 +55,7 @@ none_under h (x ∷ xs) a = ap (λ b. cond b (x ∷ executions_under h xs) (exec
     flipped : (a b : ℕ) → eqb a b ≡ false → eqb b a ≡ false
     flipped a b e = grind (arith, nat_tests)
 
-only_one : (h : ℕ) (x : Execution) (xs : List Execution) → IsDistinct eqb (map (λ (y : Execution). y.command.handle) xs) → IsIn x xs → x.command.handle ≡ h → executions_under h xs ≡ x ∷ []
+pub only_one : (h : ℕ) (x : Execution) (xs : List Execution) → IsDistinct eqb (map (λ (y : Execution). y.command.handle) xs) → IsIn x xs → x.command.handle ≡ h → executions_under h xs ≡ x ∷ []
 unfolding IsDistinct
 only_one h x [] d i e = absurd i
 only_one h x (y ∷ ys) d (inl q) e =

@@ -6,6 +6,7 @@ pub mod Clocks
 pub mod ByEvents
 pub mod Executions
 pub mod Truths
+pub mod Ordered
 pub mod Arrivals
 pub mod Fair
 pub mod Delivering
@@ -16,5 +17,6 @@ pub mod Networks
 pub mod Lawful
 pub mod RoundTrip
 pub mod GettingThrough
+pub mod InTime
 pub mod Example
 pub mod Runs

@@ -132,7 +132,7 @@ sound_submit s i r now n fits g (Some l) e = record {
     good_kept f (Err fault) q some w = good_submitted s f l.peer l.link.next l.link.untaken n.submitted [] (accepted_by l.peer (past n)) tt w
     good_kept f (Ok h) q some w =
         let t = granted r l.link h q in
-        good_submit s f l.peer l.link.next l.link.untaken n.submitted (accepted_by l.peer (past n)) h.0 r some t.0 (rw was.span at t.1) w
+        good_submit s f l.peer l.link.next l.link.untaken n.submitted (accepted_by l.peer (past n)) h.0 (present_moment now l.link) r some t.0 (rw was.span at t.1) w
 
     mine : LinkSound s n' y
     mine = record {
@@ -441,7 +441,7 @@ pub sound_steps : (law : WrittenIsReadBack) (s : ℕ) (es : List Step) (n : Netw
 sound_steps law s [] n fits g = g
 sound_steps law s (e ∷ es) n fits g = sound_steps law s es (after_step e n) fits.1 (sound_step law s e n fits.0 g)
 
-sound_opening : (w : DeviceSizes) (s : ℕ) (tree : List Object) (starts : List Start) → are_apart starts ≡ true → AllByRecursion StartFits starts → Sound s (opening w s tree starts)
+pub sound_opening : (w : DeviceSizes) (s : ℕ) (tree : List Object) (starts : List Start) → are_apart starts ≡ true → AllByRecursion StartFits starts → Sound s (opening w s tree starts)
 unfolding IsDistinct
 sound_opening w s tree starts a fits = record { apart = apart starts a; each = each starts fits }
   where

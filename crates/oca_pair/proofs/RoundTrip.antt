@@ -257,7 +257,7 @@ stands_step i h p step n g = one step
   where
     by_answer : (l : LinkState) (r : Request) (now : ℕ) (x : Result Handle ControlFault) → holds h l.untaken ≡ true → holds h (after_submission x r now l).untaken ≡ true
     by_answer l r now (Ok k) q =
-        let new = new_untaken (command_under k.0 r) in
+        let new = new_untaken (present_moment now l) (command_under k.0 r) in
         list_any-append (λ (u : Untaken). nat_eq u.command.handle h) l.untaken (new ∷ []) ∙ either (holds h l.untaken) (holds h (new ∷ [])) q
     by_answer l r now (Err fault) q = q
 

@@ -45,16 +45,16 @@ room_each s h (u ∷ us) e = let p = parts (nat_lt h (u.command.handle + s)) (sp
     lower : (a b : ℕ) → nat_lt a b ≡ true → a < b
     lower a b p = grind (arith, nat_tests)
 
-pub good_submit : (s f : ℕ) (p : Peer) (next : Option ℕ) (us : List Untaken) (submitted : List SubmittedCommand) (A : List Entry) (h : ℕ) (r : Request) → 0 < s →
+pub good_submit : (s f : ℕ) (p : Peer) (next : Option ℕ) (us : List Untaken) (submitted : List SubmittedCommand) (A : List Entry) (h at : ℕ) (r : Request) → 0 < s →
     next ≡ Some h → span_has_room s h us ≡ true → Good s f p next us submitted A →
     let new : SubmittedCommand = record { peer = p; command = command_under h r } in
-    Good s f p (handle_after h) (us ++ new_untaken (command_under h r) ∷ []) (submitted ++ new ∷ []) A
-good_submit s f p next us submitted A h r some next_is room g =
+    Good s f p (handle_after h) (us ++ new_untaken at (command_under h r) ∷ []) (submitted ++ new ∷ []) A
+good_submit s f p next us submitted A h at r some next_is room g =
     let was : end_of next ≡ h = ap end_of next_is in
     let is : end_of (handle_after h) ≡ h + 1 = end_after h in
     let more : end_of next ≤ end_of (handle_after h) = omega arith in
     let start : f ≤ end_of next = g.start in
-    let u' : Untaken = new_untaken (command_under h r) in
+    let u' : Untaken = new_untaken at (command_under h r) in
     let new : SubmittedCommand = record { peer = p; command = command_under h r } in
     record {
       start = omega arith;

@@ -5,5 +5,6 @@ pub mod Premises
 pub mod Laws
 pub mod RoundTrip
 pub mod GettingThrough
+pub mod InTime
 pub mod Transcripts
 pub mod PrivateRunning

@@ -8,6 +8,8 @@ ghost use Rattle.oca_pair.specs.Laws.{EveryScheduleAnswersItsCommands};
 ghost use Rattle.oca_pair.specs.Laws.{NoUntakenCommandIsTooOld, EveryCommandIsExecutedOnce};
 ghost use Rattle.oca_pair.specs.RoundTrip.{EveryRoundTripBringsTheAnswer};
 ghost use Rattle.oca_pair.specs.GettingThrough.{EveryCommandGetsThrough};
+ghost use Rattle.oca_pair.specs.InTime.{EveryCommandInTimeIsExecutedOnce, EveryAnswerInTimeIsOfOneExecution};
+ghost use Rattle.oca_pair.specs.InTime.{NoCopyInTimeFindsItsSessionForgotten};
 
 use oca_pdu::{law_reading, law_written_is_read_back};
 
@@ -66,6 +68,27 @@ pub fn law_round_trip()
 /// What the device, the other links and the network do, and what is lost, doubled or overtaken, is left open.
 pub fn law_getting_through()
     ensures { EveryCommandGetsThrough }
+{
+    law_written_is_read_back();
+}
+
+/// Over every schedule and for all sizes: no command of a link is executed twice where the link and the network are in
+/// time, whatever sessions the device forgot meanwhile, and whatever became of the other links.
+///
+/// In time means two things. The link is never asked what is due at a moment at which it is late: a command of it is
+/// unanswered, and was submitted more than 15,000 ms ago. And each of its datagrams that comes to the device comes no
+/// earlier than it left, and at most 100,000 ms later. That compares the device's clock with the link's, so it says
+/// that these clocks run alike, and that the network holds nothing for longer than 100,000 ms. A copy that was lost, or
+/// is on its way at the end, breaks nothing.
+///
+/// So each answer that the link holds or gave is that of the only execution under its handle. And a copy that comes to
+/// the device never finds that the session was forgotten in which its command was executed.
+///
+/// A schedule has one device from its begin to its end. So nothing is said of a device that is started again.
+pub fn law_once_in_time()
+    ensures once { EveryCommandInTimeIsExecutedOnce }
+    ensures answers { EveryAnswerInTimeIsOfOneExecution }
+    ensures session { NoCopyInTimeFindsItsSessionForgotten }
 {
     law_written_is_read_back();
 }

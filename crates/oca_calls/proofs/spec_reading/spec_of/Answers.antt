@@ -15,7 +15,7 @@ flags_there (Some them) n stored h = sym h.1
 
 pub returns-clause-writes : goal.returns-clause-writes
 returns-clause-writes c = record {
-  sized = record { size = refl; positions = omega (arith, c.if-names-gt-MOST_POSITIONS.false) };
+  sized = record { version = record { size = refl; zeros = refl }; positions = omega (arith, c.if-names-gt-MOST_POSITIONS.false) };
   role = search rules;
   lockable = sym c.is_lockable.ensures ∙ c.in_ok-lockable.was ∙ ap Some (sym (ap is_yes c.from.ensures ∙ yes_from c.in_ok-lockable.lockable));
   reading = search rules;

@@ -1,8 +1,8 @@
-use Rattle.oca_control.proofs.Copies.{copies_near, every_step, stays_late}
+use Rattle.oca_control.proofs.Copies.{copies_in_time, every_step, stays_late}
 use Rattle.oca_control.proofs.law.law_copies_in_time.Goals as goal
 
 pub returns-clause-copies : goal.returns-clause-copies
-returns-clause-copies c = copies_near
+returns-clause-copies c = copies_in_time
 
 pub returns-clause-steps : goal.returns-clause-steps
 returns-clause-steps c = every_step

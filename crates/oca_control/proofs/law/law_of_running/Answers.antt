@@ -1,4 +1,4 @@
-use Rattle.oca_control.proofs.Asked.{run_asked, begun_in_time}
+use Rattle.oca_control.proofs.Asked.{run_asked, begun_in_time, begun_time}
 use Rattle.oca_control.proofs.Runs.{every_call, runs_on, end_serves, every_script}
 use Rattle.oca_control.proofs.law.law_of_running.Goals as goal
 
@@ -19,3 +19,6 @@ returns-clause-in_memory c = every_script
 
 pub returns-clause-goes_on : goal.returns-clause-goes_on
 returns-clause-goes_on c = runs_on
+
+pub returns-clause-others : goal.returns-clause-others
+returns-clause-others c = begun_time

@@ -13,13 +13,13 @@ use oca_net::{End, Heard};
 use oca_types::{MethodId, Ono, Packet, Peer, Request};
 use std::alloc::Global;
 
-// A copy follows 99.9 and 100.0 seconds after the one before it, and none after 100.001.
+// Copies follow 9 and 15 seconds after the submit, and none after 18: the age counts, not the gap.
 const PAUSES: Ending = Ending {
     quiet: 0,
     entries: &[
-        Entry::Quiet(99_900),
-        Entry::Quiet(199_900),
-        Entry::Quiet(299_901),
+        Entry::Quiet(9_000),
+        Entry::Quiet(15_000),
+        Entry::Quiet(18_000),
     ],
     room: 32,
     fail_send: None,
@@ -70,8 +70,8 @@ const GIVEN: &[Step] = &[
     Asks(0, Fared::Unanswered),
     GivesInTime(249, 0, false),
     GivesInTime(250, 1, false),
-    GivesInTime(100_250, 1, false),
-    GivesInTime(200_251, 0, true),
+    GivesInTime(15_000, 1, false),
+    GivesInTime(15_001, 0, true),
     GivesInTime(300_000, 0, true),
     Taken(3),
 ];
@@ -206,13 +206,13 @@ const ROWS: &[Standstill] = &[
     // a command that comes behind a standstill is not begun while another is in flight
     Standstill {
         begun: 0,
-        still: (2, 99_900),
+        still: (2, 14_900),
         asks: &[(3, Fared::Unanswered)],
-        moments: &[0, 100_000],
+        moments: &[0, 15_000],
     },
     Standstill {
         begun: 0,
-        still: (2, 99_901),
+        still: (2, 14_901),
         asks: &[(9, Fared::Lost), (9, Fared::Lost)],
         moments: &[0],
     },
@@ -227,7 +227,7 @@ const ROWS: &[Standstill] = &[
 /// The scripts.
 const SCRIPTS: &[OverEnd] = &[
     OverEnd {
-        name: "a_copy_follows_within_100_seconds_alone",
+        name: "a_copy_follows_within_15_seconds_of_the_submit_alone",
         span: 16,
         ending: PAUSES,
         steps: LONGER_AND_LONGER,

@@ -5,7 +5,9 @@ use super::schedules::{Case, ONE_LINK, Ran};
 use super::{A, B, DEVICE, GET};
 use crate::tests::play;
 use oca_control::{ControlFault, Reception};
-use oca_pair::{PairFault, law_answers, law_getting_through, law_never_old, law_round_trip};
+use oca_pair::{
+    PairFault, law_answers, law_getting_through, law_never_old, law_once_in_time, law_round_trip,
+};
 
 /// The laws, whose functions run nothing.
 fn laws() {
@@ -13,6 +15,7 @@ fn laws() {
     law_never_old();
     law_round_trip();
     law_getting_through();
+    law_once_in_time();
 }
 
 /// A command is given out twice, and the two datagrams overtake one another.
@@ -49,6 +52,30 @@ const WITH_LOSSES: &[Row] = &[
     ToDevice(2, 510, KEPT),
     ToLink(1, 520, ANSWERED),
     Takes(1, Seen::Answer(0, 0, 0)),
+];
+
+/// The last copy in time comes at the last moment in time: the device still knows its session, in which it executed the
+/// command. Before the next command it has forgotten it.
+const IN_TIME: &[Row] = &[
+    Unmutes(0, Seen::Submitted(1)),
+    Due(0, Seen::Sent(0)),
+    ToDevice(0, 0, EXECUTED),
+    Due(15_000, Seen::Sent(1)),
+    ToDevice(1, 115_000, KEPT),
+    ToLink(1, 115_000, ANSWERED),
+    Takes(1, Seen::Answer(0, 0, 0)),
+    Unmutes(300_000, Seen::Submitted(2)),
+    Due(300_000, Seen::Sent(2)),
+    ToDevice(2, 300_000, EXECUTED),
+];
+
+/// A copy that comes later than in time finds that its session is forgotten, and is executed again.
+const TOO_LATE: &[Row] = &[
+    Unmutes(0, Seen::Submitted(1)),
+    Due(0, Seen::Sent(0)),
+    ToDevice(0, 0, EXECUTED),
+    Due(15_000, Seen::Sent(1)),
+    ToDevice(1, 120_001, EXECUTED),
 ];
 
 /// Each copy of a command is lost: the link is lost after 20, and has no answer.
@@ -91,6 +118,25 @@ const CASES: &[Case] = &[
             last_byte: Some(0),
             sessions: 1,
         }),
+    },
+    // A copy in time is a duplicate, and one that comes later need not be.
+    Case {
+        name: "a_copy_in_time",
+        network: ONE_LINK,
+        parts: &[IN_TIME],
+        want: Ok(Ran {
+            wrong: None,
+            to_device: 3,
+            to_links: 3,
+            last_byte: Some(0),
+            sessions: 1,
+        }),
+    },
+    Case {
+        name: "a_copy_too_late",
+        network: ONE_LINK,
+        parts: &[TOO_LATE],
+        want: Ok(TWICE),
     },
     // A link is lost where no copy arrives.
     Case {

@@ -16,4 +16,4 @@ pub returns : goal.returns
 returns c =
     let a = c.self.inside in
     let room : span_has_room 32 a.next (untaken_from a.low (a.next - a.low) a.slots) ≡ true = ap (λ (t : TableState). span_has_room 32 t.next t.untaken) c.self.view_is ∙ c.requires.room in
-    rw (← c.self.view_is) (view_put a.low a.next c.place.result a.slots _ c.put.new.self c.self.invariant (room_near a.low a.next a.slots c.self.invariant room) c.place.ensures.value c.put.ensures)
+    rw (← c.self.view_is) (view_put a.low a.next c.place.result c.args.now a.slots _ c.put.new.self c.self.invariant (room_near a.low a.next a.slots c.self.invariant room) c.place.ensures.value c.put.ensures)

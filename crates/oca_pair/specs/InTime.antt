@@ -1,0 +1,130 @@
+-- THE LAW OF COPIES IN TIME (profile), over every schedule: where a link is not asked what is due while it is late, and
+-- none of its datagrams is on its way for longer than 100,000 ms, each of its commands is executed at most once, whatever
+-- the device forgets meanwhile.
+use Rattle.std.specs.Prelude.{◌≡◌, ◌⊎◌, ◌==◌, ℕ, ◌+◌, ◌≤◌, true, false, List, [], ◌∷◌, ◌++◌, map, Option, Some, None}
+use Rattle.std.specs.List.{slice_get, list_any, IsDistinct}
+use Rattle.oca_types.specs.declared.words.Peer.{Peer}
+use Rattle.oca_types.specs.Peers.{CommandFields}
+use Rattle.oca_types.specs.Sizes.{DeviceSizes}
+use Rattle.oca_tree.specs.declared.object.Object.{Object}
+use Rattle.oca_device.specs.LawByEvents.{Passes, clock, admitted, accepted_by}
+use Rattle.oca_control.specs.Answers.{AnswerFields}
+use Rattle.oca_control.specs.Untaken.{answer_under}
+use Rattle.oca_control.specs.Links.{present_moment, late_at, decision}
+use Rattle.oca_pair.specs.declared.start.Start.{Start}
+use Rattle.oca_pair.specs.Networks.{Network, PeerLink, SentDatagram, opening}
+use Rattle.oca_pair.specs.Steps.{Step, Submit, Due, ToDevice, ToLink, Other, Tick, Local, Take, given_by, after_step}
+use Rattle.oca_pair.specs.Steps.{after_steps}
+use Rattle.oca_pair.specs.Happenings.{happenings}
+use Rattle.oca_pair.specs.Premises.{are_apart, Fit}
+use Rattle.oca_pair.specs.Laws.{Execution, executions_for, executions_under, answer_of, WasSubmitted, WasTaken}
+use Rattle.oca_pair.specs.GettingThrough.{copy_of}
+
+-- ---- when datagrams leave, and when they arrive
+
+-- A departure: a datagram that left for the device, and what its link's clock then said, in ms. Departures stand in the
+-- order of `to_device`.
+pub record Departure : Type 0 where
+  pub datagram : SentDatagram
+  pub at : ℕ
+
+-- what leaves a link that is asked at this moment what is due
+abbrev pub leaving : ℕ → Option PeerLink → List Departure
+leaving now None = []
+leaving now (Some l) =
+    map (λ bytes. record { datagram = record { peer = l.peer; bytes = bytes }; at = present_moment now l.link })
+    (given_by (decision now l.link))
+
+-- what leaves with a step
+abbrev pub departures_in : Step → Network → List Departure
+departures_in (Due link now) n = leaving now (slice_get n.links link)
+departures_in (Submit link request now) n = []
+departures_in (ToDevice k now) n = []
+departures_in (ToLink k now) n = []
+departures_in (Other from bytes now) n = []
+departures_in (Tick now) n = []
+departures_in (Local ono value) n = []
+departures_in (Take link handle) n = []
+
+-- the device's clock when something comes to it at this moment
+abbrev pub clock_at : ℕ → Network → ℕ
+clock_at now n = clock (Passes now ∷ happenings n.events)
+
+-- the network holds no datagram for longer
+abbrev pub longest_delay : ℕ
+longest_delay = 100000
+
+-- By clocks that run alike it arrives no earlier than it left, and at most 100,000 ms later.
+pub record ArrivesInTime (left came : ℕ) : Type 0 where
+  pub not_before : left ≤ came
+  pub not_late : came ≤ left + longest_delay
+
+-- ---- the premises, of the link of this number
+
+-- The link is not asked what is due while it is late, and each delivery of a datagram of its peer to the device is in
+-- time. These datagrams left before.
+abbrev pub IsInTime : ℕ → List Departure → Step → Network → Type 0
+IsInTime i left (Due link now) n =
+    (l : PeerLink) → link ≡ i → slice_get n.links i ≡ Some l → late_at now l.link ≡ false
+IsInTime i left (ToDevice k now) n =
+    (l : PeerLink) (x : Departure) → slice_get n.links i ≡ Some l → slice_get left k ≡ Some x →
+    x.datagram.peer ≡ l.peer →
+    ArrivesInTime x.at (clock_at now n)
+IsInTime i left _ n = Unit {0}
+
+-- all steps from a network on
+abbrev pub AreInTime : ℕ → List Departure → List Step → Network → Type 0
+AreInTime i left [] n = Unit {0}
+AreInTime i left (step ∷ steps) n =
+    IsInTime i left step n × AreInTime i (left ++ departures_in step n) steps (after_step step n)
+
+-- ---- the law
+
+-- Over every schedule, for all sizes: no two executions for the link's peer are of one handle.
+abbrev pub EveryCommandInTimeIsExecutedOnce : Type 0
+EveryCommandInTimeIsExecutedOnce =
+    (w : DeviceSizes) (s : ℕ) (tree : List Object) (starts : List Start) (steps : List Step) (i : ℕ) (l : PeerLink) →
+    let start : Network = opening w s tree starts in
+    let n : Network = after_steps steps start in
+    are_apart starts ≡ true → Fit starts steps → AreInTime i [] steps start → slice_get n.links i ≡ Some l →
+    IsDistinct (λ (x y : ℕ). x == y) (map (λ x. x.command.handle) (executions_for l.peer n))
+
+-- ---- of answers
+
+-- The answer is what the only execution for the peer under the handle gave, of the very command that the peer's link
+-- submitted under it.
+pub record IsAnswerOfOneExecution (p : Peer) (h : ℕ) (answer : AnswerFields) (n : Network) : Type 0 where
+  pub execution : Execution
+  pub only : executions_under h (executions_for p n) ≡ execution ∷ []
+  pub submitted : WasSubmitted p execution.command n.submitted
+  pub answer_is : answer ≡ answer_of execution.reply
+
+-- Over every schedule, for all sizes: so is each answer that the link holds, and each that was taken from it.
+abbrev pub EveryAnswerInTimeIsOfOneExecution : Type 0
+EveryAnswerInTimeIsOfOneExecution =
+    (w : DeviceSizes) (s : ℕ) (tree : List Object) (starts : List Start) (steps : List Step) (i : ℕ) (l : PeerLink)
+    (h : ℕ) (answer : AnswerFields) →
+    let start : Network = opening w s tree starts in
+    let n : Network = after_steps steps start in
+    are_apart starts ≡ true → Fit starts steps → AreInTime i [] steps start → slice_get n.links i ≡ Some l →
+    (answer_under h l.link.untaken ≡ Some answer) ⊎ WasTaken l.peer h answer n.taken →
+    IsAnswerOfOneExecution l.peer h answer n
+
+-- ---- of sessions
+
+-- the commands that were accepted in the session that the peer has at this moment
+abbrev pub accepted_in_session : Peer → ℕ → Network → List CommandFields
+accepted_in_session p now n = accepted_by n.sizes (clock_at now n) p (admitted n.sizes (happenings n.events))
+
+-- Over every schedule, for all sizes: a copy of a command comes to the device now. Where it was executed before, the
+-- session in which it was is still that of the peer: what is accepted in it has the command's handle.
+abbrev pub NoCopyInTimeFindsItsSessionForgotten : Type 0
+NoCopyInTimeFindsItsSessionForgotten =
+    (w : DeviceSizes) (s : ℕ) (tree : List Object) (starts : List Start) (steps : List Step) (i k now : ℕ)
+    (l : PeerLink) (c : CommandFields) →
+    let start : Network = opening w s tree starts in
+    let n : Network = after_steps steps start in
+    are_apart starts ≡ true → Fit starts steps → AreInTime i [] (steps ++ ToDevice k now ∷ []) start →
+    slice_get n.links i ≡ Some l → WasSubmitted l.peer c n.submitted → slice_get n.to_device k ≡ Some (copy_of l.peer c) →
+    list_any (λ x. x.command.handle == c.handle) (executions_for l.peer n) ≡ true →
+    list_any (λ x. x.handle == c.handle) (accepted_in_session l.peer now n) ≡ true

@@ -1,0 +1,265 @@
+/* Random calls of the library: of devices and links that are closed, built, started or lost, with sizes, numbers and moments at their
+ * edges, and of panels whose sockets give anything. What a call writes stands between bytes that must stay as they are, an answer must be
+ * one that the header names, what is closed answers so, and what is refused leaves what it would have told.
+ * It prints which results each call answered. Usage: random CALLS SEED */
+#include <oca.h>
+#include <stdio.h>
+#include <stdlib.h>
+#include <string.h>
+
+static uint64_t state;
+static unsigned long answered, wrong;
+
+static uint32_t below(uint32_t most) {
+    state = state * UINT64_C(6364136223846793005) + UINT64_C(1442695040888963407);
+    return (uint32_t)(state >> 33) % most;
+}
+
+/* A number at an edge, a small one, or any. */
+static uint64_t number(void) {
+    static const uint64_t edges[] = {0, 1, 2, 16, 17, 32, 33, 64, 65, 100, 122, 123, 4095, 4096, 4097, 65535, 65536, UINT32_MAX, UINT64_MAX - 1, UINT64_MAX};
+    const uint32_t kind = below(4);
+    if (kind == 0) return edges[below(sizeof edges / sizeof *edges)];
+    if (kind == 1) return 4096 + below(20);
+    if (kind == 2) return below(200);
+    return (uint64_t)below(UINT32_MAX) << 32 | below(UINT32_MAX);
+}
+
+/* The names of the calls that were made, each with the results that it answered, a bit for each. */
+#define CALL(name) (called = #name, name)
+static const char *called = "", *names_of_calls[64];
+static uint32_t results_of[64];
+
+static void told(enum oca_result result) {
+    int k = 0;
+    while (k < 63 && names_of_calls[k] && strcmp(names_of_calls[k], called) != 0) k++;
+    names_of_calls[k] = called;
+    results_of[k] |= UINT32_C(1) << (result & 31);
+}
+
+static void expect(bool is_well, const char *what) {
+    answered++;
+    if (!is_well && wrong++ < 9) printf("WRONG: %s\n", what);
+}
+
+/* A place of so many bytes for what a call writes, between others that stay as they are. */
+struct place { size_t size; uint8_t *whole, before[2048]; };
+enum { EDGE = 64 };
+static struct place places[4];
+
+static void *room(int which, size_t size) {
+    struct place *place = &places[which];
+    place->size = size;
+    for (size_t i = 0; i < size + 2 * EDGE; i++) place->whole[i] = place->before[i] = (uint8_t)below(256);
+    return place->whole + EDGE;
+}
+
+/* That nothing beside the places was written to, and nothing in them where the call refused it. */
+static void looks(int count, bool may_write, const char *what) {
+    for (int k = 0; k < count; k++) {
+        const struct place *it = &places[k];
+        expect(memcmp(it->whole, it->before, EDGE) == 0 && memcmp(it->whole + EDGE + it->size, it->before + EDGE + it->size, EDGE) == 0, what);
+        expect(may_write || memcmp(it->whole, it->before, it->size + 2 * EDGE) == 0, what);
+    }
+}
+
+static struct oca_value any_value(void) {
+    struct oca_value value = oca_value_of(below(15), below(3) ? below(4) : number());
+    value.zero = below(20) == 0;
+    return value;
+}
+
+static struct oca_spec any_spec(void) {
+    struct oca_spec spec = oca_spec_of(below(9) ? "role" : "", oca_alone(any_value()));
+    if (below(2)) spec.reading.greatest = oca_value_of(spec.reading.value.class_number, number());
+    for (uint32_t k = below(18); k > 0 && spec.reading.value.class_number == OCA_CLASS_SWITCH; k--) oca_spec_position(&spec, "position");
+    if (below(20) == 0) spec.size = (uint32_t)number();
+    if (below(20) == 0) spec.zeros[below(6)] = (uint8_t)below(256);
+    if (below(20) == 0) spec.label.size = (uint8_t)below(256);
+    if (below(20) == 0) spec.names[below(16)].size = (uint8_t)below(256);
+    if (below(20) == 0) spec.positions = (uint16_t)number();
+    spec.enabled = (uint8_t)below(3);
+    return spec;
+}
+
+/* A datagram of anything, or one with a command. */
+static size_t any_datagram(uint8_t *bytes, uint32_t handle) {
+    size_t len = below(8) ? below(60) : below(OCA_MOST_BYTES + 1);
+    for (size_t i = 0; i < len; i++) bytes[i] = (uint8_t)(below(4) ? below(5) : below(256));
+    if (below(3) == 0) return len;
+    const uint8_t head[] = {0x3b, 0, 1, 0, 0, 0, 0, (uint8_t)(below(5)), 0, 1, 0, 0, 0, 0, 0, 0, 0, (uint8_t)handle, 0, 0, 0x10, (uint8_t)below(20),
+        0, (uint8_t)below(6), 0, (uint8_t)below(10), (uint8_t)below(3)};
+    if (len < sizeof head) len = sizeof head;
+    memcpy(bytes, head, sizeof head);
+    bytes[5] = (uint8_t)((len - 1) >> 8), bytes[6] = (uint8_t)(len - 1);
+    bytes[12] = (uint8_t)((len - 10) >> 8), bytes[13] = (uint8_t)(len - 10);
+    return len;
+}
+
+/* A call of a device. */
+static void calls_device(struct oca_device *d) {
+    static const uint8_t role[] = {'r', 'o', 'l', 'e', 0xff};
+    uint8_t bytes[OCA_MOST_BYTES];
+    const bool was_open = d->is_open;
+    const uint32_t ono = below(3) ? 4096 + below(8) : (uint32_t)number(), container = below(3) ? 100 : 4096 + below(9);
+    const size_t size = below(4) ? below(80) : 0;
+    const struct oca_value value = any_value();
+    struct oca_spec spec = any_spec(), *read;
+    enum oca_result result = OCA_DONE;
+    int count = 0;
+    bool may_open = false;
+    switch (below(26)) {
+    case 0: result = CALL(oca_device_open)(d, (uint16_t)(below(2) ? below(30) : number())), may_open = true; break;
+    case 1: result = CALL(oca_device_open_with)(d, (uint16_t)below(30), &spec), may_open = true; break;
+    case 2: if (below(8) == 0) oca_device_close(d); return;
+    case 3: if (below(9)) return; result = CALL(oca_device_start)(d, (uint8_t)number(), (uint8_t)number()); break;
+    case 4: if (below(9)) return; result = CALL(oca_device_start_within)(d, (uint8_t)(1 + below(9)), (uint8_t)(1 + below(4)), (size_t)number()); break;
+    case 5: case 6: case 7: result = CALL(oca_device_add)(d, container, ono, &spec); break;
+    case 8: result = CALL(oca_device_add_block)(d, container, ono, role, below(6), below(2)); break;
+    case 9: result = CALL(oca_device_add_int8)(d, container, ono, role, below(6), below(2), (int8_t)below(256), (int8_t)below(256), (int8_t)below(256)); break;
+    case 10: result = CALL(oca_device_datagram_words)(d, below(3), (uint16_t)below(3), bytes, any_datagram(bytes, below(50)), number(), (uint32_t *)room(0, 4 * (size % 9)), size % 9), count = 1; break;
+    case 11: result = CALL(oca_device_packets)(d, (size_t *)room(0, sizeof(size_t))), count = 1; break;
+    case 12: result = CALL(oca_device_packet)(d, below(4), (uint8_t *)room(0, size), size, (size_t *)room(1, sizeof(size_t))), count = 2; break;
+    case 13: result = CALL(oca_device_left_out)(d, (bool *)memset(room(0, 1), 0, 1)), count = 0; break;
+    case 14: result = CALL(oca_device_written)(d, (uint32_t *)room(0, 4 * size), size, (size_t *)room(1, sizeof(size_t))), count = 2; break;
+    case 15: result = CALL(oca_device_tick)(d, number()); break;
+    case 16: result = CALL(oca_device_next_lapse)(d, (uint64_t *)room(0, 8)), count = 1; break;
+    case 17: result = CALL(oca_device_set)(d, ono, &value); break;
+    case 18: result = CALL(oca_device_set_state)(d, ono, (uint8_t)number()); break;
+    case 19: result = CALL(oca_device_set_signed)(d, ono, (int64_t)number()); break;
+    case 20: result = CALL(oca_device_set_unsigned)(d, ono, number()); break;
+    case 21: result = CALL(oca_device_setting)(d, ono, (struct oca_setting *)room(0, sizeof(struct oca_setting))), count = 1; break;
+    case 22: result = CALL(oca_device_object_words)(d, below(12), (uint32_t *)room(0, 4 * (size % 6)), size % 6, (uint8_t *)room(1, size), size), count = 2; break;
+    case 23:
+        read = (struct oca_spec *)room(0, sizeof spec);
+        read->size = below(2) ? (uint32_t)sizeof spec : (uint32_t)number();
+        memcpy(places[0].before + EDGE, &read->size, 4);
+        result = CALL(oca_device_spec)(d, below(12), read), count = 1;
+        expect(read->size == sizeof spec || result != OCA_DONE, "a struct of another size is written to");
+        break;
+    case 24: result = CALL(oca_device_set_position)(d, ono, (uint16_t)number()); break;
+    default: result = CALL(oca_device_lock)(d, ono, (uint32_t *)room(0, 4), (uint32_t *)room(1, 4), (uint16_t *)room(2, 2)), count = 3; break;
+    }
+    told(result);
+    expect(result <= OCA_NO_VALUE, "a result of a device");
+    expect(was_open || may_open || result == OCA_CLOSED, "a closed device answers so");
+    expect(!was_open || !may_open || result == OCA_OPEN, "an open device is not opened");
+    expect(d->is_open == (d->at != NULL), "a device is open or not");
+    looks(count, result == OCA_DONE || result == OCA_TOO_SMALL, "what a call of a device writes");
+}
+
+/* A call of a link. */
+static void calls_link(struct oca_link *l) {
+    uint8_t bytes[OCA_MOST_BYTES] = {0};
+    const bool was_open = l->is_open;
+    const uint64_t now = number();
+    const size_t size = below(2) ? (size_t)OCA_MOST_BYTES : below(OCA_MOST_BYTES + 1);
+    enum oca_result result = OCA_DONE;
+    int count = 0;
+    bool is_opening = false;
+    switch (below(14)) {
+    case 0: result = CALL(oca_link_open)(l, below(3), (uint16_t)below(3), (uint32_t)number(), now, (uint8_t)number()), is_opening = true; break;
+    case 1: if (below(8) == 0) oca_link_close(l); return;
+    case 2: case 3: result = CALL(oca_link_submit)(l, (uint32_t)number(), 4, 1, (uint8_t)number(), bytes, below(9) ? below(9) : below(OCA_MOST_BYTES + 1), now, (uint32_t *)room(0, 4)), count = 1; break;
+    case 4: case 5: result = CALL(oca_link_due)(l, now, (uint8_t *)room(0, size), size, (size_t *)room(1, sizeof(size_t)), (uint32_t *)room(2, 4), (uint32_t *)room(3, 4)), count = 4; break;
+    case 6: result = CALL(oca_link_datagram)(l, below(3), (uint16_t)below(3), bytes, any_datagram(bytes, below(50)), now, (uint32_t *)room(0, 4), (uint32_t *)room(1, 4)), count = 2; break;
+    case 7: result = CALL(oca_link_next_due)(l, (uint64_t *)room(0, 8)), count = 1; break;
+    case 8: result = CALL(oca_link_answered)(l, (uint32_t *)room(0, 4)), count = 1; break;
+    case 9: result = CALL(oca_link_next_handle)(l, (uint32_t *)room(0, 4)), count = 1; break;
+    case 10: result = CALL(oca_link_last_heard)(l, (uint64_t *)room(0, 8)), count = 1; break;
+    case 11: result = CALL(oca_link_in_flight)(l, (uint32_t)number(), (bool *)memset(room(0, 1), 0, 1)); break;
+    case 12: result = CALL(oca_link_is_late)(l, now, (bool *)memset(room(0, 1), 0, 1)); break;
+    default: result = CALL(oca_link_take)(l, (uint32_t)number(), (uint32_t *)room(0, 4), (uint32_t *)room(1, 4), (uint8_t *)room(2, size), size, (size_t *)room(3, sizeof(size_t))), count = 4; break;
+    }
+    told(result);
+    expect(result <= OCA_NO_VALUE, "a result of a link");
+    expect(was_open || is_opening || result == OCA_CLOSED, "a closed link answers so");
+    expect(!was_open || !is_opening || result == OCA_OPEN, "an open link is not opened");
+    expect(l->is_open == (l->at != NULL), "a link is open or not");
+    looks(count, result == OCA_DONE, "what a call of a link writes");
+}
+
+/* A socket that gives anything, by a clock that goes on, stands still, or is at its end. */
+static uint64_t moment;
+static uint64_t any_now(void *context) { return (void)context, moment; }
+static void any_send(void *context, const uint8_t *bytes, size_t len) { (void)context, expect(len <= OCA_MOST_BYTES && bytes[0] == 0x3b, "what a panel sends"); }
+static bool any_receive(void *context, uint64_t until, uint8_t *out, size_t out_len, size_t *len, uint32_t *ip, uint16_t *port) {
+    uint8_t bytes[OCA_MOST_BYTES];
+    (void)context;
+    if (until > moment && below(3)) moment = below(2) ? until : moment + (until - moment + 1) / 2;
+    if (below(4) == 0) return false;
+    const size_t size = any_datagram(bytes, below(8));
+    memcpy(out, bytes, size < out_len ? size : out_len);
+    *len = below(50) ? size : (size_t)number();
+    *ip = below(3), *port = (uint16_t)below(3);
+    return true;
+}
+
+static bool visits(void *context, const struct oca_visit *visit) {
+    (void)context;
+    expect(visit->described.asked <= OCA_ASKED_NO_HANDLE && visit->role.size <= 64 && visit->id.count <= 16, "a visit");
+    return below(30) != 0;
+}
+
+/* A call of a panel. */
+static void calls_panel(struct oca_panel *panel) {
+    static struct oca_walk walk;
+    static struct oca_answer answer;
+    static struct oca_names names;
+    static struct oca_members members;
+    struct oca_end end = {below(9) ? sizeof end : (size_t)number(), NULL, any_now, any_send, any_receive};
+    struct oca_reading reading = oca_alone(any_value());
+    struct oca_class_id id = {0, {0}, 0};
+    struct oca_name name = {(uint8_t)(below(4) ? below(65) : below(256)), {0}};
+    struct oca_outcome outcome = {0, 0, 0};
+    uint8_t bytes[OCA_MOST_BYTES] = {0};
+    uint32_t handle = 0;
+    const uint32_t ono = (uint32_t)number(), wait_ms = below(3) ? below(400) : 0;
+    switch (below(16)) {
+    case 0: if (oca_panel_open(panel, &end, below(2), (uint16_t)below(2), (uint32_t)number(), (uint8_t)number(), wait_ms) == OCA_DONE) moment = number() >> below(40); break;
+    case 1: if (below(5) == 0) oca_panel_close(panel); break;
+    case 2: outcome = oca_panel_turn(panel); break;
+    case 3: (void)oca_panel_begin_set(panel, ono, any_value(), &handle); break;
+    case 4: (void)oca_panel_begin_get(panel, ono, below(15), &handle); break;
+    case 5: (void)oca_panel_begin(panel, ono, (uint32_t)number(), (uint8_t)number(), bytes, below(OCA_MOST_BYTES + 1), &handle); break;
+    case 6: outcome = oca_panel_finish(panel, below(12), &answer); break;
+    case 7: outcome = oca_panel_finish_get(panel, (uint32_t)number(), below(15), &reading); break;
+    case 8: outcome = oca_panel_set(panel, ono, any_value()); break;
+    case 9: outcome = oca_panel_get(panel, ono, &reading); break;
+    case 10: outcome = oca_panel_class(panel, ono, &id); break;
+    case 11: outcome = oca_panel_set_label(panel, ono, &name); break;
+    case 12: outcome = oca_panel_label(panel, ono, &name); break;
+    case 13: outcome = oca_panel_position_names(panel, ono, &names); break;
+    case 14: outcome = oca_panel_members(panel, ono, &members); break;
+    default: if (below(20) == 0) outcome = oca_panel_walk(panel, &walk, visits, NULL); break;
+    }
+    expect(outcome.asked <= OCA_ASKED_NO_HANDLE && outcome.status <= 255 && strlen(oca_outcome_text(outcome)) > 0, "an outcome");
+    expect(panel->link.is_open == (panel->link.at != NULL), "a panel is open or not");
+    if (moment > UINT64_MAX - 1000000 && below(4)) moment = number() >> 30;
+}
+
+int main(int count, char **words) {
+    struct oca_device devices[2] = {OCA_DEVICE_INIT, OCA_DEVICE_INIT};
+    struct oca_link links[2] = {OCA_LINK_INIT, OCA_LINK_INIT};
+    struct oca_panel panel = OCA_PANEL_INIT;
+    const long calls = count > 1 ? atol(words[1]) : 100000;
+    state = count > 2 ? (uint64_t)atoll(words[2]) : 1;
+    for (int k = 0; k < 4; k++) places[k].whole = (uint8_t *)malloc(sizeof places[k].before);
+    for (long k = 0; k < calls; k++) {
+        const uint32_t which = below(20);
+        if (which < 9) calls_device(&devices[which % 2]);
+        else if (which < 18) calls_link(&links[which % 2]);
+        else calls_panel(&panel);
+    }
+    for (int k = 0; k < 2; k++) oca_device_close(&devices[k]), oca_link_close(&links[k]);
+    oca_panel_close(&panel);
+    for (int k = 0; k < 4; k++) free(places[k].whole);
+    for (int k = 0; k < 64 && names_of_calls[k]; k++) {
+        printf("%s", names_of_calls[k]);
+        for (uint32_t result = 0; result < 32; result++)
+            if (results_of[k] >> result & 1) printf(" %u", result);
+        printf("\n");
+    }
+    printf("%lu passed, %lu failed\n", answered - wrong, wrong);
+    return wrong != 0;
+}
