@@ -675,7 +675,8 @@ FEWEST = {
     "python3 tools/ctl_runs.py bin": 123, "python3 tools/unreliable.py bin": 3746, "python3 tools/damaged.py bin": 103936,
     "python3 tools/fuzz.py bin 20": 200, "python3 tools/words.py bin": 812, "python3 tools/hands.py bin": 279,
     "python3 tools/panel.py bin": 338, "python3 tools/network.py bin": 298, "python3 tools/keep.py bin": 90,
-    "python3 tools/neighbours.py bin": 1, "python3 tools/lossy.py bin 30": 2, "python3 tools/lossy.py bin directed": 2,
+    "python3 tools/neighbours.py bin": 1, "python3 tools/one_address.py bin": 1, "python3 tools/lossy.py bin 30": 2,
+    "python3 tools/lossy.py bin directed": 2,
     "python3 tools/world.py bin 8000": 14, "python3 tools/embedded.py bin": 126, "python3 tools/header.py": 1180,
     "python3 tools/law.py bin": 3, "python3 tools/manual.py bin": 259, "python3 tools/snippets.py bin": 19,
     "python3 tools/edits.py": 710}
