@@ -154,7 +154,7 @@ def words(folder):
     status, out, err = run("--version")
     check(status == 0 and out.startswith("ocapanel "), "--version")
     for given, note in [((), "--device"), ((*device, "--listen", "0.0.0.0:8080"), "this machine alone"), ((*device, "--listen", "192.0.2.1:8080"), "this machine alone"),
-                        ((*device, "--span", "1"), "--span 1"), ((*device, "--span", "33"), "--span 33"), ((*device, "--port", "65536"), "--port"),
+                        ((*device, "--span", "1"), "--span 1"), ((*device, "--span", "33"), "--span 33"), ((*device, "--port", "65536"), "--port"), ((*device, "--ip", "224.0.0.1"), "--ip 224.0.0.1"),
                         (("--device", "0.0.0.0:1"), "--device"), ((*device, "--listen", "localhost:1"), "--listen"), ((*device, "more"), "more"), ((*device, *device), "--device")]:
         status, out, err = run(*given)
         check(status == 2 and not out and err.startswith("note: ") and note in err and err.endswith("bad words\n"), f"words {given}: {status} {err!r}")
@@ -1010,16 +1010,29 @@ def over_a_stop(folder):
                 check(device.copies == before, f"its copies: {before}, and then {device.copies}")
                 return
     check(False, "an order in flight is lost before the stop")
+def address_towards(device):
+    """The address from which the system reaches a device, by a socket that is connected to it; None where it has no route."""
+    host, port = device.split(":")
+    with socket.socket(socket.AF_INET, socket.SOCK_DGRAM) as s, contextlib.suppress(OSError):
+        s.connect((host, int(port)))
+        return s.getsockname()[0]
 
 
 def bound_for(folder):
-    """The socket for a device on this machine is at 127.0.0.1, that for any other at every address."""
-    for device, wanted in (("127.0.0.1:9", "127.0.0.1"), ("127.255.0.2:9", "127.0.0.1"), ("10.255.255.254:9", "0.0.0.0"), ("126.0.0.1:9", "0.0.0.0"), ("192.0.2.1:9", "0.0.0.0")):
-        panel = Panel(folder, 0, address=device)
+    """The socket for a device is at the one address from which the system reaches it, at 127.0.0.1 for one on this machine, and else at
+    the one that is given; where the system has no route to the device, there is none."""
+    rows = [(device, (), address_towards(device)) for device in ("127.0.0.1:9", "127.255.0.2:9", "10.255.255.254:9", "126.0.0.1:9", "192.0.2.1:9")]
+    check([wanted for _, _, wanted in rows[:2]] == ["127.0.0.1"] * 2, "the system reaches itself from 127.0.0.1")
+    for device, words, wanted in [*rows, ("127.0.0.1:9", ("--ip", "127.0.0.2"), "127.0.0.2"), ("127.0.0.1:9", ("--ip", "0.0.0.0"), "127.0.0.1")]:
+        if not wanted:
+            run = subprocess.run([f"{folder}/ocapanel", "--device", device, "--listen", "127.0.0.1:0"], capture_output=True, text=True, timeout=30)
+            check((run.returncode, run.stderr.splitlines()[1:]) == (1, ["socket failed"]), f"no route to {device}: {run.stderr!r}")
+            continue
+        panel = Panel(folder, 0, *words, address=device)
         links = [os.readlink(it) for it in Path(f"/proc/{panel.process.pid}/fd").iterdir()]
         rows = [line.split() for line in Path("/proc/net/udp").read_text().splitlines()[1:]]
         at = [socket.inet_ntoa(bytes.fromhex(row[1].split(":")[0])[::-1]) for row in rows if f"socket:[{row[9]}]" in links]
-        check(at == [wanted], f"the socket for {device} is at {at}, not {wanted}")
+        check(at == [wanted], f"the socket for {device} {words} is at {at}, not {wanted}")
         panel.__exit__()
 
 

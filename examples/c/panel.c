@@ -11,6 +11,7 @@
 #include <sys/socket.h>
 #include <sys/time.h>
 #include <time.h>
+#include <unistd.h>
 
 /* The socket, and where the amplifier is: what the three functions of a struct oca_end are handed. */
 struct line { int file; struct sockaddr_in to; };
@@ -43,6 +44,19 @@ static bool receive(void *context, uint64_t until, uint8_t *out, size_t out_len,
     return true;
 }
 
+/* Binds the socket to the one address from which the system reaches the amplifier: every copy of a command leaves from there, or none
+ * does. To the amplifier a copy from another address would be another panel's command. */
+static bool bind_towards(const struct line *line) {
+    struct sockaddr_in own;
+    socklen_t size = sizeof own;
+    const int asked = socket(AF_INET, SOCK_DGRAM, 0);
+    bool bound = asked >= 0 && connect(asked, (const struct sockaddr *)&line->to, sizeof line->to) == 0
+        && getsockname(asked, (struct sockaddr *)&own, &size) == 0;
+    if (asked >= 0) close(asked);
+    own.sin_port = 0;
+    return bound && bind(line->file, (const struct sockaddr *)&own, sizeof own) == 0;
+}
+
 int main(int count, char **words) {
     struct line line;
     struct oca_panel panel = OCA_PANEL_INIT;
@@ -55,6 +69,7 @@ int main(int count, char **words) {
     line.to.sin_family = AF_INET;
     line.to.sin_port = htons((uint16_t)atoi(words[1]));
     line.to.sin_addr.s_addr = htonl(INADDR_LOOPBACK);
+    if (!bind_towards(&line)) return 2;
     setsockopt(line.file, SOL_SOCKET, SO_SNDTIMEO, &briefly, sizeof briefly);
     const struct oca_end end = {sizeof end, &line, now_ms, send_to, receive};
     const enum oca_result opened = oca_panel_open(&panel, &end, INADDR_LOOPBACK, (uint16_t)atoi(words[1]), 1, 16, 10500);

@@ -15,7 +15,7 @@ mod renewal;
 /// whether one that was waited for got none.
 ///
 /// ```
-/// let end = UdpEnd::bind(rt.alloc(), rt, device.ip, 0)?;
+/// let end = UdpEnd::bind_towards(rt.alloc(), rt, device, 0)?;
 /// let mut panel = Panel::open(device, end, Handle(1), Span::default(), 210);
 /// // ...
 /// match panel.get(gain) {

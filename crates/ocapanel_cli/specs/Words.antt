@@ -4,7 +4,7 @@ use Rattle.clap.specs.declared.parser.matches.ArgMatches.{ArgMatches}
 use Rattle.oca_types.specs.declared.words.Peer.{Peer}
 use Rattle.oca_types.specs.Sizes.{span_size}
 use Rattle.oca_script.specs.Fields.{number_of, peer_of, then_in}
-use Rattle.oca_program.specs.Options.{given, read_as, read_or, sized, host_of}
+use Rattle.oca_program.specs.Options.{given, read_as, read_or, sized, host_of, own_of}
 use Rattle.ocapanel_cli.specs.declared.words.Serving.{Serving}
 
 -- where the device is
@@ -36,14 +36,20 @@ panel_span_in words = read_or 16 panel_span_of (given words (codes "span"))
 abbrev pub local_port_in : ArgMatches → Option ℕ
 local_port_in words = read_or 0 (number_of 5 65535) (given words (codes "port"))
 
+-- the address of the socket for the device: unless given 0, the one from which the system reaches the device
+abbrev pub own_address_in : ArgMatches → Option ℕ
+own_address_in words = read_or 0 own_of (given words (codes "ip"))
+
 pub record PanelFields : Type 0 where
   pub device : Peer
   pub listen : Peer
   pub span : ℕ
+  pub ip : ℕ
   pub port : ℕ
 
 abbrev pub panel_fields : Serving → PanelFields
-panel_fields s = record { device = s.device; listen = s.listen; span = span_size s.span; port = s.port }
+panel_fields s =
+    record { device = s.device; listen = s.listen; span = span_size s.span; ip = s.ip; port = s.port }
 
 -- WHAT THE OPTIONS SAY, where each has its form
 unfoldable pub panel_in : ArgMatches → Option PanelFields
@@ -51,5 +57,6 @@ panel_in words =
     then_in (device_in words) (λ device.
     then_in (listen_in words) (λ listen.
     then_in (panel_span_in words) (λ span.
+    then_in (own_address_in words) (λ ip.
     then_in (local_port_in words) (λ port.
-    Some (record { device = device; listen = listen; span = span; port = port })))))
+    Some (record { device = device; listen = listen; span = span; ip = ip; port = port }))))))

@@ -5,9 +5,9 @@ use crate::words::Serving;
 use mio::net::TcpListener;
 use mio::unix::SourceFd;
 use mio::{Events, Interest, Poll, Token};
-use oca_net::{End, UdpEnd};
+use oca_net::{End, UdpEnd, is_gone};
 use oca_panel::{OwnPort, Panel, Probed, Watched, probe};
-use oca_program::socket::bind;
+use oca_program::socket::bind_towards;
 use oca_program::{Failure, RunFault, note_other_port, print_note};
 use oca_script::{Printer, Sink};
 use oca_types::{Handle, LOOPBACK, NoMemory, Peer};
@@ -15,7 +15,7 @@ use oca_web::{Name, Site, View};
 use std::alloc::{AllocError, Global};
 use std::hash::RandomState;
 use std::io;
-use std::net::{Net, SocketAddr, SocketAddrV4};
+use std::net::{Ipv4Addr, Net, SocketAddr, SocketAddrV4};
 use std::os::fd::AsRawFd;
 use std::random::RandomSource;
 use std::rt::Clock;
@@ -45,9 +45,10 @@ pub fn serve<R: Net + RandomSource, N: Net + Clock, F: Sink>(
     faults: &mut Printer<F>,
 ) -> Result<(), Failure> {
     let first = OwnPort::now(system).first_handle;
-    match bind(alloc, system, address_for(serving.device), serving.port) {
+    let (ip, device) = (serving.ip, serving.device);
+    match bind_towards(alloc, system, ip, device, serving.port) {
         Ok(end) => {
-            let end = Watched::new(end, serving.device);
+            let end = Watched::new(end, device);
             serve_over(alloc, rt, system, serving, first, end, faults)
         }
         Err(failure) => Err(failure),
@@ -89,7 +90,7 @@ fn serve_elsewhere<R: Net + RandomSource, N: Net + Clock, F: Sink>(
     first: Handle,
     faults: &mut Printer<F>,
 ) -> Result<(), Failure> {
-    match bind(alloc, system, address_for(serving.device), 0) {
+    match bind_towards(alloc, system, serving.ip, serving.device, 0) {
         Ok(end) => {
             let other = end.local().port;
             note_other_port(alloc, serving.device, serving.port, other, faults);
@@ -112,6 +113,7 @@ fn serve_first<'a, R: Net + RandomSource, N: Net + Clock, C: Clock, F: Sink>(
 ) -> Result<(), Failure> {
     let own = Own {
         descriptor: end.end().as_raw_fd(),
+        ip: end.end().local().ip,
         first,
         made: end.now(),
     };
@@ -188,7 +190,7 @@ fn serve_another<R: Net + RandomSource, N: Net + Clock, F: Sink>(
     faults: &mut Printer<F>,
 ) -> Result<(), Failure> {
     let first = OwnPort::now(system).first_handle;
-    match bind(alloc, system, address_for(serving.device), 0) {
+    match bind_towards(alloc, system, serving.ip, serving.device, 0) {
         Ok(end) => {
             let end = Watched::new(end, serving.device);
             serve_next(alloc, rt, serving, first, rounds, site, end, faults)
@@ -210,6 +212,7 @@ fn serve_next<'a, R: Net + RandomSource, C: Clock, F: Sink>(
 ) -> Result<(), Failure> {
     match watch(&rounds.poll, end.end().as_raw_fd()) {
         Ok(()) => {
+            rounds.ip = end.end().local().ip;
             site.view().take_end(first, end.now());
             serve_end(alloc, rt, serving, first, rounds, site, end, faults)
         }
@@ -237,6 +240,8 @@ fn serve_end<'a, R: Net + RandomSource, C: Clock, F: Sink>(
 struct Own {
     /// Its descriptor.
     descriptor: i32,
+    /// Its address.
+    ip: u32,
     /// The first handle.
     first: Handle,
     /// The present moment.
@@ -251,6 +256,8 @@ struct Rounds {
     clients: Clients,
     /// Where browsers are listened to.
     local: Peer,
+    /// The address of the socket for the device.
+    ip: u32,
     verbose: bool,
     was_lost: bool,
     /// The ticket of the last order that was taken, and until when the browsers wait for its answer.
@@ -282,6 +289,7 @@ fn rounds_with<R: Net>(
             listener,
             poll,
             clients: Clients::new(alloc, DEVICE.0),
+            ip: own.ip,
             verbose: serving.verbose,
             was_lost: false,
             ticket: 1,
@@ -305,15 +313,6 @@ fn site_over(alloc: Global, view: View, local: Peer) -> Result<Site, Failure> {
     match names_of(alloc, local) {
         Ok(names) => Ok(Site::new(alloc, view, names)),
         Err(_) => Err(Failure::from(RunFault::NoMemory)),
-    }
-}
-
-/// The local address of a socket for this device.
-fn address_for(device: Peer) -> u32 {
-    if device.ip / 16_777_216 == 127 {
-        LOOPBACK
-    } else {
-        0
     }
 }
 
@@ -472,7 +471,7 @@ fn go_once<E: End, R: Net + RandomSource, F: Sink>(
     let Ok(drained) = turn(rounds, panel, site.view()) else {
         return Err(Failure::from(RunFault::NoMemory));
     };
-    note_link(alloc, rounds, site.view(), faults);
+    note_link(alloc, rt, rounds, site.view(), faults);
     match answer(rt, rounds, panel, site, drained) {
         Ok(wait) => wait_in(alloc, rounds, events, wait),
         Err(NoMemory) => Err(Failure::from(RunFault::NoMemory)),
@@ -602,7 +601,13 @@ fn accept<R: RandomSource>(rt: &R, rounds: &mut Rounds, now: u64) -> bool {
 }
 
 /// Prints when the device is lost and when it is heard again, where that is asked for.
-fn note_link<F: Sink>(alloc: Global, rounds: &mut Rounds, view: &View, faults: &mut Printer<F>) {
+fn note_link<R: Net, F: Sink>(
+    alloc: Global,
+    rt: &R,
+    rounds: &mut Rounds,
+    view: &View,
+    faults: &mut Printer<F>,
+) {
     let is_lost = view.news().lost_since.is_some();
     if !rounds.verbose || is_lost == rounds.was_lost {
         return;
@@ -613,8 +618,19 @@ fn note_link<F: Sink>(alloc: Global, rounds: &mut Rounds, view: &View, faults: &
             "the device is lost: a command got no answer for 5 s",
             faults,
         );
+        note_gone(alloc, rt, rounds.ip, faults);
     } else {
         note_heard(alloc, view.news().lost, faults);
+    }
+}
+
+/// Prints that the machine has lost the address of the socket for the device, where it has.
+fn note_gone<R: Net, F: Sink>(alloc: Global, rt: &R, ip: u32, faults: &mut Printer<F>) {
+    if !is_gone(rt, ip) {
+        return;
+    }
+    if let Ok(line) = format!(in alloc; "the address {} is gone", Ipv4Addr::from(ip)) {
+        print_note(line.as_str(), faults);
     }
 }
 

@@ -8,7 +8,7 @@ ghost use Rattle.ocapanel_cli.specs.Words.{panel_span_in, panel_span_of as span_
 use clap::{ArgMatches, Command, Error};
 use oca_program::form::bad_option;
 use oca_program::options::{
-    help_or_failure, host_in, number_or, text_of, with_flag, with_option, with_required,
+    help_or_failure, host_in, number_or, own_or, text_of, with_flag, with_option, with_required,
 };
 use oca_program::{Failure, Form, Rule, VERSION};
 use oca_script::field::{number, peer};
@@ -31,6 +31,8 @@ pub struct Serving {
     pub listen: Peer,
     /// How far above the lowest untaken command the next handle may lie.
     pub span: Span,
+    /// The local address of the socket for the device; 0 is the one from which the system reaches the device.
+    pub ip: u32,
     /// The local port of the socket for the device; 0 is one of the system's choice.
     pub port: u16,
     /// Whether each change of the link is printed.
@@ -61,7 +63,7 @@ struct OptionRow {
 }
 
 /// The options with a value that need not be given.
-const OPTIONS: [OptionRow; 3] = [
+const OPTIONS: [OptionRow; 4] = [
     OptionRow {
         name: "listen",
         value: "A.B.C.D:PORT",
@@ -73,6 +75,12 @@ const OPTIONS: [OptionRow; 3] = [
         value: "S",
         help: "The span, 2 to 32: the handles of the commands in flight are within S consecutive numbers; half of it \
             is kept for orders from browsers [default: 16]",
+    },
+    OptionRow {
+        name: "ip",
+        value: "A.B.C.D",
+        help: "The local address of the socket for the device, from which each copy of a command leaves [default: \
+            0.0.0.0, the one from which the system reaches the device]",
     },
     OptionRow {
         name: "port",
@@ -140,7 +148,7 @@ fn matches_of<'a, S: AsStr>(alloc: Global, words: &'a [S]) -> Result<ArgMatches<
 }
 
 /// The options with a form.
-const RULES: [Rule; 4] = [
+const RULES: [Rule; 5] = [
     Rule {
         name: "device",
         form: Form::Host,
@@ -156,6 +164,10 @@ const RULES: [Rule; 4] = [
             least: 2,
             largest: 32,
         },
+    },
+    Rule {
+        name: "ip",
+        form: Form::Own,
     },
     Rule {
         name: "port",
@@ -194,11 +206,13 @@ fn serving_of(words: &ArgMatches<'_>) -> Option<Serving>
     let device = device_of(words)?;
     let listen = listen_of(words)?;
     let span = span_of(words)?;
+    let ip = own_or(words, "ip", 0)?;
     let port = port_of(words)?;
     Some(Serving {
         device,
         listen,
         span,
+        ip,
         port,
         verbose: words.get_flag("verbose"),
     })

@@ -1,0 +1,267 @@
+#!/usr/bin/env python3
+"""`ocactl` and `ocapanel` on a machine with two interfaces, of which the first goes between two copies of a command: the command is
+executed once, whatever the programs say of it.
+
+Usage: one_address.py BIN     BIN is the folder with the programs
+
+The panel's machine and the device's are network namespaces, with two links between them; the device is at an address that is reached by
+both, by the first as long as that is there. A program sets a mute; it is executed, and its answer is lost. Then another peer sets it back,
+and the first link goes: once with the address that the panel's machine has there, once without. By the second link a copy may come from
+the address of the first, where that is still there; one from another address would be of another peer, and be executed anew. It needs root
+and `ip` (iproute2); without them it says so, and tries nothing. The last line is 'N passed, M failed'."""
+import contextlib
+import http.client
+import json
+import os
+import re
+import select
+import shutil
+import socket
+import subprocess
+import sys
+import time
+
+import oca_profile as oca
+
+DEVICE, PORT, OWN_PORT, MUTE = "10.98.9.9", 65000, 20001, 4097
+# the links: the panel's address at each, and the device's
+FIRST, SECOND = ("10.98.1.1", "10.98.1.2"), ("10.98.2.1", "10.98.2.2")
+MUTED, UNMUTED = b"\1", b"\2"
+# the commands that mute: what `ocactl` is called with, and what its input is
+BY_OCACTL = [(("set", MUTE, "muted"), ""), (("run",), f"{MUTE} 4 2 1 01\n"),
+              (("send", "--target", MUTE, "--level", 4, "--index", 2, "--count", 1, "--params", "01"), "")]
+
+
+class Machines:
+    """The two namespaces. The device's machine hands on nothing that the panel's does not send to it."""
+
+    def __enter__(self):
+        self.device, self.panel = f"oca-d{os.getpid()}", f"oca-p{os.getpid()}"
+        self.ip(f"netns add {self.device}")
+        self.ip(f"netns add {self.panel}")
+        for name, (near, far) in (("first", FIRST), ("second", SECOND)):
+            self.ip(f"-n {self.panel} link add {name} type veth peer name {name} netns {self.device}")
+            self.ip(f"-n {self.panel} addr add {near}/24 dev {name}")
+            self.ip(f"-n {self.device} addr add {far}/24 dev {name}")
+            self.ip(f"-n {self.device} link set {name} up")
+            self.ip(f"-n {self.panel} link set {name} up")
+        self.ip(f"-n {self.device} link set lo up")
+        self.ip(f"-n {self.panel} link set lo up")
+        self.ip(f"-n {self.device} addr add {DEVICE}/32 dev lo")
+        self.ip(f"-n {self.panel} route add {DEVICE}/32 via {FIRST[1]} metric 10")
+        self.ip(f"-n {self.panel} route add {DEVICE}/32 via {SECOND[1]} metric 20")
+        return self
+
+    def __exit__(self, *_):
+        for name in (self.device, self.panel):
+            subprocess.run(["ip", "netns", "del", name], check=False)
+
+    @staticmethod
+    def ip(line):
+        subprocess.run(["ip", *line.split()], check=True)
+
+    def start(self, name, *words):
+        return subprocess.Popen(["ip", "netns", "exec", name, *map(str, words)], stdin=subprocess.PIPE, stdout=subprocess.PIPE,
+                                stderr=subprocess.PIPE, text=True)
+
+    def cut(self, keeps_address):
+        """The first link goes, with its address or without. What is for that address goes by the second link."""
+        if not keeps_address:
+            self.ip(f"-n {self.panel} addr del {FIRST[0]}/24 dev first")
+        self.ip(f"-n {self.panel} link set first down")
+        self.ip(f"-n {self.device} route replace {FIRST[0]}/32 via {SECOND[0]}")
+
+
+def sets_mute(data):
+    """Whether a datagram has a command that sets the mute."""
+    with contextlib.suppress(oca.Fault):
+        return any(m[0] == "command" and m[2].asks()[:3] == (MUTE, 4, 2) for m in oca.check(data))
+    return False
+
+
+def asked(peer, handle, command):
+    """What the device answers this peer."""
+    peer.send(oca.pdu(1, [oca.Command(handle, *command).body()]))
+    peer.settimeout(10)
+    return peer.recv(2000)
+
+
+class Relay:
+    """Stands at the device's address before `ocadev serve`: each peer is one of the device, too. It loses the answer to the first command
+    that sets the mute; from then on nothing passes until it is told that the link is gone."""
+
+    def __init__(self, folder):
+        self.run = subprocess.Popen([f"{folder}/ocadev", "serve", "--port", "0"], stdout=subprocess.DEVNULL, stderr=subprocess.PIPE, text=True)
+        self.behind = ("127.0.0.1", int(self.run.stderr.readline().rsplit(":", 1)[1]))
+        self.front = socket.socket(socket.AF_INET, socket.SOCK_DGRAM)
+        self.front.bind((DEVICE, PORT))
+        self.peers, self.setting, self.passes, self.executed = {}, set(), True, False
+        self.other = self.connected()
+
+    def connected(self):
+        s = socket.socket(socket.AF_INET, socket.SOCK_DGRAM)
+        s.connect(self.behind)
+        return s
+
+    def is_the_end(self):
+        """A line of the input: the first says that the link is gone, the second that the program has ended."""
+        self.passes = True
+        return sys.stdin.readline() != "gone\n"
+
+    def inward(self):
+        data, sender = self.front.recvfrom(2000)
+        if not self.passes:
+            return
+        if sender not in self.peers:
+            self.peers[sender] = self.connected()
+        back = self.peers[sender]
+        back.send(data)
+        if sets_mute(data):
+            self.setting.add(sender)
+            if not self.executed:
+                self.executed = True
+                back.settimeout(10)
+                back.recv(2000)
+                self.passes = False
+                asked(self.other, 1, (MUTE, 4, 2, 1, UNMUTED))
+                print("executed", flush=True)
+
+    def outward(self, sender):
+        with contextlib.suppress(OSError):
+            self.front.sendto(self.peers[sender].recv(2000), sender)
+
+    def serve(self):
+        """Until the input says that the program has ended: then prints how the mute is set, and from how many peers a command came that
+        sets it."""
+        print("listening", flush=True)
+        while True:
+            ways = {back: sender for sender, back in self.peers.items()}
+            for ready in select.select([self.front, sys.stdin, *ways], [], [])[0]:
+                if ready is sys.stdin:
+                    if self.is_the_end():
+                        state = asked(self.other, 2, (MUTE, 4, 1, 0, b""))[-1:]
+                        print({MUTED: "muted", UNMUTED: "unmuted"}.get(state), len(self.setting), flush=True)
+                        return self.run.kill()
+                elif ready is self.front:
+                    self.inward()
+                else:
+                    self.outward(ways[ready])
+
+
+def order(host):
+    """Orders a mute of `ocapanel`, once it shows it, and prints how that fared."""
+    def ask(method, path, body=None):
+        c = http.client.HTTPConnection(host, timeout=20)
+        c.request(method, path, body, {"Host": host, "Origin": f"http://{host}", "Content-Type": "application/json"})
+        return json.loads(c.getresponse().read() or "null")
+
+    until = time.monotonic() + 40
+    while not any(o["ono"] == MUTE and o.get("value") for o in ask("GET", "/values?since=0")["objects"]) and time.monotonic() < until:
+        time.sleep(0.05)
+    ticket = ask("POST", "/set", json.dumps({"ono": MUTE, "value": "muted"}))
+    while time.monotonic() < until:
+        for told in ask("GET", "/values?since=0")["told"]:
+            if told["ticket"] == ticket:
+                return print(told["trouble"])
+        time.sleep(0.05)
+    return print("not told")
+
+
+class Checks:
+    def __init__(self):
+        self.passed = self.failed = 0
+
+    def same(self, what, got, wanted):
+        good = got == wanted
+        self.passed, self.failed = self.passed + good, self.failed + (not good)
+        if not good:
+            print(f"WRONG: {what}: {got} in place of {wanted}", flush=True)
+
+
+def cut_between(machines, relay, keeps_address):
+    """Cuts the first link once the mute is executed, and lets what comes pass."""
+    executed = bool(select.select([relay.stdout], [], [], 30)[0]) and relay.stdout.readline() == "executed\n"
+    machines.cut(keeps_address)
+    relay.stdin.write("gone\n")
+    relay.stdin.flush()
+    return executed
+
+
+def told_by(relay):
+    """What the relay says of the mute once the program has ended."""
+    return relay.communicate("ended\n", timeout=60)[0].split()
+
+
+def relayed(machines, folder):
+    """A relay with its device."""
+    relay = machines.start(machines.device, sys.executable, os.path.abspath(__file__), "relay", folder)
+    if relay.stdout.readline() != "listening\n":
+        sys.exit(f"one_address: no relay: {relay.communicate()[1]}")
+    return relay
+
+
+def by_ocactl(checks, folder, words, lines, keeps_address):
+    with Machines() as machines:
+        relay = relayed(machines, folder)
+        run = machines.start(machines.panel, f"{folder}/ocactl", words[0], "--device", f"{DEVICE}:{PORT}", "--port", OWN_PORT,
+                             "--first-handle", 1, *words[1:])
+        run.stdin.write(lines)
+        run.stdin.close()
+        run.stdin = None
+        executed = cut_between(machines, relay, keeps_address)
+        out, told = run.communicate(timeout=60)
+        what = f"`{words[0]}`, {'the link' if keeps_address else 'the address'} goes"
+        checks.same(f"{what}: executed, then set back, by one peer", (executed, told_by(relay)), (True, ["unmuted", "1"]))
+        gone = f"note: the address {FIRST[0]} is gone\n" in told
+        checks.same(f"{what}: status, whether it is lost, whether the address is said to be gone", (run.returncode, "lost" in out, gone),
+                    (0, False, False) if keeps_address else (3, True, True))
+
+
+def told_so_far(run, wanted, seconds):
+    """What a run says of faults until this is in it, for so many seconds at most."""
+    told, until = "", time.monotonic() + seconds
+    while wanted not in told and select.select([run.stderr], [], [], max(0, until - time.monotonic()))[0]:
+        more = os.read(run.stderr.fileno(), 4096).decode()
+        if not more:
+            break
+        told += more
+    return told
+
+
+def by_ocapanel(checks, folder, keeps_address):
+    with Machines() as machines:
+        relay = relayed(machines, folder)
+        panel = machines.start(machines.panel, f"{folder}/ocapanel", "--device", f"{DEVICE}:{PORT}", "--listen", "127.0.0.1:0", "--verbose")
+        host = re.search(r"http://([\d.:]+)/", panel.stderr.readline())[1]
+        page = machines.start(machines.panel, sys.executable, os.path.abspath(__file__), "order", host)
+        executed = cut_between(machines, relay, keeps_address)
+        fared = page.communicate(timeout=60)[0]
+        what = f"`ocapanel`, {'the link' if keeps_address else 'the address'} goes"
+        state = told_by(relay)
+        checks.same(f"{what}: executed, then set back, by one peer", (executed, state), (True, ["unmuted", "1"]))
+        notes = "" if keeps_address else told_so_far(panel, "gone", 20)
+        panel.kill()
+        panel.wait()
+        checks.same(f"{what}: whether the order is said to be done, and the address gone",
+                    (fared == "None\n", f"the address {FIRST[0]} is gone" in notes), (keeps_address, not keeps_address))
+
+
+def main():
+    if sys.argv[1] == "relay":
+        return Relay(sys.argv[2]).serve()
+    if sys.argv[1] == "order":
+        return order(sys.argv[2])
+    if os.geteuid() or not shutil.which("ip"):
+        print("one_address: NOT TRIED: it needs root and `ip`\n1 passed, 0 failed")
+        return 0
+    folder, checks = os.path.abspath(sys.argv[1]), Checks()
+    for keeps_address in (False, True):
+        for words, lines in BY_OCACTL:
+            by_ocactl(checks, folder, words, lines, keeps_address)
+        by_ocapanel(checks, folder, keeps_address)
+    print(f"{checks.passed} passed, {checks.failed} failed")
+    return 1 if checks.failed else 0
+
+
+if __name__ == "__main__":
+    sys.exit(main())
