@@ -270,10 +270,11 @@ class Laws:
                 self.count["in time"] += 1
                 self.count["in time, of a forgotten peer"] += p in self.forgotten
                 if any(c.handle == command.handle for c, _ in self.executions[p]):
-                    raise Break("in time", 0, f"handle {command.handle} of {oca.peer_text(p)}, in time, is executed twice")
+                    raise Break("in time", 0, f"handle {command.handle} of {oca.peer_text(p)} is executed twice")
             self.executions[p].append((command, reply))
             self.count["once"] += p not in self.forgotten
-        self.count["in time, copies to a forgotten peer"] += kept and link not in self.out_of_time and p in self.forgotten
+        in_time = link not in self.out_of_time
+        self.count["in time, copies to a forgotten peer"] += kept and in_time and p in self.forgotten
         held = self.untaken[link].get(command.handle)
         if finds_room and held and data == oca.pdu(1, [held.body()]):
             self.untaken_came(p, command, said, reply)

@@ -1,6 +1,6 @@
 -- THE LAW OF COPIES IN TIME (profile), over every schedule: where a link is not asked what is due while it is late, and
--- none of its datagrams is on its way for longer than 100,000 ms, each of its commands is executed at most once, whatever
--- the device forgets meanwhile.
+-- none of its datagrams is on its way for longer than 100,000 ms, each of its commands is executed at most once,
+-- whatever the device forgets meanwhile.
 use Rattle.std.specs.Prelude.{◌≡◌, ◌⊎◌, ◌==◌, ℕ, ◌+◌, ◌≤◌, true, false, List, [], ◌∷◌, ◌++◌, map, Option, Some, None}
 use Rattle.std.specs.List.{slice_get, list_any, IsDistinct}
 use Rattle.oca_types.specs.declared.words.Peer.{Peer}
