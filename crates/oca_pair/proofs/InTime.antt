@@ -38,7 +38,7 @@ use Rattle.oca_pair.specs.Happenings.{happenings}
 use Rattle.oca_pair.specs.Premises.{are_apart, StepFits, Fit}
 use Rattle.oca_pair.specs.Laws.{Execution, executions_for, executions_under, WasSubmitted, WasTaken}
 use Rattle.oca_pair.specs.GettingThrough.{copy_of}
-use Rattle.oca_pair.specs.InTime.{Departure, leaving, departures_in, clock_at, longest_delay, ArrivesInTime, IsInTime, AreInTime, IsAnswerOfOneExecution, accepted_in_session}
+use Rattle.oca_pair.specs.InTime.{Departure, leaving, departures_in, clock_at, longest_delay, ArrivesInTime, StepIsInTime, AreInTime, IsAnswerOfOneExecution, accepted_in_session}
 use Rattle.oca_pair.proofs.Core.{each_map, each_append, has, none_passes}
 use Rattle.oca_pair.proofs.Lists.{IsIn, contains_in, in_contains, both_true, each_at, each_in, equal_is, same_is, other_of, same_turned}
 use Rattle.oca_pair.proofs.Wire.{IsSendable, read_command, read_keep_alive}
@@ -570,7 +570,7 @@ timed_step_take i k h left n g (Some x) e =
 no_more : (p : Peer) (end m : ℕ) (us : List Untaken) (left : List Departure) (out : List SentDatagram) (ns : List Note) → Timed p end m us left out ns → Timed p end m us (left ++ []) out ns
 no_more p end m us left out ns g = rw append-nil g
 
-timed_step_due : WrittenIsReadBack → (s i k now : ℕ) (left : List Departure) (n : Network) → Sound s n → IsInTime i left (Due k now) n → TimedAt i left n → (o : Option PeerLink) → slice_get n.links k ≡ o →
+timed_step_due : WrittenIsReadBack → (s i k now : ℕ) (left : List Departure) (n : Network) → Sound s n → StepIsInTime i left (Due k now) n → TimedAt i left n → (o : Option PeerLink) → slice_get n.links k ≡ o →
     TimedAt i (left ++ leaving now o) (after_due_step k now o n)
 timed_step_due law s i k now left n sound in_time g None e = λ l own. no_more l.peer (end_of l.link.next) l.link.moment l.link.untaken left n.to_device (state_of (past n)).notes (g l own)
 timed_step_due law s i k now left n sound in_time g (Some x) e =
@@ -600,7 +600,7 @@ timed_step_reception i now left n g (Some d) = λ l own. let z = mapped_at (hear
 clock_is : (now : ℕ) (n : Network) → (looked_at now (past n)).moment ≡ clock_at now n
 clock_is now n = let stands1 : Stands n.sizes n.tree (looked_at now (past n)) (Passes now ∷ happenings n.events) = passing n.sizes n.tree now (state_of (past n)) (happenings n.events) (stands_by n.sizes n.tree n.events) in stands1.clock_is
 
-timed_step_delivery : (i k now : ℕ) (left : List Departure) (n : Network) → IsInTime i left (ToDevice k now) n → TimedAt i left n → (o : Option SentDatagram) → slice_get n.to_device k ≡ o →
+timed_step_delivery : (i k now : ℕ) (left : List Departure) (n : Network) → StepIsInTime i left (ToDevice k now) n → TimedAt i left n → (o : Option SentDatagram) → slice_get n.to_device k ≡ o →
     TimedAt i left (after_delivery now o n)
 timed_step_delivery i k now left n in_time g None e = g
 timed_step_delivery i k now left n in_time g (Some d) e = λ l own. by_test l own (same_peer d.peer l.peer) refl
@@ -628,13 +628,13 @@ timed_step_other i from bytes now left n g = by_test (has_link from n.links) ref
     by_test false q = λ l own. timed_elsewhere l.peer from (end_of l.link.next) l.link.moment l.link.untaken left n.to_device (past n) bytes now
         (same_turned from l.peer ∙ each_at (λ (z : PeerLink). same_peer z.peer from ≡ false) n.links i l (none_passes (λ (z : PeerLink). same_peer z.peer from) n.links q) own) (g l own)
 
-pub timed_step : WrittenIsReadBack → (s i : ℕ) (left : List Departure) (step : Step) (n : Network) → Sound s n → IsInTime i left step n → TimedAt i left n → TimedAt i (left ++ departures_in step n) (after_step step n)
+pub timed_step : WrittenIsReadBack → (s i : ℕ) (left : List Departure) (step : Step) (n : Network) → Sound s n → StepIsInTime i left step n → TimedAt i left n → TimedAt i (left ++ departures_in step n) (after_step step n)
 timed_step law s i left step n sound in_time g = one step in_time
   where
     none : (m : Network) → TimedAt i left m → TimedAt i (left ++ []) m
     none m f l own = no_more l.peer (end_of l.link.next) l.link.moment l.link.untaken left m.to_device (state_of (past m)).notes (f l own)
 
-    one : (step : Step) → IsInTime i left step n → TimedAt i (left ++ departures_in step n) (after_step step n)
+    one : (step : Step) → StepIsInTime i left step n → TimedAt i (left ++ departures_in step n) (after_step step n)
     one (Submit k r now) t = none (after_step (Submit k r now) n) (timed_step_submit i k r now left n g (slice_get n.links k) refl)
     one (Due k now) t = timed_step_due law s i k now left n sound t g (slice_get n.links k) refl
     one (ToDevice k now) t = none (after_step (ToDevice k now) n) (timed_step_delivery i k now left n t g (slice_get n.to_device k) refl)
@@ -701,7 +701,7 @@ answers_in_time law w s tree starts es i l h a apart fit in_time own which = eli
     }
 
 -- the last of the steps
-last_in_time : (i : ℕ) (left : List Departure) (es : List Step) (step : Step) (n : Network) → AreInTime i left (es ++ step ∷ []) n → AreInTime i left es n × IsInTime i (departed left es n) step (after_steps es n)
+last_in_time : (i : ℕ) (left : List Departure) (es : List Step) (step : Step) (n : Network) → AreInTime i left (es ++ step ∷ []) n → AreInTime i left es n × StepIsInTime i (departed left es n) step (after_steps es n)
 last_in_time i left [] step n a = (tt, a.0)
 last_in_time i left (e ∷ es) step n a = let rest = last_in_time i (left ++ departures_in e n) es step (after_step e n) a.1 in ((a.0, rest.0), rest.1)
 
@@ -722,7 +722,7 @@ session_in_time law w s tree starts es i k now l c apart fit in_time own submitt
     left : List Departure
     left = departed [] es (opening w s tree starts)
 
-    parts : AreInTime i [] es (opening w s tree starts) × IsInTime i left (ToDevice k now) n
+    parts : AreInTime i [] es (opening w s tree starts) × StepIsInTime i left (ToDevice k now) n
     parts = last_in_time i [] es (ToDevice k now) (opening w s tree starts) in_time
 
     of : LinkSound s n l

@@ -63,20 +63,20 @@ pub record ArrivesInTime (left came : ℕ) : Type 0 where
 
 -- The link is not asked what is due while it is late, and each delivery of a datagram of its peer to the device is in
 -- time. These datagrams left before.
-abbrev pub IsInTime : ℕ → List Departure → Step → Network → Type 0
-IsInTime i left (Due link now) n =
+abbrev pub StepIsInTime : ℕ → List Departure → Step → Network → Type 0
+StepIsInTime i left (Due link now) n =
     (l : PeerLink) → link ≡ i → slice_get n.links i ≡ Some l → late_at now l.link ≡ false
-IsInTime i left (ToDevice k now) n =
+StepIsInTime i left (ToDevice k now) n =
     (l : PeerLink) (x : Departure) → slice_get n.links i ≡ Some l → slice_get left k ≡ Some x →
     x.datagram.peer ≡ l.peer →
     ArrivesInTime x.at (clock_at now n)
-IsInTime i left _ n = Unit {0}
+StepIsInTime i left _ n = Unit {0}
 
 -- all steps from a network on
 abbrev pub AreInTime : ℕ → List Departure → List Step → Network → Type 0
 AreInTime i left [] n = Unit {0}
 AreInTime i left (step ∷ steps) n =
-    IsInTime i left step n × AreInTime i (left ++ departures_in step n) steps (after_step step n)
+    StepIsInTime i left step n × AreInTime i (left ++ departures_in step n) steps (after_step step n)
 
 -- ---- the law
 

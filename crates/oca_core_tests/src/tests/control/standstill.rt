@@ -207,7 +207,7 @@ const ROWS: &[Standstill] = &[
     Standstill {
         begun: 0,
         still: (2, 14_900),
-        asks: &[(3, Fared::Unanswered)],
+        asks: &[(2, Fared::Unanswered)],
         moments: &[0, 15_000],
     },
     Standstill {
