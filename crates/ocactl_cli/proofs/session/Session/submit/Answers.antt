@@ -5,9 +5,11 @@ use Rattle.ocactl_cli.proofs.session.Session.submit.Goals as goal
 
 pub returns-then-comes_late : goal.returns-then-comes_late
 returns-then-comes_late g c =
-    let s = c.self.inside in
-    (refl, came-late (request_of c.args.request) _ s.in_flight s.panel s.ahead s.refused s.socket s.is_open s.at_hand c.args.self.now c.now-now.result c.self.view_is
-    (present-of _ _ _ c.end.ensures c.now-now.ensures) (c.comes_late.ensures.late c.if-comes_late.true) refl)
+    let s = c.self.inside in (
+      refl,
+      came-late (request_of c.args.request) _ s.in_flight s.panel s.ahead s.refused s.socket s.is_open s.at_hand c.args.self.now c.now-now.result c.self.view_is
+          (present-of _ _ _ c.end.ensures c.now-now.ensures) (c.comes_late.ensures.late c.if-comes_late.true) refl,
+    )
 
 pub returns-in-Ok : goal.returns-in-Ok
 returns-in-Ok g c =
