@@ -20,4 +20,4 @@ pub mod Settling
 pub mod Lifetimes
 pub mod Asked
 pub mod Runs
-mod Waits
+pub mod Waits

@@ -17,6 +17,8 @@ use Rattle.oca_control.specs.Histories.{Call, IsHistory}
 use Rattle.oca_control.specs.Driving.{Drives, NoTurn, OneMore, DrivesEnd}
 use Rattle.oca_control.specs.Turning.{Turns}
 use Rattle.oca_control.specs.Asking.{TakesTurns, NoneTaken, OneTaken, Waits, Begins, Asks, HasOutcome}
+use Rattle.oca_control.specs.Waiting.{TakesTurnsBefore, WaitsUntil}
+use Rattle.oca_control.specs.Waiting as waiting
 use Rattle.oca_control.specs.Running.{NothingIsLeft, HaveTimeLeft, delivered_at, moments_delivered, AreWithin, ReturnsWithin, IsRun, NothingDone, DroveATurn, TookATurn, Began, Took, RunsOver, begun_at, EveryCallRuns, EveryRunGoesOn, IsAsked, EveryScriptIsKept}
 use Rattle.oca_control.proofs.Asked.{run_asked}
 
@@ -78,6 +80,18 @@ wait_runs h turns old new (outcomes.Refused fault) e f w = absurd w
 wait_runs h turns old new outcomes.Lost e f w = turns_run w.3
 wait_runs h turns old new outcomes.Unanswered e f w = turns_run w.0
 
+turns_before_run : {h until n : ℕ} {late closed : Bool} {old new : LinkState} {e f : EndState} → TakesTurnsBefore h until n late closed old new e f → RunsOver [] old new e f
+turns_before_run (waiting.NoTurn {l = l} {e = e}) = over_none [] l l e e NothingDone refl (λ tells. refl)
+turns_before_run (waiting.OneTurn {l = l} {new = new} {e = e} {f = f} before none going time turn) = over_both (turns_before_run before) (turn_runs l new e f turn.report turn.turns)
+
+wait_until_runs : (h until : ℕ) (old new : LinkState) (o : Outcome) (e f : EndState) → WaitsUntil h until old o new e f → RunsOver [] old new e f
+wait_until_runs h until old new (outcomes.Answered a) e f w =
+    let r = turns_before_run w.5 in
+    record { deliveries = r.deliveries; run = Took h r.run w.7; telling = r.telling; delivered = r.delivered }
+wait_until_runs h until old new (outcomes.Refused fault) e f w = absurd w
+wait_until_runs h until old new outcomes.Lost e f w = turns_before_run w.4
+wait_until_runs h until old new outcomes.Unanswered e f w = turns_before_run w.3
+
 begin_runs : (request : RequestFields) (returned : Result Handle ControlFault) (old new : LinkState) (e f : EndState) (b : Begins request returned old new e f) → RunsOver (begun_at returned b.now) old new e f
 begin_runs request (Err fault) old new e f b =
     over_none [] old new e f (subst (λ (l : LinkState). IsRun [] old l) (sym b.gives.0) NothingDone) (ap (λ (x : EndState). x.tells) b.gives.1) (λ tells. ap (λ (x : EndState). x.delivered) b.gives.1)
@@ -98,7 +112,7 @@ runs_on moments later old l new first then = run_both first then
 
 -- What each call over an end makes of a link is a run over that end.
 pub every_call : EveryCallRuns
-every_call = record { of_drive = drive_runs; of_turn = turn_runs; of_wait = wait_runs; of_begin = begin_runs; of_ask = ask_runs }
+every_call = record { of_drive = drive_runs; of_turn = turn_runs; of_wait = wait_runs; of_wait_until = wait_until_runs; of_begin = begin_runs; of_ask = ask_runs }
 
 -- A link whose span is not 0 and that has nothing left to give out, and then runs over an end that tells and whose
 -- receives return within `ms`, at most 500, is asked every `ms`, unless it is lost at the end.

@@ -1,13 +1,16 @@
 -- A command is waited for until a moment.
-use Rattle.std.proofs.Common.{◌≡◌, ◌⊎◌, ℕ, ◌+◌, ◌≤◌, Bool, false, ◌||◌, Some, None, sym, ap, ◌∙◌, subst, inl, inr}
+use Rattle.std.proofs.Common.{◌≡◌, ◌⊎◌, ℕ, ◌+◌, ◌<◌, ◌≤◌, Bool, false, ◌||◌, Some, None, refl, sym, ap, ◌∙◌, subst, inl, inr, arith}
+use Rattle.oca_net.specs.Ends.{last_u64}
 use Rattle.oca_net.specs.EndStates.{EndState}
 use Rattle.oca_control.specs.declared.outcome.Outcome.{Outcome}
 use Rattle.oca_control.specs.declared.outcome.Outcome.TheVariants as outcomes
 use Rattle.oca_control.specs.Untaken.{answer_under}
-use Rattle.oca_control.specs.Links.{LinkState}
-use Rattle.oca_control.specs.Waiting.{IsBefore, TakesATurnAndSees, TakesTurnsBefore, OneTurn, WaitsUntil, most_turns_of_a_wait}
+use Rattle.oca_control.specs.Links.{LinkState, present_moment}
+use Rattle.oca_control.specs.Asking.{TakesTurns, NoneTaken, OneTaken, Waits}
+use Rattle.oca_control.specs.Waiting.{IsBefore, IsPresentOf, WaitsWhile, TakesATurnAndSees, TakesTurnsBefore, NoTurn, OneTurn, ReceivesInAWait, WaitsUntil, most_turns_of_a_wait}
 use Rattle.oca_control.specs.PrivateAsking.{Settles, EndsWait}
 use Rattle.oca_control.proofs.Asks.{neither}
+use Rattle.oca_control.proofs.InTurn.{asked_once}
 
 -- one more turn, before which nothing was known and there was time left
 pub one_more_before : {h until n : ℕ} {late closed lost shut : Bool} {old l m new : LinkState} {d e f : EndState}
@@ -71,3 +74,64 @@ waited_in_vain {h} {until} {n} {late} {closed} {old} {l} new {d} {e} t le all s 
       ap (λ (k : LinkState). k.lost) s.2 ∙ going.1,
       inr (inr all),
     )
+
+-- ---- how often was received
+
+received : {h until n : ℕ} {late closed : Bool} {old new : LinkState} {e f : EndState} → TakesTurnsBefore h until n late closed old new e f → f.receives < last_u64 → f.receives ≡ e.receives + n
+received (NoTurn {e = e}) below = plus_none e.receives
+  where
+    plus_none : (n : ℕ) → n ≡ n + 0
+    plus_none n = omega arith
+received (OneTurn {n = n} {d = d} {e = e} {f = f} before none going time turn) below =
+    one_further d.receives e.receives f.receives n (received before) (asked_once turn.turns) below
+  where
+    one_further : (a b c n : ℕ) → (b < last_u64 → b ≡ a + n) → (c < last_u64 → c ≡ b + 1) → c < last_u64 → c ≡ a + (n + 1)
+    one_further a b c n f g below =
+        let last = g below in
+        let less : b < last_u64 = omega arith in
+        omega (arith, f less, last)
+
+at_most : (a b n : ℕ) → b ≡ a + n → n ≤ most_turns_of_a_wait → b ≤ a + most_turns_of_a_wait
+at_most a b n p q = omega arith
+
+-- a wait receives at most as often as it may take turns
+pub received_in_wait : (h until : ℕ) (old new : LinkState) (e f : EndState) (o : Outcome) → WaitsUntil h until old o new e f → ReceivesInAWait e.receives f.receives
+received_in_wait h until old new e f (outcomes.Answered a) w = λ below. at_most e.receives f.receives w.1 (received w.5 below) w.4
+received_in_wait h until old new e f (outcomes.Refused fault) w = absurd w
+received_in_wait h until old new e f outcomes.Lost w = λ below. at_most e.receives f.receives w.0 (received w.4 below) w.3
+received_in_wait h until old new e f outcomes.Unanswered w = λ below. at_most e.receives f.receives w.0 (received w.3 below) w.2
+
+-- ---- without a turn
+
+-- no turns are none before any moment
+pub none_taken : {h m until : ℕ} {late : Bool} {l k : LinkState} {d e : EndState} → TakesTurns h m late l k d e → m ≤ 0 → TakesTurnsBefore h until m late false l k d e
+none_taken NoneTaken few = NoTurn
+none_taken (OneTaken {n = n} before none going turn) few = absurd (one_is_more n few)
+  where
+    one_is_more : (n : ℕ) → n + 1 ≤ 0 → ⊥
+    one_is_more n few = omega arith
+
+none_is_few : (m : ℕ) → m ≤ 0 → m ≤ most_turns_of_a_wait
+none_is_few m few = omega arith
+
+-- at an end that says no moment the link's own is the present one
+link_present : (l : LinkState) (e : EndState) → IsPresentOf (present_moment 0 l) l e
+link_present l e = record { now = 0; present = λ some. absurd (nothing_less some); latest = refl }
+  where
+    nothing_less : 0 < 0 → ⊥
+    nothing_less some = omega arith
+
+-- an answer that was taken without a turn, or a link that was then lost, is so after any time
+pub at_once : (h n : ℕ) (l k : LinkState) (o : Outcome) (d e : EndState) → ((o ≡ outcomes.Unanswered) → ⊥) → Waits h 0 l o k d e → WaitsWhile h n l o k d e
+at_once h n l k (outcomes.Answered a) d e known w = record {
+  from = present_moment 0 l;
+  present = link_present l d;
+  waits = (w.0, w.1, w.2, false, none_is_few w.1 w.3, none_taken w.4 w.3, w.5, w.6);
+}
+at_once h n l k (outcomes.Refused fault) d e known w = absurd w
+at_once h n l k outcomes.Lost d e known w = record {
+  from = present_moment 0 l;
+  present = link_present l d;
+  waits = (w.0, w.1, false, none_is_few w.0 w.2, none_taken w.3 w.2, w.4, w.5);
+}
+at_once h n l k outcomes.Unanswered d e known w = absurd (known refl)

@@ -22,6 +22,7 @@ use Rattle.oca_control.specs.Answering.{last_asked, IsAskedEvery, IsInFlight, Is
 use Rattle.oca_control.specs.Driving.{DrivesTurn, DrivesEnd, link_from}
 use Rattle.oca_control.specs.Turning.{TurnsInTime, Turns}
 use Rattle.oca_control.specs.Asking.{beginning, Begins, Asks, Waits}
+use Rattle.oca_control.specs.Waiting.{WaitsUntil}
 
 -- NOTHING IS LEFT to give out at the link's own moment.
 abbrev pub NothingIsLeft : LinkState → Type 0
@@ -84,7 +85,7 @@ abbrev pub begun_at : Result Handle ControlFault → ℕ → List ℕ
 begun_at (Ok h) now = now ∷ []
 begun_at (Err fault) now = []
 
--- WHAT IS DONE BY `drive`, `turn`, `wait_for`, `begin` AND `ask` is such a run.
+-- WHAT IS DONE BY `drive`, `turn`, `wait_for`, `wait_until`, `begin` AND `ask` is such a run; so `wait_while`.
 pub record EveryCallRuns : Type 0 where
   pub of_drive : (old new : LinkState) (before after : EndState) (report : DriveReport) →
       DrivesEnd old new before after report → RunsOver [] old new before after
@@ -92,6 +93,8 @@ pub record EveryCallRuns : Type 0 where
       Turns old new before after report → RunsOver [] old new before after
   pub of_wait : (h turns : ℕ) (old new : LinkState) (outcome : Outcome) (before after : EndState) →
       Waits h turns old outcome new before after → RunsOver [] old new before after
+  pub of_wait_until : (h until : ℕ) (old new : LinkState) (outcome : Outcome) (before after : EndState) →
+      WaitsUntil h until old outcome new before after → RunsOver [] old new before after
   pub of_begin : (request : RequestFields) (returned : Result Handle ControlFault) (old new : LinkState)
       (before after : EndState) (begins : Begins request returned old new before after) →
       RunsOver (begun_at returned begins.now) old new before after

@@ -79,3 +79,7 @@ pub record WaitsWhile (h milliseconds : ℕ) (old : LinkState) (outcome : Outcom
   pub from : ℕ
   pub present : IsPresentOf from old before
   pub waits : WaitsUntil h (min (from + milliseconds) last_u64) old outcome new before after
+
+-- how often was received in a wait: at most as often as it may take turns
+abbrev pub ReceivesInAWait : (before after : ℕ) → Type 0
+ReceivesInAWait before after = after < last_u64 → after ≤ before + most_turns_of_a_wait

@@ -4,7 +4,7 @@ ghost use Rattle.oca_types.specs.Peers.{request_of};
 ghost use Rattle.oca_net.specs.Ends.{last_u64};
 ghost use Rattle.oca_control.specs.Asking.{TakesATurn, Waits, ReceivesSoOften, Begins, Asks, refused_by};
 ghost use Rattle.oca_control.specs.PrivateAsking.{EndsWait, IsWaitOver, Settles};
-ghost use Rattle.oca_control.specs.Waiting.{IsPresentOf, TakesATurnAndSees, WaitsUntil, WaitsWhile};
+ghost use Rattle.oca_control.specs.Waiting.{IsPresentOf, ReceivesInAWait, TakesATurnAndSees, WaitsUntil, WaitsWhile};
 
 use crate::driving::give_out;
 use crate::fault::ControlFault;
@@ -89,7 +89,8 @@ pub fn wait_for<E: End>(link: &mut Link, end: &mut E, handle: Handle, turns: u32
 /// that is later. A turn is begun only before `until`, and is at a socket one of at most 50 ms; however many
 /// datagrams come from others, the wait goes on.
 pub fn wait_until<E: End>(link: &mut Link, end: &mut E, handle: Handle, until: u64) -> Outcome
-    ensures { WaitsUntil handle.0 until link.old result link.new (E.state end.old) (E.state end.new) }
+    ensures waits { WaitsUntil handle.0 until link.old result link.new (E.state end.old) (E.state end.new) }
+    ensures receives { ReceivesInAWait (E.state end.old).receives (E.state end.new).receives }
 {
     let mut seen = Seen {
         lost: false,
@@ -114,7 +115,8 @@ pub fn wait_while<E: End>(
     handle: Handle,
     milliseconds: u32,
 ) -> Outcome
-    ensures { WaitsWhile handle.0 milliseconds link.old result link.new (E.state end.old) (E.state end.new) }
+    ensures waits { WaitsWhile handle.0 milliseconds link.old result link.new (E.state end.old) (E.state end.new) }
+    ensures receives { ReceivesInAWait (E.state end.old).receives (E.state end.new).receives }
 {
     let until = present(link, end).saturating_add(u64::from(milliseconds));
     wait_until(link, end, handle, until)

@@ -12,23 +12,24 @@ use Rattle.oca_control.specs.Untaken.{answer_under}
 use Rattle.oca_control.specs.Links.{LinkState, new_link}
 use Rattle.oca_control.specs.Turning.{Turns}
 use Rattle.oca_control.specs.Asking.{Begins, Waits, IsPresent}
+use Rattle.oca_control.specs.Waiting.{WaitsWhile}
 
--- A link, what the end that it is driven over says of itself, how many turns a command waits, and whether one that was
--- waited for got no answer.
+-- A link, what the end that it is driven over says of itself, for how many milliseconds a command waits for its answer,
+-- and whether one that was waited for got none.
 pub record PanelState : Type 0 where
   pub link : LinkState
   pub end_state : EndState
-  pub turns : ℕ
+  pub wait : ℕ
   pub unanswered : Bool
 
 -- A panel whose link is new, made at the end's present moment, over an end in this state.
-pub record IsOpened (device : Peer) (first span turns : ℕ) (before : EndState) (p : PanelState) : Type 0 where
+pub record IsOpened (device : Peer) (first span wait : ℕ) (before : EndState) (p : PanelState) : Type 0 where
   pub now : ℕ
   pub present : IsPresent now before
   pub panel : p ≡ record {
     link = new_link device first now span;
     end_state = before;
-    turns = turns;
+    wait = wait;
     unanswered = false;
   }
 
@@ -43,13 +44,13 @@ is_lost_or_unanswered outcomes.Unanswered = true
 pub record BeginsIn (request : RequestFields) (returned : Result Handle ControlFault)
     (old new : PanelState) : Type 0 where
   pub begins : Begins request returned old.link new.link old.end_state new.end_state
-  pub turns : new.turns ≡ old.turns
+  pub wait : new.wait ≡ old.wait
   pub unanswered : new.unanswered ≡ old.unanswered
 
--- The answer under this handle was waited for.
+-- The answer under this handle was waited for, as long as a command waits.
 pub record FinishesIn (handle : ℕ) (old new : PanelState) (outcome : Outcome) : Type 0 where
-  pub waits : Waits handle old.turns old.link outcome new.link old.end_state new.end_state
-  pub turns : new.turns ≡ old.turns
+  pub waits : WaitsWhile handle old.wait old.link outcome new.link old.end_state new.end_state
+  pub wait : new.wait ≡ old.wait
   pub unanswered : new.unanswered ≡ (old.unanswered || is_lost_or_unanswered outcome)
 
 -- it is known how a command came out
@@ -64,7 +65,7 @@ IsKnown outcomes.Unanswered = ⊥
 pub record SettlesIn (handle : ℕ) (old new : PanelState) (outcome : Outcome) : Type 0 where
   pub known : IsKnown outcome
   pub waits : Waits handle 0 old.link outcome new.link old.end_state new.end_state
-  pub turns : new.turns ≡ old.turns
+  pub wait : new.wait ≡ old.wait
   pub unanswered : new.unanswered ≡ (old.unanswered || is_lost_or_unanswered outcome)
 
 -- Nothing is known yet: no answer is there, the link is not lost, and nothing changed.
@@ -77,7 +78,7 @@ pub record TurnsOnce (old new : PanelState) (further : Bool) : Type 0 where
   pub report : DriveReport
   pub takes : Turns old.link new.link old.end_state new.end_state report
   pub goes_on : further ≡ (report.turns == 1 && not report.lost)
-  pub turns : new.turns ≡ old.turns
+  pub wait : new.wait ≡ old.wait
   pub unanswered : new.unanswered ≡ old.unanswered
 
 -- How a command fared that was to be begun: it was waited for, or the link refused it, so that it was never sent.

@@ -16,7 +16,7 @@ pub record IsRenewed (device : Peer) (first span : ℕ) (old new : PanelState) :
 -- The link took a turn, and this is what was done.
 pub record TurnsWith (report : DriveReport) (old new : PanelState) : Type 0 where
   pub takes : Turns old.link new.link old.end_state new.end_state report
-  pub turns : new.turns ≡ old.turns
+  pub wait : new.wait ≡ old.wait
   pub unanswered : new.unanswered ≡ old.unanswered
 
 -- Whether the link is lost, or late at the present moment of the end.

@@ -140,7 +140,7 @@ impl<T: Copy + Default> InFlight<T> {
         }
     }
 
-    /// Waits for the first command in flight, in the panel's turns as [`Panel::finish`] does; it is in flight no longer.
+    /// Waits for the first command in flight, as long as [`Panel::finish`] does; it is in flight no longer.
     /// Returns what was said of it, and how it came out. `None` where none is in flight, which changes nothing.
     ///
     /// A command that comes out `Unanswered` is still one of the panel's: [`Panel::answered`] tells when its answer has

@@ -4,19 +4,19 @@ ghost use Rattle.std.specs.Option.{option_map};
 ghost use Rattle.oca_control.specs.Untaken.{first_answered};
 ghost use Rattle.oca_panel.specs.Panels.{is_lost_or_unanswered};
 
-use oca_control::{ControlFault, Link, Outcome, begin, is_late, turn, wait_for};
+use oca_control::{ControlFault, Link, Outcome, begin, is_late, turn, wait_for, wait_while};
 use oca_net::End;
 use oca_types::{Handle, Peer, Request, Span};
 use std::marker::Model;
 
 mod renewal;
 
-/// A panel for one device: a link, the end that it is driven over, how many turns a command waits for its answer, and
-/// whether one that was waited for got none.
+/// A panel for one device: a link, the end that it is driven over, for how many milliseconds a command waits for its
+/// answer, and whether one that was waited for got none.
 ///
 /// ```
 /// let end = UdpEnd::bind_towards(rt.alloc(), rt, device, 0)?;
-/// let mut panel = Panel::open(device, end, Handle(1), Span::default(), 210);
+/// let mut panel = Panel::open(device, end, Handle(1), Span::default(), 10_500);
 /// // ...
 /// match panel.get(gain) {
 ///     Ok(value) => println!(rt; "gain: {} dB/10", word_of(value).as_str())?,
@@ -28,7 +28,7 @@ mod renewal;
 pub struct Panel<E: End> {
     link: Link,
     end: E,
-    turns: u32,
+    wait: u32,
     unanswered: bool,
 }
 
@@ -40,7 +40,7 @@ impl<E: End> Model for Panel<E> {
     ghost view = { λ p. record {
       link = p.link;
       end_state = E.state p.end;
-      turns = p.turns;
+      wait = p.wait;
       unanswered = p.unanswered;
     } };
 }
@@ -51,7 +51,7 @@ impl<E: End + Drop> Drop for Panel<E> {
         let Panel {
             link: _,
             end: _,
-            turns: _,
+            wait: _,
             unanswered: _,
         } = self;
     }
@@ -71,23 +71,24 @@ impl<E: End> Panel<E> {
     /// there since the last pause of more than two minutes in which nothing was sent from it
     /// ([`OwnPort`](crate::OwnPort) chooses such a handle). `span` is how far above the
     /// lowest untaken command the next handle may lie, and so how many commands can be in flight. A command waits for
-    /// its answer for `turns` turns, at a socket 50 ms at most each; where the device is silent the link is lost after
-    /// some 5 seconds.
-    pub fn open(device: Peer, end: E, first: Handle, span: Span, turns: u32) -> Panel<E>
-        ensures { IsOpened device first.0 (span_size span) turns (E.state end) result }
+    /// its answer for `wait` milliseconds ([`wait_while`](oca_control::wait_while)), whatever else comes to the end
+    /// meanwhile; where the device is silent the link is lost after 5 to 10.25 seconds.
+    pub fn open(device: Peer, end: E, first: Handle, span: Span, wait: u32) -> Panel<E>
+        ensures { IsOpened device first.0 (span_size span) wait (E.state end) result }
     {
         let link = Link::new(device, first, end.now(), span);
-        Panel::new(link, end, turns)
+        Panel::new(link, end, wait)
     }
 
-    /// A panel over a link that is there, for which nothing was asked.
-    pub fn new(link: Link, end: E, turns: u32) -> Panel<E>
-        ensures { result ≡ record { link = link; end_state = E.state end; turns = turns; unanswered = false } }
+    /// A panel over a link that is there, for which nothing was asked. A command waits for its answer for `wait`
+    /// milliseconds.
+    pub fn new(link: Link, end: E, wait: u32) -> Panel<E>
+        ensures { result ≡ record { link = link; end_state = E.state end; wait = wait; unanswered = false } }
     {
         Panel {
             link,
             end,
-            turns,
+            wait,
             unanswered: false,
         }
     }
@@ -113,7 +114,7 @@ impl<E: End> Panel<E> {
         let Panel {
             link: _,
             end,
-            turns: _,
+            wait: _,
             unanswered: _,
         } = self;
         end
@@ -175,7 +176,7 @@ impl<E: End> Panel<E> {
     }
 
     /// Asks for one command, and waits for its answer. `Refused` where the link refuses it, so that it is never sent:
-    /// that changes nothing. Where no answer comes in the panel's turns, the command stays in flight, under the handle
+    /// that changes nothing. Where no answer comes in the panel's time, the command stays in flight, under the handle
     /// that [`next_handle`](Panel::next_handle) told before, and takes room in the span until its answer is taken.
     pub fn ask(&mut self, request: Request<'_>) -> Outcome
         ensures { AsksIn (request_of request.entry) self.old self.new result }
@@ -195,12 +196,12 @@ impl<E: End> Panel<E> {
         begin(&mut self.link, &mut self.end, request)
     }
 
-    /// Waits for the answer under this handle. Where none comes in the panel's turns, the command stays in flight and
+    /// Waits for the answer under this handle. Where none comes in the panel's time, the command stays in flight and
     /// can be waited for again.
     pub fn finish(&mut self, handle: Handle) -> Outcome
         ensures { FinishesIn handle.0 self.old self.new result }
     {
-        let outcome = wait_for(&mut self.link, &mut self.end, handle, self.turns);
+        let outcome = wait_while(&mut self.link, &mut self.end, handle, self.wait);
         self.unanswered = self.unanswered || is_nothing(&outcome);
         outcome
     }

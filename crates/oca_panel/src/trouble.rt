@@ -19,7 +19,7 @@ pub enum Trouble {
     NotSubmitted(ControlFault),
     /// The link is lost: the command may have been carried out, or not.
     Lost,
-    /// No answer came in the turns that a command waits.
+    /// No answer came in the time that a command waits.
     Unanswered,
 }
 

@@ -21,14 +21,14 @@ use Rattle.oca_panel.specs.declared.trouble.Trouble.TheVariants as trouble
 use Rattle.oca_panel.specs.Outcomes.{done_or_trouble, done_answered}
 use Rattle.oca_panel.specs.Panels.{PanelState, BeginsIn, IsKnown, is_lost_or_unanswered}
 use Rattle.oca_panel.specs.InFlight.{BeginsBehind, BeginsUnless, FinishesFirst, FirstIsUnknown, SettlesFirst, put_behind}
-use Rattle.oca_control.proofs.Asks.{waits_asked}
+use Rattle.oca_control.proofs.Waits.{at_once, received_in_wait}
 use Rattle.ocactl_cli.specs.Objects.{trouble_status}
 use Rattle.ocactl_cli.specs.Trees.{listed_status}
 use Rattle.oca_control.specs.Links.{LinkState}
-use Rattle.oca_net.specs.Ends.{last_u64}
-use Rattle.oca_control.specs.Asking.{refused_by, Begins, IsPresent, Waits, ReceivesSoOften}
+use Rattle.oca_control.specs.Asking.{refused_by, Begins, IsPresent}
+use Rattle.oca_control.specs.Waiting.{WaitsWhile}
 use Rattle.ocactl_cli.specs.Requests.{LineAsked, Send}
-use Rattle.ocactl_cli.specs.Exchanges.{SessionState, FirstIsOpen, TakesOne, Idles, IdledNot, OneTurned, OnePrinted, AwaitsFirst, Awaits, NoneAwaited, OneAwaited, AwaitsUntil, SubmitsCommand, Refuses, Concludes, FinishesLines, ended_by, most_turns, outcome_line, outcome_status, WritesOutcome, TakesUp, since, longest_at_hand}
+use Rattle.ocactl_cli.specs.Exchanges.{SessionState, FirstIsOpen, TakesOne, Idles, IdledNot, OneTurned, OnePrinted, AwaitsFirst, Awaits, NoneAwaited, OneAwaited, AwaitsUntil, SubmitsCommand, Refuses, Concludes, FinishesLines, ended_by, line_wait, outcome_line, outcome_status, WritesOutcome, TakesUp, since, longest_at_hand}
 use Rattle.ocactl_cli.specs.PrivateExchanges.{PrintsUnlessFailed, AwaitsAndPrints, IdlesAndPrints, SendsAndPrints, DoesLineAndPrints, DoesTakenUpAndPrints, Submitted, TakesFirst, is_write_failure}
 
 -- ---- printing, unless a write has failed
@@ -87,10 +87,10 @@ begun-behind request returned queue more old new few h =
 few-of : (queue : List (ℕ × Unit {0})) (handles : List ℕ) → map (λ c. c.0) queue ≡ handles → length handles < 32 → length queue < 32
 few-of queue handles e few = let same : length handles ≡ length queue = ap length (sym e) ∙ length-map queue (λ c. c.0) in omega (arith, same, few)
 
-same-panel : (old new : PanelState) → new.link ≡ old.link → new.end_state ≡ old.end_state → new.turns ≡ old.turns → new.unanswered ≡ old.unanswered → new ≡ old
+same-panel : (old new : PanelState) → new.link ≡ old.link → new.end_state ≡ old.end_state → new.wait ≡ old.wait → new.unanswered ≡ old.unanswered → new ≡ old
 same-panel old new l e t u =
     ap (λ (x : LinkState). record new { link = x }) l ∙ ap (λ (x : EndState). record new { link = old.link; end_state = x }) e
-    ∙ ap (λ (x : ℕ). record new { link = old.link; end_state = old.end_state; turns = x }) t
+    ∙ ap (λ (x : ℕ). record new { link = old.link; end_state = old.end_state; wait = x }) t
     ∙ ap (λ (x : Bool). record old { unanswered = x }) u
 
 pub submits : (request : RequestFields) (returned : Result Handle ControlFault) (h : Handle) (queue more : List (ℕ × Unit {0})) (old new : PanelState) (ahead : ℕ) (refused : Bool) (socket : Option ℤ) (is_open : Bool) (at_hand : Option ℕ) (before : SessionState) (now : ℕ)
@@ -123,7 +123,7 @@ refuses request returned f queue more old new ahead refused socket is_open at_ha
     let kept : more ≡ queue = begun.behind ∙ ap (put_behind queue tt) is in
     let begins : Begins request (Err f) old.link new.link old.end_state new.end_state =
     subst (λ (z : Result Handle ControlFault). Begins request z old.link new.link old.end_state new.end_state) is b.begins in
-    let same : new ≡ old = same-panel old new begins.gives.0 begins.gives.1 b.turns b.unanswered in
+    let same : new ≡ old = same-panel old new begins.gives.0 begins.gives.1 b.wait b.unanswered in
     let there : Refuses request f (session_of old queue ahead refused socket is_open at_hand) = inr (subst (λ (p : PanelState). Begins request (Err f) old.link p.link old.end_state p.end_state) same begins) in
     let all : session_of new more ahead refused socket is_open at_hand ≡ session_of old queue ahead refused socket is_open at_hand =
     ap (λ (p : PanelState). session_of p more ahead refused socket is_open at_hand) same ∙ ap (λ (q : List (ℕ × Unit {0})). session_of old q ahead refused socket is_open at_hand) kept in
@@ -149,13 +149,13 @@ came-late request f queue p ahead refused socket is_open at_hand before now e pr
     (inl (record { now = now; present = present; late = late; counts = counts }))
 
 -- no answer came, where one was waited for
-none-came : (h n : ℕ) (l k : LinkState) (o : Outcome) (d e : EndState) → Waits h n l o k d e → is_lost_or_unanswered o ≡ (outcome_status o == 3)
+none-came : (h n : ℕ) (l k : LinkState) (o : Outcome) (d e : EndState) → WaitsWhile h n l o k d e → is_lost_or_unanswered o ≡ (outcome_status o == 3)
 none-came h n l k (outcomes.Answered a) d e w = by (a.status == 0)
   where
     by : (b : Bool) → false ≡ ((if b then 0 else 4) == 3)
     by true = refl
     by false = refl
-none-came h n l k (outcomes.Refused fault) d e w = absurd w
+none-came h n l k (outcomes.Refused fault) d e w = absurd w.waits
 none-came h n l k outcomes.Lost d e w = refl
 none-came h n l k outcomes.Unanswered d e w = refl
 
@@ -164,47 +164,39 @@ none-so-far true was now lost three e f = refl
 none-so-far false was now lost three e f = e ∙ ap (λ (x : Bool). was || x) f
 
 awaited-one : (h : ℕ) (o : Outcome) (queue rest : List (ℕ × Unit {0})) (old new : PanelState) (ahead : ℕ) (refused : Bool) (socket : Option ℤ) (is_open : Bool) (at_hand : Option ℕ)
-    → queue ≡ (h, tt) ∷ rest → Waits h most_turns old.link o new.link old.end_state new.end_state → new.unanswered ≡ (old.unanswered || is_lost_or_unanswered o)
+    → queue ≡ (h, tt) ∷ rest → WaitsWhile h line_wait old.link o new.link old.end_state new.end_state → new.unanswered ≡ (old.unanswered || is_lost_or_unanswered o)
     → AwaitsFirst (session_of old queue ahead refused socket is_open at_hand) (session_of new rest ahead refused socket is_open at_hand) o
 awaited-one h o queue rest old new ahead refused socket is_open at_hand first waits unanswered = record {
   handle = h;
   first = ap (map (λ (c : ℕ × Unit {0}). c.0)) first;
   waits = waits;
-  asks = waits_asked h most_turns old.link new.link old.end_state new.end_state o waits;
+  asks = received_in_wait h _ old.link new.link old.end_state new.end_state o waits.waits;
   ahead = refl;
-  unanswered = none-so-far refused old.unanswered new.unanswered (is_lost_or_unanswered o) (outcome_status o == 3) unanswered (none-came h most_turns old.link new.link o old.end_state new.end_state waits);
+  unanswered = none-so-far refused old.unanswered new.unanswered (is_lost_or_unanswered o) (outcome_status o == 3) unanswered (none-came h line_wait old.link new.link o old.end_state new.end_state waits);
   socket = refl;
   is_open = refl;
   at_hand = refl;
 }
 
 pub first-awaited : (came : Unit {0} × Outcome) (queue rest : List (ℕ × Unit {0})) (old new : PanelState) (ahead : ℕ) (refused : Bool) (socket : Option ℤ) (is_open : Bool) (at_hand : Option ℕ) (before : SessionState)
-    → session_of old queue ahead refused socket is_open at_hand ≡ before → old.turns ≡ most_turns → FinishesFirst (Some came) queue rest old new
+    → session_of old queue ahead refused socket is_open at_hand ≡ before → old.wait ≡ line_wait → FinishesFirst (Some came) queue rest old new
     → AwaitsFirst before (session_of new rest ahead refused socket is_open at_hand) came.1
-first-awaited came queue rest old new ahead refused socket is_open at_hand before e turns h =
-    let waits : Waits h.0 most_turns old.link came.1 new.link old.end_state new.end_state = subst (λ (n : ℕ). Waits h.0 n old.link came.1 new.link old.end_state new.end_state) turns h.2.waits in
+first-awaited came queue rest old new ahead refused socket is_open at_hand before e time h =
+    let waits : WaitsWhile h.0 line_wait old.link came.1 new.link old.end_state new.end_state =
+    subst (λ (n : ℕ). WaitsWhile h.0 n old.link came.1 new.link old.end_state new.end_state) time h.2.waits in
     subst (λ (x : SessionState). AwaitsFirst x (session_of new rest ahead refused socket is_open at_hand) came.1) e
     (awaited-one h.0 came.1 queue rest old new ahead refused socket is_open at_hand h.1 waits h.2.unanswered)
 
--- what is known without a turn is known in any number of turns
-longer : (h n : ℕ) (l k : LinkState) (o : Outcome) (d e : EndState) → IsKnown o → Waits h 0 l o k d e → Waits h n l o k d e
-longer h n l k (outcomes.Answered a) d e known w = (w.0, w.1, w.2, none-more w.1 w.3, w.4, w.5, w.6)
-  where
-    none-more : (m : ℕ) → m ≤ 0 → m ≤ n
-    none-more m few = omega arith
-longer h n l k (outcomes.Refused fault) d e known w = absurd w
-longer h n l k outcomes.Lost d e known w = (w.0, w.1, none-more w.0 w.2, w.3, w.4, w.5)
-  where
-    none-more : (m : ℕ) → m ≤ 0 → m ≤ n
-    none-more m few = omega arith
-longer h n l k outcomes.Unanswered d e known w = absurd known
+-- what is known is an outcome
+known-so : (o : Outcome) → IsKnown o → o ≡ outcomes.Unanswered → ⊥
+known-so o known e = subst IsKnown e known
 
 pub first-settled : (came : Unit {0} × Outcome) (queue rest : List (ℕ × Unit {0})) (old new : PanelState) (ahead : ℕ) (refused : Bool) (socket : Option ℤ) (is_open : Bool) (at_hand : Option ℕ) (before : SessionState)
     → session_of old queue ahead refused socket is_open at_hand ≡ before → SettlesFirst (Some came) queue rest old new
     → AwaitsFirst before (session_of new rest ahead refused socket is_open at_hand) came.1
 first-settled came queue rest old new ahead refused socket is_open at_hand before e h =
     subst (λ (x : SessionState). AwaitsFirst x (session_of new rest ahead refused socket is_open at_hand) came.1) e
-    (awaited-one h.0 came.1 queue rest old new ahead refused socket is_open at_hand h.1 (longer h.0 most_turns old.link new.link came.1 old.end_state new.end_state h.2.known h.2.waits) h.2.unanswered)
+    (awaited-one h.0 came.1 queue rest old new ahead refused socket is_open at_hand h.1 (at_once h.0 line_wait old.link new.link came.1 old.end_state new.end_state (known-so came.1 h.2.known) h.2.waits) h.2.unanswered)
 
 -- it is not known how the first came out
 pub first-unknown : (queue rest : List (ℕ × Unit {0})) (old new : PanelState) (ahead : ℕ) (refused : Bool) (socket : Option ℤ) (is_open : Bool) (at_hand : Option ℕ) (before : SessionState)

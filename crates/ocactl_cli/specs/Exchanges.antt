@@ -14,7 +14,8 @@ use Rattle.oca_control.specs.declared.report.DriveReport.{DriveReport}
 use Rattle.oca_control.specs.Answers.{answer_fields}
 use Rattle.oca_control.specs.Links.{LinkState, IsNextDue, NeverIsDue, late_at}
 use Rattle.oca_control.specs.Turning.{Turns}
-use Rattle.oca_control.specs.Asking.{Waits, ReceivesSoOften, Begins, Asks, IsPresent, refused_by}
+use Rattle.oca_control.specs.Asking.{Begins, Asks, IsPresent, refused_by}
+use Rattle.oca_control.specs.Waiting.{ReceivesInAWait, WaitsWhile}
 use Rattle.oca_control.specs.Untaken.{answer_under}
 use Rattle.oca_script.specs.declared.fault.ReplayFault.{ReplayFault}
 use Rattle.oca_script.specs.declared.fault.ReplayFault.TheVariants.{Line, Read, Write, TooMuch}
@@ -53,9 +54,9 @@ pub record AsksOnce (request : RequestFields) (turns : ℕ) (old new : LinkState
 
 -- ---- commands of lines
 
--- A command of a line waits for so many turns.
-abbrev pub most_turns : ℕ
-most_turns = 4294967295
+-- A command of a line waits for so many milliseconds: as long as it takes, since the link is lost long before.
+abbrev pub line_wait : ℕ
+line_wait = 4294967295
 
 -- A link, what the end that it is driven over says of itself, the handles of the commands in flight in the order of
 -- their lines, how many may be, and whether a command got no answer so far; the end's descriptor, where it has one that
@@ -106,9 +107,8 @@ pub record IsFoundLostNow (s : SessionState) (found : Bool) : Type 0 where
 pub record AwaitsFirst (old new : SessionState) (outcome : Outcome) : Type 0 where
   pub handle : ℕ
   pub first : old.in_flight ≡ handle ∷ new.in_flight
-  pub waits : Waits handle most_turns old.link outcome new.link old.end_state new.end_state
-  pub asks : new.end_state.receives < last_u64
-      → ReceivesSoOften most_turns outcome old.end_state.receives new.end_state.receives
+  pub waits : WaitsWhile handle line_wait old.link outcome new.link old.end_state new.end_state
+  pub asks : ReceivesInAWait old.end_state.receives new.end_state.receives
   pub ahead : new.ahead ≡ old.ahead
   pub unanswered : new.unanswered ≡ (old.unanswered || outcome_status outcome == 3)
   pub socket : new.socket ≡ old.socket

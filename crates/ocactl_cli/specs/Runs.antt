@@ -1,5 +1,5 @@
 -- What a run of the program does, by its words (*profile*).
-use Rattle.std.specs.Prelude.{◌≡◌, ◌⊎◌, ℕ, ℤ, Bool, true, false, if◌then◌else◌, List, [], map}
+use Rattle.std.specs.Prelude.{◌≡◌, ◌⊎◌, ◌*◌, min, ℕ, ℤ, Bool, true, false, if◌then◌else◌, List, [], map}
 use Rattle.std.specs.Prelude.{Option, None, Some, Result, Ok, Err, OnErr}
 use Rattle.clap.specs.Values.{kind_of}
 use Rattle.clap.specs.declared.error.Error.{Error}
@@ -218,12 +218,17 @@ DoesTask (task.Unlock onos) old new ended had has was is =
     AsksEach (Locks false) (map ono_number onos.items) old new ended was is × (has ≡ had)
 DoesTask task.Tree old new ended had has was is = PrintsObjects old new ended was is × (has ≡ had)
 
--- a panel over a new link, each of whose commands waits so many turns
-abbrev pub new_panel : LinkState → EndState → ℕ → PanelState
-new_panel link end_state turns = record { link = link; end_state = end_state; turns = turns; unanswered = false }
+-- the time of so many waits of 50 ms, in milliseconds of 32 bits
+abbrev pub time_of_turns : ℕ → ℕ
+time_of_turns turns = min (turns * 50) 4294967295
 
--- It was done over a new link to a device that is reached as the words say, whose commands wait as many turns as were
--- given. For locks the socket is at the program's own port, where none was given.
+-- a panel over a new link, each of whose commands waits as long as so many turns of 50 ms
+abbrev pub new_panel : LinkState → EndState → ℕ → PanelState
+new_panel link end_state turns =
+    record { link = link; end_state = end_state; wait = time_of_turns turns; unanswered = false }
+
+-- It was done over a new link to a device that is reached as the words say, whose commands wait as long as the turns that
+-- were given. For locks the socket is at the program's own port, where none was given.
 pub record DoesOver (reach : Reach) (turns : ℕ) (what : Task) (ended : Result ℕ RunFault) (had has : Input)
     (was is : Output) : Type 0 where
   pub link : LinkState

@@ -14,7 +14,7 @@ ghost use Rattle.oca_program.specs.Faults.{asks_for_text};
 ghost use Rattle.ocactl_cli.specs.Runs.{run_status, RunsProgram, RunsWords, DoesByMatches, DoesMatchedCommand};
 ghost use Rattle.ocactl_cli.specs.Runs.{DoesByOptions, DoesRequest, AnswersUnmatched, PrintsHelp, EndsWithText};
 ghost use Rattle.ocactl_cli.specs.Runs.{ReplaysScript, SendsAt, SendsOne, AsksOver, RunsAt, RunsFrom, DoesAt, DoesTask};
-ghost use Rattle.ocactl_cli.specs.Runs.{AsksEach, new_session};
+ghost use Rattle.ocactl_cli.specs.Runs.{AsksEach, new_session, time_of_turns};
 ghost use Rattle.ocactl_cli.specs.Sockets.{IsUnreached, port_or_any};
 
 use super::commands::send_all;
@@ -491,11 +491,18 @@ fn done<N: Net + Clock, R: Source, W: Sink, F: Sink>(
     note_span(alloc, reach.span, faults);
     match reached(alloc, system, reach, task.locks(), faults) {
         Ok((link, end)) => {
-            let panel = Panel::new(link, end, turns);
+            let panel = Panel::new(link, end, time_of(turns));
             done_over(alloc, system, panel, reach, task, reader, printer, faults)
         }
         Err(failure) => Err(failure),
     }
+}
+
+/// The time of so many waits of 50 ms, in milliseconds.
+fn time_of(turns: u32) -> u32
+    ensures { result ≡ time_of_turns turns }
+{
+    turns.saturating_mul(50)
 }
 
 /// The same over a link.

@@ -13,9 +13,9 @@ use oca_types::{Handle, Request, Span};
 use std::marker::Model;
 use std::os::fd::RawFd;
 
-/// How many turns a command of a line waits for its answer: where not every receive fails, the link is lost long
-/// before.
-const TURNS: u32 = u32::MAX;
+/// For how many milliseconds a command of a line waits for its answer: where not every receive fails, the link is lost
+/// long before.
+const WAIT_MS: u32 = u32::MAX;
 
 /// The longest wait for input, in milliseconds: an hour.
 const LONGEST_WAIT_MS: u64 = 3_600_000;
@@ -39,7 +39,7 @@ pub struct Session<E: End> {
 
 impl<E: End> Model for Session<E> {
     ghost use Rattle.std.specs.Prelude.{◌≡◌, ◌≤◌, ◌||◌, map};
-    ghost use Rattle.ocactl_cli.specs.Exchanges.{SessionState, most_turns};
+    ghost use Rattle.ocactl_cli.specs.Exchanges.{SessionState, line_wait};
 
     ghost Value = { SessionState };
 
@@ -54,7 +54,7 @@ impl<E: End> Model for Session<E> {
       at_hand = s.at_hand;
     } };
 
-    ghost invariant = { λ s. (1 ≤ s.ahead) × (s.ahead ≤ 32) × (s.panel.turns ≡ most_turns) };
+    ghost invariant = { λ s. (1 ≤ s.ahead) × (s.ahead ≤ 32) × (s.panel.wait ≡ line_wait) };
 }
 
 impl<E: End + Drop> Drop for Session<E> {
@@ -91,7 +91,7 @@ impl<E: End> Session<E> {
         } }
     {
         Session {
-            panel: Panel::new(link, end, TURNS),
+            panel: Panel::new(link, end, WAIT_MS),
             in_flight: InFlight::new(),
             ahead: usize::from(ahead.get()),
             refused: false,

@@ -35,15 +35,15 @@ fn run<R: Runtime + Net + AllocGlobal>(rt: &R) -> Result<(), Error> {
     ask_device(rt, Peer::loopback(port), lists)
 }
 
-/// Opens a panel for the device, over a socket at the address from which the system reaches it. A command waits for 210
-/// turns of at most 50 ms, as long as a link retransmits it.
+/// Opens a panel for the device, over a socket at the address from which the system reaches it. A command waits for
+/// 10.5 seconds, longer than a link retransmits it.
 fn ask_device<R: Runtime + Net + AllocGlobal>(
     rt: &R,
     device: Peer,
     lists: bool,
 ) -> Result<(), Error> {
     let end = UdpEnd::bind_towards(rt.alloc(), rt, device, 0)?;
-    let mut panel = Panel::open(device, end, Handle(1), Span::default(), 210);
+    let mut panel = Panel::open(device, end, Handle(1), Span::default(), 10_500);
     if lists {
         print_objects(rt, &mut panel)
     } else {

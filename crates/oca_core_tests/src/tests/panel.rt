@@ -5,6 +5,7 @@ use oca_panel::Panel;
 use oca_types::{Handle, Peer, Span};
 use std::alloc::Global;
 
+mod floods;
 mod given_up;
 mod in_flight;
 mod objects;
@@ -68,11 +69,11 @@ fn end(alloc: Global, answers: &[Answer]) -> Option<MemoryEnd> {
 }
 
 /// A panel whose first handle is 7, over an end that delivers these answers in turn. Each of its calls waits for so many
-/// turns, and so many commands are in flight at most, where that is chosen.
+/// milliseconds, and so many commands are in flight at most, where that is chosen.
 fn panel(
     alloc: Global,
     answers: &[Answer],
-    turns: u32,
+    wait: u32,
     span: Option<u8>,
 ) -> Option<Panel<MemoryEnd>> {
     let span = match span {
@@ -80,7 +81,7 @@ fn panel(
         None => Span::default(),
     };
     match end(alloc, answers) {
-        Some(end) => Some(Panel::open(DEVICE, end, Handle(7), span, turns)),
+        Some(end) => Some(Panel::open(DEVICE, end, Handle(7), span, wait)),
         None => None,
     }
 }
@@ -94,7 +95,7 @@ trait Asked {
 /// What is asked of a panel whose end delivers these answers. Its span is chosen, or not.
 struct Over<A> {
     answers: &'static [Answer],
-    turns: u32,
+    wait: u32,
     span: Option<u8>,
     asked: A,
 }
@@ -102,7 +103,7 @@ struct Over<A> {
 impl<A: Asked> Row for Over<A> {
     /// Whether it comes out so.
     fn agrees(&self, alloc: Global) -> bool {
-        match panel(alloc, self.answers, self.turns, self.span) {
+        match panel(alloc, self.answers, self.wait, self.span) {
             Some(mut panel) => self.asked.comes_out(alloc, &mut panel),
             None => false,
         }
@@ -126,5 +127,6 @@ fn tables_of_rows(rt: HostRuntime) {
             first_wrong(alloc, in_flight::DOCUMENTED),
         ],
     );
+    none_wrong(&rt, "floods", &[first_wrong(alloc, floods::ROWS)]);
     none_wrong(&rt, "walks", &[first_wrong(alloc, walks::WALKS)]);
 }

@@ -13,7 +13,7 @@ const DONE: &[Answer] = &[(0, 0, &[])];
 pub struct GivenUp(u32, Option<Handle>);
 
 impl Asked for GivenUp {
-    /// Whether a panel whose calls wait for no turn gives up the handle 7, and after these turns finds its answer so.
+    /// Whether a panel whose calls do not wait gives up the handle 7, and after these turns finds its answer so.
     fn comes_out(&self, _alloc: Global, panel: &mut Panel<MemoryEnd>) -> bool {
         let first = panel.next_handle();
         let given_up = panel.set(Ono(4097), Value::Mute(MuteState::Muted));
@@ -32,19 +32,19 @@ impl Asked for GivenUp {
 pub const ROWS: &[Over<GivenUp>] = &[
     Over {
         answers: DONE,
-        turns: 0,
+        wait: 0,
         span: None,
         asked: GivenUp(0, None),
     },
     Over {
         answers: DONE,
-        turns: 0,
+        wait: 0,
         span: None,
         asked: GivenUp(1, Some(Handle(7))),
     },
     Over {
         answers: DONE,
-        turns: 0,
+        wait: 0,
         span: None,
         asked: GivenUp(2, Some(Handle(7))),
     },

@@ -69,19 +69,19 @@ impl Asked for Statuses {
 pub const ROWS: &[Over<Statuses>] = &[
     Over {
         answers: &[(0, 0, &[]), (0, 0, &[])],
-        turns: 10,
+        wait: 500,
         span: Some(2),
         asked: Statuses([0, 0]),
     },
     Over {
         answers: &[(0, 0, &[]), (5, 0, &[])],
-        turns: 10,
+        wait: 500,
         span: Some(2),
         asked: Statuses([0, 5]),
     },
     Over {
         answers: &[(5, 0, &[]), (0, 0, &[])],
-        turns: 10,
+        wait: 500,
         span: Some(2),
         asked: Statuses([5, 0]),
     },

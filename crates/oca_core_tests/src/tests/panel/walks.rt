@@ -100,13 +100,13 @@ impl Asked for Finds {
 pub const WALKS: &[Over<Finds>] = &[
     Over {
         answers: ANSWERS,
-        turns: 10,
+        wait: 500,
         span: None,
         asked: Finds(STEPS, ANSWERS.len()),
     },
     Over {
         answers: OTHERS,
-        turns: 10,
+        wait: 500,
         span: None,
         asked: Finds(OTHER_STEPS, OTHERS.len()),
     },

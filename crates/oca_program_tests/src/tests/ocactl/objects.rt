@@ -141,7 +141,7 @@ pub const SETTINGS: &[Setting] = &[
 fn panel(alloc: Global, setting: &Setting) -> Option<Panel<MemoryEnd>> {
     let link = Link::new(DEVICE, Handle(setting.first), 0, Span::default());
     match end(alloc, setting.coming, 30, None) {
-        Some(end) => Some(Panel::new(link, end, 10)),
+        Some(end) => Some(Panel::new(link, end, 500)),
         None => None,
     }
 }
