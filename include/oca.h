@@ -38,7 +38,7 @@ extern "C" {
 
 /* The version of this header: 65,536 for each major one, 256 for each minor one, 1 for each patch. A library of the same major
  * version and at least this minor one keeps what this header says. */
-#define OCA_VERSION 0x010500u
+#define OCA_VERSION 0x010600u
 uint32_t oca_version(void);
 
 enum oca_result {

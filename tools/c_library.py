@@ -556,7 +556,7 @@ def arenas(checks, made):
 
 
 INSTALLED = ["include/oca.h", "lib/cmake/oca/oca-config-version.cmake", "lib/cmake/oca/oca-config.cmake", "lib/liboca.a", "lib/liboca.so",
-             "lib/liboca.so.1", "lib/liboca.so.1.5.0", "lib/liboca_c.a", "lib/pkgconfig/oca.pc",
+             "lib/liboca.so.1", "lib/liboca.so.1.6.0", "lib/liboca_c.a", "lib/pkgconfig/oca.pc",
              "share/man/man3/oca_*.3"]
 
 

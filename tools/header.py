@@ -250,7 +250,7 @@ WRONG = [
     ("struct oca_names { uint32_t count; struct oca_name names[16]; };", "struct oca_names { struct oca_name names[16]; uint32_t count; };"),
     ("uint32_t oca_class_with(const uint16_t *fields, size_t fields_len)", "uint32_t oca_class_with(const uint32_t *fields, size_t fields_len)"),
     ("oca_text_read(const uint8_t *params, size_t params_len, struct oca_name *text)", "oca_text_read(const uint8_t *params, size_t params_len, const struct oca_name *text)"),
-    ("OCA_VERSION 0x010500u", "OCA_VERSION 0x010400u"),
+    ("OCA_VERSION 0x010600u", "OCA_VERSION 0x010500u"),
 ]
 
 

@@ -536,7 +536,7 @@ def null_at_closed(checks):
 
 def asleep(checks):
     """A machine that sleeps: its sleep counts. A lock whose holder was silent meanwhile is released, and a command is not given out again
-    100 seconds after its last copy; with no sleep, or one that is too short, neither is so."""
+    more than 15 seconds after its submit; with no sleep, or one that is too short, neither is so."""
     lock = oca.pdu(1, [oca.Command(1, 4097, 1, 3, 0, b"").body()])
     for seconds, status in ((20, 0), (10, 3), (0, 3)):
         run, port = checks.serve(100000, SLEPT=seconds)
@@ -559,7 +559,7 @@ def asleep(checks):
         got = answer(other, 2, ("127.0.0.1", port))[0]
         checks.same("no clock that counts sleep: another peer behind a silence of three", got and got[18], 0)
     run.kill()
-    for seconds, copies in ((101, 1), (60, 20)):
+    for seconds, copies in ((16, 1), (5, 20)):
         with bound() as silent:
             got = checks.send(f"127.0.0.1:{silent.getsockname()[1]}", 1, SLEPT=seconds)
             checks.same(f"a sleep of {seconds} seconds: `send`", (got[0], got[2]), ("lost\n", 3))

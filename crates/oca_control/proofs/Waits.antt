@@ -8,13 +8,13 @@ use Rattle.oca_control.specs.Untaken.{answer_under}
 use Rattle.oca_control.specs.Links.{LinkState, present_moment}
 use Rattle.oca_control.specs.Asking.{TakesTurns, NoneTaken, OneTaken, Waits}
 use Rattle.oca_control.specs.Waiting.{IsBefore, IsPresentOf, WaitsWhile, TakesATurnAndSees, TakesTurnsBefore, NoTurn, OneTurn, ReceivesInAWait, WaitsUntil, most_turns_of_a_wait}
-use Rattle.oca_control.specs.PrivateAsking.{Settles, Ends}
+use Rattle.oca_control.specs.PrivateAsking.{Settles, EndsWait}
 use Rattle.oca_control.proofs.Asks.{neither}
 use Rattle.oca_control.proofs.InTurn.{asked_once}
 
 -- one more turn, before which nothing was known and there was time left
 pub one_more_before : {h until n : ℕ} {late closed lost shut : Bool} {old l m new : LinkState} {d e f : EndState}
-    → TakesTurnsBefore h until n late closed old l d e → Ends h until late closed e l None m → TakesATurnAndSees lost shut m new e f
+    → TakesTurnsBefore h until n late closed old l d e → EndsWait h until late closed e l None m → TakesATurnAndSees lost shut m new e f
     → TakesTurnsBefore h until (n + 1) lost shut old new d f
 one_more_before {h} {until} {n} {late} {closed} {lost} {shut} {old} {l} {m} {new} {d} {e} {f} before s turn =
     let going = neither late l.lost s.0.1 in
@@ -29,7 +29,7 @@ given_up (inr b) = inr (inl b)
 
 -- what was known is what waiting returns
 pub waited_until : {h until n : ℕ} {late closed : Bool} {old l : LinkState} (new : LinkState) {d e : EndState} (o : Outcome)
-    → TakesTurnsBefore h until n late closed old l d e → n ≤ most_turns_of_a_wait → Ends h until late closed e l (Some o) new → WaitsUntil h until old o new d e
+    → TakesTurnsBefore h until n late closed old l d e → n ≤ most_turns_of_a_wait → EndsWait h until late closed e l (Some o) new → WaitsUntil h until old o new d e
 waited_until {h} {until} {n} {late} {closed} {l = l} new (outcomes.Answered a) t le s = (l, n, late, closed, le, t, s.0, s.1)
 waited_until new (outcomes.Refused fault) t le s = absurd s
 waited_until {h} {until} {n} {late} {closed} {old} {l} new {d} {e} outcomes.Lost t le s = (

@@ -5,7 +5,7 @@ use Rattle.oca_control.specs.declared.outcome.Outcome.TheVariants as outcomes
 use Rattle.oca_control.specs.Answers.{answer_fields}
 use Rattle.oca_control.specs.Untaken.{answer_under}
 use Rattle.oca_control.specs.Links.{LinkState, taken}
-use Rattle.oca_control.specs.Waiting.{IsBefore, IsReached}
+use Rattle.oca_control.specs.Waiting.{IsBefore, HasCome}
 use Rattle.oca_net.specs.EndStates.{EndState}
 
 -- The answer under the handle, which is taken; or that none is held and the link is lost, or was found late; or
@@ -20,19 +20,19 @@ Settles h late old (Some outcomes.Unanswered) new = ⊥
 Settles h late old None new = (answer_under h old.untaken ≡ None) × ((late || old.lost) ≡ false) × (new ≡ old)
 
 -- By whether the end was found closed, and by the present moment: that there is no time left, or that there is.
-abbrev pub IsOver : (until : ℕ) → (closed : Bool) → EndState → LinkState → Option Outcome → Type 0
-IsOver until closed e l (Some (outcomes.Answered a)) = ⊥
-IsOver until closed e l (Some (outcomes.Refused fault)) = ⊥
-IsOver until closed e l (Some outcomes.Lost) = ⊥
-IsOver until closed e l (Some outcomes.Unanswered) = IsReached until l e ⊎ (closed ≡ true)
-IsOver until closed e l None = (closed ≡ false) × IsBefore until l e
+abbrev pub IsWaitOver : (until : ℕ) → (closed : Bool) → EndState → LinkState → Option Outcome → Type 0
+IsWaitOver until closed e l (Some (outcomes.Answered a)) = ⊥
+IsWaitOver until closed e l (Some (outcomes.Refused fault)) = ⊥
+IsWaitOver until closed e l (Some outcomes.Lost) = ⊥
+IsWaitOver until closed e l (Some outcomes.Unanswered) = HasCome until l e ⊎ (closed ≡ true)
+IsWaitOver until closed e l None = (closed ≡ false) × IsBefore until l e
 
 -- What is known without a turn: the answer, which is taken, or that the link is lost; else that there is no time left;
 -- else nothing.
-abbrev pub Ends : (h until : ℕ) → (lost closed : Bool) → EndState → LinkState → Option Outcome → LinkState → Type 0
-Ends h until lost closed e old (Some (outcomes.Answered a)) new = Settles h lost old (Some (outcomes.Answered a)) new
-Ends h until lost closed e old (Some (outcomes.Refused fault)) new = ⊥
-Ends h until lost closed e old (Some outcomes.Lost) new = Settles h lost old (Some outcomes.Lost) new
-Ends h until lost closed e old (Some outcomes.Unanswered) new =
-    Settles h lost old None new × IsOver until closed e new (Some outcomes.Unanswered)
-Ends h until lost closed e old None new = Settles h lost old None new × IsOver until closed e new None
+abbrev pub EndsWait : (h until : ℕ) → (lost closed : Bool) → EndState → LinkState → Option Outcome → LinkState → Type 0
+EndsWait h until lost closed e old (Some (outcomes.Answered a)) new = Settles h lost old (Some (outcomes.Answered a)) new
+EndsWait h until lost closed e old (Some (outcomes.Refused fault)) new = ⊥
+EndsWait h until lost closed e old (Some outcomes.Lost) new = Settles h lost old (Some outcomes.Lost) new
+EndsWait h until lost closed e old (Some outcomes.Unanswered) new =
+    Settles h lost old None new × IsWaitOver until closed e new (Some outcomes.Unanswered)
+EndsWait h until lost closed e old None new = Settles h lost old None new × IsWaitOver until closed e new None

@@ -24,7 +24,7 @@ pub record IsBefore (until : ℕ) (l : LinkState) (e : EndState) : Type 0 where
   pub before : moment < until
 
 -- the present moment is another one or later
-pub record IsReached (until : ℕ) (l : LinkState) (e : EndState) : Type 0 where
+pub record HasCome (until : ℕ) (l : LinkState) (e : EndState) : Type 0 where
   pub moment : ℕ
   pub present : IsPresentOf moment l e
   pub reached : until ≤ moment
@@ -52,8 +52,8 @@ abbrev pub most_turns_of_a_wait : ℕ
 most_turns_of_a_wait = 4294967295
 
 -- Why a wait ended without an answer: the moment was reached, the end was found closed, or all the turns were taken.
-abbrev pub IsGivenUp : (until turns : ℕ) → (closed : Bool) → LinkState → EndState → Type 0
-IsGivenUp until turns closed l e = IsReached until l e ⊎ ((closed ≡ true) ⊎ (turns ≡ most_turns_of_a_wait))
+abbrev pub IsWaitGivenUp : (until turns : ℕ) → (closed : Bool) → LinkState → EndState → Type 0
+IsWaitGivenUp until turns closed l e = HasCome until l e ⊎ ((closed ≡ true) ⊎ (turns ≡ most_turns_of_a_wait))
 
 -- THE ANSWER WAS WAITED FOR UNTIL A MOMENT. An answer is the one that was then held, and is taken, also where the link
 -- was found late. Lost: none is held, and the link is lost or was found late. Unanswered: none is held, the link is
@@ -71,7 +71,7 @@ WaitsUntil h until old outcomes.Lost new before after =
 WaitsUntil h until old outcomes.Unanswered new before after =
     (n : ℕ) × (closed : Bool) × (n ≤ most_turns_of_a_wait)
     × TakesTurnsBefore h until n false closed old new before after
-    × (answer_under h new.untaken ≡ None) × (new.lost ≡ false) × IsGivenUp until n closed new after
+    × (answer_under h new.untaken ≡ None) × (new.lost ≡ false) × IsWaitGivenUp until n closed new after
 
 -- THE SAME, FOR SO MANY MILLISECONDS from the present moment on, in moments of 64 bits.
 pub record WaitsWhile (h milliseconds : ℕ) (old : LinkState) (outcome : Outcome) (new : LinkState)

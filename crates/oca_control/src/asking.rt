@@ -3,7 +3,7 @@ ghost use Rattle.std.specs.Prelude.{◌≡◌, ◌<◌, ◌+◌};
 ghost use Rattle.oca_types.specs.Peers.{request_of};
 ghost use Rattle.oca_net.specs.Ends.{last_u64};
 ghost use Rattle.oca_control.specs.Asking.{TakesATurn, Waits, ReceivesSoOften, Begins, Asks, refused_by};
-ghost use Rattle.oca_control.specs.PrivateAsking.{Ends, IsOver, Settles};
+ghost use Rattle.oca_control.specs.PrivateAsking.{EndsWait, IsWaitOver, Settles};
 ghost use Rattle.oca_control.specs.Waiting.{IsPresentOf, ReceivesInAWait, TakesATurnAndSees, WaitsUntil, WaitsWhile};
 
 use crate::driving::give_out;
@@ -145,7 +145,7 @@ fn ended<E: End>(
     seen: Seen,
     until: u64,
 ) -> Option<Outcome>
-    ensures { Ends handle.0 until seen.lost seen.closed (E.state end.now) link.old result link.new }
+    ensures { EndsWait handle.0 until seen.lost seen.closed (E.state end.now) link.old result link.new }
 {
     match settled(link, handle, seen.lost) {
         Some(outcome) => Some(outcome),
@@ -155,7 +155,7 @@ fn ended<E: End>(
 
 /// That no answer came in time, where the end is closed or the present moment is this one or later.
 fn over<E: End>(link: &Link, end: &E, closed: bool, until: u64) -> Option<Outcome>
-    ensures { IsOver until closed (E.state end.now) link.now result }
+    ensures { IsWaitOver until closed (E.state end.now) link.now result }
 {
     if closed {
         return Some(Outcome::Unanswered);

@@ -14,8 +14,8 @@ abbrev pub holds_place : ℕ → Page → Bool
 holds_place place p = nat_le p.first place && nat_lt (place - p.first) p.count
 
 -- whether a page is open, and whether one shows the object at this place
-abbrev pub is_open : ℕ → List Page → Bool
-is_open now pages = list_any (λ p. is_live now p) pages
+abbrev pub has_open_page : ℕ → List Page → Bool
+has_open_page now pages = list_any (λ p. is_live now p) pages
 
 abbrev pub shows : (now place : ℕ) → List Page → Bool
 shows now place pages = list_any (λ p. is_live now p && holds_place place p) pages
@@ -26,7 +26,7 @@ pause_of shown = if shown then 100 else 5000
 
 -- AN OBJECT IS READ AGAIN only while a page is open, and only where its pause is over.
 pub record IsPaused (now place : ℕ) (pages : List Page) (o : Object) : Type 0 where
-  pub open_page : is_open now pages ≡ true
+  pub open_page : has_open_page now pages ≡ true
   pub paused : o.asked + pause_of (shows now place pages) ≤ now
 
 -- what is read again now: nothing, or something of an object whose pause is over

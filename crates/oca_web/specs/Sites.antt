@@ -33,9 +33,9 @@ IsActionFor path actions.Unlock = path ≡ codes "/unlock"
 abbrev pub latest_from : ℕ → ℕ
 latest_from now = min (now + 5000) 18446744073709551615
 
-abbrev pub last_moment : (now : ℕ) (given : Option ℕ) (doubts : Bool) → ℕ
-last_moment now (Some moment) doubts = min moment (latest_from now)
-last_moment now None doubts = if doubts then 0 else latest_from now
+abbrev pub last_moment_for : (now : ℕ) (given : Option ℕ) (doubts : Bool) → ℕ
+last_moment_for now (Some moment) doubts = min moment (latest_from now)
+last_moment_for now None doubts = if doubts then 0 else latest_from now
 
 -- the orders are as they were, and so are the names by which the site may be asked
 pub record KeepsAll (old new : Site) : Type 0 where
@@ -46,7 +46,7 @@ pub record KeepsAll (old new : Site) : Type 0 where
 pub record AddsOrder (ono : Ono) (action : Action) (given : Option ℕ) (old : Site) (response : Response) (new : Site) : Type 0 where
   pub status : response.status ≡ 202
   pub ticket : response.body.items ≡ decimal (old.view.orders.tickets + 1)
-  pub orders : new.view.orders ≡ with_order ono action (last_moment old.view.news.now given old.doubts) old.view.orders
+  pub orders : new.view.orders ≡ with_order ono action (last_moment_for old.view.news.now given old.doubts) old.view.orders
   pub names : new.names ≡ old.names
 
 -- none was, and the status is another one

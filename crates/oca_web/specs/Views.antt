@@ -7,8 +7,8 @@ use Rattle.oca_panel.specs.Renewals.{TurnsWith}
 use Rattle.oca_web.specs.Orders.{OrdersState, LosesOrders, SettlesOrders, SubmitsOrders, with_passed, without_waiting}
 
 -- THE PROGRAM'S CLOCK at a moment of the end, which it is so far ahead of: it never goes back.
-abbrev pub moment_of : (ahead moment before : ℕ) → ℕ
-moment_of ahead moment before = max before (min (ahead + moment) 18446744073709551615)
+abbrev pub moment_noted : (ahead moment before : ℕ) → ℕ
+moment_noted ahead moment before = max before (min (ahead + moment) 18446744073709551615)
 
 -- HALF OF THE HANDLES above the first one of an end are used: a link over another one is to follow.
 abbrev pub half_spent : (first next : ℕ) → Bool

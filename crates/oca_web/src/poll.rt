@@ -84,7 +84,7 @@ pub struct Poll {
 impl Poll {
     ghost use Rattle.std.specs.Prelude.{◌≡◌, ◌-◌, ◌&&◌, nat_le};
     ghost use Rattle.std.specs.Option.{option_map};
-    ghost use Rattle.oca_web.specs.Polling.{ReadsAgain, is_open, pause_of, shows};
+    ghost use Rattle.oca_web.specs.Polling.{ReadsAgain, has_open_page, pause_of, shows};
 
     /// No round, and no page.
     pub fn new(now: u64) -> Poll {
@@ -122,7 +122,7 @@ impl Poll {
 
     /// Whether a page is open.
     pub fn is_open(&self, now: u64) -> bool
-        ensures { result ≡ is_open now self.now.pages.items }
+        ensures { result ≡ has_open_page now self.now.pages.items }
     {
         self.pages.as_slice().iter().any(|page| page.is_live(now))
     }
@@ -246,7 +246,7 @@ impl Poll {
 
     /// Whether the object at this place may be read again now.
     fn is_due(&self, now: u64, place: usize, object: &Object) -> bool
-        ensures { result ≡ (is_open now self.now.pages.items
+        ensures { result ≡ (has_open_page now self.now.pages.items
             && nat_le (pause_of (shows now place self.now.pages.items)) (now - object.now.asked)) }
     {
         let pause = if self.shows(now, place) {

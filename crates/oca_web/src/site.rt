@@ -2,7 +2,7 @@
 ghost use Rattle.std.specs.Prelude.{◌≡◌, ◌≢◌, IfErr, IfOk, Some};
 ghost use Rattle.serde_json.specs.View.{view};
 ghost use Rattle.oca_web.specs.Bodies.{last_in, ono_in};
-ghost use Rattle.oca_web.specs.Sites.{last_moment};
+ghost use Rattle.oca_web.specs.Sites.{last_moment_for};
 
 use crate::admission::{Name, field, has_host, has_page, lets_in};
 use crate::answers::{tree_json, values_json};
@@ -348,7 +348,7 @@ fn last_in(wanted: &Value) -> Result<Option<u64>, StatusCode>
 /// The last moment at which an order may be submitted whose request is read at this moment and gives this one. `doubts`
 /// says that the request may have waited while the program stood still.
 fn last_moment(now: u64, given: Option<u64>, doubts: bool) -> u64
-    ensures { result ≡ last_moment now given doubts }
+    ensures { result ≡ last_moment_for now given doubts }
 {
     let latest = now.saturating_add(ORDER_MS);
     match given {

@@ -73,7 +73,7 @@ impl View {
     ghost use Rattle.oca_net.specs.Ends.{one_more};
     ghost use Rattle.oca_web.specs.Orders.{AddsTicket, SettlesOrders, SubmitsOrders, has_orders};
     ghost use Rattle.oca_web.specs.Bodies.{IsForWord};
-    ghost use Rattle.oca_web.specs.Views.{Continues, RenewsLost, TurnsAndSettles, half_spent, moment_of, orders_after};
+    ghost use Rattle.oca_web.specs.Views.{Continues, RenewsLost, TurnsAndSettles, half_spent, moment_noted, orders_after};
     ghost use Rattle.oca_web.specs.Views.{stood_still};
     ghost use Rattle.oca_web.specs.Walking.{BeginsAnew, KeepsWalk, StaysOver};
 
@@ -210,7 +210,7 @@ impl View {
     /// back, reads that moment from now on. Returns whether the program stood still for more than 2,000 ms: then the
     /// orders that wait were not sent, and what else came meanwhile is as old as nobody knows.
     pub fn note(&mut self, moment: u64, sent: u64) -> bool
-        ensures now { self.new.news.now ≡ moment_of self.old.ahead moment self.old.news.now }
+        ensures now { self.new.news.now ≡ moment_noted self.old.ahead moment self.old.news.now }
         ensures stood { result ≡ stood_still self.old.news.now self.new.news.now }
         ensures orders { self.new.orders ≡ orders_after result self.old.orders }
     {

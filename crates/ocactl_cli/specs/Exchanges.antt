@@ -98,7 +98,7 @@ pub record IsWaitTime (s : SessionState) (time : ℕ) : Type 0 where
   pub beside : time ≡ time_beside s.socket due now
 
 -- Whether the link is lost, or late at the present moment of the end.
-pub record IsLostNow (s : SessionState) (found : Bool) : Type 0 where
+pub record IsFoundLostNow (s : SessionState) (found : Bool) : Type 0 where
   pub now : ℕ
   pub present : IsPresent now s.end_state
   pub lost : found ≡ (s.link.lost || late_at now s.link)

@@ -1,7 +1,7 @@
 //! A panel, and the commands in flight on it.
 ghost use Rattle.std.specs.Prelude.{◌≡◌, ◌==◌, ◌||◌, ◌<◌, ◌≤◌, ◌+◌, length, true, false};
 ghost use Rattle.oca_types.specs.Peers.{request_of};
-ghost use Rattle.ocactl_cli.specs.Exchanges.{AwaitsFirst, IsLostNow, IsWaitTime, NoneInFlight, TakesOne, TakesUp};
+ghost use Rattle.ocactl_cli.specs.Exchanges.{AwaitsFirst, IsFoundLostNow, IsWaitTime, NoneInFlight, TakesOne, TakesUp};
 ghost use Rattle.ocactl_cli.specs.Exchanges.{is_over, longest_at_hand, since};
 ghost use Rattle.ocactl_cli.specs.Exchanges.{time_beside, time_until};
 ghost use Rattle.ocactl_cli.specs.PrivateExchanges.{Submitted, TakesFirst};
@@ -126,7 +126,7 @@ impl<E: End> Session<E> {
 
     /// Whether the link is lost, or late now.
     pub fn is_lost(&self) -> bool
-        ensures { IsLostNow self.now result }
+        ensures { IsFoundLostNow self.now result }
     {
         self.panel.is_lost()
     }
