@@ -532,7 +532,7 @@ def fails_each_in_turn(_):
     return not wrong
 
 
-# A device of one number, which it answers with and sets by what it is asked; behind each answer it keeps a number.
+# A device of one number, which it answers with and sets by what it is asked; before each answer it keeps a number.
 KEEPER = """import os
 import socket
 import struct
@@ -548,10 +548,10 @@ while True:
     time.sleep(0.004)
     if data[25] == 2:
         value = struct.unpack(">h", data[27:29])[0]
-    end.sendto(data[:18] + bytes(2) + struct.pack(">h", value), peer)
     with open(f"{keep}.new", "w") as file:
         file.write(f"{KEPT}")
     os.replace(f"{keep}.new", keep)
+    end.sendto(data[:18] + bytes(2) + struct.pack(">h", value), peer)
 """
 # Which number it keeps, and whether that is as it is to be.
 OF_KEEPERS = [("{value}", True), ("0", False), ("{value - 3}", False), ("{value + 3}", False), ("", False)]

@@ -1,8 +1,9 @@
 #!/usr/bin/env python3
-"""A device that keeps its state in a file (`ocadev serve --keep FILE`) is stopped and started again: orderly, by `kill -9` at
-random moments while commands come, with no room for the file, and over files that are broken.
+"""A device that keeps its state in a file (`ocadev serve --keep FILE`) is stopped and started again: by SIGTERM right behind
+an answer, by `kill -9` at random moments while commands come, with the power cut at each of its system calls, with no room for
+the file, and over files that are broken. Whatever was answered with OK is there.
 
-Usage: keep.py BIN     BIN is the folder with `ocadev`
+Usage: keep.py BIN [KILLS [STOPS]]     BIN is the folder with `ocadev`
 
 What is expected is built here from docs/PROTOCOL.md, and not by the programs. The last line is 'N passed, M failed'."""
 import errno
@@ -20,7 +21,7 @@ import tempfile
 import time
 
 MUTE, INPUT, TRIM, LAMP = 4097, 4099, 4100, 4101
-KILLS = 20
+KILLS, STOPS = 30, 20
 
 
 def command(handle, target, level, index, *params):
@@ -41,10 +42,15 @@ class Peer:
         self.socket.settimeout(0.25)
         self.handle = 0
 
-    def ask(self, target, level, index, *params):
-        """The status and the parameters of the response, as often as it takes; nothing where the device is gone."""
+    def ask(self, target, level, index, *params, tries=40):
+        """The status and the parameters of the response, as often as it takes; nothing where the device is gone, or where
+        so many copies are not answered."""
         self.handle += 1
-        for _ in range(40):
+        return self.again(target, level, index, *params, tries=tries)
+
+    def again(self, target, level, index, *params, tries=40):
+        """The same by a copy of the command that was sent last."""
+        for _ in range(tries):
             try:
                 self.socket.send(command(self.handle, target, level, index, *params))
                 got = self.socket.recv(2000)
@@ -61,7 +67,7 @@ class Peer:
 def limit_files(most):
     """Files have so many bytes at most from now on: a further write is refused, and does not end the program."""
     signal.signal(signal.SIGXFSZ, signal.SIG_IGN)
-    resource.setrlimit(resource.RLIMIT_FSIZE, (most, most))
+    resource.setrlimit(resource.RLIMIT_FSIZE, (most, resource.RLIM_INFINITY))
 
 
 class Checks:
@@ -83,6 +89,11 @@ class Checks:
         said = run.stderr.readline().decode()
         listening = re.match(r"listening [\d.]+:(\d+)\n", said)
         return run, said, Peer(int(listening[1])) if listening else None
+
+    def state(self, keep):
+        """What a file holds whose objects `show --text` prints: these, and how many they are."""
+        objects = self.shown(keep)
+        return objects + f"# end of {objects.count(b'object ') + 1} objects\n".encode()
 
     def shown(self, keep):
         return subprocess.run([f"{self.folder}/ocadev", "show", "--text", "--tree", keep], capture_output=True, timeout=30, check=False).stdout
@@ -128,7 +139,7 @@ def restarts(checks, folder):
     stop(run)
     checks.same("no new file is left", os.path.exists(f"{keep}.new"), False)
     with open(keep, "rb") as file:
-        checks.same("the file as show --text prints it", checks.shown(keep), file.read())
+        checks.same("the file: what show --text prints, and an end", file.read(), checks.state(keep))
     # What is kept is kept, and what is told is told, whatever else is asked for.
     both = f"{keep}.both"
     run, said, peer = checks.serve(both, "--verbose", "--stats", "1")
@@ -156,9 +167,7 @@ def written_once(checks, folder):
     keep = f"{folder}/once"
     run, said, peer = checks.serve(keep)
     checks.same("a command that sets something", peer.ask(TRIM, 5, 2, struct.pack(">h", 5)), (0, b""))
-    until = time.monotonic() + 30
-    while not os.path.exists(keep) and time.monotonic() < until:
-        time.sleep(0.01)
+    checks.same("the file behind its answer", os.path.exists(keep), True)
 
     def which():
         """Each write makes another file, which takes the place of the one before."""
@@ -170,80 +179,119 @@ def written_once(checks, folder):
     checks.same("the file in ten turns in which nothing comes", which(), before)
     peer.handle -= 1
     checks.same("a copy of the command", peer.ask(TRIM, 5, 2, struct.pack(">h", 5)), (0, b""))
-    peer.ask(TRIM, 5, 1)  # its answer comes once the file is written, where it is
     checks.same("the file behind a copy of the command", which(), before)
     stop(run)
 
 
-def kills(checks, folder):
-    """At whatever moment it is killed, the file is one of those that were written whole, and what was answered before the last
-    answer is in it."""
+def kills(checks, folder, times=None):
+    """At whatever moment it is killed, the file is one of those that were written whole, and what was answered is in it; at
+    most the command that was not answered is in it too."""
     keep = f"{folder}/killed"
     last = 0
-    for turn in range(KILLS):
+    for turn in range(times or KILLS):
         run, said, peer = checks.serve(keep, "--channels", "200")
         if peer is None:
             checks.same(f"it starts after kill {turn}", said, "listening")
             return
         found = struct.unpack(">h", peer.ask(TRIM, 5, 1)[1][:2])[0]
-        checks.same(f"what was there after kill {turn}, {found} of {last}", found in (last, last + 1, 0) if turn == 0 else last <= found <= last + 1, True)
-        ends = time.monotonic() + random.uniform(0.02, 0.25)
+        checks.same(f"what was there after kill {turn}, {found} of {last}", last <= found <= last + 1, True)
         value = found
-        os.set_blocking(run.stderr.fileno(), False)
-        killer = subprocess.Popen(["sh", "-c", f"sleep {ends - time.monotonic():.3f}; kill -9 {run.pid}"])
+        killer = subprocess.Popen(["sh", "-c", f"sleep {random.uniform(0.02, 0.25):.3f}; kill -9 {run.pid}"])
         while value < 590:
             answer = peer.ask(TRIM, 5, 2, struct.pack(">h", value + 1))
             if answer is None:
                 break
             value += 1
         killer.wait()
-        run.wait()
-        # An answer leaves before what it tells is kept: the last one may be missing, and one unanswered may be there.
-        last = value - 1 if value > found else found
+        run.communicate()
+        last = value
         if value >= 560:
             os.remove(keep)
             last = 0
-        run.stdout.close()
-        run.stderr.close()
+
+
+def stops(checks, folder, times):
+    """What was answered right before it was told to end is there."""
+    keep = f"{folder}/stopped"
+    lost = []
+    for value in range(1, times + 1):
+        run, said, peer = checks.serve(keep)
+        found = struct.unpack(">h", peer.ask(TRIM, 5, 1)[1][:2])[0]
+        if found != value - 1:
+            lost.append((value - 1, found))
+        answer = peer.ask(TRIM, 5, 2, struct.pack(">h", value))
+        stop(run, signal.SIGTERM)
+        checks.same("a command before it is told to end", answer, (0, b""))
+    checks.same(f"what was answered and forgotten in {times} stops", lost, [])
 
 
 def full(checks, folder):
-    """Where the file can't be written, it is told once, the old file stays, and serving goes on."""
+    """Where the file can't be written, that is told once, the old file stays, and a command that sets something is not
+    answered; what only reads is. As soon as there is room again, a copy of the command is answered, and what it set is kept."""
     keep = f"{folder}/full"
     run, said, peer = checks.serve(keep)
     peer.ask(TRIM, 5, 2, struct.pack(">h", 5))
-    peer.ask(TRIM, 5, 1)  # its answer comes once the file is written
     stop(run)
     with open(keep, "rb") as file:
         old = file.read()
     for what, most in [("no room for it", 0), ("room for a part of it", 300)]:
         run, said, peer = checks.serve(keep, most=most)
         for value in (7, 8, 9):
-            checks.same(f"{what}: a command", peer.ask(TRIM, 5, 2, struct.pack(">h", value)), (0, b""))
+            checks.same(f"{what}: a command", peer.ask(TRIM, 5, 2, struct.pack(">h", value), tries=2), None)
         checks.same(f"{what}: what was set", peer.ask(TRIM, 5, 1)[1][:2], struct.pack(">h", 9))
-        told = stop(run)
-        checks.same(f"{what}: told once", (told.count("\n"), told.startswith("note: the state is not kept: ")), (1, True))
         with open(keep, "rb") as file:
             checks.same(f"{what}: the file", file.read(), old)
-    comes_back(checks, folder)
+        peer.handle -= 1
+        checks.same(f"{what}: a copy of it", peer.again(TRIM, 5, 2, struct.pack(">h", 9), tries=2), None)
+        resource.prlimit(run.pid, resource.RLIMIT_FSIZE, (resource.RLIM_INFINITY, resource.RLIM_INFINITY))
+        checks.same(f"{what}, and then there is room: a copy of it", peer.again(TRIM, 5, 2, struct.pack(">h", 9)), (0, b""))
+        checks.same(f"{what}, and then there is room: it is kept", b"int16 -600 600 9 " in checks.shown(keep), True)
+        told = stop(run)
+        checks.same(f"{what}: told once", (told.count("\n"), told.startswith("note: the state is not kept: ")), (1, True))
+        with open(keep, "wb") as file:
+            file.write(old)
+    goes_away(checks, folder)
 
 
-def comes_back(checks, folder):
-    """Where its folder is not there, the file can't be written, which is told once; as soon as the folder is there, the
-    next command that sets something is kept."""
-    keep = f"{folder}/none/state"
+def goes_away(checks, folder):
+    """Where its folder goes away, the file can't be written, which is told once; as soon as the folder is there, the next
+    command that sets something is answered and kept, and a folder that goes away then is told again."""
+    home = f"{folder}/away"
+    keep = f"{home}/state"
+    os.mkdir(home)
     run, said, peer = checks.serve(keep)
-    checks.same("without a folder: a command", peer.ask(TRIM, 5, 2, struct.pack(">h", 7)), (0, b""))
-    peer.ask(TRIM, 5, 1)
-    os.mkdir(f"{folder}/none")
-    for value in (8, 9):
-        checks.same("with its folder: a command", peer.ask(TRIM, 5, 2, struct.pack(">h", value)), (0, b""))
-        peer.ask(TRIM, 5, 1)  # its answer comes once the file is written
-        trim = f"int16 -600 600 {value} ".encode()
-        checks.same(f"with its folder: {value} is kept", trim in checks.shown(keep), True)
+    for value in (7, 17):
+        shutil.rmtree(home)
+        for more in (0, 1):
+            answer = peer.ask(TRIM, 5, 2, struct.pack(">h", value + more), tries=2)
+            checks.same("without a folder: a command", answer, None)
+        checks.same("without a folder: what was set", peer.ask(TRIM, 5, 1)[1][:2], struct.pack(">h", value + 1))
+        os.mkdir(home)
+        for more in (2, 3):
+            checks.same("with its folder: a command", peer.ask(TRIM, 5, 2, struct.pack(">h", value + more)), (0, b""))
+            trim = f"int16 -600 600 {value + more} ".encode()
+            checks.same(f"with its folder: {value + more} is kept", trim in checks.shown(keep), True)
     told = stop(run)
-    checks.same("without a folder: told", told.startswith("note: the state is not kept: "), True)
-    checks.same("without a folder: told once", told.count("\n"), 1)
+    checks.same("without a folder: told", told.count("note: the state is not kept: "), 2)
+    checks.same("without a folder: told each time once", told.count("\n"), 2)
+
+
+def mode_and_owner(checks, folder):
+    """The file keeps its mode and its owner."""
+    keep = f"{folder}/mine"
+    run, said, peer = checks.serve(keep)
+    peer.ask(TRIM, 5, 2, struct.pack(">h", 5))
+    owner = 65534 if os.geteuid() == 0 else os.geteuid()
+    os.chown(keep, owner, -1)
+    for mode in (0o600, 0o640, 0o644):
+        os.chmod(keep, mode)
+        before = os.stat(keep)
+        checks.same(f"a command, mode {mode:o}", peer.ask(TRIM, 5, 2, struct.pack(">h", mode)), (0, b""))
+        now = os.stat(keep)
+        checks.same(f"another file, mode {mode:o}", now.st_ino == before.st_ino, False)
+        got, wanted = [(it.st_mode, it.st_uid, it.st_gid) for it in (now, before)]
+        checks.same(f"mode and owner, mode {mode:o}", got, wanted)
+    stop(run)
 
 
 def left_over(checks, folder):
@@ -254,11 +302,10 @@ def left_over(checks, folder):
         file.write(b"object 4096 100 block lockable \"desk\" on \"\"\n" * 100)
     run, said, peer = checks.serve(keep)
     checks.same("beside a file that was left: a command", peer.ask(TRIM, 5, 2, struct.pack(">h", 5)), (0, b""))
-    peer.ask(TRIM, 5, 1)  # its answer comes once the file is written
     checks.same("beside a file that was left: what it says", stop(run), "")
     checks.same("a new file that was left is gone", os.path.exists(f"{keep}.new"), False)
     with open(keep, "rb") as file:
-        checks.same("a file that was written over one that was left", file.read(), checks.shown(keep))
+        checks.same("a file that was written over one that was left", file.read(), checks.state(keep))
     run, said, peer = checks.serve(keep)
     checks.same("what is read of it", peer and peer.ask(TRIM, 5, 1)[1][:2], struct.pack(">h", 5))
     stop(run)
@@ -270,7 +317,20 @@ BROKEN = [
     (b"root on \"\"\n4097 100 mute muted lockable a\n4097 100 mute muted lockable a\n", "line 3: taken"),
     (b"root on \"\"\nobject 4096 100 switch 10 \"a\" 0 lockable \"s\" on \"\"\n", "line 2: value"),
     (b"\xff\n", "line 1: number"),
+    (b"hello\n", "line 1: number"),
 ]
+
+UNENDED = "its last line does not say how many objects it has: it is cut off, or not of this program"
+
+
+def refuses(checks, what, keep, reason, more=None):
+    """It ends before it listens, with a line that names the reason."""
+    run, said, peer = checks.serve(keep)
+    if peer is not None:
+        stop(run)
+    err = said + run.stderr.read().decode()
+    checks.same(f"{what}: nothing is served", (peer is None, run.wait(timeout=30)), (True, 1))
+    checks.same(f"{what}: the reason", err, f"note: {more or keep}: {reason}\nread failed\n")
 
 
 def broken(checks, folder):
@@ -285,13 +345,59 @@ def broken(checks, folder):
         checks.same(f"broken {at}: the status", run.returncode, 2)
         with open(keep, "rb") as file:
             checks.same(f"broken {at}: the file", file.read(), contents)
-    # A folder in place of the file.
-    os.mkdir(f"{folder}/folder")
-    run, said, peer = checks.serve(f"{folder}/folder")
-    checks.same("a folder", (peer, run.wait(timeout=30)), (None, 1))
-    lines = [said, *run.stderr.read().decode().splitlines()]
-    got = (os.strerror(errno.EISDIR) in lines[0], lines[1:])
-    checks.same("a folder: the system's reason, and the fault", got, (True, ["read failed"]))
+    # A file that is cut off: anywhere, it is refused, and stays.
+    whole = f"{folder}/whole"
+    run, said, peer = checks.serve(whole)
+    peer.ask(TRIM, 5, 2, struct.pack(">h", 5))
+    stop(run)
+    with open(whole, "rb") as file:
+        text = file.read()
+    ends = [at + 1 for at, byte in enumerate(text[:-1]) if byte == 10]
+    for size in [0, *ends, len(text) - 1]:
+        keep = f"{folder}/cut"
+        with open(keep, "wb") as file:
+            file.write(text[:size])
+        refuses(checks, f"cut off at {size}", keep, UNENDED)
+        with open(keep, "rb") as file:
+            checks.same(f"cut off at {size}: the file", file.read(), text[:size])
+    with open(f"{folder}/more", "wb") as file:
+        file.write(text + b"9000 100 mute muted lockable a\n" + text.splitlines(True)[-1])
+    refuses(checks, "another end", f"{folder}/more", UNENDED)
+
+
+def others(checks, folder):
+    """What is no plain file is refused, and stays, at FILE, FILE.new and FILE.lock; and so is a file that another device
+    has."""
+    target = f"{folder}/target"
+    with open(target, "wb") as file:
+        file.write(b"of another\n")
+    for end in ("", ".new", ".lock"):
+        base = f"{folder}/other{len(end)}"
+        keep, place = base, base + end
+        os.mkdir(place)
+        refuses(checks, f"a folder at FILE{end}", keep, "a folder, and no plain file", place)
+        os.rmdir(place)
+        os.mkfifo(place)
+        refuses(checks, f"a FIFO at FILE{end}", keep, "no plain file", place)
+        os.remove(place)
+        os.symlink(target, place)
+        refuses(checks, f"a link at FILE{end}", keep, "a symbolic link, and no plain file", place)
+        checks.same(f"a link at FILE{end}: it stays", os.readlink(place), target)
+        os.remove(place)
+    # A link that is put there later is not followed: it goes, and what it leads to stays.
+    keep = f"{folder}/later"
+    run, said, peer = checks.serve(keep)
+    os.symlink(target, f"{keep}.new")
+    checks.same("a link at FILE.new, later: a command", peer.ask(TRIM, 5, 2, struct.pack(">h", 5)), (0, b""))
+    with open(target, "rb") as file:
+        checks.same("a link at FILE.new, later: what it leads to", file.read(), b"of another\n")
+    checks.same("a link at FILE.new, later: the file", os.path.islink(keep), False)
+    # Another device on the same file.
+    refuses(checks, "another device", keep, "another device has it", f"{keep}.lock")
+    stop(run)
+    run, said, peer = checks.serve(keep)
+    checks.same("a device behind one that was killed", peer and peer.ask(TRIM, 5, 1)[1][:2], struct.pack(">h", 5))
+    stop(run)
 
 
 def unknown(checks, folder):
@@ -309,15 +415,128 @@ def unknown(checks, folder):
     os.chmod(f"{folder}/closed", 0o700)
 
 
+CALL = re.compile(r"(?:\[pid +\d+\] |\d+ +)?(\w+)\((.*)\) += (-?\d+)")
+
+
+def unescaped(text):
+    """The bytes of a string that strace printed with -xx."""
+    return bytes.fromhex(text.replace("\\x", ""))
+
+
+class Disk:
+    """The files and the folder of a device: as the system has them, and as they are on the disk. What was written to a file
+    is on the disk, whole, behind its fsync, and else as far as any of its writes; names are there behind the folder's fsync, and
+    else as far as any of their changes, in order."""
+
+    def __init__(self, keep):
+        self.keep, self.names, self.handles, self.files, self.sure, self.changes = keep, {}, {}, [], {}, []
+
+    def open(self, path, handle, creates):
+        if creates and path not in self.names:
+            self.files.append([b"", [b""]])
+            self.change(path, len(self.files) - 1)
+        self.handles[handle] = self.names.get(path, path)
+
+    def change(self, path, file):
+        self.names = {**self.names, path: file}
+        self.changes.append(self.names)
+
+    def take_away(self, path):
+        self.names = {name: file for name, file in self.names.items() if name != path}
+        self.changes.append(self.names)
+
+    def write(self, handle, contents):
+        file = self.handles.get(handle)
+        if isinstance(file, int):
+            self.files[file][0] += contents
+            self.files[file][1].append(self.files[file][0])
+
+    def sync(self, handle):
+        file = self.handles.get(handle)
+        if isinstance(file, int):
+            self.files[file][1] = [self.files[file][0]]
+        elif file is not None:
+            self.sure, self.changes = self.names, []
+
+    def found(self):
+        """What the file may hold after a power cut now; nothing where it may not be there."""
+        for names in [self.sure, *self.changes]:
+            if self.keep in names:
+                yield from self.files[names[self.keep]][1]
+            else:
+                yield None
+
+
+def power_cuts(checks, folder):
+    """The power is cut behind each system call: whatever was answered with OK until then is in the file, which is whole, on any
+    of the disks that there may be then."""
+    if shutil.which("strace") is None:
+        print("no strace here: the power was not cut")
+        return
+    keep, log = f"{folder}/cuts/state", f"{folder}/log"
+    os.mkdir(f"{folder}/cuts")
+    calls = "openat,open,write,fsync,fdatasync,fcntl,dup,close,rename,renameat,renameat2,unlink,unlinkat,sendto"
+    run = subprocess.Popen(["strace", "-f", "-xx", "-s", "1000000", "-o", log, "-e", f"trace={calls}", f"{checks.folder}/ocadev", "serve",
+                            "--port", "0", "--keep", keep], stdin=subprocess.DEVNULL, stdout=subprocess.PIPE, stderr=subprocess.PIPE)
+    peer = Peer(int(re.match(r"listening [\d.]+:(\d+)\n", run.stderr.readline().decode())[1]))
+    for value in range(1, 6):
+        checks.same("a command before the power is cut", peer.ask(TRIM, 5, 2, struct.pack(">h", value)), (0, b""))
+    with open(f"/proc/{run.pid}/task/{run.pid}/children", encoding="ascii") as children:
+        os.kill(int(children.read().split()[0]), signal.SIGTERM)
+    run.communicate(timeout=30)
+    disk, answered, states, wrong = Disk(keep), 0, 0, []
+    with open(log, encoding="ascii", errors="replace") as lines:
+        for line in lines:
+            call = CALL.match(line)
+            if call is None or int(call[3]) < 0:
+                continue
+            name, words, result = call[1], call[2], int(call[3])
+            texts = [unescaped(it) for it in re.findall(r'"((?:\\x[0-9a-f]{2})*)"', words)]
+            first = words.split(",")[0]
+            if name in ("openat", "open"):
+                disk.open(os.path.normpath(os.fsdecode(texts[0])), result, "O_CREAT" in words)
+            elif name == "write":
+                disk.write(int(first), texts[0][:result])
+            elif name in ("fsync", "fdatasync"):
+                disk.sync(int(first))
+            elif name == "dup" or name == "fcntl" and "F_DUPFD" in words:
+                disk.handles[result] = disk.handles.get(int(first))
+            elif name == "close":
+                disk.handles.pop(int(first), None)
+            elif name.startswith("rename"):
+                old, new = (os.path.normpath(os.fsdecode(it)) for it in texts[:2])
+                moved = disk.names.get(old)
+                disk.names = {name: file for name, file in disk.names.items() if name != old}
+                disk.change(new, moved)
+            elif name.startswith("unlink"):
+                disk.take_away(os.path.normpath(os.fsdecode(texts[0])))
+            elif name == "sendto" and texts and len(texts[0]) == 20:
+                answered += 1
+            for text in disk.found():
+                states += 1
+                got = -1 if text is None else 0
+                match = re.search(rb'\nobject 4100 .* int16 -600 600 (-?\d+) .*\n# end of \d+ objects\n\Z', text or b"", re.DOTALL)
+                if match:
+                    got = int(match[1])
+                if not (answered <= got <= answered + 1 or answered == 0 and text is None):
+                    wrong.append((answered, got, line[:60]))
+    checks.same("commands that were answered before the power is cut", answered, 5)
+    checks.same(f"disks on which what was answered is not there, of {states}", (wrong[:3], states > 100), ([], True))
+
+
 def main():
     checks = Checks(sys.argv[1])
     with tempfile.TemporaryDirectory() as folder:
         restarts(checks, folder)
         written_once(checks, folder)
-        kills(checks, folder)
+        kills(checks, folder, int(sys.argv[2]) if len(sys.argv) > 2 else None)
+        stops(checks, folder, int(sys.argv[3]) if len(sys.argv) > 3 else STOPS)
         full(checks, folder)
+        mode_and_owner(checks, folder)
         left_over(checks, folder)
         broken(checks, folder)
+        others(checks, folder)
+        power_cuts(checks, folder)
         unknown(checks, folder)
     print(f"{checks.passed} passed, {checks.failed} failed")
     sys.exit(checks.failed != 0)

@@ -6,6 +6,7 @@ pub mod Opened
 pub mod Steps
 pub mod Bounds
 pub mod Turns
+pub mod Keepings
 pub mod Acceptance
 pub mod Messages
 pub mod Answering

@@ -62,7 +62,7 @@ added_assoc q r s = simp turned
 
 -- ---- deliveries one after another
 
-later_events : (ds es : List Delivery) (events : List Event) → events_after_all (ds ++ es) events ≡ events_after_all es (events_after_all ds events)
+pub later_events : (ds es : List Delivery) (events : List Event) → events_after_all (ds ++ es) events ≡ events_after_all es (events_after_all ds events)
 later_events [] es events = refl
 later_events (d ∷ ds) es events = later_events ds es (events_after d events)
 
@@ -83,10 +83,10 @@ module _ (w : DeviceSizes) (tree : List Object) where
 
 -- ---- what a device serves
 
-nothing_served : (d : DeviceState) → Serves [] d d no_turns
+pub nothing_served : (d : DeviceState) → Serves [] d d no_turns
 nothing_served d = record { turns = refl; represents = λ w tree events h. h; reported = λ w tree events h. refl }
 
-one_served : (x : Delivery) (old new : DeviceState) (r : Report) → r.turns ≡ 1 →
+pub one_served : (x : Delivery) (old new : DeviceState) (r : Report) → r.turns ≡ 1 →
     ((w : DeviceSizes) (tree : List Object) (events : List Event) → Represents w old tree events → Represents w new tree (events_after x events)) →
     ((w : DeviceSizes) (tree : List Object) (events : List Event) → Represents w old tree events → r ≡ record (turn_report w tree events x) { failed_sends = r.failed_sends }) →
     Serves (x ∷ []) old new r
@@ -99,7 +99,7 @@ one_served x old new r turns represents reported =
           ∙ ap (λ (q : Report). let z : Report = record q { failed_sends = r.failed_sends } in z) (sym (added_none (turn_report w tree events x)));
     }
 
-serves_more : (a b c : DeviceState) (ds es : List Delivery) (r s : Report) → Serves ds a b r → Serves es b c s → Serves (ds ++ es) a c (added r s)
+pub serves_more : (a b c : DeviceState) (ds es : List Delivery) (r s : Report) → Serves ds a b r → Serves es b c s → Serves (ds ++ es) a c (added r s)
 serves_more a b c ds es r s f g =
     record {
       turns = omega (arith, f.turns, g.turns, length-append ds es);
@@ -114,7 +114,7 @@ serves_more a b c ds es r s f g =
           ∙ ap (λ (q : Report). let z : Report = record q { failed_sends = k } in z) (sym (later_reports w tree ds es events));
     }
 
-later_handed : (w : DeviceSizes) (tree : List Object) (ds es : List Delivery) (events : List Event) →
+pub later_handed : (w : DeviceSizes) (tree : List Object) (ds es : List Delivery) (events : List Event) →
     handed w tree events (ds ++ es) ≡ handed w tree events ds ++ handed w tree (events_after_all ds events) es
 later_handed w tree [] es events = refl
 later_handed w tree (d ∷ ds) es events =
@@ -201,7 +201,7 @@ with_closed {x = x} h k = record {
 abbrev pub first_sent : Peer → ℕ → List (List ℕ) → List Sent
 first_sent p i packets = sent_to p (take i packets)
 
-further : (p : Peer) (i : ℕ) (packets : List (List ℕ)) → i < length packets →
+pub further : (p : Peer) (i : ℕ) (packets : List (List ℕ)) → i < length packets →
     first_sent p (i + 1) packets ≡ first_sent p i packets ++ (record { to = p; bytes = slice_index_or packets i [] }) ∷ []
 further p i packets h =
     ap (sent_to p) (take_more packets i [] h)
@@ -233,7 +233,7 @@ all_sent p k i xs packets {a} {b} h e f =
 -- ---- one turn
 
 -- a verdict is that of one turn, in which no receive failed
-verdict_one : (v : Verdict) → ((verdict_turn v).turns ≡ 1) × ((verdict_turn v).failed_receives ≡ 0)
+pub verdict_one : (v : Verdict) → ((verdict_turn v).turns ≡ 1) × ((verdict_turn v).failed_receives ≡ 0)
 verdict_one (verdicts.Served n k o r) = (refl, refl)
 verdict_one (verdicts.Malformed fault) = (refl, refl)
 verdict_one verdicts.NoRoom = (refl, refl)

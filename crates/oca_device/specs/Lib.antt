@@ -10,7 +10,9 @@ pub mod Outboxes
 pub mod Reports
 pub mod Replies
 pub mod Following
+pub mod Keeping
 pub mod LawByEvents
 pub mod PrivateServing
 pub mod PrivateTotals
+pub mod PrivateKeeping
 pub mod PrivateLapses

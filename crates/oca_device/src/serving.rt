@@ -113,7 +113,7 @@ fn take_turn<E: End, L: Electronics>(
 }
 
 /// Sends the packets to a peer, in order, and returns how many sends failed.
-fn send_all<E: End>(end: &mut E, to: Peer, outbox: &Outbox) -> u64
+pub(crate) fn send_all<E: End>(end: &mut E, to: Peer, outbox: &Outbox) -> u64
     ensures sends { SendsAllBut result (E.state end.old) (E.state end.new) (sent_to to outbox.now) }
     ensures few { result ≤ most_answered }
 {
@@ -127,7 +127,7 @@ fn send_all<E: End>(end: &mut E, to: Peer, outbox: &Outbox) -> u64
 }
 
 /// What both did, where the numbers fit.
-fn sum(a: Report, b: Report) -> Report
+pub(crate) fn sum(a: Report, b: Report) -> Report
     requires a { IsAtMostEach (2 ^ 64 - 2 ^ 32) a }
     requires b { IsAtMostEach (2 ^ 32 - 1) b }
     ensures { result ≡ added a b }
@@ -136,14 +136,14 @@ fn sum(a: Report, b: Report) -> Report
 }
 
 /// No turns.
-fn nothing() -> Report
+pub(crate) fn nothing() -> Report
     ensures { result ≡ no_turns }
 {
     Report::default()
 }
 
 /// One turn.
-fn a_turn() -> Report
+pub(crate) fn a_turn() -> Report
     ensures { result ≡ one_turn }
 {
     Report {
@@ -153,7 +153,7 @@ fn a_turn() -> Report
 }
 
 /// A turn with this verdict.
-fn of_verdict(verdict: Verdict) -> Report
+pub(crate) fn of_verdict(verdict: Verdict) -> Report
     ensures { result ≡ verdict_turn verdict }
 {
     match verdict {

@@ -1,16 +1,31 @@
 -- What is printed of a report, whatever its numbers are (*profile*).
-use Rattle.std.specs.Prelude.{◌≡◌, ℕ, ◌-◌, ◌*◌, ◌^◌, Option, None, Some}
+use Rattle.std.specs.Prelude.{◌≡◌, Bool, false, [], ℕ, ◌-◌, ◌*◌, ◌^◌, Option, None, Some}
 use Rattle.oca_net.specs.EndStates.{EndState}
 use Rattle.oca_device.specs.declared.report.Report.{Report}
 use Rattle.oca_device.specs.Devices.{DeviceState}
 use Rattle.oca_device.specs.Replies.{ServesEnd}
 use Rattle.oca_device.specs.Reports.{capped}
+use Rattle.oca_device.specs.Following.{ElectronicsState}
+use Rattle.oca_device.specs.Keeping.{ServesKeeping, StoreState}
 
 -- A device served an end, and what is printed is the report of that, as far as 64 bits go.
 pub record ServesOn (old new : DeviceState) (before after : EndState) (printed : Report) : Type 0 where
   pub report : Report
   pub serves : ServesEnd old new before after report
   pub prints : printed ≡ capped report
+
+abbrev pub no_electronics : ElectronicsState
+no_electronics = record { tells = false; followed = [] }
+
+-- a store that does not tell
+abbrev pub silent_store : StoreState
+silent_store = record { tells = false; storings = [] }
+
+-- A device served an end and kept its objects in a store, without electronics.
+abbrev pub KeepsOn : (behind is_behind : Bool) (old new : DeviceState) (before after : EndState) (had has : StoreState)
+    (printed : Report) → Type 0
+KeepsOn behind is_behind old new before after had has printed =
+    ServesKeeping behind is_behind old new before after no_electronics no_electronics had has printed
 
 -- ---- how often the report so far is printed
 

@@ -1,5 +1,5 @@
 //! A run of the program.
-ghost use Rattle.std.specs.Prelude.{◌≡◌, ◌<◌, ◌≤◌, List, [], IsTrue, Ok as ok, map};
+ghost use Rattle.std.specs.Prelude.{◌≡◌, ◌<◌, ◌≤◌, List, [], IsTrue, Ok as ok, map, IfErr, IfSome};
 ghost use Rattle.clap.specs.Words.{kind_of};
 ghost use Rattle.oca_types.specs.Sizes.{DeviceSizes, sizes_of};
 ghost use Rattle.oca_tree.specs.declared.object.Object.{Object};
@@ -11,16 +11,17 @@ ghost use Rattle.oca_script.specs.Printing.{WritesOut};
 ghost use Rattle.ocadev_cli.specs.Words.{asked_by, asked_fields, making_fields, serving_fields, object_source};
 ghost use Rattle.oca_textree.specs.Written.{text_of};
 ghost use Rattle.oca_program.specs.Faults.{PrintsFault, fault_in};
+ghost use Rattle.oca_program.specs.declared.fault.RunFault.TheVariants.{Read as read_failed};
 ghost use Rattle.ocadev_cli.specs.Printing.{report_text, tree_text};
 ghost use Rattle.ocadev_cli.specs.Runs.{exit_status, RunsOn, Obeys, DoesAsked, Does, DoesMatched, DoesReplay};
 ghost use Rattle.ocadev_cli.specs.Runs.{DoesServe, DoesShow, Helps, PrintsText, ReplaysMade, ReplaysOn, ServesFrom};
 ghost use Rattle.ocadev_cli.specs.Runs.{ServesMade, ServesOrFails, turns_until};
-ghost use Rattle.ocadev_cli.specs.Totals.{ServesOn};
+ghost use Rattle.ocadev_cli.specs.Totals.{KeepsOn, ServesOn, silent_store};
 
-use super::keep::{Keeping, is_there, starting};
+use super::keep::{FileStore, Keeping, Kept, claimed, is_there, start_objects};
 use super::making::{made, objects};
 use super::report::{print_listening, print_report};
-use super::serving::{Tracing, serve_on, serve_traced, serve_turns};
+use super::serving::{Tracing, serve_kept, serve_on, serve_traced, serve_turns};
 use super::show::{show, show_text};
 use super::trace::Watched;
 use super::words::{Asked, Making, Objects, Serving, asked_for, matches_of};
@@ -36,6 +37,7 @@ use oca_types::Sizes;
 use ocadev_replay::replay::replay;
 use std::alloc::Global;
 use std::convert::AsStr;
+use std::fs::File;
 use std::net::Net;
 use std::rt::{Clock, Files};
 
@@ -50,7 +52,7 @@ const ENOUGH_GRANTED: u32 = 500_000;
 /// Runs the program on the words of its command line, its name first, and returns its exit status: 0, 2 where the words
 /// or a line are bad, and 1 where something could not be done. A fault is printed on `faults` as one line, behind one
 /// that begins with `note: ` where more is known; and so is where the device listens.
-pub fn run<N: Net + Clock + Files, S: AsStr, R: Source, W: Sink, F: Sink>(
+pub fn run<N: Net + Clock + Files<File = File>, S: AsStr, R: Source, W: Sink, F: Sink>(
     alloc: Global,
     system: &N,
     words: &[S],
@@ -78,7 +80,7 @@ fn status_of<F: Sink>(ended: Result<(), Failure>, faults: &mut Printer<F>) -> u8
 }
 
 /// Does what the words ask for, by how matching them ended.
-fn matched_done<N: Net + Clock + Files, R: Source, W: Sink, F: Sink>(
+fn matched_done<N: Net + Clock + Files<File = File>, R: Source, W: Sink, F: Sink>(
     alloc: Global,
     system: &N,
     matched: Result<ArgMatches<'_>, Error>,
@@ -106,7 +108,7 @@ fn helped<W: Sink>(alloc: Global, error: &Error, printer: &mut Printer<W>) -> Re
 }
 
 /// Does what the command asks for that the matched words name.
-fn obeyed<N: Net + Clock + Files, R: Source, W: Sink, F: Sink>(
+fn obeyed<N: Net + Clock + Files<File = File>, R: Source, W: Sink, F: Sink>(
     alloc: Global,
     system: &N,
     words: &ArgMatches<'_>,
@@ -124,7 +126,7 @@ fn obeyed<N: Net + Clock + Files, R: Source, W: Sink, F: Sink>(
 }
 
 /// Does what a command with these options asks for.
-fn commanded<N: Net + Clock + Files, R: Source, W: Sink, F: Sink>(
+fn commanded<N: Net + Clock + Files<File = File>, R: Source, W: Sink, F: Sink>(
     alloc: Global,
     system: &N,
     name: &str,
@@ -144,7 +146,7 @@ fn commanded<N: Net + Clock + Files, R: Source, W: Sink, F: Sink>(
 }
 
 /// Does what is asked for.
-fn served<N: Net + Clock + Files, R: Source, W: Sink, F: Sink>(
+fn served<N: Net + Clock + Files<File = File>, R: Source, W: Sink, F: Sink>(
     alloc: Global,
     system: &N,
     asked: Asked<'_>,
@@ -286,7 +288,7 @@ fn print_all<W: Sink>(text: &[u8], printer: &mut Printer<W>) -> Result<(), Write
 
 /// Serves a device at a socket, and prints what was done. Where it listens is printed on `faults` at first;
 /// that this can't be written is no fault.
-fn serve_socket<N: Net + Clock + Files, W: Sink, F: Sink>(
+fn serve_socket<N: Net + Clock + Files<File = File>, W: Sink, F: Sink>(
     alloc: Global,
     system: &N,
     serving: Serving<'_>,
@@ -295,30 +297,64 @@ fn serve_socket<N: Net + Clock + Files, W: Sink, F: Sink>(
 ) -> Result<(), Failure>
     ensures { DoesServe (serving_fields serving.entry) (fault_in result) printer.old printer.new }
 {
-    let there = is_there(system, serving.keep);
-    serve_from(alloc, system, serving, there, printer, faults)
+    let claim = claimed(alloc, system, serving.keep);
+    let there = match &claim {
+        Ok(_) => is_there(system, serving.keep),
+        Err(_) => true,
+    };
+    serve_from(alloc, system, serving, there, claim, printer, faults)
 }
 
-/// Serves a device at a socket, where the file in which its state is kept is there or is not, and prints what was done.
-fn serve_from<N: Net + Clock + Files, W: Sink, F: Sink>(
+/// Serves a device at a socket, where the file in which its state is kept is there or is not, and prints what was done. The
+/// claim to that file, which is refused or held, ends with it.
+fn serve_from<N: Net + Clock + Files<File = File>, W: Sink, F: Sink>(
     alloc: Global,
     system: &N,
     serving: Serving<'_>,
     there: bool,
+    claim: Result<Option<File>, Failure>,
     printer: &mut Printer<W>,
     faults: &mut Printer<F>,
 ) -> Result<(), Failure>
+    requires { IfErr claim (λ failure. failure.fault ≡ read_failed) }
     ensures { ServesFrom there (serving_fields serving.entry) (fault_in result) printer.old printer.new }
 {
-    let listed = starting(serving.keep, there, serving.making.objects);
-    match objects(alloc, system, listed) {
+    match claim {
+        Ok(_lock) => serve_claimed(alloc, system, serving, there, None, printer, faults),
+        Err(failure) => serve_claimed(
+            alloc,
+            system,
+            serving,
+            there,
+            Some(failure),
+            printer,
+            faults,
+        ),
+    }
+}
+
+/// The same, with what refuses the file, where that is so.
+fn serve_claimed<N: Net + Clock + Files<File = File>, W: Sink, F: Sink>(
+    alloc: Global,
+    system: &N,
+    serving: Serving<'_>,
+    there: bool,
+    refusal: Option<Failure>,
+    printer: &mut Printer<W>,
+    faults: &mut Printer<F>,
+) -> Result<(), Failure>
+    requires { IfSome refusal (λ failure. failure.fault ≡ read_failed) }
+    ensures { ServesFrom there (serving_fields serving.entry) (fault_in result) printer.old printer.new }
+{
+    let asked = serving.making.objects;
+    match start_objects(alloc, system, serving.keep, there, asked, refusal) {
         Ok(tree) => serve_tree(alloc, system, serving, tree, printer, faults),
         Err(failure) => Err(failure),
     }
 }
 
 /// Serves a device of these objects at a socket, and prints what was done.
-fn serve_tree<N: Net + Clock + Files, W: Sink, F: Sink>(
+fn serve_tree<N: Net + Clock + Files<File = File>, W: Sink, F: Sink>(
     alloc: Global,
     system: &N,
     serving: Serving<'_>,
@@ -345,7 +381,7 @@ fn report_all<W: Sink>(report: &Report, printer: &mut Printer<W>) -> Result<(), 
 }
 
 /// Serves a device of these objects at a socket.
-fn served_tree<N: Net + Clock + Files, F: Sink>(
+fn served_tree<N: Net + Clock + Files<File = File>, F: Sink>(
     alloc: Global,
     system: &N,
     serving: Serving<'_>,
@@ -361,7 +397,7 @@ fn served_tree<N: Net + Clock + Files, F: Sink>(
 }
 
 /// Serves a device at a socket, and keeps its state where that is asked for.
-fn served_at<N: Net + Clock + Files, F: Sink>(
+fn served_at<N: Net + Clock + Files<File = File>, F: Sink>(
     alloc: Global,
     system: &N,
     serving: Serving<'_>,
@@ -372,11 +408,12 @@ fn served_at<N: Net + Clock + Files, F: Sink>(
     ensures { (tree : List Object) → Represents (sizes_of serving.entry.making.sizes) device.old tree []
         → ServesOrFails (serving_fields serving.entry) tree (fault_in result) }
 {
-    match Keeping::new(alloc, system, serving.keep) {
+    match Keeping::new(alloc, serving.keep) {
         Ok(mut keeping) => {
             served_keeping(
                 alloc,
                 &CountsSleep(system),
+                system,
                 serving,
                 device,
                 outbox,
@@ -392,17 +429,18 @@ fn served_at<N: Net + Clock + Files, F: Sink>(
 fn served_keeping<N: Net + Clock, L: Files, F: Sink>(
     alloc: Global,
     system: &N,
+    files: &L,
     serving: Serving<'_>,
     device: &mut Device,
     outbox: &mut Outbox,
-    keeping: &mut Keeping<'_, L>,
+    keeping: &mut Keeping<'_>,
     faults: &mut Printer<F>,
 ) -> Result<Report, Failure>
     ensures { (tree : List Object) → Represents (sizes_of serving.entry.making.sizes) device.old tree []
         → ServesOrFails (serving_fields serving.entry) tree (fault_in result) }
 {
     match bind(alloc, system, serving.ip, serving.port) {
-        Ok(end) => Ok(served_over(alloc, end, serving, device, outbox, keeping, faults)),
+        Ok(end) => Ok(served_over(alloc, end, files, serving, device, outbox, keeping, faults)),
         Err(failure) => Err(failure),
     }
 }
@@ -411,10 +449,11 @@ fn served_keeping<N: Net + Clock, L: Files, F: Sink>(
 fn served_over<N: Clock, L: Files, F: Sink>(
     alloc: Global,
     end: UdpEnd<'_, N>,
+    files: &L,
     serving: Serving<'_>,
     device: &mut Device,
     outbox: &mut Outbox,
-    keeping: &mut Keeping<'_, L>,
+    keeping: &mut Keeping<'_>,
     faults: &mut Printer<F>,
 ) -> Report
     ensures served { (after : EndState) × ServesOn device.old device.new (state_of_socket end.entry) after result }
@@ -422,17 +461,20 @@ fn served_over<N: Clock, L: Files, F: Sink>(
 {
     print_bound(alloc, &end, faults);
     let tracing = Tracing::new(serving.verbose, serving.stats);
-    if tracing.prints() || keeping.keeps() {
-        traced_over(
+    if let Some(kept) = &mut keeping.kept {
+        kept_over(
             alloc,
             end,
+            files,
             serving.turns,
             tracing,
             device,
             outbox,
-            keeping,
+            kept,
             faults,
         )
+    } else if tracing.prints() {
+        traced_over(alloc, end, serving.turns, tracing, device, outbox, faults)
     } else {
         untraced_over(alloc, end, serving.turns, device, outbox, faults)
     }
@@ -462,15 +504,58 @@ fn note_granted<F: Sink>(alloc: Global, granted: u32, faults: &mut Printer<F>) {
     }
 }
 
-/// Serves a device over this end, prints what it does and keeps its state.
-fn traced_over<N: Clock, L: Files, F: Sink>(
+/// Serves a device over this end and keeps its state, and prints what it does as far as that is asked for.
+fn kept_over<N: Clock, L: Files, F: Sink>(
+    alloc: Global,
+    mut end: UdpEnd<'_, N>,
+    files: &L,
+    turns: Option<u32>,
+    tracing: Tracing,
+    device: &mut Device,
+    outbox: &mut Outbox,
+    kept: &mut Kept<'_>,
+    faults: &mut Printer<F>,
+) -> Report
+    ensures served { (after : EndState) × ServesOn device.old device.new (state_of_socket end.entry) after result }
+    ensures turns { result.turns ≡ turns_until turns }
+{
+    let report = stored_over(
+        alloc, &mut end, files, turns, tracing, device, outbox, kept, faults,
+    );
+    note_failed_sends(alloc, report.failed_sends, end.last_failed_send(), faults);
+    report
+}
+
+/// Serves a device over this end, with a store in the file.
+fn stored_over<N: Clock, L: Files, F: Sink>(
+    alloc: Global,
+    end: &mut UdpEnd<'_, N>,
+    files: &L,
+    turns: Option<u32>,
+    tracing: Tracing,
+    device: &mut Device,
+    outbox: &mut Outbox,
+    kept: &mut Kept<'_>,
+    faults: &mut Printer<F>,
+) -> Report
+    ensures served { KeepsOn kept.old.waiting.is_behind kept.new.waiting.is_behind device.old device.new
+        (state_of_socket end.old) (state_of_socket end.new) silent_store silent_store result }
+    ensures turns { result.turns ≡ turns_until turns }
+{
+    let path = kept.path;
+    let fresh = kept.fresh.as_str();
+    let mut store = FileStore::new(alloc, files, path, fresh, tracing, faults);
+    serve_kept(device, end, outbox, &mut kept.waiting, &mut store, turns)
+}
+
+/// Serves a device over this end, and prints what it does.
+fn traced_over<N: Clock, F: Sink>(
     alloc: Global,
     end: UdpEnd<'_, N>,
     turns: Option<u32>,
     tracing: Tracing,
     device: &mut Device,
     outbox: &mut Outbox,
-    keeping: &mut Keeping<'_, L>,
     faults: &mut Printer<F>,
 ) -> Report
     ensures served { (after : EndState) × ServesOn device.old device.new (state_of_socket end.entry) after result }
@@ -481,7 +566,7 @@ fn traced_over<N: Clock, L: Files, F: Sink>(
         None => u64::MAX,
     };
     let mut watched = Watched::new(end);
-    let report = serve_traced(device, &mut watched, outbox, most, tracing, keeping, faults);
+    let report = serve_traced(device, &mut watched, outbox, most, tracing, faults);
     note_failed_sends(
         alloc,
         report.failed_sends,

@@ -1,16 +1,17 @@
-//! Serving an end until it is stopped, and turn by turn with a line for each datagram and the state kept.
+//! Serving an end until it is stopped, turn by turn with a line for each datagram, and with the state kept in a store.
 ghost use Rattle.std.specs.Prelude.{◌≡◌, ◌≤◌, ◌<◌, ◌==◌, ◌||◌, not, IsTrue};
 ghost use Rattle.oca_net.specs.Ends.{last_u64};
 ghost use Rattle.oca_device.specs.Reports.{added, capped, no_turns};
-ghost use Rattle.ocadev_cli.specs.Totals.{ServesOn, stats_interval, first_stats};
+ghost use Rattle.ocadev_cli.specs.Runs.{turns_until};
+ghost use Rattle.ocadev_cli.specs.Totals.{KeepsOn, ServesOn, stats_interval, first_stats};
 
-use super::keep::Keeping;
 use super::report::print_stats;
 use super::trace::{Watched, print_turn};
-use oca_device::{Device, NoElectronics, Outbox, Report, serve, serve_with};
+use oca_device::{
+    Device, Keeping, NoElectronics, Outbox, Report, Store, serve, serve_keeping, serve_with,
+};
 use oca_net::End;
 use oca_script::{Printer, Sink};
-use std::rt::Files;
 
 /// How many rounds of 2^32 - 1 turns are 2^64 - 1 turns.
 const ROUNDS: u64 = 4_294_967_297;
@@ -47,6 +48,69 @@ pub fn serve_turns<E: End>(
     let none = nothing();
     let round = serve(device, end, outbox, turns);
     sum(none, round)
+}
+
+/// Serves an end for so many turns, or for 2^64 - 1 where no number is given, or until it is closed, and keeps the objects
+/// in a store: an answer to a datagram that wrote leaves only once the store holds the objects.
+pub fn serve_kept<E: End, S: Store>(
+    device: &mut Device,
+    end: &mut E,
+    outbox: &mut Outbox,
+    keeping: &mut Keeping,
+    store: &mut S,
+    turns: Option<u32>,
+) -> Report
+    ensures served { KeepsOn keeping.old.is_behind keeping.new.is_behind device.old device.new (E.state end.old)
+        (E.state end.new) (S.state store.old) (S.state store.new) result }
+    ensures turns { result.turns ≤ turns_until turns }
+    ensures closed { result.turns < turns_until turns → IsTrue (E.state end.new).closed }
+{
+    match turns {
+        Some(turns) => keep_turns(device, end, outbox, keeping, store, turns),
+        None => keep_on(device, end, outbox, keeping, store),
+    }
+}
+
+/// Serves and keeps for so many turns, or until the end is closed.
+fn keep_turns<E: End, S: Store>(
+    device: &mut Device,
+    end: &mut E,
+    outbox: &mut Outbox,
+    keeping: &mut Keeping,
+    store: &mut S,
+    turns: u32,
+) -> Report
+    ensures served { KeepsOn keeping.old.is_behind keeping.new.is_behind device.old device.new (E.state end.old)
+        (E.state end.new) (S.state store.old) (S.state store.new) result }
+    ensures turns { result.turns ≤ turns }
+    ensures closed { result.turns < turns → IsTrue (E.state end.new).closed }
+{
+    let mut none = NoElectronics;
+    serve_keeping(device, end, outbox, keeping, store, &mut none, turns)
+}
+
+/// Serves and keeps for 2^64 - 1 turns, which no run comes to, or until the end is closed.
+fn keep_on<E: End, S: Store>(
+    device: &mut Device,
+    end: &mut E,
+    outbox: &mut Outbox,
+    keeping: &mut Keeping,
+    store: &mut S,
+) -> Report
+    ensures served { KeepsOn keeping.old.is_behind keeping.new.is_behind device.old device.new (E.state end.old)
+        (E.state end.new) (S.state store.old) (S.state store.new) result }
+    ensures turns { result.turns ≤ last_u64 }
+    ensures closed { result.turns < last_u64 → IsTrue (E.state end.new).closed }
+{
+    let mut report = nothing();
+    for _times in 0..ROUNDS {
+        let round = keep_turns(device, end, outbox, keeping, store, u32::MAX);
+        report = sum(report, round);
+        if round.turns < u64::from(u32::MAX) {
+            return report;
+        }
+    }
+    report
 }
 
 /// What is printed while an end is served.
@@ -93,15 +157,13 @@ impl Tracing {
 }
 
 /// Serves an end for so many turns, or until it is closed, and prints a line for each datagram and the report so far,
-/// as far as they are asked for. The state is kept after each datagram that wrote something, where it is to be kept.
-/// That these can't be written is no fault.
-pub fn serve_traced<E: End, L: Files, F: Sink>(
+/// as far as they are asked for. That these can't be written is no fault.
+pub fn serve_traced<E: End, F: Sink>(
     device: &mut Device,
     end: &mut Watched<E>,
     outbox: &mut Outbox,
     turns: u64,
     tracing: Tracing,
-    keeping: &mut Keeping<'_, L>,
     faults: &mut Printer<F>,
 ) -> Report
     ensures served { ServesOn device.old device.new (E.state end.old.end) (E.state end.new.end) result }
@@ -118,7 +180,6 @@ pub fn serve_traced<E: End, L: Files, F: Sink>(
             return report;
         }
         print_progress(end, &turn, &report, device, &mut tracing, faults);
-        keeping.keep_turn(&turn, device, faults);
     }
     report
 }
@@ -143,14 +204,14 @@ fn print_progress<E: End, F: Sink>(
 }
 
 /// Prints the report so far, with how many sessions there are and how many locks are held.
-fn print_progress_report<F: Sink>(report: &Report, device: &Device, faults: &mut Printer<F>) {
+pub fn print_progress_report<F: Sink>(report: &Report, device: &Device, faults: &mut Printer<F>) {
     let sessions = device.sessions() as u64;
     let locks = device.tree().lock_count() as u64;
     let _ = print_stats(report, sessions, locks, faults);
 }
 
 /// What both did, where a number that would pass 64 bits stays at its last value.
-fn sum(a: Report, b: Report) -> Report
+pub fn sum(a: Report, b: Report) -> Report
     ensures { result ≡ capped (added a b) }
 {
     Report {

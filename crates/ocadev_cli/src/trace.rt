@@ -11,7 +11,7 @@ ghost use Rattle.oca_pdu.specs.Reading.{read_datagram};
 
 use super::effects::{keep_statuses, print_effects};
 use super::report::{print_count, put_count, put_peer};
-use oca_device::Report;
+use oca_device::{Outbox, Report};
 use oca_net::{End, Heard};
 use oca_pdu::{PduFault, check};
 use oca_script::{Printer, Sink, WriteFailed};
@@ -114,18 +114,42 @@ pub fn print_turn<E: End, F: Sink>(
     ensures { PrintsTurn watched.now.heard turn.now watched.now.packet.items watched.now.statuses.items written.now
         result faults.old faults.new }
 {
-    match watched.heard {
-        Heard::Datagram { from, .. } => print_line(
-            from,
-            turn,
-            watched.packet.as_slice(),
-            watched.statuses.as_slice(),
-            written,
-            faults,
-        ),
+    print_heard(
+        watched.heard,
+        watched.packet.as_slice(),
+        watched.statuses.as_slice(),
+        turn,
+        written,
+        faults,
+    )
+}
+
+/// Prints a line for what was heard in a turn, where that is a datagram with these bytes, whose responses had these
+/// statuses.
+pub fn print_heard<F: Sink>(
+    heard: Heard,
+    bytes: &[u8],
+    statuses: &[u8],
+    turn: &Report,
+    written: &[Ono],
+    faults: &mut Printer<F>,
+) -> Result<(), WriteFailed>
+    ensures { PrintsTurn heard turn.now bytes.now statuses.now written.now result faults.old faults.new }
+{
+    match heard {
+        Heard::Datagram { from, .. } => print_line(from, turn, bytes, statuses, written, faults),
         Heard::Oversize { .. } => end_line(b"oversize\n", faults),
         _ => Ok(()),
     }
+}
+
+/// The statuses of the responses among the answers to a datagram.
+pub fn statuses_of(answers: &Outbox) -> Packet {
+    let mut statuses = Packet::new();
+    for packet in answers.packets() {
+        keep_statuses(&mut statuses, packet.as_slice());
+    }
+    statuses
 }
 
 /// Prints the line of a datagram, and hands it on.

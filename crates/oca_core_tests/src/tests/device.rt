@@ -4,6 +4,7 @@
 mod benches;
 mod bounded;
 mod commands;
+mod keeping;
 mod lapses;
 mod parts;
 mod play;

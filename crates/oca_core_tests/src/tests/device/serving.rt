@@ -9,7 +9,7 @@ use std::alloc::Global;
 
 /// What an end delivers.
 #[derive(Clone, Copy)]
-enum Delivery {
+pub enum Delivery {
     /// A datagram of a peer, with its moment.
     Datagram(u16, u64, &'static [Part]),
     /// The same datagram at 0 of each peer from the first on and before the second.
@@ -103,14 +103,24 @@ fn add_all(alloc: Global, script: &mut Vec<Scripted>, deliveries: &[Delivery]) -
     true
 }
 
-/// The end of a play.
-fn end_of(alloc: Global, play: &Play) -> Option<MemoryEnd> {
+/// An end that delivers this, with room for so many datagrams, one of whose sends fails.
+pub fn end_with(
+    alloc: Global,
+    deliveries: &[Delivery],
+    room: usize,
+    fail_send: Option<u64>,
+) -> Option<MemoryEnd> {
     let mut script = Vec::new(alloc);
-    if add_all(alloc, &mut script, play.deliveries) {
-        MemoryEnd::new(alloc, script, play.room, play.fail_send).ok()
+    if add_all(alloc, &mut script, deliveries) {
+        MemoryEnd::new(alloc, script, room, fail_send).ok()
     } else {
         None
     }
+}
+
+/// The end of a play.
+fn end_of(alloc: Global, play: &Play) -> Option<MemoryEnd> {
+    end_with(alloc, play.deliveries, play.room, play.fail_send)
 }
 
 /// Whether the first datagram that was taken is this one.
@@ -167,7 +177,7 @@ impl Played for Play {
 }
 
 /// No turn.
-const NO_TURN: Report = Report {
+pub const NO_TURN: Report = Report {
     turns: 0,
     executed: 0,
     kept: 0,

@@ -1,0 +1,92 @@
+#!/usr/bin/env python3
+"""What keeping the state costs: panels that set one number each, as fast as they are answered, beside one that only reads, at a
+device that keeps its state in a file.
+
+Usage: keep.py BIN [SECONDS]     BIN is the folder with `ocadev`
+
+For a disk as it is, and one whose fsync takes 30 and 300 ms longer (needs a C compiler): sets a second of 1, 4 and 16 panels,
+the longest wait of one for its answer and of the reader for its own, in ms, and commands without an answer in 10 s (lost)."""
+import os
+import re
+import socket
+import struct
+import subprocess
+import sys
+import tempfile
+import threading
+import time
+from pathlib import Path
+
+HERE = Path(__file__).resolve().parent
+MUTE, TRIM = 4097, 4100
+LOST = 10.0
+
+
+def command(handle, target, level, index, *params):
+    body = struct.pack(">IIHHB", handle, target, level, index, len(params)) + b"".join(params)
+    body = struct.pack(">I", len(body) + 4) + body
+    return b"\x3b" + struct.pack(">HIBH", 1, len(body) + 9, 1, 1) + body
+
+
+class Panel(threading.Thread):
+    """Asks until the moment comes, one command after another, and sends a copy each 250 ms."""
+
+    def __init__(self, port, until, words):
+        super().__init__()
+        self.end = socket.socket(socket.AF_INET, socket.SOCK_DGRAM)
+        self.end.connect(("127.0.0.1", port))
+        self.end.settimeout(0.25)
+        self.until, self.words, self.answered, self.lost, self.longest = until, words, 0, 0, 0.0
+
+    def run(self):
+        handle = 0
+        while time.monotonic() < self.until:
+            handle += 1
+            began = time.monotonic()
+            data = command(handle, *self.words(handle))
+            while time.monotonic() - began < LOST:
+                self.end.send(data)
+                try:
+                    got = self.end.recv(2000)
+                    while struct.unpack(">I", got[14:18])[0] != handle:
+                        got = self.end.recv(2000)
+                    self.answered += 1
+                    break
+                except TimeoutError:
+                    pass
+            else:
+                self.lost += 1
+            self.longest = max(self.longest, time.monotonic() - began)
+
+
+def measured(folder, layer, delay, panels, seconds, home):
+    env = {**os.environ, **({"LD_PRELOAD": str(layer), "SLOW": str(delay)} if delay else {})}
+    run = subprocess.Popen([f"{folder}/ocadev", "serve", "--port", "0", "--peers", "32", "--channels", "16", "--keep", f"{home}/{delay}-{panels}"],
+                           stdin=subprocess.DEVNULL, stdout=subprocess.DEVNULL, stderr=subprocess.PIPE, env=env)
+    port = int(re.match(r"listening [\d.]+:(\d+)\n", run.stderr.readline().decode())[1])
+    until = time.monotonic() + seconds
+    setting = [Panel(port, until, lambda handle: (TRIM, 5, 2, struct.pack(">h", handle % 500))) for _ in range(panels)]
+    reader = Panel(port, until, lambda handle: (MUTE, 4, 1))
+    for it in [*setting, reader]:
+        it.start()
+    for it in [*setting, reader]:
+        it.join()
+    run.kill()
+    run.wait()
+    return (sum(it.answered for it in setting) / seconds, max(it.longest for it in setting) * 1000, reader.longest * 1000,
+            sum(it.lost for it in [*setting, reader]))
+
+
+def main():
+    seconds = float(sys.argv[2]) if len(sys.argv) > 2 else 5
+    with tempfile.TemporaryDirectory(dir=".") as home:
+        layer = Path(home).resolve() / "slow.so"
+        subprocess.run(["cc", "-shared", "-fPIC", "-o", layer, HERE / "slow_sync.c", "-ldl"], check=True)
+        print("| fsync | panels | sets a second | longest wait of a set, ms | of the reader, ms | lost |\n|---|---|---|---|---|---|")
+        for delay in (0, 30, 300):
+            for panels in (1, 4, 16):
+                rate, longest, reading, lost = measured(sys.argv[1], layer, delay, panels, seconds, home)
+                print(f"| {f'+ {delay} ms' if delay else 'as it is'} | {panels} | {rate:.0f} | {longest:.0f} | {reading:.0f} | {lost} |", flush=True)
+
+
+main()

@@ -1,0 +1,8 @@
+use Rattle.oca_device.proofs.Keepings.{keeps_undue, keeps_due, begun, stored_from, not_so, so}
+use Rattle.oca_device.proofs.keeping.serve_group.Goals as goal
+
+pub returns-then-not-taken-clause-served : goal.returns-then-not-taken-clause-served
+returns-then-not-taken-clause-served g c = begun c.begin.ensures.behind (keeps_undue _ (not_so _ c.if-not-taken.true) c.take_in-taken.ensures.taken c.take_in-taken.ensures.store)
+
+pub returns-clause-served : goal.returns-clause-served
+returns-clause-served g c = stored_from c.take_in-taken.ensures.store (keeps_due c.requires.none _ (so _ c.if-not-taken.false) c.take_in-taken.ensures.taken c.settle-failed.ensures c.with_failed.ensures.report)

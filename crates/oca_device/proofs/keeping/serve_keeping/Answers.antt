@@ -1,0 +1,28 @@
+use Rattle.std.proofs.Common.{refl, ap, ◌+◌, ◌∙◌, arith}
+use Rattle.oca_device.specs.declared.report.Report.{Report}
+use Rattle.oca_device.proofs.Keepings.{keeps_none, keeps_more, begun}
+use Rattle.oca_device.proofs.keeping.serve_keeping.Goals as goal
+
+pub loop-group-init : goal.loop-group-init
+loop-group-init g c = record {
+  served = begun c.begin.ensures.behind (keeps_none _ c.args.device.now (g.E.End.state c.args.end.now) (g.L.Electronics.state c.args.electronics.now) (g.S.Store.state c.args.store.now) _ c.nothing-report.ensures);
+  turns = omega (arith, ap (λ (r : Report). r.turns) c.nothing-report.ensures);
+  many = omega arith;
+  empty = c.clear.ensures;
+  none = c.begin.ensures.none;
+}
+
+pub loop-group-preserved : goal.loop-group-preserved
+loop-group-preserved g c =
+    let inv = c.loop-group.invariant in
+    let group = c.serve_group-group.ensures in
+    record {
+      served = keeps_more _ inv.served group.served c.with_group-report.ensures.report;
+      turns = omega (arith, c.with_group-report.ensures.turns, inv.turns, group.most);
+      many = omega (arith, c.with_group-report.ensures.turns, inv.many, group.some c.if-group.false);
+      empty = group.outbox;
+      none = group.none;
+    }
+
+pub returns-then-group-clause-served : goal.returns-then-group-clause-served
+returns-then-group-clause-served g c = keeps_more _ c.loop-group.invariant.served c.serve_group-group.ensures.served c.with_group-report.ensures.report

@@ -1,0 +1,35 @@
+use Rattle.std.proofs.Common.{◌≡◌, ℕ, ◌+◌, refl, sym, ap, ◌∙◌, arith}
+use Rattle.oca_device.specs.declared.report.Report.{Report}
+use Rattle.oca_device.proofs.Keepings.{in_none, in_more, in_closed, room_none}
+use Rattle.oca_device.proofs.keeping.take_in.Goals as goal
+
+pub loop-turn-init : goal.loop-turn-init
+loop-turn-init g c = record {
+  taken = in_none _ c.args.device.now (g.E.End.state c.args.end.now) (g.L.Electronics.state c.args.electronics.now) c.args.keeping.now _ c.none_taken-taken.ensures.due c.none_taken-taken.ensures.report;
+  store = refl;
+  turns = c.none_taken-taken.ensures.turns;
+  same = ap (λ (r : Report). r.turns) c.none_taken-taken.ensures.report ∙ sym c.none_taken-taken.ensures.turns;
+  open_yet = c.none_taken-taken.ensures.closed;
+  empty = c.requires.outbox;
+  room = room_none _ c.requires.none;
+}
+
+pub loop-turn-preserved : goal.loop-turn-preserved
+loop-turn-preserved g c =
+    let inv = c.loop-turn.invariant in
+    record {
+      taken = in_more inv.taken c.in-Some.ensures.turn c.more-taken.ensures.due c.more-taken.ensures.report;
+      store = c.in-Some.ensures.store ∙ inv.store;
+      turns = c.more-taken.ensures.turns ∙ ap (λ (n : ℕ). n + 1) inv.turns;
+      same = c.more-taken.ensures.same inv.same c.in-Some.ensures.one;
+      open_yet = c.more-taken.ensures.closed ∙ inv.open_yet;
+      empty = c.in-Some.ensures.outbox;
+      room = c.goes_on.ensures c.if-not-goes_on.false;
+    }
+
+pub returns-then-not-goes_on-clause-taken : goal.returns-then-not-goes_on-clause-taken
+returns-then-not-goes_on-clause-taken g c =
+    in_more c.loop-turn.invariant.taken c.in-Some.ensures.turn c.more-taken.ensures.due c.more-taken.ensures.report
+
+pub returns-in-None-clause-taken : goal.returns-in-None-clause-taken
+returns-in-None-clause-taken g c = in_closed c.loop-turn.invariant.taken c.in-None.ensures.turn c.closed.ensures.due c.closed.ensures.report

@@ -1,0 +1,14 @@
+use Rattle.std.proofs.Common.{◌≡◌, ◌+◌, ◌≤◌, false, [], length}
+use Rattle.oca_device.specs.PrivateKeeping.{TakesIn}
+use Rattle.oca_device.proofs.keeping.take_in.Given as goal
+
+abbrev pub invariant-loop-turn : goal.invariant-loop-turn
+invariant-loop-turn g l = record {
+  taken : TakesIn l.taken.is_due l.fn.device l.device (g.E.End.state l.fn.end) (g.E.End.state l.end) (g.L.Electronics.state l.fn.electronics) (g.L.Electronics.state l.electronics) l.fn.keeping l.keeping l.taken.report;
+  store : g.S.Store.state l.store ≡ g.S.Store.state l.fn.store;
+  turns : l.taken.turns ≡ l._turn;
+  same : l.taken.report.turns ≡ l.taken.turns;
+  open_yet : l.taken.is_closed ≡ false;
+  empty : l.outbox ≡ [];
+  room : length l.keeping.held ≤ 244;
+}

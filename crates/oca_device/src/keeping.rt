@@ -1,0 +1,608 @@
+//! The loop that serves an end and keeps the objects in a store: what was answered is stored.
+ghost use Rattle.std.specs.Prelude.{◌≡◌, ◌+◌, ◌<◌, ◌≤◌, ◌^◌, ◌-◌, ◌==◌, ◌||◌, ◌&&◌, not, false, [], ◌∷◌, ◌++◌, IsTrue, IfOk, length};
+ghost use Rattle.std.specs.Prelude.{if◌then◌else◌, IfSome, min};
+ghost use Rattle.oca_pdu.specs.Limits.{most_answered};
+ghost use Rattle.oca_net.specs.EndStates.{Receives, SendsAllBut};
+ghost use Rattle.oca_device.specs.Reports.{added, capped, no_turns, one_turn};
+ghost use Rattle.oca_net.specs.Ends.{last_u64};
+ghost use Rattle.oca_device.specs.Replies.{sent_to};
+ghost use Rattle.oca_device.specs.Keeping.{ServesKeeping};
+ghost use Rattle.oca_device.specs.PrivateTotals.{IsAtMostEach};
+ghost use Rattle.oca_device.specs.PrivateKeeping.{TakesIn, TakesOne, TakesDatagramIn, Settles};
+
+use crate::device::Device;
+use crate::electronics::Electronics;
+use crate::outbox::Outbox;
+use crate::report::Report;
+use crate::serving::{a_turn, nothing, of_verdict, send_all, sum};
+use crate::store::Store;
+use oca_net::{End, Heard};
+use oca_types::{NoMemory, Packet, Peer};
+use std::alloc::Global;
+use std::fmt;
+use std::marker::Model;
+
+/// The most turns before the objects are stored once.
+const MOST_TURNS: u32 = 64;
+
+/// For how many packets that wait there is room: three times as many as answer one datagram at most.
+const ROOM: usize = 366;
+
+/// With so many packets that wait there is room for the answers to one datagram more.
+const NEARLY_FULL: usize = 244;
+
+/// An answer that waits, and who it is for.
+#[derive(Drop)]
+struct Answer {
+    to: Peer,
+    packet: Packet,
+}
+
+/// What [`serve_keeping`] holds back: the answers that wait until the objects are stored, with room for 366 packets, and
+/// whether something written is not stored.
+#[derive(Drop)]
+pub struct Keeping {
+    is_behind: bool,
+    places: Vec<Answer>,
+}
+
+impl Model for Keeping {
+    ghost use Rattle.std.specs.Prelude.{◌≤◌, length, vec_capacity};
+    ghost use Rattle.oca_device.specs.PrivateKeeping.{KeepingState, held_of};
+
+    ghost Value = { KeepingState };
+
+    ghost view = { λ k. record { is_behind = k.is_behind; held = held_of k.places.items } };
+
+    ghost invariant = { λ k. (length k.places.items ≤ 366) × (366 ≤ vec_capacity k.places) };
+}
+
+impl Keeping {
+    ghost use Rattle.std.specs.Prelude.{false};
+
+    /// Nothing waits, and all that was written is stored: the store holds the objects of the device. Takes the memory
+    /// for what will wait. Refusal: `NoMemory`.
+    pub fn new(alloc: Global) -> Result<Keeping, NoMemory>
+        ensures { IfOk result (λ keeping. (keeping.is_behind ≡ false) × (keeping.held ≡ [])) }
+    {
+        match Vec::with_capacity(alloc, ROOM) {
+            Ok(places) => Ok(Keeping {
+                is_behind: false,
+                places,
+            }),
+            Err(_) => Err(NoMemory),
+        }
+    }
+
+    /// Drops what waits: nothing does, but within `serve_keeping`.
+    fn begin(&mut self)
+        ensures none { self.new.held ≡ [] }
+        ensures behind { self.new.is_behind ≡ self.old.is_behind }
+    {
+        self.places.clear();
+    }
+
+    /// Whether something written is not stored: the store failed when it was handed the objects last.
+    pub fn is_behind(&self) -> bool
+        ensures { result ≡ self.now.is_behind }
+    {
+        self.is_behind
+    }
+
+    /// Notes whether a datagram wrote to an object and how many duplicates it held, and returns whether the answers to
+    /// it wait.
+    fn note(&mut self, wrote: bool, duplicates: u64) -> bool
+        ensures waits { result ≡ (wrote || (not (duplicates == 0) && self.old.is_behind)) }
+        ensures behind { self.new.is_behind ≡ (wrote || self.old.is_behind) }
+        ensures held { self.new.held ≡ self.old.held }
+    {
+        let waits = wrote || (duplicates != 0 && self.is_behind);
+        self.is_behind = wrote || self.is_behind;
+        waits
+    }
+
+    /// Whether there is room for the answers to one datagram more.
+    fn has_room(&self) -> bool
+        ensures { IsTrue result → length self.now.held ≤ 244 }
+    {
+        self.places.len() <= NEARLY_FULL
+    }
+
+    /// Holds an answer to a peer back.
+    #[tactic(auto, using(crate::proofs::Keepings::held_more))]
+    fn push(&mut self, to: Peer, packet: &Packet)
+        requires { length self.old.held < 366 }
+        ensures held { self.new.held ≡ self.old.held ++ (record { to = to; bytes = packet.now.items }) ∷ [] }
+        ensures behind { self.new.is_behind ≡ self.old.is_behind }
+    {
+        let answer = answer_of(to, packet);
+        self.places.push_reserved(answer);
+    }
+
+    /// Holds the answers to a peer back.
+    fn hold(&mut self, to: Peer, outbox: &Outbox)
+        requires { length self.old.held ≤ 244 }
+        ensures held { self.new.held ≡ self.old.held ++ sent_to to outbox.now }
+        ensures behind { self.new.is_behind ≡ self.old.is_behind }
+    {
+        for packet in outbox.packets() {
+            self.push(to, packet);
+        }
+    }
+
+    /// Sends what waits, in order, and returns how many sends failed. It waits on.
+    fn send_held<E: End>(&self, end: &mut E) -> u64
+        ensures sends { SendsAllBut result (E.state end.old) (E.state end.new) self.now.held }
+        ensures few { result ≤ 366 }
+    {
+        let mut failed = 0;
+        for answer in self.places.as_slice() {
+            if !end.send(answer.to, answer.packet.as_slice()) {
+                failed += 1;
+            }
+        }
+        failed
+    }
+
+    /// Notes that the store was handed the objects, and whether it said that it holds them. Nothing waits then.
+    fn settled(&mut self, stored: bool)
+        ensures behind { self.new.is_behind ≡ (self.old.is_behind && not stored) }
+        ensures none { self.new.held ≡ [] }
+    {
+        self.is_behind = self.is_behind && !stored;
+        self.places.clear();
+    }
+}
+
+impl fmt::Debug for Keeping {
+    /// How many packets wait, and whether something written is not stored.
+    fn fmt<W: fmt::Write>(&self, f: &mut fmt::Formatter<W>) -> fmt::Result {
+        f.debug_struct("Keeping")
+            .field("held", &self.places.len())
+            .field("is_behind", &self.is_behind)
+            .finish()
+    }
+}
+
+/// Serves an end as [`serve_with`](crate::serve_with) does, for at most so many turns, and keeps the objects in a store:
+/// an answer to a datagram that wrote to an object leaves only once the store has said that it holds the objects.
+///
+/// Such an answer waits. While one does, all datagrams that are there are taken, in at most 64 turns; then the objects
+/// are stored, once for all, and what waited is sent. Where the store fails, what waited is dropped, and for its peer is
+/// as if the network had lost it: the objects stay as they are, each reply stays retained, and who repeats the command
+/// finds it. While something written is not stored, the answers to a datagram with a duplicate wait too, and the store
+/// is handed the objects again. Other answers leave at once, also those that tell what is not stored yet. Electronics
+/// follow each datagram at once, before its answers are stored. What was written at the front is stored with the next
+/// datagram that writes.
+///
+/// Numbers of the report that would pass 64 bits stay at their last value.
+pub fn serve_keeping<E: End, S: Store, L: Electronics>(
+    device: &mut Device,
+    end: &mut E,
+    outbox: &mut Outbox,
+    keeping: &mut Keeping,
+    store: &mut S,
+    electronics: &mut L,
+    turns: u32,
+) -> Report
+    ensures served { ServesKeeping keeping.old.is_behind keeping.new.is_behind device.old device.new (E.state end.old)
+        (E.state end.new) (L.state electronics.old) (L.state electronics.new) (S.state store.old) (S.state store.new)
+        result }
+    ensures turns { result.turns ≤ turns }
+    ensures closed { result.turns < turns → IsTrue (E.state end.new).closed }
+    ensures none { keeping.new.held ≡ [] }
+    ensures outbox { outbox.new ≡ [] }
+{
+    outbox.clear();
+    keeping.begin();
+    let mut packet = Packet::new();
+    let mut report = nothing();
+    let mut left = turns;
+    for _group in 0..turns {
+        if left == 0 {
+            return report;
+        }
+        let group = serve_group(
+            device,
+            end,
+            outbox,
+            keeping,
+            store,
+            electronics,
+            &mut packet,
+            left,
+        );
+        report = with_group(report, group, left);
+        if group.is_closed {
+            return report;
+        }
+        left -= group.turns;
+    }
+    report
+}
+
+/// What was done, and a group more, of at most so many turns that are left.
+fn with_group(report: Report, group: Taken, left: u32) -> Report
+    requires fits { report.turns + left < 2 ^ 32 }
+    requires most { group.turns ≤ left }
+    requires same { group.report.turns ≡ group.turns }
+    ensures report { result ≡ capped (added report group.report) }
+    ensures turns { result.turns ≡ report.turns + group.turns }
+{
+    report + group.report
+}
+
+/// An answer with these bytes.
+fn answer_of(to: Peer, packet: &Packet) -> Answer
+    ensures to { result.to ≡ to }
+    ensures bytes { result.packet.items ≡ packet.now.items }
+{
+    let mut copy = Packet::new();
+    let _ = copy.try_extend_from_slice(packet.as_slice());
+    Answer { to, packet: copy }
+}
+
+/// What was taken in: the report of it, its turns, whether the answers to a datagram wait, and whether the end is
+/// closed.
+#[derive(Clone, Copy)]
+struct Taken {
+    report: Report,
+    turns: u32,
+    is_due: bool,
+    is_closed: bool,
+}
+
+/// Takes datagrams in, in at least one turn and at most so many, and stores the objects where answers wait.
+fn serve_group<E: End, S: Store, L: Electronics>(
+    device: &mut Device,
+    end: &mut E,
+    outbox: &mut Outbox,
+    keeping: &mut Keeping,
+    store: &mut S,
+    electronics: &mut L,
+    packet: &mut Packet,
+    most: u32,
+) -> Taken
+    requires outbox { outbox.old ≡ [] }
+    requires none { keeping.old.held ≡ [] }
+    requires some { 0 < most }
+    ensures served { ServesKeeping keeping.old.is_behind keeping.new.is_behind device.old device.new (E.state end.old)
+        (E.state end.new) (L.state electronics.old) (L.state electronics.new) (S.state store.old) (S.state store.new)
+        result.report }
+    ensures turns { result.report.turns ≡ result.turns }
+    ensures most { result.turns ≤ most }
+    ensures some { result.is_closed ≡ false → 0 < result.turns }
+    ensures closed { IsTrue result.is_closed → IsTrue (E.state end.new).closed }
+    ensures none { keeping.new.held ≡ [] }
+    ensures outbox { outbox.new ≡ [] }
+{
+    let taken = take_in(
+        device,
+        end,
+        outbox,
+        keeping,
+        store,
+        electronics,
+        packet,
+        most,
+    );
+    if !taken.is_due {
+        keeping.begin();
+        return taken;
+    }
+    let failed = settle(device, end, keeping, store);
+    with_failed(taken, failed)
+}
+
+/// What was taken in, and so many sends more that failed.
+fn with_failed(taken: Taken, failed: u64) -> Taken
+    ensures report { result.report ≡ (record taken.report {
+      failed_sends = min (taken.report.failed_sends + failed) last_u64;
+    }) }
+    ensures turns { result.turns ≡ taken.turns }
+    ensures closed { result.is_closed ≡ taken.is_closed }
+{
+    Taken {
+        report: Report {
+            failed_sends: taken.report.failed_sends.saturating_add(failed),
+            ..taken.report
+        },
+        ..taken
+    }
+}
+
+/// Stores the objects, and sends what waits where the store holds them; else drops it. Returns how many sends failed.
+fn settle<E: End, S: Store>(
+    device: &Device,
+    end: &mut E,
+    keeping: &mut Keeping,
+    store: &mut S,
+) -> u64
+    ensures { Settles device.now.tree (E.state end.old) (E.state end.new) keeping.old keeping.new (S.state store.old)
+        (S.state store.new) result }
+{
+    let stored = store.store(device.tree());
+    let failed = send_stored(end, keeping, stored);
+    keeping.settled(stored);
+    failed
+}
+
+/// Sends what waits where the objects are stored. Returns how many sends failed.
+#[tactic(auto, using(crate::proofs::Keepings::nothing_sent, crate::proofs::Keepings::none_if_false))]
+fn send_stored<E: End>(end: &mut E, keeping: &Keeping, stored: bool) -> u64
+    ensures { SendsAllBut result (E.state end.old) (E.state end.new) (if stored then keeping.now.held else []) }
+{
+    if stored { keeping.send_held(end) } else { 0 }
+}
+
+/// Takes datagrams in, in at least one turn and at most so many: while answers wait, all that are there, as far as there
+/// is room for the answers to them.
+fn take_in<E: End, S: Store, L: Electronics>(
+    device: &mut Device,
+    end: &mut E,
+    outbox: &mut Outbox,
+    keeping: &mut Keeping,
+    store: &mut S,
+    electronics: &mut L,
+    packet: &mut Packet,
+    most: u32,
+) -> Taken
+    requires outbox { outbox.old ≡ [] }
+    requires none { keeping.old.held ≡ [] }
+    requires some { 0 < most }
+    ensures taken { TakesIn result.is_due device.old device.new (E.state end.old) (E.state end.new)
+        (L.state electronics.old) (L.state electronics.new) keeping.old keeping.new result.report }
+    ensures store { S.state store.new ≡ S.state store.old }
+    ensures turns { result.report.turns ≡ result.turns }
+    ensures most { result.turns ≤ most }
+    ensures some { result.is_closed ≡ false → 0 < result.turns }
+    ensures closed { IsTrue result.is_closed → IsTrue (E.state end.new).closed }
+    ensures outbox { outbox.new ≡ [] }
+{
+    let mut taken = none_taken();
+    for _turn in 0..most.min(MOST_TURNS) {
+        let wait = !taken.is_due;
+        match take_turn(
+            device,
+            end,
+            outbox,
+            keeping,
+            store,
+            electronics,
+            packet,
+            wait,
+        ) {
+            Some(turn) => {
+                taken = more(taken, turn);
+                if !goes_on(taken, turn, keeping) {
+                    return taken;
+                }
+            }
+            None => return closed(taken),
+        }
+    }
+    taken
+}
+
+/// Nothing was taken in.
+fn none_taken() -> Taken
+    ensures report { result.report ≡ no_turns }
+    ensures turns { result.turns ≡ 0 }
+    ensures due { result.is_due ≡ false }
+    ensures closed { result.is_closed ≡ false }
+{
+    Taken {
+        report: nothing(),
+        turns: 0,
+        is_due: false,
+        is_closed: false,
+    }
+}
+
+/// What was taken in, and a turn more.
+fn more(taken: Taken, turn: Turn) -> Taken
+    requires few { taken.turns < 64 }
+    ensures report { result.report ≡ capped (added taken.report turn.report) }
+    ensures turns { result.turns ≡ taken.turns + 1 }
+    ensures same { taken.report.turns ≡ taken.turns → turn.report.turns ≡ 1 → result.report.turns ≡ result.turns }
+    ensures due { result.is_due ≡ (taken.is_due || turn.waits) }
+    ensures closed { result.is_closed ≡ taken.is_closed }
+{
+    Taken {
+        report: taken.report + turn.report,
+        turns: taken.turns + 1,
+        is_due: taken.is_due || turn.waits,
+        is_closed: taken.is_closed,
+    }
+}
+
+/// Whether more is taken in behind a turn: while answers wait, datagrams come and there is room for the answers to one.
+fn goes_on(taken: Taken, turn: Turn, keeping: &Keeping) -> bool
+    ensures { IsTrue result → length keeping.now.held ≤ 244 }
+{
+    taken.is_due && turn.is_datagram && keeping.has_room()
+}
+
+/// What was taken in, and the end is closed.
+fn closed(taken: Taken) -> Taken
+    ensures report { result.report ≡ taken.report }
+    ensures turns { result.turns ≡ taken.turns }
+    ensures due { result.is_due ≡ taken.is_due }
+    ensures closed { IsTrue result.is_closed }
+{
+    Taken {
+        is_closed: true,
+        ..taken
+    }
+}
+
+/// What a turn did, whether the answers to its datagram wait, and whether it had one.
+#[derive(Clone, Copy)]
+struct Turn {
+    report: Report,
+    waits: bool,
+    is_datagram: bool,
+}
+
+/// Receives once, and does what there is to do. Returns what it did, or nothing at Closed.
+fn take_turn<E: End, S: Store, L: Electronics>(
+    device: &mut Device,
+    end: &mut E,
+    outbox: &mut Outbox,
+    keeping: &mut Keeping,
+    store: &mut S,
+    electronics: &mut L,
+    packet: &mut Packet,
+    wait: bool,
+) -> Option<Turn>
+    requires outbox { outbox.old ≡ [] }
+    requires room { length keeping.old.held ≤ 244 }
+    ensures turn { TakesOne device.old device.new (E.state end.old) (E.state end.new) (L.state electronics.old)
+        (L.state electronics.new) keeping.old keeping.new result }
+    ensures one { IfSome result (λ turn. turn.report.turns ≡ 1) }
+    ensures store { S.state store.new ≡ S.state store.old }
+    ensures outbox { outbox.new ≡ [] }
+{
+    match hear(end, packet, wait) {
+        Heard::Datagram { from, now } => {
+            let turn = take_datagram(device, end, outbox, keeping, electronics, from, packet, now);
+            let heard = Heard::Datagram { from, now };
+            store.tell(heard, packet.as_slice(), outbox, &turn.report, device);
+            outbox.clear();
+            Some(turn)
+        }
+        Heard::Quiet { now } => {
+            device.tick(now);
+            let report = quiet_turn();
+            store.tell(Heard::Quiet { now }, &[], outbox, &report, device);
+            Some(without_datagram(report))
+        }
+        Heard::Oversize { now } => {
+            device.tick(now);
+            let report = oversize_turn();
+            store.tell(Heard::Oversize { now }, &[], outbox, &report, device);
+            Some(without_datagram(report))
+        }
+        Heard::Failed => {
+            let report = failed_turn();
+            store.tell(Heard::Failed, &[], outbox, &report, device);
+            Some(without_datagram(report))
+        }
+        Heard::Closed => None,
+    }
+}
+
+/// A turn without a datagram.
+fn without_datagram(report: Report) -> Turn
+    ensures report { result.report ≡ report }
+    ensures waits { result.waits ≡ false }
+{
+    Turn {
+        report,
+        waits: false,
+        is_datagram: false,
+    }
+}
+
+/// A turn in which no datagram came.
+fn quiet_turn() -> Report
+    ensures { result ≡ (record one_turn { quiet = 1 }) }
+{
+    Report {
+        quiet: 1,
+        ..a_turn()
+    }
+}
+
+/// A turn with an oversize datagram.
+fn oversize_turn() -> Report
+    ensures { result ≡ (record one_turn { oversize = 1 }) }
+{
+    Report {
+        oversize: 1,
+        ..a_turn()
+    }
+}
+
+/// A turn in which the end failed.
+fn failed_turn() -> Report
+    ensures { result ≡ (record one_turn { failed_receives = 1 }) }
+{
+    Report {
+        failed_receives: 1,
+        ..a_turn()
+    }
+}
+
+/// Receives once: waits as the end does, or takes only what is there, where the end keeps time.
+fn hear<E: End>(end: &mut E, packet: &mut Packet, wait: bool) -> Heard
+    ensures { Receives result packet.new.items (E.state end.old) (E.state end.new) }
+{
+    if wait {
+        end.receive(packet)
+    } else {
+        let now = end.now();
+        end.receive_by(packet, now)
+    }
+}
+
+/// Serves a datagram: its answers are in the outbox, and are sent or wait.
+fn take_datagram<E: End, L: Electronics>(
+    device: &mut Device,
+    end: &mut E,
+    outbox: &mut Outbox,
+    keeping: &mut Keeping,
+    electronics: &mut L,
+    from: Peer,
+    packet: &Packet,
+    now: u64,
+) -> Turn
+    requires room { length keeping.old.held ≤ 244 }
+    ensures turn { TakesDatagramIn result from packet.now.items now device.old device.new (E.state end.old)
+        (E.state end.new) (L.state electronics.old) (L.state electronics.new) keeping.old keeping.new }
+{
+    let verdict = device.datagram(from, packet.as_slice(), now, outbox);
+    let report = of_verdict(verdict);
+    let wrote = has_written(device);
+    let waits = keeping.note(wrote, report.kept);
+    let failed_sends = send_or_hold(end, keeping, waits, from, outbox);
+    electronics.follow(device.tree(), device.written());
+    Turn {
+        report: Report {
+            failed_sends,
+            ..report
+        },
+        waits,
+        is_datagram: true,
+    }
+}
+
+/// Whether the last datagram wrote to an object.
+fn has_written(device: &Device) -> bool
+    ensures { result ≡ not (length device.now.written == 0) }
+{
+    !device.written().is_empty()
+}
+
+/// Sends the answers to a datagram, or holds them back where they wait. Returns how many sends failed.
+#[tactic(auto, using(crate::proofs::Keepings::nothing_sent, crate::proofs::Keepings::none_if_true))]
+fn send_or_hold<E: End>(
+    end: &mut E,
+    keeping: &mut Keeping,
+    waits: bool,
+    to: Peer,
+    outbox: &Outbox,
+) -> u64
+    requires room { length keeping.old.held ≤ 244 }
+    ensures sends { SendsAllBut result (E.state end.old) (E.state end.new)
+        (if waits then [] else sent_to to outbox.now) }
+    ensures held { keeping.new.held ≡ keeping.old.held ++ (if waits then sent_to to outbox.now else []) }
+    ensures behind { keeping.new.is_behind ≡ keeping.old.is_behind }
+{
+    if waits {
+        keeping.hold(to, outbox);
+        0
+    } else {
+        send_all(end, to, outbox)
+    }
+}

@@ -1,0 +1,36 @@
+//! Where the objects of a device are kept.
+ghost use Rattle.std.specs.Prelude.{◌≡◌};
+ghost use Rattle.oca_device.specs.Keeping.{StoreState, Stores};
+
+use crate::device::Device;
+use crate::outbox::Outbox;
+use crate::report::Report;
+use oca_net::Heard;
+use oca_tree::Tree;
+
+/// What keeps the objects of a device over a stop.
+///
+/// Where it tells, `storings` of its state are all the objects that it was handed, and whether it said that it holds
+/// them. Of a store that does not tell, it says nothing.
+pub trait Store {
+    /// What the store says of itself.
+    ghost state: { Self → StoreState };
+
+    /// Stores the objects: `true` once they are there after any stop, a power cut among them. `false` is a failure: a
+    /// start then finds what was stored before, or these objects.
+    fn store(&mut self, tree: &Tree) -> bool
+        ensures { Stores result tree.now (state self.old) (state self.new) };
+
+    /// Is told of each turn as soon as its datagram is served, for a line in a log: what was heard, the datagram's bytes
+    /// and its answers, what the turn did, and the device behind it. A send that fails later is in no turn's report.
+    fn tell(
+        &mut self,
+        _heard: Heard,
+        _bytes: &[u8],
+        _answers: &Outbox,
+        _turn: &Report,
+        _device: &Device,
+    )
+        ensures { state self.new ≡ state self.old }
+    {}
+}
