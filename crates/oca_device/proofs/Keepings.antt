@@ -28,8 +28,8 @@ use Rattle.oca_device.specs.Replies.{Serves, sent_for, sent_to}
 use Rattle.oca_device.specs.States.{state_after}
 use Rattle.oca_device.specs.Written as effects
 use Rattle.oca_device.specs.Following.{Followed, ElectronicsState, Follows, handed, handed_of}
-use Rattle.oca_device.specs.Keeping.{Storing, StoreState, Stores, Group, is_writing, is_repeating, waits, behind_after, behind_all, waiting, at_once, is_due, behind_group, storings_of, sent_of, all_deliveries, behind_groups, storings_in_all, sent_of_all, ServesKeeping}
-use Rattle.oca_device.specs.PrivateKeeping.{KeepingState, held_of, TakesExactly, TakesIn, Settles, StaysClosed}
+use Rattle.oca_device.specs.Keeping.{Storing, StoreState, Stores, Group, is_writing, is_repeating, answers_wait, behind_after, behind_all, waiting, at_once, some_wait, behind_group, storings_of, sent_for_group, all_deliveries, behind_groups, storings_in_all, sent_of_all, ServesKeeping}
+use Rattle.oca_device.specs.PrivateKeeping.{KeepingState, packets_held, TakesExactly, TakesIn, SettlesGroup, StaysClosed}
 use Rattle.oca_device.proofs.Turns.{later_events, later_handed, nothing_served, one_served, serves_more, verdict_one, first_sent, further}
 
 -- ---- deliveries one after another
@@ -45,7 +45,7 @@ module _ (w : DeviceSizes) (tree : List Object) where
   later_waiting b [] es events = refl
   later_waiting b (d ∷ ds) es events =
       let c = behind_after b w tree events d in
-      let one : List Sent = cond (waits b w tree events d) (sent_for w tree events d) [] in
+      let one : List Sent = cond (answers_wait b w tree events d) (sent_for w tree events d) [] in
       ap (λ (xs : List Sent). one ++ xs) (later_waiting c ds es (events_after d events))
       ∙ sym (append_assoc one (waiting c w tree (events_after d events) ds) (waiting (behind_all c w tree (events_after d events) ds) w tree (events_after_all ds (events_after d events)) es))
 
@@ -54,7 +54,7 @@ module _ (w : DeviceSizes) (tree : List Object) where
   later_at_once b [] es events = refl
   later_at_once b (d ∷ ds) es events =
       let c = behind_after b w tree events d in
-      let one : List Sent = cond (waits b w tree events d) [] (sent_for w tree events d) in
+      let one : List Sent = cond (answers_wait b w tree events d) [] (sent_for w tree events d) in
       ap (λ (xs : List Sent). one ++ xs) (later_at_once c ds es (events_after d events))
       ∙ sym (append_assoc one (at_once c w tree (events_after d events) ds) (at_once (behind_all c w tree (events_after d events) ds) w tree (events_after_all ds (events_after d events)) es))
 
@@ -63,12 +63,12 @@ module _ (w : DeviceSizes) (tree : List Object) where
   or_assoc false y z = refl
 
   later_due : (b : Bool) (ds es : List Delivery) (events : List Event) →
-      is_due b w tree events (ds ++ es) ≡ is_due b w tree events ds || is_due (behind_all b w tree events ds) w tree (events_after_all ds events) es
+      some_wait b w tree events (ds ++ es) ≡ some_wait b w tree events ds || some_wait (behind_all b w tree events ds) w tree (events_after_all ds events) es
   later_due b [] es events = refl
   later_due b (d ∷ ds) es events =
       let c = behind_after b w tree events d in
-      ap (λ (x : Bool). waits b w tree events d || x) (later_due c ds es (events_after d events))
-      ∙ sym (or_assoc (waits b w tree events d) (is_due c w tree (events_after d events) ds) (is_due (behind_all c w tree (events_after d events) ds) w tree (events_after_all ds (events_after d events)) es))
+      ap (λ (x : Bool). answers_wait b w tree events d || x) (later_due c ds es (events_after d events))
+      ∙ sym (or_assoc (answers_wait b w tree events d) (some_wait c w tree (events_after d events) ds) (some_wait (behind_all c w tree (events_after d events) ds) w tree (events_after_all ds (events_after d events)) es))
 
 -- ---- numbers that stay at their last value
 
@@ -150,7 +150,7 @@ more_exactly {p} {q} {a} {b} {c} {e} {f} {g} {x} {y} {z} {k} {l} {m} {r} {s} h i
       waited = λ w tree events rep.
           let later = events_after_all ds events in
           ap (λ (n : Bool). n || q) (h.waited w tree events rep)
-          ∙ ap (λ (n : Bool). is_due k.is_behind w tree events ds || n) (i.waited w tree later (h.serves.represents w tree events rep) ∙ ap (λ (n : Bool). is_due n w tree later es) (h.unstored w tree events rep))
+          ∙ ap (λ (n : Bool). some_wait k.is_behind w tree events ds || n) (i.waited w tree later (h.serves.represents w tree events rep) ∙ ap (λ (n : Bool). some_wait n w tree later es) (h.unstored w tree events rep))
           ∙ sym (later_due w tree k.is_behind ds es events);
     }
 
@@ -201,12 +201,12 @@ pub in_one : (x : Delivery) {h : Heard} {bytes : List ℕ} {all : List Sent} {ol
     (IsTrue before.tells → mid.delivered ≡ before.delivered ++ x ∷ []) → r.failed_receives ≡ cond (is_failed h) 1 0 → r.turns ≡ 1 →
     ((w : DeviceSizes) (tree : List Object) (events : List Event) → Represents w old tree events → Represents w new tree (events_after x events)) →
     ((w : DeviceSizes) (tree : List Object) (events : List Event) → Represents w old tree events → r ≡ record (turn_report w tree events x) { failed_sends = r.failed_sends }) →
-    ((w : DeviceSizes) (tree : List Object) (events : List Event) → Represents w old tree events → all ≡ cond (waits k.is_behind w tree events x) [] (sent_for w tree events x)) →
+    ((w : DeviceSizes) (tree : List Object) (events : List Event) → Represents w old tree events → all ≡ cond (answers_wait k.is_behind w tree events x) [] (sent_for w tree events x)) →
     moved.tells ≡ idle.tells →
     (IsTrue idle.tells → (w : DeviceSizes) (tree : List Object) (events : List Event) → Represents w old tree events → moved.followed ≡ idle.followed ++ handed_of w tree events x) →
-    ((w : DeviceSizes) (tree : List Object) (events : List Event) → Represents w old tree events → l.held ≡ k.held ++ cond (waits k.is_behind w tree events x) (sent_for w tree events x) []) →
+    ((w : DeviceSizes) (tree : List Object) (events : List Event) → Represents w old tree events → l.held ≡ k.held ++ cond (answers_wait k.is_behind w tree events x) (sent_for w tree events x) []) →
     ((w : DeviceSizes) (tree : List Object) (events : List Event) → Represents w old tree events → l.is_behind ≡ behind_after k.is_behind w tree events x) →
-    ((w : DeviceSizes) (tree : List Object) (events : List Event) → Represents w old tree events → q ≡ waits k.is_behind w tree events x) →
+    ((w : DeviceSizes) (tree : List Object) (events : List Event) → Represents w old tree events → q ≡ answers_wait k.is_behind w tree events x) →
     TakesExactly q old new before after idle moved k l r
 in_one x {all = all} {old = old} {new = new} {before = before} {after = after} {idle = idle} {k = k} {r = r} heard sent grew failed one represents reported at_once_are telling followed held behind due =
     let ends = delivered_one x heard sent grew failed in
@@ -217,17 +217,17 @@ in_one x {all = all} {old = old} {new = new} {before = before} {after = after} {
       delivered = ends.grew;
       failures = ends.failures;
       sent = λ told w tree events rep.
-          let now : List Sent = cond (waits k.is_behind w tree events x) [] (sent_for w tree events x) in
+          let now : List Sent = cond (answers_wait k.is_behind w tree events x) [] (sent_for w tree events x) in
           subst (λ (xs : List Sent). TakesAllBut r.failed_sends before.taken after.taken xs) (at_once_are w tree events rep ∙ sym (append-nil now))
           (subst (λ (t : List Sent). TakesAllBut r.failed_sends t after.taken all) (heard.taken told) (sent.taken (heard.telling ∙ told)));
       following = telling;
       followed = λ told w tree events rep.
           followed told w tree events rep ∙ ap (λ (xs : List Followed). idle.followed ++ xs) (sym (append-nil (handed_of w tree events x)));
       holding = λ w tree events rep.
-          let later : List Sent = cond (waits k.is_behind w tree events x) (sent_for w tree events x) [] in
+          let later : List Sent = cond (answers_wait k.is_behind w tree events x) (sent_for w tree events x) [] in
           held w tree events rep ∙ ap (λ (xs : List Sent). k.held ++ xs) (sym (append-nil later));
       unstored = behind;
-      waited = λ w tree events rep. due w tree events rep ∙ sym (or_false (waits k.is_behind w tree events x));
+      waited = λ w tree events rep. due w tree events rep ∙ sym (or_false (answers_wait k.is_behind w tree events x));
     }
 
 module _ {old new : DeviceState} {before mid : EndState} {idle : ElectronicsState} {k : KeepingState} {held : List ℕ} (r : Report) where
@@ -258,7 +258,7 @@ module _ {old new : DeviceState} {before mid : EndState} {idle : ElectronicsStat
       λ w tree events. ap (λ b. cond b (verdict_turn (verdict w tree events d.from d.long now)) report) no_datagram in
       let unwritten : (w : DeviceSizes) (tree : List Object) (events : List Event) → is_writing w tree events x ≡ false =
       λ w tree events. ap (λ (b : Bool). b && not (length (effects.written w tree (event.Datagram d.from d.long now ∷ events)) == 0)) no_datagram in
-      let no_wait : (w : DeviceSizes) (tree : List Object) (events : List Event) → waits k.is_behind w tree events x ≡ false =
+      let no_wait : (w : DeviceSizes) (tree : List Object) (events : List Event) → answers_wait k.is_behind w tree events x ≡ false =
       λ w tree events. ap (λ (b : Bool). b || (is_repeating w tree events x && k.is_behind)) (unwritten w tree events) ∙ ap (λ (q : Report). not (q.kept == 0) && k.is_behind) (turned w tree events) in
       let none_sent : (w : DeviceSizes) (tree : List Object) (events : List Event) → sent_for w tree events x ≡ [] =
       λ w tree events. ap (λ b. cond b (sent_to d.from (packets w tree events (event.Datagram d.from d.long now))) []) no_datagram in
@@ -292,7 +292,7 @@ datagram_in {old} {new} {before} {mid} {after} {idle} {moved} {k} {l} r {q} {wro
     let writes : (w : DeviceSizes) (tree : List Object) (events : List Event) → Represents w old tree events → wrote ≡ is_writing w tree events x =
     λ w tree events rep. wrote_is ∙ ap (λ (ns : List ℕ). not (length ns == 0)) (represents w tree events rep).written
     ∙ ap (λ (b : Bool). b && not (length (effects.written w tree (event.Datagram from bytes now ∷ events)) == 0)) (sym fits) in
-    let waiting_is : (w : DeviceSizes) (tree : List Object) (events : List Event) → Represents w old tree events → q ≡ waits k.is_behind w tree events x =
+    let waiting_is : (w : DeviceSizes) (tree : List Object) (events : List Event) → Represents w old tree events → q ≡ answers_wait k.is_behind w tree events x =
     λ w tree events rep. q_is ∙ ap (λ (b : Bool). b || (not (n.kept == 0) && k.is_behind)) (writes w tree events rep)
     ∙ ap (λ (m : Report). is_writing w tree events x || (not (m.kept == 0) && k.is_behind)) (here w tree events rep) in
     let sends_are : (w : DeviceSizes) (tree : List Object) (events : List Event) → Represents w old tree events → sent_to from out ≡ sent_for w tree events x =
@@ -303,7 +303,7 @@ datagram_in {old} {new} {before} {mid} {after} {idle} {moved} {k} {l} r {q} {wro
     (ap (λ (m : Report). m.turns) (e ∙ ap (λ (m : Report). let y : Report = record m { failed_sends = r.failed_sends } in y) f) ∙ one.0)
     (λ w tree events rep. subst (λ (b : Bool). Represents w new tree (cond b (event.Datagram from bytes now ∷ events) (event.Tick now ∷ events))) (sym fits) (represents w tree events rep))
     (λ w tree events rep. e ∙ ap (λ (m : Report). let y : Report = record m { failed_sends = r.failed_sends } in y) (here w tree events rep))
-    (λ w tree events rep. ap (λ (b : Bool). cond b [] (sent_to from out)) (waiting_is w tree events rep) ∙ ap (λ (xs : List Sent). cond (waits k.is_behind w tree events x) [] xs) (sends_are w tree events rep))
+    (λ w tree events rep. ap (λ (b : Bool). cond b [] (sent_to from out)) (waiting_is w tree events rep) ∙ ap (λ (xs : List Sent). cond (answers_wait k.is_behind w tree events x) [] xs) (sends_are w tree events rep))
     follows.telling
     (λ told w tree events rep.
     let there = represents w tree events rep in
@@ -312,7 +312,7 @@ datagram_in {old} {new} {before} {mid} {after} {idle} {moved} {k} {l} r {q} {wro
     ∙ ap (λ (t : List Object). idle.followed ++ (let y : Followed = record { tree = t; written = numbers } in y) ∷ []) (tree_is ∙ there.state.tree)
     ∙ ap (λ (ns : List ℕ). idle.followed ++ (let y : Followed = record { tree = (state_after w tree after).tree; written = ns } in y) ∷ []) (written_is ∙ there.written)
     ∙ ap (λ b. idle.followed ++ cond b ((let y : Followed = record { tree = (state_after w tree after).tree; written = effects.written w tree after } in y) ∷ []) []) (sym fits))
-    (λ w tree events rep. held_is ∙ ap (λ (b : Bool). k.held ++ cond b (sent_to from out) []) (waiting_is w tree events rep) ∙ ap (λ (xs : List Sent). k.held ++ cond (waits k.is_behind w tree events x) xs []) (sends_are w tree events rep))
+    (λ w tree events rep. held_is ∙ ap (λ (b : Bool). k.held ++ cond b (sent_to from out) []) (waiting_is w tree events rep) ∙ ap (λ (xs : List Sent). k.held ++ cond (answers_wait k.is_behind w tree events x) xs []) (sends_are w tree events rep))
     (λ w tree events rep. behind_is ∙ ap (λ (b : Bool). b || k.is_behind) (writes w tree events rep))
     waiting_is
 
@@ -355,10 +355,10 @@ module _ (w : DeviceSizes) (tree : List Object) where
   later_sends b (g ∷ gs) hs events =
       let c = behind_group b w tree events g in
       let next = events_after_all g.deliveries events in
-      ap (λ (xs : List Sent). sent_of b w tree events g ++ xs)
+      ap (λ (xs : List Sent). sent_for_group b w tree events g ++ xs)
       (later_sends c gs hs next
       ∙ ap (λ (ys : List Event). sent_of_all c w tree next gs ++ sent_of_all (behind_groups c w tree next gs) w tree ys hs) (events_behind g gs events))
-      ∙ sym (append_assoc (sent_of b w tree events g) (sent_of_all c w tree next gs)
+      ∙ sym (append_assoc (sent_for_group b w tree events g) (sent_of_all c w tree next gs)
       (sent_of_all (behind_groups c w tree next gs) w tree (events_after_all (all_deliveries (g ∷ gs)) events) hs))
 
 -- no groups
@@ -471,7 +471,7 @@ keeps_undue {a} {b} {e} {f} {x} {y} {k} {l} {s} {t} {r} q undue h' same =
 
 -- Deliveries were taken in, and the objects were handed to the store.
 pub keeps_due : {a b : DeviceState} {e f g : EndState} {x y : ElectronicsState} {k l m : KeepingState} {s t : StoreState} {q r : Report} {failed : ℕ} →
-    k.held ≡ [] → (v : Bool) → v ≡ true → TakesIn v a b e f x y k l q → Settles b.tree f g l m s t failed → r ≡ record q { failed_sends = min (q.failed_sends + failed) last_u64 } →
+    k.held ≡ [] → (v : Bool) → v ≡ true → TakesIn v a b e f x y k l q → SettlesGroup b.tree f g l m s t failed → r ≡ record q { failed_sends = min (q.failed_sends + failed) last_u64 } →
     ServesKeeping k.is_behind m.is_behind a b e g x y s t r
 keeps_due {a} {b} {e} {f} {g} {x} {y} {k} {l} {m} {s} {t} {q} {r} {failed} none v due h' settled is =
     let h : TakesIn true a b e f x y k l q = subst (λ (n : Bool). TakesIn n a b e f x y k l q) due h' in
@@ -532,27 +532,27 @@ keeps_due {a} {b} {e} {f} {g} {x} {y} {k} {l} {m} {s} {t} {q} {r} {failed} none 
 
 -- one more of them was sent, and all
 pub held_further : (i k n : ℕ) (answers : List Answer) (d : Answer) (to : Peer) (bytes : List ℕ) {a b c : EndState} {was_taken : Bool} → i < length answers →
-    SendsAllBut k a b (take i (held_of answers)) → Sends was_taken to bytes b c → to ≡ (slice_index_or answers i d).to → bytes ≡ (slice_index_or answers i d).packet.items → n ≡ k + cond was_taken 0 1 →
-    SendsAllBut n a c (take (i + 1) (held_of answers))
+    SendsAllBut k a b (take i (packets_held answers)) → Sends was_taken to bytes b c → to ≡ (slice_index_or answers i d).to → bytes ≡ (slice_index_or answers i d).packet.items → n ≡ k + cond was_taken 0 1 →
+    SendsAllBut n a c (take (i + 1) (packets_held answers))
 held_further i k n answers d to bytes {a} {b} {c} {was_taken} h f s to_is bytes_is e =
     let one : Answer → Sent = λ x. record { to = x.to; bytes = x.packet.items } in
     let none : Sent = one d in
-    let inside : i < length (held_of answers) = omega (arith, length-map answers one) in
-    let this : slice_index_or (held_of answers) i none ≡ one (slice_index_or answers i d) = get_or-map one answers i d none h in
+    let inside : i < length (packets_held answers) = omega (arith, length-map answers one) in
+    let this : slice_index_or (packets_held answers) i none ≡ one (slice_index_or answers i d) = get_or-map one answers i d none h in
     let item = slice_index_or answers i d in
     let sends : Sends was_taken item.to item.packet.items b c =
     subst (λ (x : Peer). Sends was_taken x item.packet.items b c) to_is (subst (λ (x : List ℕ). Sends was_taken to x b c) bytes_is s) in
-    subst (λ (m : ℕ). SendsAllBut m a c (take (i + 1) (held_of answers))) (sym e)
-    (subst (λ (xs : List Sent). SendsAllBut (k + cond was_taken 0 1) a c xs) (sym (take_more (held_of answers) i none inside ∙ ap (λ (x : Sent). take i (held_of answers) ++ x ∷ []) this))
+    subst (λ (m : ℕ). SendsAllBut m a c (take (i + 1) (packets_held answers))) (sym e)
+    (subst (λ (xs : List Sent). SendsAllBut (k + cond was_taken 0 1) a c xs) (sym (take_more (packets_held answers) i none inside ∙ ap (λ (x : Sent). take i (packets_held answers) ++ x ∷ []) this))
     (sends_more f (sends_one sends)))
 
-pub held_all : (k i : ℕ) (answers : List Answer) {a b : EndState} → length answers ≤ i → SendsAllBut k a b (take i (held_of answers)) → SendsAllBut k a b (held_of answers)
+pub held_all : (k i : ℕ) (answers : List Answer) {a b : EndState} → length answers ≤ i → SendsAllBut k a b (take i (packets_held answers)) → SendsAllBut k a b (packets_held answers)
 held_all k i answers {a} {b} h f =
     let one : Answer → Sent = λ x. record { to = x.to; bytes = x.packet.items } in
-    subst (λ (xs : List Sent). SendsAllBut k a b xs) (take_all i (held_of answers) (omega (arith, h, length-map answers one))) f
+    subst (λ (xs : List Sent). SendsAllBut k a b xs) (take_all i (packets_held answers) (omega (arith, h, length-map answers one))) f
 
 -- one answer more is held
-pub held_more : (xs : List Answer) (a : Answer) → held_of (xs ++ a ∷ []) ≡ held_of xs ++ (record { to = a.to; bytes = a.packet.items }) ∷ []
+pub held_more : (xs : List Answer) (a : Answer) → packets_held (xs ++ a ∷ []) ≡ packets_held xs ++ (record { to = a.to; bytes = a.packet.items }) ∷ []
 held_more xs a = map-append (λ (x : Answer). let s : Sent = record { to = x.to; bytes = x.packet.items } in s) xs (a ∷ [])
 
 -- one packet more of them is held

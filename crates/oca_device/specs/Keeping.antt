@@ -49,8 +49,8 @@ is_repeating w tree events d = not ((turn_report w tree events d).kept == 0)
 
 -- THE ANSWERS TO A DATAGRAM WAIT where it wrote to an object; and, while something written is not stored, where it
 -- holds a duplicate.
-abbrev pub waits : Bool → DeviceSizes → List Object → List Event → Delivery → Bool
-waits behind w tree events d = is_writing w tree events d || (is_repeating w tree events d && behind)
+abbrev pub answers_wait : Bool → DeviceSizes → List Object → List Event → Delivery → Bool
+answers_wait behind w tree events d = is_writing w tree events d || (is_repeating w tree events d && behind)
 
 -- whether something written is not stored, behind a delivery
 abbrev pub behind_after : Bool → DeviceSizes → List Object → List Event → Delivery → Bool
@@ -73,39 +73,39 @@ behind_all behind w tree events (d ∷ deliveries) =
 abbrev pub waiting : Bool → DeviceSizes → List Object → List Event → List Delivery → List Sent
 waiting behind w tree events [] = []
 waiting behind w tree events (d ∷ deliveries) =
-    (if waits behind w tree events d then sent_for w tree events d else [])
+    (if answers_wait behind w tree events d then sent_for w tree events d else [])
     ++ waiting (behind_after behind w tree events d) w tree (events_after d events) deliveries
 
 abbrev pub at_once : Bool → DeviceSizes → List Object → List Event → List Delivery → List Sent
 at_once behind w tree events [] = []
 at_once behind w tree events (d ∷ deliveries) =
-    (if waits behind w tree events d then [] else sent_for w tree events d)
+    (if answers_wait behind w tree events d then [] else sent_for w tree events d)
     ++ at_once (behind_after behind w tree events d) w tree (events_after d events) deliveries
 
 -- whether the answers to one of them wait
-abbrev pub is_due : Bool → DeviceSizes → List Object → List Event → List Delivery → Bool
-is_due behind w tree events [] = false
-is_due behind w tree events (d ∷ deliveries) =
-    waits behind w tree events d
-    || is_due (behind_after behind w tree events d) w tree (events_after d events) deliveries
+abbrev pub some_wait : Bool → DeviceSizes → List Object → List Event → List Delivery → Bool
+some_wait behind w tree events [] = false
+some_wait behind w tree events (d ∷ deliveries) =
+    answers_wait behind w tree events d
+    || some_wait (behind_after behind w tree events d) w tree (events_after d events) deliveries
 
 -- whether something written is not stored, behind a group
 abbrev pub behind_group : Bool → DeviceSizes → List Object → List Event → Group → Bool
 behind_group behind w tree events g =
-    behind_all behind w tree events g.deliveries && not (is_due behind w tree events g.deliveries && g.stored)
+    behind_all behind w tree events g.deliveries && not (some_wait behind w tree events g.deliveries && g.stored)
 
 -- what a store is handed at a group: the objects behind it, where answers wait
 abbrev pub storings_of : Bool → DeviceSizes → List Object → List Event → Group → List Storing
 storings_of behind w tree events g =
-    if is_due behind w tree events g.deliveries then (record {
+    if some_wait behind w tree events g.deliveries then (record {
       tree = (state_after w tree (events_after_all g.deliveries events)).tree;
       stored = g.stored;
     }) ∷ [] else []
 
 -- WHAT IS SENT OF A GROUP: first what does not wait. What waits leaves behind it, once the store has said that it holds
 -- the objects; else it never does.
-abbrev pub sent_of : Bool → DeviceSizes → List Object → List Event → Group → List Sent
-sent_of behind w tree events g =
+abbrev pub sent_for_group : Bool → DeviceSizes → List Object → List Event → Group → List Sent
+sent_for_group behind w tree events g =
     at_once behind w tree events g.deliveries ++ (if g.stored then waiting behind w tree events g.deliveries else [])
 
 -- ---- groups, in order
@@ -128,7 +128,7 @@ storings_in_all behind w tree events (g ∷ groups) =
 abbrev pub sent_of_all : Bool → DeviceSizes → List Object → List Event → List Group → List Sent
 sent_of_all behind w tree events [] = []
 sent_of_all behind w tree events (g ∷ groups) =
-    sent_of behind w tree events g
+    sent_for_group behind w tree events g
     ++ sent_of_all (behind_group behind w tree events g) w tree (events_after_all g.deliveries events) groups
 
 -- A DEVICE SERVED AN END AND KEPT ITS OBJECTS IN A STORE: there are groups of deliveries that it served; behind each

@@ -16,7 +16,7 @@ use Rattle.oca_device.specs.Devices.{DeviceState, Represents}
 use Rattle.oca_device.specs.Reports.{capped}
 use Rattle.oca_device.specs.Replies.{Serves}
 use Rattle.oca_device.specs.Following.{ElectronicsState, handed}
-use Rattle.oca_device.specs.Keeping.{StoreState, Stores, at_once, waiting, behind_all, is_due}
+use Rattle.oca_device.specs.Keeping.{StoreState, Stores, at_once, waiting, behind_all, some_wait}
 
 -- whether something written is not stored, and what waits
 pub record KeepingState : Type 0 where
@@ -24,8 +24,8 @@ pub record KeepingState : Type 0 where
   pub held : List Sent
 
 -- what these answers are, and to whom
-abbrev pub held_of : List Answer → List Sent
-held_of answers = map (λ a. record { to = a.to; bytes = a.packet.items }) answers
+abbrev pub packets_held : List Answer → List Sent
+packets_held answers = map (λ a. record { to = a.to; bytes = a.packet.items }) answers
 
 -- Deliveries were taken in: what does not wait was sent, and what waits is held. They are due where the answers to one
 -- of them wait.
@@ -49,7 +49,7 @@ pub record TakesExactly (due : Bool) (old new : DeviceState) (before after : End
   pub unstored : (w : DeviceSizes) (tree : List Object) (events : List Event) → Represents w old tree events →
       is.is_behind ≡ behind_all was.is_behind w tree events deliveries
   pub waited : (w : DeviceSizes) (tree : List Object) (events : List Event) → Represents w old tree events →
-      due ≡ is_due was.is_behind w tree events deliveries
+      due ≡ some_wait was.is_behind w tree events deliveries
 
 -- the same, with a report whose numbers stay at the last of 64 bits
 pub record TakesIn (due : Bool) (old new : DeviceState) (before after : EndState) (idle moved : ElectronicsState)
@@ -59,7 +59,7 @@ pub record TakesIn (due : Bool) (old new : DeviceState) (before after : EndState
   pub takes : TakesExactly due old new before after idle moved was is report
 
 -- The store was handed these objects, and what was held was sent where it said that it holds them. Nothing is held then.
-pub record Settles (tree : List Object) (before after : EndState) (was is : KeepingState) (had has : StoreState)
+pub record SettlesGroup (tree : List Object) (before after : EndState) (was is : KeepingState) (had has : StoreState)
     (failed : ℕ) : Type 0 where
   pub stored : Bool
   pub stores : Stores stored tree had has
@@ -76,10 +76,10 @@ pub record StaysClosed (old new : DeviceState) (before after : EndState) (idle m
   pub received : Receives heard.Closed [] before after
 
 -- a turn takes one delivery in, or the end is closed
-abbrev pub TakesOne : DeviceState → DeviceState → EndState → EndState → ElectronicsState → ElectronicsState →
+abbrev pub TakesOneIn : DeviceState → DeviceState → EndState → EndState → ElectronicsState → ElectronicsState →
     KeepingState → KeepingState → Option Turn → Type 0
-TakesOne old new before after idle moved was is None = StaysClosed old new before after idle moved was is
-TakesOne old new before after idle moved was is (Some turn) =
+TakesOneIn old new before after idle moved was is None = StaysClosed old new before after idle moved was is
+TakesOneIn old new before after idle moved was is (Some turn) =
     TakesExactly turn.waits old new before after idle moved was is turn.report
 
 -- A datagram was served after it was received, and its answers were sent or are held.

@@ -8,7 +8,7 @@ ghost use Rattle.oca_net.specs.Ends.{last_u64};
 ghost use Rattle.oca_device.specs.Replies.{sent_to};
 ghost use Rattle.oca_device.specs.Keeping.{ServesKeeping};
 ghost use Rattle.oca_device.specs.PrivateTotals.{IsAtMostEach};
-ghost use Rattle.oca_device.specs.PrivateKeeping.{TakesIn, TakesOne, TakesDatagramIn, Settles};
+ghost use Rattle.oca_device.specs.PrivateKeeping.{TakesIn, TakesOneIn, TakesDatagramIn, SettlesGroup};
 
 use crate::device::Device;
 use crate::electronics::Electronics;
@@ -48,11 +48,11 @@ pub struct Keeping {
 
 impl Model for Keeping {
     ghost use Rattle.std.specs.Prelude.{◌≤◌, length, vec_capacity};
-    ghost use Rattle.oca_device.specs.PrivateKeeping.{KeepingState, held_of};
+    ghost use Rattle.oca_device.specs.PrivateKeeping.{KeepingState, packets_held};
 
     ghost Value = { KeepingState };
 
-    ghost view = { λ k. record { is_behind = k.is_behind; held = held_of k.places.items } };
+    ghost view = { λ k. record { is_behind = k.is_behind; held = packets_held k.places.items } };
 
     ghost invariant = { λ k. (length k.places.items ≤ 366) × (366 ≤ vec_capacity k.places) };
 }
@@ -318,7 +318,7 @@ fn settle<E: End, S: Store>(
     keeping: &mut Keeping,
     store: &mut S,
 ) -> u64
-    ensures { Settles device.now.tree (E.state end.old) (E.state end.new) keeping.old keeping.new (S.state store.old)
+    ensures { SettlesGroup device.now.tree (E.state end.old) (E.state end.new) keeping.old keeping.new (S.state store.old)
         (S.state store.new) result }
 {
     let stored = store.store(device.tree());
@@ -457,7 +457,7 @@ fn take_turn<E: End, S: Store, L: Electronics>(
 ) -> Option<Turn>
     requires outbox { outbox.old ≡ [] }
     requires room { length keeping.old.held ≤ 244 }
-    ensures turn { TakesOne device.old device.new (E.state end.old) (E.state end.new) (L.state electronics.old)
+    ensures turn { TakesOneIn device.old device.new (E.state end.old) (E.state end.new) (L.state electronics.old)
         (L.state electronics.new) keeping.old keeping.new result }
     ensures one { IfSome result (λ turn. turn.report.turns ≡ 1) }
     ensures store { S.state store.new ≡ S.state store.old }

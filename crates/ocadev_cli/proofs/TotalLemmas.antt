@@ -10,7 +10,7 @@ use Rattle.oca_device.specs.Following.{ElectronicsState, ServesEndWith}
 use Rattle.oca_device.proofs.Turns.{with_none, with_more}
 use Rattle.oca_device.specs.Keeping.{StoreState, all_deliveries}
 use Rattle.oca_device.proofs.Keepings.{keeps_none, keeps_more}
-use Rattle.ocadev_cli.specs.Totals.{KeepsOn, ServesOn}
+use Rattle.ocadev_cli.specs.Totals.{StoresOn, ServesOn}
 
 abbrev cap : ℕ → ℕ
 cap n = min n last_u64
@@ -50,7 +50,7 @@ pub turns-more : (t n : ℕ) (p r s : Report) → s ≡ capped (added p r) → p
 turns-more t n p r s is had more fits = ap (λ (q : Report). q.turns) is ∙ cap-fits p.turns r.turns t n had more fits
 
 -- what was kept was served, at an end that does not tell
-pub kept_serves : (b c : Bool) (d n : DeviceState) (e f : EndState) (had has : StoreState) (r : Report) → e.tells ≡ false → KeepsOn b c d n e f had has r → ServesOn d n e f r
+pub kept_serves : (b c : Bool) (d n : DeviceState) (e f : EndState) (had has : StoreState) (r : Report) → e.tells ≡ false → StoresOn b c d n e f had has r → ServesOn d n e f r
 kept_serves b c d n e f had has r silent_end k = record {
   report = k.report;
   serves = record {
@@ -65,8 +65,8 @@ kept_serves b c d n e f had has r silent_end k = record {
 }
 
 -- no round, and one round more
-pub kept-none : (b : Bool) (d : DeviceState) (e : EndState) (s : StoreState) (r : Report) → r ≡ no_turns → KeepsOn b b d d e e s s r
+pub kept-none : (b : Bool) (d : DeviceState) (e : EndState) (s : StoreState) (r : Report) → r ≡ no_turns → StoresOn b b d d e e s s r
 kept-none b d e s r is = keeps_none b d e silent s r is
 
-pub kept-more : (p q o : Bool) (a b c : DeviceState) (e f g : EndState) (s t u : StoreState) (m n r : Report) → KeepsOn p q a b e f s t m → KeepsOn q o b c f g t u n → r ≡ capped (added m n) → KeepsOn p o a c e g s u r
+pub kept-more : (p q o : Bool) (a b c : DeviceState) (e f g : EndState) (s t u : StoreState) (m n r : Report) → StoresOn p q a b e f s t m → StoresOn q o b c f g t u n → r ≡ capped (added m n) → StoresOn p o a c e g s u r
 kept-more p q o a b c e f g s t u m n r h k is = keeps_more r h k is

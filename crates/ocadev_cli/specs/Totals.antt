@@ -22,9 +22,9 @@ abbrev pub silent_store : StoreState
 silent_store = record { tells = false; storings = [] }
 
 -- A device served an end and kept its objects in a store, without electronics.
-abbrev pub KeepsOn : (behind is_behind : Bool) (old new : DeviceState) (before after : EndState) (had has : StoreState)
+abbrev pub StoresOn : (behind is_behind : Bool) (old new : DeviceState) (before after : EndState) (had has : StoreState)
     (printed : Report) → Type 0
-KeepsOn behind is_behind old new before after had has printed =
+StoresOn behind is_behind old new before after had has printed =
     ServesKeeping behind is_behind old new before after no_electronics no_electronics had has printed
 
 -- ---- how often the report so far is printed

@@ -16,7 +16,7 @@ ghost use Rattle.ocadev_cli.specs.Printing.{report_text, tree_text};
 ghost use Rattle.ocadev_cli.specs.Runs.{exit_status, RunsOn, Obeys, DoesAsked, Does, DoesMatched, DoesReplay};
 ghost use Rattle.ocadev_cli.specs.Runs.{DoesServe, DoesShow, Helps, PrintsText, ReplaysMade, ReplaysOn, ServesFrom};
 ghost use Rattle.ocadev_cli.specs.Runs.{ServesMade, ServesOrFails, turns_until};
-ghost use Rattle.ocadev_cli.specs.Totals.{KeepsOn, ServesOn, silent_store};
+ghost use Rattle.ocadev_cli.specs.Totals.{StoresOn, ServesOn, silent_store};
 
 use super::keep::{FileStore, Keeping, Kept, claimed, is_there, start_objects};
 use super::making::{made, objects};
@@ -538,7 +538,7 @@ fn stored_over<N: Clock, L: Files, F: Sink>(
     kept: &mut Kept<'_>,
     faults: &mut Printer<F>,
 ) -> Report
-    ensures served { KeepsOn kept.old.waiting.is_behind kept.new.waiting.is_behind device.old device.new
+    ensures served { StoresOn kept.old.waiting.is_behind kept.new.waiting.is_behind device.old device.new
         (state_of_socket end.old) (state_of_socket end.new) silent_store silent_store result }
     ensures turns { result.turns ≡ turns_until turns }
 {

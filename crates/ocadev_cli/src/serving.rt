@@ -3,7 +3,7 @@ ghost use Rattle.std.specs.Prelude.{◌≡◌, ◌≤◌, ◌<◌, ◌==◌, ◌
 ghost use Rattle.oca_net.specs.Ends.{last_u64};
 ghost use Rattle.oca_device.specs.Reports.{added, capped, no_turns};
 ghost use Rattle.ocadev_cli.specs.Runs.{turns_until};
-ghost use Rattle.ocadev_cli.specs.Totals.{KeepsOn, ServesOn, stats_interval, first_stats};
+ghost use Rattle.ocadev_cli.specs.Totals.{StoresOn, ServesOn, stats_interval, first_stats};
 
 use super::report::print_stats;
 use super::trace::{Watched, print_turn};
@@ -60,7 +60,7 @@ pub fn serve_kept<E: End, S: Store>(
     store: &mut S,
     turns: Option<u32>,
 ) -> Report
-    ensures served { KeepsOn keeping.old.is_behind keeping.new.is_behind device.old device.new (E.state end.old)
+    ensures served { StoresOn keeping.old.is_behind keeping.new.is_behind device.old device.new (E.state end.old)
         (E.state end.new) (S.state store.old) (S.state store.new) result }
     ensures turns { result.turns ≤ turns_until turns }
     ensures closed { result.turns < turns_until turns → IsTrue (E.state end.new).closed }
@@ -80,7 +80,7 @@ fn keep_turns<E: End, S: Store>(
     store: &mut S,
     turns: u32,
 ) -> Report
-    ensures served { KeepsOn keeping.old.is_behind keeping.new.is_behind device.old device.new (E.state end.old)
+    ensures served { StoresOn keeping.old.is_behind keeping.new.is_behind device.old device.new (E.state end.old)
         (E.state end.new) (S.state store.old) (S.state store.new) result }
     ensures turns { result.turns ≤ turns }
     ensures closed { result.turns < turns → IsTrue (E.state end.new).closed }
@@ -97,7 +97,7 @@ fn keep_on<E: End, S: Store>(
     keeping: &mut Keeping,
     store: &mut S,
 ) -> Report
-    ensures served { KeepsOn keeping.old.is_behind keeping.new.is_behind device.old device.new (E.state end.old)
+    ensures served { StoresOn keeping.old.is_behind keeping.new.is_behind device.old device.new (E.state end.old)
         (E.state end.new) (S.state store.old) (S.state store.new) result }
     ensures turns { result.turns ≤ last_u64 }
     ensures closed { result.turns < last_u64 → IsTrue (E.state end.new).closed }

@@ -1,12 +1,12 @@
 use Rattle.std.proofs.Common.{◌≡◌, ◌+◌, ◌≤◌, ◌++◌, length}
 use Rattle.std.specs.Prelude.{take}
 use Rattle.oca_net.specs.EndStates.{SendsAllBut}
-use Rattle.oca_device.specs.PrivateKeeping.{held_of}
+use Rattle.oca_device.specs.PrivateKeeping.{packets_held}
 use Rattle.oca_device.proofs.keeping.Keeping.send_held.Given as goal
 
 abbrev pub invariant-loop-answer : goal.invariant-loop-answer
 invariant-loop-answer g l = record {
-  sends : SendsAllBut l.failed (g.E.End.state l.fn.end) (g.E.End.state l.end) (take l.answer-index (held_of l.answer-items));
+  sends : SendsAllBut l.failed (g.E.End.state l.fn.end) (g.E.End.state l.end) (take l.answer-index (packets_held l.answer-items));
   few : l.failed ≤ l.answer-index;
   inside : l.answer-index ≤ length l.answer-items;
 }
