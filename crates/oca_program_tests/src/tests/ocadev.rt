@@ -118,7 +118,7 @@ fn traced_datagrams(rt: HostRuntime) {
         "traced datagrams",
         &[
             on_bench(alloc, &mut traces::Serving { alloc }),
-            on_bench(alloc, &mut traces::Printing { alloc, files: &rt }),
+            on_bench(alloc, &mut traces::Printing { alloc }),
         ],
     );
 }

@@ -8,11 +8,9 @@ use oca_device::{Device, Outbox, Report};
 use oca_net::MemoryEnd;
 use oca_script::Printer;
 use oca_types::Peer;
-use ocadev_cli::keep::Keeping;
 use ocadev_cli::serving::{Tracing, serve_on, serve_traced};
 use ocadev_cli::trace::Watched;
 use std::alloc::Global;
-use std::rt::Files;
 
 /// SetState of 4097 to Unmuted under handle 1.
 const SET: &[u8] =
@@ -121,46 +119,26 @@ oversize
 ";
 
 /// Whether a device reports the turns of an end so, and they are traced so.
-fn prints_turns<L: Files>(
-    device: &mut Device,
-    outbox: &mut Outbox,
-    end: &mut Watched<MemoryEnd>,
-    keeping: &mut Keeping<'_, L>,
-) -> bool {
+fn prints_turns(device: &mut Device, outbox: &mut Outbox, end: &mut Watched<MemoryEnd>) -> bool {
     let mut faults = Printer::new(ShortWriter::new(7, usize::MAX));
     let tracing = Tracing::new(true, None);
-    let report = serve_traced(device, end, outbox, u64::MAX, tracing, keeping, &mut faults);
+    let report = serve_traced(device, end, outbox, u64::MAX, tracing, &mut faults);
     report == REPORT && faults.sink().taken.as_slice() == TRACE
-}
-
-/// The same of a device that is kept nowhere.
-fn prints_unkept<L: Files>(
-    alloc: Global,
-    files: &L,
-    device: &mut Device,
-    outbox: &mut Outbox,
-    end: &mut Watched<MemoryEnd>,
-) -> bool {
-    match Keeping::new(alloc, files, None) {
-        Ok(mut keeping) => prints_turns(device, outbox, end, &mut keeping),
-        Err(_) => false,
-    }
 }
 
 /// A device of which each datagram is traced.
 #[derive(Drop)]
-pub struct Printing<'a, L: Files> {
+pub struct Printing {
     pub alloc: Global,
-    pub files: &'a L,
 }
 
-impl<L: Files> Trial for Printing<'_, L> {
+impl Trial for Printing {
     /// Whether it reports the script so, and each datagram is traced so.
     fn first_wrong(&mut self, device: &mut Device, outbox: &mut Outbox) -> Option<usize> {
         match end_of_script(self.alloc) {
             Some(end) => {
                 let end = &mut Watched::new(end);
-                wrong_unless(prints_unkept(self.alloc, self.files, device, outbox, end))
+                wrong_unless(prints_turns(device, outbox, end))
             }
             None => Some(usize::MAX),
         }
