@@ -5,7 +5,8 @@ Usage: unreliable.py BIN     BIN is the folder with `ocadev`, `ocactl` and `tria
 
 - Memory: each request of a run is refused in turn, from the first to beyond the last. The run then says `no memory` with
   status 1 and prints nothing, or it did without that request and prints what it prints with memory. The calls of `trials calls` do
-  without none: beside what every run asks for, each answers NoMemory.
+  without none: beside what every run asks for, each answers NoMemory. But a tree gives back what its map took beyond its room, by two
+  requests for less: where one is refused, it keeps that.
 - After building: a script asks for no more requests than an empty one, and runs to its end with every later one refused.
 - Ends in memory, by `trials events`: a device that serves one on which a receive or a send fails is the device that serves it without
   that (objects, sessions, and what is answered to copies of all commands), and a link that is driven over one has the answers that it
@@ -162,6 +163,8 @@ class Runs:
 # the calls that take memory and can answer that there is none
 CALLS = ["tree-builder-new", "tree-builder-with-room", "bench", "sessions-new", "device-new", "device-with-sizes", "outbox-new", "memory-end-new",
          "udp-end-bind", "run-pair"]
+# those of them that make a tree
+TREES = {"tree-builder-new", "tree-builder-with-room", "bench", "device-new", "device-with-sizes", "run-pair"}
 
 
 def main():
@@ -190,7 +193,8 @@ def main():
         for name in calls:
             requests, others = runs.memory(["trials", "call", name], b"")
             print(f"  {name}: {requests - start} requests for memory")
-            runs.expect(len(others) == len(without), f"{name}: {len(others) - len(without)} requests are done without")
+            given_back = 2 if name in TREES else 0
+            runs.expect(len(others) - len(without) == given_back, f"{name}: {len(others) - len(without)} requests are done without")
         served, driven = runs.ends_in_memory("a device"), runs.ends_in_memory("a link")
         runs.expect((served[11], driven[1], driven[3], runs.in_memory) == (9, 9, 4, 36), f"ends in memory: {served} {driven} {runs.in_memory}")
         runs.expect(runs.refused > 300 and runs.ends > 2000, "too few refusals and failures were tried")
