@@ -125,6 +125,11 @@ impl Client {
         Stands::HasMore
     }
 
+    /// Whether nothing is left to be read where it waits: an answer that is not taken keeps it from reading.
+    fn has_read_all(&self) -> bool {
+        self.http.wants_read()
+    }
+
     /// Whether it is too slow, or idle for too long.
     fn is_late(&self, now: u64) -> bool {
         if self.moved.saturating_add(IDLE_MS) < now {
@@ -311,7 +316,7 @@ impl Clients {
         match client.serve(site, now) {
             Stands::Waits => {
                 client.ready = false;
-                client.doubts = false;
+                client.doubts = client.doubts && !client.has_read_all();
             }
             Stands::HasMore => self.more = true,
             Stands::Ended => return true,
