@@ -1,17 +1,23 @@
 -- Set commands one at a time: each is asked, and waited for before the next.
-use Rattle.std.proofs.Common.{◌≡◌, ℕ, ◌<◌, List, [], ◌∷◌, ◌++◌, length, refl, sym, subst, arith}
+use Rattle.std.proofs.Common.{◌≡◌, inl, inr, ap, ◌∙◌, Result, Err, ℕ, ◌<◌, List, [], ◌∷◌, ◌++◌, length, refl, sym, subst, arith}
+use Rattle.oca_types.specs.declared.words.Handle.{Handle}
+use Rattle.oca_control.specs.declared.fault.ControlFault.{ControlFault}
+use Rattle.oca_control.specs.declared.fault.ControlFault.TheVariants.{Lost}
 use Rattle.oca_control.specs.declared.outcome.Outcome.{Outcome}
 use Rattle.oca_model.specs.declared.value.Value.{Value}
 use Rattle.oca_panel.specs.Panels.{PanelState, EndsIn}
 use Rattle.oca_panel.specs.Outcomes.{done_answered}
 use Rattle.oca_panel.specs.Objects.{SetsValue}
 use Rattle.ocactl_cli.specs.declared.object_line.ObjectLine.{ObjectLine}
-use Rattle.ocactl_cli.specs.Objects.{SetCommand, BeginsSet, SetsUpTo, NoneBegun, OneBegun, OneEnded, SetsInTurn, NoneSet, OneSet, assignment_in, reported_by}
+use Rattle.ocactl_cli.specs.Objects.{SetCommand, BeginsSet, SetsUpTo, NoneBegun, OneBegun, OneEnded, SetsInTurn, SetsOne, NoneSet, OneSet, assignment_in, reported_by}
 
 -- a command that is submitted and then waited for is asked
-sets-both : (c : SetCommand) (o : Outcome) (r s t : PanelState) → BeginsSet c r s → EndsIn c.returned s t o → SetsValue c.target c.value r t (done_answered o)
-sets-both c o r s t b e =
-    (o, record { request = b.request; calls = b.calls; asks = record { returned = c.returned; between = s; begins = b.begins; ends = e } }, refl)
+sets-both : (c : SetCommand) (o : Outcome) (r s t : PanelState) → BeginsSet c r s → EndsIn c.returned s t o → SetsOne c.target c.value r t (done_answered o)
+sets-both c o r s t (inl b) e =
+    inl (o, record { request = b.request; calls = b.calls; asks = record { returned = c.returned; between = s; begins = b.begins; ends = e } }, refl)
+sets-both c o r s t (inr late) e =
+    let ended : EndsIn (Err Lost) s t o = subst (λ (q : Result Handle ControlFault). EndsIn q s t o) late.0 e in
+    inr (ap done_answered ended.0, (late.1.0, late.1.1, ended.1 ∙ late.1.2))
 
 -- all that were submitted were waited for, but for one at most
 abbrev OneAtMost : List SetCommand → List (ℕ × Value) → List (ℕ × ObjectLine) → PanelState → PanelState → Type 0

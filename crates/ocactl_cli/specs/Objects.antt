@@ -1,5 +1,5 @@
 -- What is asked of objects in words, and the lines that are printed of them (AES70-2; the words are the profile's).
-use Rattle.std.specs.Prelude.{◌≡◌, ◌⊎◌, ◌+◌, ◌<◌, ℕ, Bool, true, false, ◌==◌, ◌||◌, if◌then◌else◌, List, [], ◌∷◌, ◌++◌}
+use Rattle.std.specs.Prelude.{◌≡◌, ◌⊎◌, ◌+◌, ◌<◌, ◌≤◌, ℕ, Bool, true, false, ◌==◌, ◌||◌, if◌then◌else◌, List, [], ◌∷◌, ◌++◌}
 use Rattle.std.specs.Prelude.{length, codes, decimal, Option, Some, None, Result, Ok, Err}
 use Rattle.std.specs.List.{position, flat_map, fold}
 use Rattle.std.specs.Str.{bytes_eq}
@@ -16,6 +16,7 @@ use Rattle.oca_script.specs.Printing.{WritesFront, WritesWhole}
 use Rattle.oca_program.specs.declared.fault.Failure.{Failure}
 use Rattle.oca_program.specs.declared.fault.RunFault.{RunFault}
 use Rattle.oca_program.specs.declared.fault.RunFault.TheVariants as runs
+use Rattle.oca_control.specs.Asking.{IsPresent}
 use Rattle.oca_control.specs.declared.fault.ControlFault.{ControlFault}
 use Rattle.oca_control.specs.declared.fault.ControlFault.TheVariants as faults
 use Rattle.oca_control.specs.declared.outcome.Outcome.{Outcome}
@@ -169,6 +170,30 @@ abbrev pub done_line : ObjectLine → Result Unit Trouble → ObjectLine
 done_line line (Ok u) = line
 done_line line (Err why) = shown.Failed why
 
+-- ---- commands in time
+
+-- how long after the command before it one may be submitted, in milliseconds
+abbrev pub longest_behind : ℕ
+longest_behind = 15000
+
+-- The present moment is at most so long after this one.
+pub record IsInTime (since now : ℕ) (s : PanelState) : Type 0 where
+  pub present : IsPresent now s.end_state
+  pub in_time : now ≤ since + longest_behind
+
+-- The present moment is later than that.
+pub record IsLate (since : ℕ) (s : PanelState) : Type 0 where
+  pub now : ℕ
+  pub present : IsPresent now s.end_state
+  pub late : since + longest_behind < now
+
+-- A command came late behind some moment: it was not submitted, and counts as one that the link did not take since it
+-- was lost.
+abbrev pub LeavesOut : PanelState → PanelState → Type 0
+LeavesOut old new = (since : ℕ) × IsLate since old × (new ≡ old)
+
+-- ---- objects that are set
+
 -- The values that words name were found, one after another: those that there are, in order, and the objects for which
 -- there is none, and why.
 pub data FindsAll : List (ℕ × List ℕ) → List (ℕ × Value) → (missed : List (ℕ × ObjectLine))
@@ -194,9 +219,11 @@ pub record SetCommand : Type 0 where
 abbrev pub assignment_in : SetCommand → ℕ × Value
 assignment_in command = (command.target, command.value)
 
--- It was submitted, as the set method of the value's class.
+-- It was submitted, as the set method of the value's class; or it came late.
 abbrev pub BeginsSet : SetCommand → PanelState → PanelState → Type 0
-BeginsSet command old new = BeginsSetting command.target command.value command.returned old new
+BeginsSet command old new =
+    BeginsSetting command.target command.value command.returned old new
+    ⊎ ((command.returned ≡ Err faults.Lost) × LeavesOut old new)
 
 -- its line, by its outcome
 abbrev pub reported_by : SetCommand → Outcome → ℕ × ObjectLine
@@ -235,12 +262,18 @@ pub data SetsUpTo (ahead : ℕ) (assignments : List (ℕ × Value)) : (begun : L
       → IsAwaited ahead assignments begun (command ∷ waiting) → EndsIn command.returned s t outcome
       → SetsUpTo ahead assignments begun waiting (lines ++ reported_by command outcome ∷ []) r t
 
+-- An object was set; or that came late.
+abbrev pub SetsOne : ℕ → Value → PanelState → PanelState → Result Unit Trouble → Type 0
+SetsOne target value old new result =
+    SetsValue target value old new result
+    ⊎ ((result ≡ Err (trouble.NotSubmitted faults.Lost)) × LeavesOut old new)
+
 -- Objects were set to values, one after another in this order, and ended so.
 pub data SetsInTurn : List (ℕ × Value) → (lines : List (ℕ × ObjectLine)) → (old new : PanelState) → Type 0 where
   NoneSet : {s : PanelState} → SetsInTurn [] [] s s
   OneSet : {assignments : List (ℕ × Value)} {lines : List (ℕ × ObjectLine)} {r s t : PanelState} (target : ℕ)
       (value : Value) (result : Result Unit Trouble)
-      → SetsInTurn assignments lines r s → SetsValue target value s t result
+      → SetsInTurn assignments lines r s → SetsOne target value s t result
       → SetsInTurn (assignments ++ (target, value) ∷ [])
       (lines ++ (target, done_line (shown.Value value) result) ∷ []) r t
 
@@ -296,13 +329,19 @@ GivesUp failure is = ((failure.fault ≡ runs.Write) × (is.failed ≡ true)) �
 -- ---- objects that are read or locked
 
 -- The line of an object shows that it is locked, or that it is not any more, or why not: by LockTotal or Unlock.
-abbrev pub Locks : Bool → ℕ → PanelState → PanelState → ObjectLine → Type 0
-Locks true target old new line =
+abbrev pub AsksLock : Bool → ℕ → PanelState → PanelState → ObjectLine → Type 0
+AsksLock true target old new line =
     (done : Result Unit Trouble) × Reads target class.Block requests.LockTotal done_answered old new done
     × (line ≡ done_line shown.Locked done)
-Locks false target old new line =
+AsksLock false target old new line =
     (done : Result Unit Trouble) × Reads target class.Block requests.Unlock done_answered old new done
     × (line ≡ done_line shown.Unlocked done)
+
+-- The line of an object shows what came of that; or that it came late.
+abbrev pub Locks : Bool → ℕ → PanelState → PanelState → ObjectLine → Type 0
+Locks locks target old new line =
+    AsksLock locks target old new line
+    ⊎ ((line ≡ shown.Failed (trouble.NotSubmitted faults.Lost)) × LeavesOut old new)
 
 -- a position, with its name where there is one
 abbrev pub named : ℕ → Result (List ℕ) Trouble → ObjectLine

@@ -9,10 +9,12 @@ use Rattle.oca_program.specs.declared.fault.Failure.{Failure}
 use Rattle.oca_program.specs.declared.fault.RunFault.TheVariants.{NoMemory, Write}
 use Rattle.oca_types.specs.declared.words.Handle.{Handle}
 use Rattle.oca_control.specs.declared.fault.ControlFault.{ControlFault}
+use Rattle.oca_control.specs.declared.fault.ControlFault.TheVariants.{Lost}
 use Rattle.oca_control.specs.declared.outcome.Outcome.{Outcome}
 use Rattle.oca_control.specs.declared.outcome.Outcome.TheVariants as outcomes
 use Rattle.oca_model.specs.declared.value.Value.{Value}
 use Rattle.oca_panel.specs.declared.trouble.Trouble.{Trouble}
+use Rattle.oca_panel.specs.declared.trouble.Trouble.TheVariants.{NotSubmitted}
 use Rattle.oca_panel.specs.Panels.{PanelState, FinishesIn}
 use Rattle.oca_panel.specs.Outcomes.{done_answered}
 use Rattle.ocactl_cli.specs.declared.objects.Pair.{Pair}
@@ -22,7 +24,7 @@ use Rattle.ocactl_cli.specs.declared.object_line.ObjectLine.{ObjectLine}
 use Rattle.ocactl_cli.specs.declared.object_line.ObjectLine.TheVariants as shown
 use Rattle.oca_script.specs.declared.fault.ReadFailed.{ReadFailed}
 use Rattle.ocactl_cli.specs.Matching.{without_blank}
-use Rattle.ocactl_cli.specs.Objects.{InTurn, KeepsHeld, StopsUnlocking, ReadsOnce, ends_input, Locks, held_if, held_of}
+use Rattle.ocactl_cli.specs.Objects.{AsksLock, IsInTime, IsLate, InTurn, KeepsHeld, StopsUnlocking, ReadsOnce, ends_input, Locks, held_if, held_of}
 use Rattle.ocactl_cli.specs.Objects.{FindsValue, FindsAll, OnlyFinds, GivesUp, SetCommand, SetsUpTo, SetsEach}
 use Rattle.ocactl_cli.specs.Objects.{done_line, reported_line, reported_lines, most_severe, max_severity}
 use Rattle.ocactl_cli.specs.Objects.{last_refused, line_of_object, parsed_ono, object_status}
@@ -193,6 +195,14 @@ abbrev pub SetsFound : ℕ → List (ℕ × Value) → Search → PanelState →
     → Type 0
 SetsFound ahead assignments search old new result was is =
     SetsOnlyIf search.all ahead assignments search.status old new result was is
+
+-- ---- locks
+
+-- an object was asked in time behind the command before it; or it came late, and that moment stands
+abbrev pub LocksBehind : (since now : ℕ) → (locks : Bool) → (target : ℕ) → PanelState → PanelState → ObjectLine → Type 0
+LocksBehind since now locks target old new line =
+    (IsInTime since now old × AsksLock locks target old new line)
+    ⊎ ((now ≡ since) × (line ≡ shown.Failed (NotSubmitted Lost)) × IsLate since old × (new ≡ old))
 
 -- ---- locks that are kept
 

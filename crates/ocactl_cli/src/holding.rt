@@ -61,8 +61,9 @@ fn lock_each<E: End, W: Sink>(
 {
     printer.flush()?;
     let mut status = 0;
+    let mut since = panel.end().now();
     for ono in onos {
-        status = lock_next(panel, *ono, held, status, printer)?;
+        status = lock_next(panel, *ono, held, &mut since, status, printer)?;
     }
     Ok(status)
 }
@@ -72,13 +73,14 @@ fn lock_next<E: End, W: Sink>(
     panel: &mut Panel<E>,
     ono: Ono,
     held: &mut Vec<Ono>,
+    since: &mut u64,
     status: u8,
     printer: &mut Printer<W>,
 ) -> Result<u8, Failure>
     ensures { LocksNextOr ono.0 panel.old panel.new status result held.old.items held.new.items
         printer.old printer.new }
 {
-    match lock_one(panel, ono, true, printer) {
+    match lock_one(panel, ono, true, since, printer) {
         Ok(own) => list_held(ono, own, held, status),
         Err(failed) => Err(Failure::from(failed)),
     }

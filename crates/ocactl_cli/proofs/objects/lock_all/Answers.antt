@@ -7,11 +7,11 @@ loop-ono-init g c = asked-none (Locks c.args.locks) _ _ _ c.in_ok-flush.ensures.
 
 pub loop-ono-preserved : goal.loop-ono-preserved
 loop-ono-preserved g c =
-    asked-next (Locks c.args.locks) c.args.onos.now c.loop-ono.ono-index _ _ _ _ _ _ _ _ _ _ c.loop-ono-test.true c.loop-ono.invariant c.in_ok-lock_one.ensures c.max_severity-status.ensures
+    asked-next (Locks c.args.locks) c.args.onos.now c.loop-ono.ono-index _ _ _ _ _ _ _ _ _ _ c.loop-ono-test.true c.loop-ono.invariant c.in_ok-own.ensures c.max_severity-status.ensures
 
 pub returns-in_err-flush-clause-part : goal.returns-in_err-flush-clause-part
 returns-in_err-flush-clause-part g c = asked-nothing (Locks c.args.locks) _ _ _ _ _ c.in_err-flush.ensures.prints
 
-pub returns-in_err-lock_one-clause-part : goal.returns-in_err-lock_one-clause-part
-returns-in_err-lock_one-clause-part g c =
-    asked-until (Locks c.args.locks) c.args.onos.now c.loop-ono.ono-index _ _ _ _ _ _ _ _ _ _ c.loop-ono-test.true c.loop-ono.invariant c.in_err-lock_one.ensures
+pub returns-in_err-own-clause-part : goal.returns-in_err-own-clause-part
+returns-in_err-own-clause-part g c =
+    asked-until (Locks c.args.locks) c.args.onos.now c.loop-ono.ono-index _ _ _ _ _ _ _ _ _ _ c.loop-ono-test.true c.loop-ono.invariant c.in_err-own.ensures
