@@ -187,10 +187,9 @@ pub record IsLate (since : ℕ) (s : PanelState) : Type 0 where
   pub present : IsPresent now s.end_state
   pub late : since + longest_behind < now
 
--- A command came late behind some moment: it was not submitted, and counts as one that the link did not take since it
--- was lost.
-abbrev pub LeavesOut : PanelState → PanelState → Type 0
-LeavesOut old new = (since : ℕ) × IsLate since old × (new ≡ old)
+-- A command came late behind this moment: nothing was submitted.
+abbrev pub LeavesOut : (since : ℕ) → PanelState → PanelState → Type 0
+LeavesOut since old new = IsLate since old × (new ≡ old)
 
 -- ---- objects that are set
 
@@ -219,11 +218,12 @@ pub record SetCommand : Type 0 where
 abbrev pub assignment_in : SetCommand → ℕ × Value
 assignment_in command = (command.target, command.value)
 
--- It was submitted, as the set method of the value's class; or it came late.
-abbrev pub BeginsSet : SetCommand → PanelState → PanelState → Type 0
-BeginsSet command old new =
-    BeginsSetting command.target command.value command.returned old new
-    ⊎ ((command.returned ≡ Err faults.Lost) × LeavesOut old new)
+-- It was submitted, as the set method of the value's class, in time behind the command before it; or it came late, and
+-- counts as one of a link that is lost.
+abbrev pub BeginsSet : (since now : ℕ) → SetCommand → PanelState → PanelState → Type 0
+BeginsSet since now command old new =
+    (IsInTime since now old × BeginsSetting command.target command.value command.returned old new)
+    ⊎ ((now ≡ since) × (command.returned ≡ Err faults.Lost) × LeavesOut since old new)
 
 -- its line, by its outcome
 abbrev pub reported_by : SetCommand → Outcome → ℕ × ObjectLine
@@ -247,26 +247,27 @@ IsAwaited ahead assignments begun waiting =
 -- SET COMMANDS WERE SUBMITTED for these assignments, one after another: for those that were begun. Some of them are in
 -- flight, and the others were waited for and ended so: in the same order, each by its own handle. Never are more than
 -- `ahead` in flight, and none is waited for earlier than need be; behind one that was refused none is submitted before
--- its line was written.
+-- its line was written. Each is in time behind the one before it, of which `since` is the moment, or is left out; the
+-- first one behind the moment at which all began.
 pub data SetsUpTo (ahead : ℕ) (assignments : List (ℕ × Value)) : (begun : List (ℕ × Value)) (waiting : List SetCommand)
-    (lines : List (ℕ × ObjectLine)) (old new : PanelState) → Type 0 where
-  NoneBegun : {s : PanelState} → SetsUpTo ahead assignments [] [] [] s s
-  OneBegun : {begun : List (ℕ × Value)} {waiting : List SetCommand} {lines : List (ℕ × ObjectLine)} {r s t : PanelState}
-      (command : SetCommand)
-      → SetsUpTo ahead assignments begun waiting lines r s → length waiting < ahead → last_refused waiting ≡ false
-      → BeginsSet command s t
-      → SetsUpTo ahead assignments (begun ++ assignment_in command ∷ []) (waiting ++ command ∷ []) lines r t
-  OneEnded : {begun : List (ℕ × Value)} {waiting : List SetCommand} {lines : List (ℕ × ObjectLine)} {r s t : PanelState}
-      (command : SetCommand) (outcome : Outcome)
-      → SetsUpTo ahead assignments begun (command ∷ waiting) lines r s
+    (lines : List (ℕ × ObjectLine)) (since : ℕ) (old new : PanelState) → Type 0 where
+  NoneBegun : {s : PanelState} (now : ℕ) → IsPresent now s.end_state → SetsUpTo ahead assignments [] [] [] now s s
+  OneBegun : {begun : List (ℕ × Value)} {waiting : List SetCommand} {lines : List (ℕ × ObjectLine)} {since : ℕ}
+      {r s t : PanelState} (command : SetCommand) (now : ℕ)
+      → SetsUpTo ahead assignments begun waiting lines since r s → length waiting < ahead
+      → last_refused waiting ≡ false → BeginsSet since now command s t
+      → SetsUpTo ahead assignments (begun ++ assignment_in command ∷ []) (waiting ++ command ∷ []) lines now r t
+  OneEnded : {begun : List (ℕ × Value)} {waiting : List SetCommand} {lines : List (ℕ × ObjectLine)} {since : ℕ}
+      {r s t : PanelState} (command : SetCommand) (outcome : Outcome)
+      → SetsUpTo ahead assignments begun (command ∷ waiting) lines since r s
       → IsAwaited ahead assignments begun (command ∷ waiting) → EndsIn command.returned s t outcome
-      → SetsUpTo ahead assignments begun waiting (lines ++ reported_by command outcome ∷ []) r t
+      → SetsUpTo ahead assignments begun waiting (lines ++ reported_by command outcome ∷ []) since r t
 
 -- An object was set; or that came late.
 abbrev pub SetsOne : ℕ → Value → PanelState → PanelState → Result Unit Trouble → Type 0
 SetsOne target value old new result =
     SetsValue target value old new result
-    ⊎ ((result ≡ Err (trouble.NotSubmitted faults.Lost)) × LeavesOut old new)
+    ⊎ ((result ≡ Err (trouble.NotSubmitted faults.Lost)) × (since : ℕ) × LeavesOut since old new)
 
 -- Objects were set to values, one after another in this order, and ended so.
 pub data SetsInTurn : List (ℕ × Value) → (lines : List (ℕ × ObjectLine)) → (old new : PanelState) → Type 0 where
@@ -281,7 +282,8 @@ pub data SetsInTurn : List (ℕ × Value) → (lines : List (ℕ × ObjectLine))
 -- waited for before the next.
 pub record SetsEach (ahead : ℕ) (assignments : List (ℕ × Value)) (lines : List (ℕ × ObjectLine))
     (old new : PanelState) : Type 0 where
-  pub sets : SetsUpTo ahead assignments assignments [] lines old new
+  pub last : ℕ
+  pub sets : SetsUpTo ahead assignments assignments [] lines last old new
   pub one_at_a_time : ahead ≡ 1 → SetsInTurn assignments lines old new
 
 -- where there is a value for each, they are set; else nothing is, and there is a line for each that has none
@@ -341,7 +343,21 @@ AsksLock false target old new line =
 abbrev pub Locks : Bool → ℕ → PanelState → PanelState → ObjectLine → Type 0
 Locks locks target old new line =
     AsksLock locks target old new line
-    ⊎ ((line ≡ shown.Failed (trouble.NotSubmitted faults.Lost)) × LeavesOut old new)
+    ⊎ ((line ≡ shown.Failed (trouble.NotSubmitted faults.Lost)) × (since : ℕ) × LeavesOut since old new)
+
+-- It was asked in time behind the command before it; or it came late, and that one's moment stands.
+abbrev pub LocksBehind : (since now : ℕ) → (locks : Bool) → (target : ℕ) → PanelState → PanelState → ObjectLine → Type 0
+LocksBehind since now locks target old new line =
+    (IsInTime since now old × AsksLock locks target old new line)
+    ⊎ ((now ≡ since) × (line ≡ shown.Failed (trouble.NotSubmitted faults.Lost)) × LeavesOut since old new)
+
+-- EACH OF THESE OBJECTS WAS LOCKED OR UNLOCKED IN TIME behind the one before it, of which `since` is the moment, or left
+-- out; the first one behind the moment at which all began.
+pub data LocksInTime (locks : Bool) : List ℕ → (since : ℕ) → (old new : PanelState) → Type 0 where
+  NoneLocked : {s : PanelState} (now : ℕ) → IsPresent now s.end_state → LocksInTime locks [] now s s
+  OneLocked : {targets : List ℕ} {since : ℕ} {r s t : PanelState} (target now : ℕ) (line : ObjectLine)
+      → LocksInTime locks targets since r s → LocksBehind since now locks target s t line
+      → LocksInTime locks (targets ++ target ∷ []) now r t
 
 -- a position, with its name where there is one
 abbrev pub named : ℕ → Result (List ℕ) Trouble → ObjectLine

@@ -1,11 +1,12 @@
 //! Several objects: read, set, locked, unlocked. Each has its line.
-ghost use Rattle.std.specs.Prelude.{◌≡◌, [], map, IfOk, IfErr, OnErr};
+ghost use Rattle.std.specs.Prelude.{◌≡◌, ℕ, [], map, IfOk, IfErr, OnOk, OnErr};
 ghost use Rattle.oca_types.specs.Sizes.{span_size};
 ghost use Rattle.ocactl_cli.specs.declared.object_line.ObjectLine.TheVariants.{Failed};
-ghost use Rattle.ocactl_cli.specs.Objects.{AsksAll, AsksLock, AsksPart, Gets, Locks, SetsAll};
+ghost use Rattle.ocactl_cli.specs.Objects.{AsksAll, AsksLock, AsksPart, Gets, Locks, LocksBehind};
+ghost use Rattle.ocactl_cli.specs.Objects.{LocksInTime, SetsAll};
 ghost use Rattle.ocactl_cli.specs.Objects.{SetsNoneUnfound, GivesUp, ShowsValue, ShowsPosition, done_line};
 ghost use Rattle.ocactl_cli.specs.PrivateObjects.{ono_number, pair_of, assignment_of, AddsAssignment, FindsAllTo};
-ghost use Rattle.ocactl_cli.specs.PrivateObjects.{FindsOneTo, GivesUpFinding, LocksBehind, SetsFound, ReportsMissing, ReportsOne};
+ghost use Rattle.ocactl_cli.specs.PrivateObjects.{FindsOneTo, GivesUpFinding, LocksOneBehind, SetsFound, ReportsMissing, ReportsOne};
 
 use super::in_time::is_in_time;
 use super::object_line::{ObjectLine, max_severity, report_object};
@@ -220,6 +221,7 @@ pub fn lock_all<E: End, W: Sink>(
         printer.old printer.new) }
     ensures part { OnErr result (AsksPart (Locks locks) (map ono_number onos.now) panel.old panel.new printer.old
         printer.new) }
+    ensures in_time { OnOk result ((since : ℕ) × LocksInTime locks (map ono_number onos.now) since panel.old panel.new) }
 {
     printer.flush()?;
     let mut status = 0;
@@ -240,7 +242,8 @@ pub fn lock_one<E: End, W: Sink>(
     since: &mut u64,
     printer: &mut Printer<W>,
 ) -> Result<u8, WriteFailed>
-    ensures { ReportsOne (Locks locks) ono.0 panel.old panel.new result printer.old printer.new }
+    ensures reports { ReportsOne (Locks locks) ono.0 panel.old panel.new result printer.old printer.new }
+    ensures in_time { LocksOneBehind since.old since.new locks ono.0 panel.old panel.new }
 {
     let line = lock_in_time(panel, ono, locks, since);
     report_object(ono, &line, printer)
@@ -248,12 +251,7 @@ pub fn lock_one<E: End, W: Sink>(
 
 /// Locks an object, or takes its lock off, at most 15,000 ms after the command before it. Later nothing is sent, as
 /// where the link is lost.
-fn lock_in_time<E: End>(
-    panel: &mut Panel<E>,
-    ono: Ono,
-    locks: bool,
-    since: &mut u64,
-) -> ObjectLine
+fn lock_in_time<E: End>(panel: &mut Panel<E>, ono: Ono, locks: bool, since: &mut u64) -> ObjectLine
     ensures locks { Locks locks ono.0 panel.old panel.new result }
     ensures in_time { LocksBehind since.old since.new locks ono.0 panel.old panel.new result }
 {

@@ -3,7 +3,7 @@ ghost use Rattle.std.specs.Prelude.{◌≡◌, ◌≤◌, ◌<◌, [], map, leng
 ghost use Rattle.oca_types.specs.Sizes.{span_size};
 ghost use Rattle.oca_panel.specs.Outcomes.{done_answered};
 ghost use Rattle.ocactl_cli.specs.declared.object_line.ObjectLine.TheVariants as shown;
-ghost use Rattle.ocactl_cli.specs.Objects.{BeginsSet, IsInTime, done_line};
+ghost use Rattle.ocactl_cli.specs.Objects.{BeginsSet, done_line};
 ghost use Rattle.ocactl_cli.specs.PrivateObjects.{assignment_of, reported_set, set_command, set_in_flight};
 ghost use Rattle.ocactl_cli.specs.PrivateObjects.{EndsRefused, MakesPlace};
 ghost use Rattle.ocactl_cli.specs.PrivateObjects.{ReportsNext, SetsEachTo, SetsOn, WaitsForFirst, WaitsOn};
@@ -55,7 +55,15 @@ pub fn set_assignments<E: End, W: Sink>(
     let mut status = 0;
     let mut since = panel.end().now();
     for assignment in assignments {
-        status = set_next(panel, assignment, ahead, &mut waiting, &mut since, status, printer)?;
+        status = set_next(
+            panel,
+            assignment,
+            ahead,
+            &mut waiting,
+            &mut since,
+            status,
+            printer,
+        )?;
     }
     await_all(panel, &mut waiting, status, printer)
 }
@@ -72,7 +80,7 @@ fn set_next<E: End, W: Sink>(
     printer: &mut Printer<W>,
 ) -> Result<u8, WriteFailed>
     requires { length waiting.old ≤ span_size ahead }
-    ensures sets { IfOk result (λ now. SetsOn (span_size ahead) (assignment_of assignment.now) panel.old panel.new
+    ensures sets { IfOk result (λ now. SetsOn (span_size ahead) (assignment_of assignment.now) since.old since.new panel.old panel.new
         (map set_in_flight waiting.old) (map set_in_flight waiting.new) status now printer.old printer.new) }
     ensures fails { OnErr result (printer.new.failed ≡ true) }
 {
@@ -93,8 +101,7 @@ fn begin_in_time<E: End>(
     assignment: Assignment,
     since: &mut u64,
 ) -> Result<Handle, ControlFault>
-    ensures begins { BeginsSet (set_command assignment result) panel.old panel.new }
-    ensures in_time { OnOk result (IsInTime since.old since.new panel.old) }
+    ensures { BeginsSet since.old since.new (set_command assignment result) panel.old panel.new }
 {
     if !is_in_time(panel, since) {
         return Err(ControlFault::Lost);
