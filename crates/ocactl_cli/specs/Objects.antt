@@ -553,6 +553,10 @@ pub record HoldsLooking {R : Type 0} (targets : List ℕ) (ready : R → Bool) (
   pub locks : InTurn (Locks true) targets lines old locked
   pub looks : LooksWhileHeld (held_of lines) ready input_of locked had has
 
+-- EACH OF THESE OBJECTS WAS LOCKED IN TIME behind the one before it, or left out.
+abbrev pub HoldsInTime : List ℕ → PanelState → Type 0
+HoldsInTime targets old = (locked : PanelState) × (since : ℕ) × LocksInTime true targets since old locked
+
 -- The first of these objects were asked for their locks, and the line of each was written; the last one of them is
 -- locked.
 pub record LocksSome (targets : List ℕ) (old new : PanelState) (was is : Output) : Type 0 where

@@ -2,7 +2,7 @@
 ghost use Rattle.std.specs.Prelude.{◌≡◌, ℕ, [], IfErr, IfOk, OnOk, true, map};
 ghost use Rattle.oca_program.specs.declared.fault.RunFault.TheVariants.{NoMemory};
 ghost use Rattle.oca_script.specs.Ends.{input};
-ghost use Rattle.ocactl_cli.specs.Objects.{HoldsAll, HoldsLooking, KeepsUntilEnd, LocksInTime, LooksAlways};
+ghost use Rattle.ocactl_cli.specs.Objects.{HoldsAll, HoldsInTime, HoldsLooking, KeepsUntilEnd, LocksInTime, LooksAlways};
 ghost use Rattle.ocactl_cli.specs.Objects.{LooksAtInput};
 ghost use Rattle.ocactl_cli.specs.Objects.{LooksWhileHeld, ReadsWhereReady, StopsHolding, StopsLocking, ends_input};
 ghost use Rattle.ocactl_cli.specs.PrivateObjects.{KeepsOrFails, ListsHeld, LocksEach, LocksNextOr, LocksOneBehind};
@@ -39,6 +39,7 @@ pub fn hold<E: End, R: Source, W: Sink>(
         (input (R.remaining reader.new) (R.failed reader.new)) printer.old printer.new) }
     ensures looks { IfOk result (λ _. HoldsLooking (map ono_number onos.now) R.ready
         (λ r. input (R.remaining r) (R.failed r)) panel.old reader.old reader.new) }
+    ensures in_time { OnOk result (HoldsInTime (map ono_number onos.now) panel.old) }
 {
     let mut held = Vec::new(alloc);
     match lock_each(panel, onos, &mut held, printer) {
