@@ -54,12 +54,13 @@ def answered_in(datagram):
 
 
 def sets(command):
-    return (command.target, command.level, command.index) == (MUTE, 4, 2)
+    """Whether a command sets, locks or unlocks."""
+    return (command.level, command.index) in ((4, 2), (1, 3), (1, 4))
 
 
 class Relay:
-    """A way between one controller and the device. It counts the copies of the commands that set; lost are the answers to them, while
-    `loses_answers`, their copies behind the first, while `loses_copies`, all answers under handles above `last`, and all that the
+    """A way between one controller and the device. It counts the copies of the commands that set or lock; lost are the answers to them,
+    while `loses_answers` (they are `kept`), their copies behind the first, while `loses_copies`, all answers under handles above `last`, and all that the
     controller sends, while it `is_cut`."""
 
     def __init__(self, device):
@@ -70,7 +71,7 @@ class Relay:
         self.loses_answers = self.loses_copies = True
         self.is_cut, self.last = False, 2**32
         self.copies = self.commands = self.answers = self.passed = 0
-        self.handles, self.controller = set(), None
+        self.handles, self.controller, self.kept = set(), None, []
         self.ends = False
         self.thread = threading.Thread(target=self.run, daemon=True)
         self.thread.start()
@@ -97,9 +98,15 @@ class Relay:
         datagram = self.back.recv(2000)
         found = answered_in(datagram)
         if any(handle > self.last or self.loses_answers and handle in self.handles for handle in found):
+            self.kept.append(datagram)
             return
         self.front.sendto(datagram, self.controller)
         self.answers += len(found)
+
+    def give(self):
+        """The answers that were lost come now."""
+        for datagram in list(self.kept):
+            self.front.sendto(datagram, self.controller)
 
     def close(self):
         self.ends = True
@@ -323,6 +330,49 @@ def waits_behind(checks):
         checks.same("a line that waits: the state at last", scene.peer.state(), bytes([MUTED]))
 
 
+# what is done with three objects, and what is printed of the first where its answer comes
+SEVERAL = {
+    "set": (["--ahead", "1", "4097", "muted", "4098", "inverted", "4101", "on"], b"4097 muted"),
+    "lock": (["4097", "4098", "4101"], b"4097 locked"),
+    "unlock": (["4097", "4098", "4101"], b"4097 InvalidRequest"),  # it is not locked
+}
+LEFT = b"4098 not sent\n4101 not sent\n"
+
+
+def stopped_between(checks):
+    """Three objects. The program is stopped for 20 seconds while the command for the first is in flight, and its answer has come by then:
+    the others are left out. Once more where the program was stopped at a moment at which it finds the first one late."""
+    for name, (words, answered) in SEVERAL.items():
+        for _ in range(PATIENCE):
+            with checks.scene() as scene:
+                relay, run = scene.relay, scene.control(name, *words)
+                checks.same(f"{name} of three: the first copy", wait_for(lambda: relay.passed == 1 and relay.kept), True)
+                run.send_signal(signal.SIGSTOP)
+                scene.is_at(20)
+                relay.give()
+                relay.loses_answers = relay.loses_copies = False
+                run.send_signal(signal.SIGCONT)
+                out = run.communicate(timeout=PATIENCE)[0]
+                passed, status = len(relay.handles), run.returncode
+            if not out.startswith(b"4097 lost"):
+                break
+        checks.same(f"{name} of three: what it printed, its status, and how many were sent", (out, status, passed), (answered + b"\n" + LEFT, 3, 1))
+
+
+def read_between(checks):
+    """Three objects. The line of the first is read after 20 seconds: the others are left out."""
+    for name, (words, answered) in SEVERAL.items():
+        with checks.scene() as scene:
+            relay, reader = scene.relay, Reader()
+            relay.loses_answers = relay.loses_copies = False
+            run = scene.control(name, *words, stdout=reader.into)
+            checks.same(f"{name}, read late: it waits", wait_for(lambda: len(relay.handles) == 1 and reader.is_blocked(run)), True)
+            scene.is_at(20)
+            lines = reader.rest()
+            checks.same(f"{name}, read late: what it printed, its status, and how many were sent",
+                        (lines, run.wait(timeout=PATIENCE), len(relay.handles)), (answered + b"\n" + LEFT, 3, 1))
+
+
 def told_in(reader):
     """How many outcomes were read."""
     while select.select([reader.out], [], [], 0)[0]:
@@ -360,7 +410,7 @@ def main():
         layer = f"{folder}/ahead.so"
         subprocess.run(["gcc", "-O1", "-Wall", "-shared", "-fPIC", "-o", layer, f"{HERE}/ahead.c"], check=True)
         checks = Checks(programs, layer)
-        for part in (stopped, read_rarely, waits_behind, in_time):
+        for part in (stopped, stopped_between, read_between, read_rarely, waits_behind, in_time):
             part(checks)
     print(f"{checks.passed} passed, {checks.failed} failed")
     return 1 if checks.failed else 0

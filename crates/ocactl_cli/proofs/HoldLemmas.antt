@@ -1,6 +1,6 @@
 -- Locks that are kept.
 use Rattle.std.proofs.Common.{◌≡◌, ◌⊎◌, Bool, true, inl, inr, drop, Result, Ok, Err, ℕ, ◌+◌, ◌<◌, List, [], ◌∷◌, ◌++◌, length, take, get_or, refl, sym, ap, ◌∙◌, subst, false, arith}
-use Rattle.std.specs.Prelude.{map, IfErr, IfOk, ◌==◌}
+use Rattle.std.specs.Prelude.{map, IfErr, IfOk, OnOk, ◌==◌}
 use Rattle.std.proofs.lemmas.List.{flat_map_more}
 use Rattle.oca_types.specs.declared.words.Ono.{Ono}
 use Rattle.oca_script.specs.Ends.{Input, Output}
@@ -11,7 +11,7 @@ use Rattle.oca_program.specs.declared.fault.RunFault.{RunFault}
 use Rattle.oca_program.specs.declared.fault.RunFault.TheVariants.{NoMemory, Write}
 use Rattle.oca_panel.specs.Panels.{PanelState}
 use Rattle.ocactl_cli.specs.declared.object_line.ObjectLine.{ObjectLine}
-use Rattle.ocactl_cli.specs.Objects.{AsksAll, HoldsAll, HoldsPart, StopsHolding, StopsLocking, StopsUnlocking, reported_line, reported_lines, KeepsHeld, KeepsUntilEnd, LooksAlways, LooksWhileHeld, Locks, NoneAsked, OneAsked, max_severity, held_if, held_of, held_one}
+use Rattle.ocactl_cli.specs.Objects.{LocksInTime, HoldsInTime, AsksAll, HoldsAll, HoldsPart, StopsHolding, StopsLocking, StopsUnlocking, reported_line, reported_lines, KeepsHeld, KeepsUntilEnd, LooksAlways, LooksWhileHeld, Locks, NoneAsked, OneAsked, max_severity, held_if, held_of, held_one}
 use Rattle.ocactl_cli.specs.PrivateObjects.{KeepsOrFails, LocksEach, LocksNext, ReportsAll, ReportsOne, ReportsNext, ono_number}
 use Rattle.ocactl_cli.proofs.ObjectLemmas.{line-reported, map-split, map-take, reports-next, writes-none, writes-then}
 
@@ -140,3 +140,8 @@ pub held-stopped : (targets : List ℕ) (held : List Ono) (before : ℕ) (q : Re
     → IfErr q (λ failure. StopsHolding targets failure.fault r t i j a c)
 held-stopped targets held before (Ok status) r s t i j a b c h k = tt
 held-stopped targets held before (Err failure) r s t i j a b c h k = inr (k.0, held-part targets held before r s t i j a b c h k.1)
+
+-- whatever came of it, they were locked in time
+pub held-in-time : (q : Result ℕ Failure) (targets : List ℕ) (r s : PanelState) → (since : ℕ) × LocksInTime true targets since r s → OnOk q (HoldsInTime targets r)
+held-in-time (Ok n) targets r s h = (s, h.0, h.1)
+held-in-time (Err e) targets r s h = tt

@@ -12,6 +12,7 @@ use Rattle.oca_script.specs.Ends.{Output}
 use Rattle.oca_script.specs.Printing.{PrintsAll, PrintsPart, WritesWhole}
 use Rattle.oca_script.proofs.PrintLemmas.{whole, front as front_written}
 use Rattle.oca_program.specs.declared.fault.Failure.{Failure}
+use Rattle.oca_control.specs.Asking.{IsPresent}
 use Rattle.oca_control.specs.declared.fault.ControlFault.{ControlFault}
 use Rattle.oca_control.specs.declared.outcome.Outcome.{Outcome}
 use Rattle.oca_model.specs.declared.value.Value.{Value}
@@ -23,8 +24,8 @@ use Rattle.ocactl_cli.specs.declared.objects.Search.{Search}
 use Rattle.ocactl_cli.specs.declared.setting.Assignment.{Assignment}
 use Rattle.ocactl_cli.specs.declared.object_line.ObjectLine.{ObjectLine}
 use Rattle.ocactl_cli.specs.declared.object_line.ObjectLine.TheVariants as shown
-use Rattle.ocactl_cli.specs.Objects.{FindsValue, FindsAll, NoneSought, OneFound, OneMissed, OnlyFinds, GivesUp, SetsNoneUnfound, SetCommand, BeginsSet, IsAwaited, NoneBegun, OneBegun, OneEnded, SetsAll, OneAsked, NoneAsked, AsksAll, AsksPart, assignment_in, reported_by, reported_line, reported_lines, max_severity, is_refused, last_refused, line_of_object, object_status}
-use Rattle.ocactl_cli.specs.PrivateObjects.{ono_number, pair_of, assignment_of, reported_set, set_command, set_in_flight, is_none, AddsFound, AllAwaited, EndsRefused, FindsAllTo, FindsOneTo, GivesUpFinding, MakesPlace, SetsEachTo, SetsFound, SetsOn, SetsOnlyIf, SoFar, ReportsAll, ReportsNext, ReportsOne, WaitsForFirst, WaitsOn, WritesLine}
+use Rattle.ocactl_cli.specs.Objects.{LocksInTime, OneLocked, FindsValue, FindsAll, NoneSought, OneFound, OneMissed, OnlyFinds, GivesUp, SetsNoneUnfound, SetCommand, BeginsSet, IsAwaited, NoneBegun, OneBegun, OneEnded, SetsAll, OneAsked, NoneAsked, AsksAll, AsksPart, assignment_in, reported_by, reported_line, reported_lines, max_severity, is_refused, last_refused, line_of_object, object_status}
+use Rattle.ocactl_cli.specs.PrivateObjects.{LocksOneBehind, ono_number, pair_of, assignment_of, reported_set, set_command, set_in_flight, is_none, AddsFound, AllAwaited, EndsRefused, FindsAllTo, FindsOneTo, GivesUpFinding, MakesPlace, SetsEachTo, SetsFound, SetsOn, SetsOnlyIf, SoFar, ReportsAll, ReportsNext, ReportsOne, WaitsForFirst, WaitsOn, WritesLine}
 use Rattle.ocactl_cli.proofs.TurnLemmas.{in-turn}
 
 module _ {A B : Type 0} (f : A → B) where
@@ -183,15 +184,15 @@ refused-behind waiting [] h = absurd (not-true h)
     not-true x = cc x
 refused-behind waiting (c ∷ behind) h = fold-append (λ (before : Bool) (command : SetCommand). is_refused command.returned) false waiting (c ∷ behind) ∙ h
 
-pub set-none : (ahead : ℕ) (assignments : List (ℕ × Value)) (s : PanelState) (a : Output) (left : List (ℕ × Assignment)) → a.held ≡ [] → left ≡ []
-    → SoFar ahead assignments s a [] s (map set_in_flight left) 0 a
-set-none ahead assignments s a left empty e = subst (λ (cs : List (ℕ × Assignment)). SoFar ahead assignments s a [] s (map set_in_flight cs) 0 a) (sym e)
-    (record { lines = []; sets = NoneBegun; reports = reports-none a a (writes-nothing a empty) })
+pub set-none : (ahead : ℕ) (assignments : List (ℕ × Value)) (s : PanelState) (a : Output) (left : List (ℕ × Assignment)) (now : ℕ) → a.held ≡ [] → left ≡ [] → IsPresent now s.end_state
+    → SoFar ahead assignments s a [] now s (map set_in_flight left) 0 a
+set-none ahead assignments s a left now empty e present = subst (λ (cs : List (ℕ × Assignment)). SoFar ahead assignments s a [] now s (map set_in_flight cs) 0 a) (sym e)
+    (record { lines = []; sets = NoneBegun now present; reports = reports-none a a (writes-nothing a empty) })
 
-first-ended : (ahead : ℕ) (assignments : List (ℕ × Value)) (start : PanelState) (before : Output) (begun : List (ℕ × Value)) (c : SetCommand) (more : List SetCommand) (old new : PanelState) (o : Outcome) (status now : ℕ) (a b : Output)
+first-ended : (ahead : ℕ) (assignments : List (ℕ × Value)) (start : PanelState) (before : Output) (begun : List (ℕ × Value)) (since : ℕ) (c : SetCommand) (more : List SetCommand) (old new : PanelState) (o : Outcome) (status now : ℕ) (a b : Output)
     → IsAwaited ahead assignments begun (c ∷ more) → EndsIn c.returned old new o → ReportsNext (reported_by c o) status now a b
-    → SoFar ahead assignments start before begun old (c ∷ more) status a → SoFar ahead assignments start before begun new more now b
-first-ended ahead assignments start before begun c more old new o status now a b why ends line h = record {
+    → SoFar ahead assignments start before begun since old (c ∷ more) status a → SoFar ahead assignments start before begun since new more now b
+first-ended ahead assignments start before begun since c more old new o status now a b why ends line h = record {
   lines = h.lines ++ reported_by c o ∷ [];
   sets = OneEnded c o h.sets why ends;
   reports = reports-next h.lines (reported_by c o) status now before a b h.reports line;
@@ -210,20 +211,20 @@ waits-first old new waiting more status now a b w =
     let all : map set_in_flight waiting ≡ c ∷ rest = ap (map set_in_flight) w.first in
     subst (λ (cs : List SetCommand). WaitsOn old new cs rest status now a b) (sym all)
     (record {
-      on = λ (ahead : ℕ) (assignments : List (ℕ × Value)) (start : PanelState) (before : Output) (begun : List (ℕ × Value)) (behind : List SetCommand) (due : AllAwaited assignments begun behind) (h : SoFar ahead assignments start before begun old (c ∷ rest ++ behind) status a).
-          first-ended ahead assignments start before begun c (rest ++ behind) old new w.outcome status now a b (awaited-all ahead assignments begun (c ∷ rest) behind due) w.ends w.reports h;
+      on = λ (ahead : ℕ) (assignments : List (ℕ × Value)) (start : PanelState) (before : Output) (begun : List (ℕ × Value)) (since : ℕ) (behind : List SetCommand) (due : AllAwaited assignments begun behind) (h : SoFar ahead assignments start before begun since old (c ∷ rest ++ behind) status a).
+          first-ended ahead assignments start before begun since c (rest ++ behind) old new w.outcome status now a b (awaited-all ahead assignments begun (c ∷ rest) behind due) w.ends w.reports h;
     })
 
 pub waits-none : (s : PanelState) (waiting : List SetCommand) (status : ℕ) (a : Output) → WaitsOn s s waiting waiting status status a a
 waits-none s waiting status a = record {
-  on = λ (ahead : ℕ) (assignments : List (ℕ × Value)) (start : PanelState) (before : Output) (begun : List (ℕ × Value)) (behind : List SetCommand) (due : AllAwaited assignments begun behind) (h : SoFar ahead assignments start before begun s (waiting ++ behind) status a). h;
+  on = λ (ahead : ℕ) (assignments : List (ℕ × Value)) (start : PanelState) (before : Output) (begun : List (ℕ × Value)) (since : ℕ) (behind : List SetCommand) (due : AllAwaited assignments begun behind) (h : SoFar ahead assignments start before begun since s (waiting ++ behind) status a). h;
 }
 
 pub waits-next : (r s t : PanelState) (x : List SetCommand) (y z : List (ℕ × Assignment)) (l m n : ℕ) (a b c : Output)
     → WaitsOn r s x (map set_in_flight y) l m a b → WaitsForFirst s t y z m n b c → WaitsOn r t x (map set_in_flight z) l n a c
 waits-next r s t x y z l m n a b c h w = record {
-  on = λ (ahead : ℕ) (assignments : List (ℕ × Value)) (start : PanelState) (before : Output) (begun : List (ℕ × Value)) (behind : List SetCommand) (due : AllAwaited assignments begun behind) (so : SoFar ahead assignments start before begun r (x ++ behind) l a).
-      (waits-first s t y z m n b c w).on ahead assignments start before begun behind due (h.on ahead assignments start before begun behind due so);
+  on = λ (ahead : ℕ) (assignments : List (ℕ × Value)) (start : PanelState) (before : Output) (begun : List (ℕ × Value)) (since : ℕ) (behind : List SetCommand) (due : AllAwaited assignments begun behind) (so : SoFar ahead assignments start before begun since r (x ++ behind) l a).
+      (waits-first s t y z m n b c w).on ahead assignments start before begun since behind due (h.on ahead assignments start before begun since behind due so);
 }
 
 -- room is there, or was made
@@ -232,7 +233,7 @@ pub place-left : (ahead : ℕ) (s : PanelState) (waiting : List (ℕ × Assignme
 place-left ahead s waiting status a few =
     let size : length (map set_in_flight waiting) ≡ length waiting = length-map waiting set_in_flight in
     record {
-      on = λ (assignments : List (ℕ × Value)) (start : PanelState) (before : Output) (begun : List (ℕ × Value)) (h : SoFar ahead assignments start before begun s (map set_in_flight waiting) status a). h;
+      on = λ (assignments : List (ℕ × Value)) (start : PanelState) (before : Output) (begun : List (ℕ × Value)) (since : ℕ) (h : SoFar ahead assignments start before begun since s (map set_in_flight waiting) status a). h;
       few = omega (arith, size, few);
     }
 
@@ -247,8 +248,8 @@ place-made ahead old new waiting more status now a b most full w =
     let due : length (c ∷ rest) ≡ ahead = omega (arith, size, less, most, full) in
     subst (λ (cs : List SetCommand). MakesPlace ahead old new cs rest status now a b) (sym all)
     (record {
-      on = λ (assignments : List (ℕ × Value)) (start : PanelState) (before : Output) (begun : List (ℕ × Value)) (h : SoFar ahead assignments start before begun old (c ∷ rest) status a).
-          first-ended ahead assignments start before begun c rest old new w.outcome status now a b (inl due) w.ends w.reports h;
+      on = λ (assignments : List (ℕ × Value)) (start : PanelState) (before : Output) (begun : List (ℕ × Value)) (since : ℕ) (h : SoFar ahead assignments start before begun since old (c ∷ rest) status a).
+          first-ended ahead assignments start before begun since c rest old new w.outcome status now a b (inl due) w.ends w.reports h;
       few = omega (arith, size, less, most, full);
     })
 
@@ -264,91 +265,91 @@ pub fewer-wait : (ahead : ℕ) (old new : PanelState) (waiting more : List (ℕ 
 fewer-wait ahead old new waiting more status (Ok now) a b most few w = let less : length waiting ≡ length more + 1 = ap length w.first ∙ omega arith in omega (arith, less, most, few)
 fewer-wait ahead old new waiting more status (Err e) a b most few w = tt
 
-begun-one : (ahead : ℕ) (assignments : List (ℕ × Value)) (start : PanelState) (before : Output) (begun : List (ℕ × Value)) (c : SetCommand) (waiting : List SetCommand) (old new : PanelState) (status : ℕ) (a : Output)
-    → length waiting < ahead → last_refused waiting ≡ false → BeginsSet c old new → SoFar ahead assignments start before begun old waiting status a
-    → SoFar ahead assignments start before (begun ++ assignment_in c ∷ []) new (waiting ++ c ∷ []) status a
-begun-one ahead assignments start before begun c waiting old new status a few accepted begins h = record {
+begun-one : (ahead : ℕ) (assignments : List (ℕ × Value)) (start : PanelState) (before : Output) (begun : List (ℕ × Value)) (since moment : ℕ) (c : SetCommand) (waiting : List SetCommand) (old new : PanelState) (status : ℕ) (a : Output)
+    → length waiting < ahead → last_refused waiting ≡ false → BeginsSet since moment c old new → SoFar ahead assignments start before begun since old waiting status a
+    → SoFar ahead assignments start before (begun ++ assignment_in c ∷ []) moment new (waiting ++ c ∷ []) status a
+begun-one ahead assignments start before begun since moment c waiting old new status a few accepted begins h = record {
   lines = h.lines;
-  sets = OneBegun c h.sets few accepted begins;
+  sets = OneBegun c moment h.sets few accepted begins;
   reports = h.reports;
 }
 
 -- whatever was submitted so far, one more was, and stands behind those in flight
-begins-next : (ahead : ℕ) (w : Assignment) (returned : Result Handle ControlFault) (r s t : PanelState) (x : List SetCommand) (mid : List (ℕ × Assignment)) (status now : ℕ) (a b : Output)
-    → MakesPlace ahead r s x (map set_in_flight mid) status now a b → BeginsSet (set_command w returned) s t
-    → (assignments : List (ℕ × Value)) (start : PanelState) (before : Output) (begun : List (ℕ × Value)) → SoFar ahead assignments start before begun r x status a
-    → SoFar ahead assignments start before (begun ++ assignment_of w ∷ []) t (map set_in_flight mid ++ set_command w returned ∷ []) now b
-begins-next ahead w returned r s t x mid status now a b p begins assignments start before begun h =
-    begun-one ahead assignments start before begun (set_command w returned) (map set_in_flight mid) s t now b p.few (all-accepted mid) begins (p.on assignments start before begun h)
+begins-next : (ahead : ℕ) (w : Assignment) (since moment : ℕ) (returned : Result Handle ControlFault) (r s t : PanelState) (x : List SetCommand) (mid : List (ℕ × Assignment)) (status now : ℕ) (a b : Output)
+    → MakesPlace ahead r s x (map set_in_flight mid) status now a b → BeginsSet since moment (set_command w returned) s t
+    → (assignments : List (ℕ × Value)) (start : PanelState) (before : Output) (begun : List (ℕ × Value)) → SoFar ahead assignments start before begun since r x status a
+    → SoFar ahead assignments start before (begun ++ assignment_of w ∷ []) moment t (map set_in_flight mid ++ set_command w returned ∷ []) now b
+begins-next ahead w since moment returned r s t x mid status now a b p begins assignments start before begun h =
+    begun-one ahead assignments start before begun since moment (set_command w returned) (map set_in_flight mid) s t now b p.few (all-accepted mid) begins (p.on assignments start before begun since h)
 
 -- it was accepted
-pub sets-next : (ahead : ℕ) (w : Assignment) (h : Handle) (r s t : PanelState) (x : List SetCommand) (mid more : List (ℕ × Assignment)) (status now : ℕ) (a b : Output)
-    → MakesPlace ahead r s x (map set_in_flight mid) status now a b → BeginsSet (set_command w (Ok h)) s t → more ≡ mid ++ (h.0, w) ∷ []
-    → SetsOn ahead (assignment_of w) r t x (map set_in_flight more) status now a b
-sets-next ahead w h r s t x mid more status now a b p begins are =
+pub sets-next : (ahead : ℕ) (w : Assignment) (since moment : ℕ) (h : Handle) (r s t : PanelState) (x : List SetCommand) (mid more : List (ℕ × Assignment)) (status now : ℕ) (a b : Output)
+    → MakesPlace ahead r s x (map set_in_flight mid) status now a b → BeginsSet since moment (set_command w (Ok h)) s t → more ≡ mid ++ (h.0, w) ∷ []
+    → SetsOn ahead (assignment_of w) since moment r t x (map set_in_flight more) status now a b
+sets-next ahead w since moment h r s t x mid more status now a b p begins are =
     let c : SetCommand = set_command w (Ok h) in
     let both : map set_in_flight more ≡ map set_in_flight mid ++ c ∷ [] = ap (map set_in_flight) are ∙ map-append set_in_flight mid ((h.0, w) ∷ []) in
     let size : length (map set_in_flight more) ≡ length (map set_in_flight mid) + 1 = ap length both ∙ length-append (map set_in_flight mid) (c ∷ []) in
     let few : length (map set_in_flight mid) < ahead = p.few in
     record {
-      on = λ (assignments : List (ℕ × Value)) (start : PanelState) (before : Output) (begun : List (ℕ × Value)) (so : SoFar ahead assignments start before begun r x status a).
-          subst (λ (cs : List SetCommand). SoFar ahead assignments start before (begun ++ assignment_of w ∷ []) t cs now b) (sym both)
-          (begins-next ahead w (Ok h) r s t x mid status now a b p begins assignments start before begun so);
+      on = λ (assignments : List (ℕ × Value)) (start : PanelState) (before : Output) (begun : List (ℕ × Value)) (so : SoFar ahead assignments start before begun since r x status a).
+          subst (λ (cs : List SetCommand). SoFar ahead assignments start before (begun ++ assignment_of w ∷ []) moment t cs now b) (sym both)
+          (begins-next ahead w since moment (Ok h) r s t x mid status now a b p begins assignments start before begun so);
       few = omega (arith, size, few);
     }
 
 -- it was refused, and its line was written behind those of all in flight
-refused-next : (ahead : ℕ) (w : Assignment) (f : ControlFault) (r s t u : PanelState) (x : List SetCommand) (mid : List (ℕ × Assignment)) (status now last : ℕ) (a b c : Output)
-    → MakesPlace ahead r s x (map set_in_flight mid) status now a b → BeginsSet (set_command w (Err f)) s t → EndsRefused w f t u (map set_in_flight mid) now last b c
-    → SetsOn ahead (assignment_of w) r u x [] status last a c
-refused-next ahead w f r s t u x mid status now last a b c p begins ends =
+refused-next : (ahead : ℕ) (w : Assignment) (since moment : ℕ) (f : ControlFault) (r s t u : PanelState) (x : List SetCommand) (mid : List (ℕ × Assignment)) (status now last : ℕ) (a b c : Output)
+    → MakesPlace ahead r s x (map set_in_flight mid) status now a b → BeginsSet since moment (set_command w (Err f)) s t → EndsRefused w f t u (map set_in_flight mid) now last b c
+    → SetsOn ahead (assignment_of w) since moment r u x [] status last a c
+refused-next ahead w since moment f r s t u x mid status now last a b c p begins ends =
     let one : SetCommand = set_command w (Err f) in
     let few : length (map set_in_flight mid) < ahead = p.few in
     record {
-      on = λ (assignments : List (ℕ × Value)) (start : PanelState) (before : Output) (begun : List (ℕ × Value)) (so : SoFar ahead assignments start before begun r x status a).
-          first-ended ahead assignments start before (begun ++ assignment_of w ∷ []) one [] u u (Refused f) ends.so_far last ends.between c (inr (inr refl)) (refl, refl) ends.reports
-          (ends.waits.on ahead assignments start before (begun ++ assignment_of w ∷ []) (one ∷ []) (inr refl)
-          (begins-next ahead w (Err f) r s t x mid status now a b p begins assignments start before begun so));
+      on = λ (assignments : List (ℕ × Value)) (start : PanelState) (before : Output) (begun : List (ℕ × Value)) (so : SoFar ahead assignments start before begun since r x status a).
+          first-ended ahead assignments start before (begun ++ assignment_of w ∷ []) moment one [] u u (Refused f) ends.so_far last ends.between c (inr (inr refl)) (refl, refl) ends.reports
+          (ends.waits.on ahead assignments start before (begun ++ assignment_of w ∷ []) moment (one ∷ []) (inr refl)
+          (begins-next ahead w since moment (Err f) r s t x mid status now a b p begins assignments start before begun so));
       few = omega (arith, few);
     }
 
-pub sets-refused : (ahead : ℕ) (w : Assignment) (f : ControlFault) (r s t u : PanelState) (x : List SetCommand) (mid none : List (ℕ × Assignment)) (status now : ℕ) (q : Result ℕ WriteFailed) (a b c : Output)
-    → MakesPlace ahead r s x (map set_in_flight mid) status now a b → BeginsSet (set_command w (Err f)) s t
+pub sets-refused : (ahead : ℕ) (w : Assignment) (since moment : ℕ) (f : ControlFault) (r s t u : PanelState) (x : List SetCommand) (mid none : List (ℕ × Assignment)) (status now : ℕ) (q : Result ℕ WriteFailed) (a b c : Output)
+    → MakesPlace ahead r s x (map set_in_flight mid) status now a b → BeginsSet since moment (set_command w (Err f)) s t
     → IfOk q (λ n. EndsRefused w f t u (map set_in_flight mid) now n b c) → OnOk q (none ≡ [])
-    → IfOk q (λ n. SetsOn ahead (assignment_of w) r u x (map set_in_flight none) status n a c)
-sets-refused ahead w f r s t u x mid none status now (Ok n) a b c p begins ends empty =
-    subst (λ (cs : List (ℕ × Assignment)). SetsOn ahead (assignment_of w) r u x (map set_in_flight cs) status n a c) (sym empty)
-    (refused-next ahead w f r s t u x mid status now n a b c p begins ends)
-sets-refused ahead w f r s t u x mid none status now (Err e) a b c p begins ends empty = tt
+    → IfOk q (λ n. SetsOn ahead (assignment_of w) since moment r u x (map set_in_flight none) status n a c)
+sets-refused ahead w since moment f r s t u x mid none status now (Ok n) a b c p begins ends empty =
+    subst (λ (cs : List (ℕ × Assignment)). SetsOn ahead (assignment_of w) since moment r u x (map set_in_flight cs) status n a c) (sym empty)
+    (refused-next ahead w since moment f r s t u x mid status now n a b c p begins ends)
+sets-refused ahead w since moment f r s t u x mid none status now (Err e) a b c p begins ends empty = tt
 
 -- the first assignments and the next one
-pub set-so-far : (ahead : ℕ) (ws : List Assignment) (i : ℕ) (d : Assignment) (r s t : PanelState) (x y : List SetCommand) (m n : ℕ) (a b c : Output) → i < length ws
-    → SoFar ahead (map assignment_of ws) r a (map assignment_of (take i ws)) s x m b → SetsOn ahead (assignment_of (get_or ws i d)) s t x y m n b c
-    → SoFar ahead (map assignment_of ws) r a (map assignment_of (take (i + 1) ws)) t y n c
-set-so-far ahead ws i d r s t x y m n a b c h so next =
-    subst (λ (xs : List (ℕ × Value)). SoFar ahead (map assignment_of ws) r a xs t y n c) (sym (map-take assignment_of ws i d h)) (next.on (map assignment_of ws) r a (map assignment_of (take i ws)) so)
+pub set-so-far : (ahead : ℕ) (ws : List Assignment) (i : ℕ) (d : Assignment) (since moment : ℕ) (r s t : PanelState) (x y : List SetCommand) (m n : ℕ) (a b c : Output) → i < length ws
+    → SoFar ahead (map assignment_of ws) r a (map assignment_of (take i ws)) since s x m b → SetsOn ahead (assignment_of (get_or ws i d)) since moment s t x y m n b c
+    → SoFar ahead (map assignment_of ws) r a (map assignment_of (take (i + 1) ws)) moment t y n c
+set-so-far ahead ws i d since moment r s t x y m n a b c h so next =
+    subst (λ (xs : List (ℕ × Value)). SoFar ahead (map assignment_of ws) r a xs moment t y n c) (sym (map-take assignment_of ws i d h)) (next.on (map assignment_of ws) r a (map assignment_of (take i ws)) so)
 
 -- so many are in flight
 pub few-commands : (waiting : List (ℕ × Assignment)) (ahead : ℕ) → length (map set_in_flight waiting) ≤ ahead → length waiting ≤ ahead
 few-commands waiting ahead few = let size : length (map set_in_flight waiting) ≡ length waiting = length-map waiting set_in_flight in omega (arith, size, few)
 
 -- all were waited for
-set-each : (ahead : ℕ) (assignments : List (ℕ × Value)) (r t : PanelState) (n : ℕ) (a c : Output) → SoFar ahead assignments r a assignments t [] n c → SetsEachTo ahead assignments n r t a c
-set-each ahead assignments r t n a c h = record {
+set-each : (ahead : ℕ) (assignments : List (ℕ × Value)) (since : ℕ) (r t : PanelState) (n : ℕ) (a c : Output) → SoFar ahead assignments r a assignments since t [] n c → SetsEachTo ahead assignments n r t a c
+set-each ahead assignments since r t n a c h = record {
   lines = h.lines;
-  sets = record { sets = h.sets; one_at_a_time = λ (one : ahead ≡ 1). in-turn ahead assignments h.lines r t h.sets one };
+  sets = record { last = since; sets = h.sets; one_at_a_time = λ (one : ahead ≡ 1). in-turn ahead assignments h.lines since r t h.sets one };
   reports = h.reports;
 }
 
-pub set-done : (ahead : ℕ) (ws : List Assignment) (i : ℕ) (r s t : PanelState) (x : List SetCommand) (m : ℕ) (z : Result ℕ WriteFailed) (a b c : Output)
-    → length ws ≤ i → SoFar ahead (map assignment_of ws) r a (map assignment_of (take i ws)) s x m b → IfOk z (λ n. WaitsOn s t x [] m n b c)
+pub set-done : (ahead : ℕ) (ws : List Assignment) (i since : ℕ) (r s t : PanelState) (x : List SetCommand) (m : ℕ) (z : Result ℕ WriteFailed) (a b c : Output)
+    → length ws ≤ i → SoFar ahead (map assignment_of ws) r a (map assignment_of (take i ws)) since s x m b → IfOk z (λ n. WaitsOn s t x [] m n b c)
     → IfOk z (λ n. SetsEachTo ahead (map assignment_of ws) n r t a c)
-set-done ahead ws i r s t x m (Ok n) a b c end so w =
+set-done ahead ws i since r s t x m (Ok n) a b c end so w =
     let all : map assignment_of (take i ws) ≡ map assignment_of ws = ap (map assignment_of) (take_all i ws end) in
-    let left : SoFar ahead (map assignment_of ws) r a (map assignment_of (take i ws)) s (x ++ []) m b = subst (λ (cs : List SetCommand). SoFar ahead (map assignment_of ws) r a (map assignment_of (take i ws)) s cs m b) (sym (append-nil x)) so in
-    let done : SoFar ahead (map assignment_of ws) r a (map assignment_of (take i ws)) t [] n c = w.on ahead (map assignment_of ws) r a (map assignment_of (take i ws)) [] (inl all) left in
-    set-each ahead (map assignment_of ws) r t n a c (subst (λ (xs : List (ℕ × Value)). SoFar ahead (map assignment_of ws) r a xs t [] n c) all done)
-set-done ahead ws i r s t x m (Err e) a b c end so w = tt
+    let left : SoFar ahead (map assignment_of ws) r a (map assignment_of (take i ws)) since s (x ++ []) m b = subst (λ (cs : List SetCommand). SoFar ahead (map assignment_of ws) r a (map assignment_of (take i ws)) since s cs m b) (sym (append-nil x)) so in
+    let done : SoFar ahead (map assignment_of ws) r a (map assignment_of (take i ws)) since t [] n c = w.on ahead (map assignment_of ws) r a (map assignment_of (take i ws)) since [] (inl all) left in
+    set-each ahead (map assignment_of ws) since r t n a c (subst (λ (xs : List (ℕ × Value)). SoFar ahead (map assignment_of ws) r a xs since t [] n c) all done)
+set-done ahead ws i since r s t x m (Err e) a b c end so w = tt
 
 -- ---- all of it
 
@@ -410,6 +411,22 @@ pub sets-unset : (ahead : ℕ) (pairs : List (ℕ × List ℕ)) (assignments : L
 sets-unset ahead pairs assignments search r s t (Ok status) a b c h e = tt
 sets-unset ahead pairs assignments search r s t (Err failure) a b c h e =
     (gave-up-setting ahead pairs assignments h.missed search.status failure r s t b c h.finds (as-found ahead pairs assignments search r s t (Err failure) a b c h e)).1
+
+-- ---- commands that lock in time
+
+-- the first objects and the next one
+pub locked-in-time : (locks : Bool) (onos : List Ono) (i : ℕ) (d : Ono) (since now : ℕ) (r s t : PanelState) → i < length onos
+    → LocksInTime locks (map ono_number (take i onos)) since r s → LocksOneBehind since now locks (ono_number (get_or onos i d)) s t
+    → LocksInTime locks (map ono_number (take (i + 1) onos)) now r t
+locked-in-time locks onos i d since now r s t h x one =
+    subst (λ (ns : List ℕ). LocksInTime locks ns now r t) (sym (map-take ono_number onos i d h))
+    (OneLocked (ono_number (get_or onos i d)) now one.0 x one.1)
+
+-- all of them
+pub all-in-time : (locks : Bool) (onos : List Ono) (i since : ℕ) (r s : PanelState) → length onos ≤ i
+    → LocksInTime locks (map ono_number (take i onos)) since r s → (at : ℕ) × LocksInTime locks (map ono_number onos) at r s
+all-in-time locks onos i since r s end x =
+    (since, subst (λ (os : List Ono). LocksInTime locks (map ono_number os) since r s) (take_all i onos end) x)
 
 -- ---- objects that are read or locked
 

@@ -1,5 +1,5 @@
 -- What is asked of objects in words, and the lines that are printed of them (AES70-2; the words are the profile's).
-use Rattle.std.specs.Prelude.{◌≡◌, ◌⊎◌, ◌+◌, ◌<◌, ℕ, Bool, true, false, ◌==◌, ◌||◌, if◌then◌else◌, List, [], ◌∷◌, ◌++◌}
+use Rattle.std.specs.Prelude.{◌≡◌, ◌⊎◌, ◌+◌, ◌<◌, ◌≤◌, ℕ, Bool, true, false, ◌==◌, ◌||◌, if◌then◌else◌, List, [], ◌∷◌, ◌++◌}
 use Rattle.std.specs.Prelude.{length, codes, decimal, Option, Some, None, Result, Ok, Err}
 use Rattle.std.specs.List.{position, flat_map, fold}
 use Rattle.std.specs.Str.{bytes_eq}
@@ -16,6 +16,7 @@ use Rattle.oca_script.specs.Printing.{WritesFront, WritesWhole}
 use Rattle.oca_program.specs.declared.fault.Failure.{Failure}
 use Rattle.oca_program.specs.declared.fault.RunFault.{RunFault}
 use Rattle.oca_program.specs.declared.fault.RunFault.TheVariants as runs
+use Rattle.oca_control.specs.Asking.{IsPresent}
 use Rattle.oca_control.specs.declared.fault.ControlFault.{ControlFault}
 use Rattle.oca_control.specs.declared.fault.ControlFault.TheVariants as faults
 use Rattle.oca_control.specs.declared.outcome.Outcome.{Outcome}
@@ -169,6 +170,29 @@ abbrev pub done_line : ObjectLine → Result Unit Trouble → ObjectLine
 done_line line (Ok u) = line
 done_line line (Err why) = shown.Failed why
 
+-- ---- commands in time
+
+-- how long after the command before it one may be submitted, in milliseconds
+abbrev pub longest_behind : ℕ
+longest_behind = 15000
+
+-- The present moment is at most so long after this one.
+pub record IsInTime (since now : ℕ) (s : PanelState) : Type 0 where
+  pub present : IsPresent now s.end_state
+  pub in_time : now ≤ since + longest_behind
+
+-- The present moment is later than that.
+pub record IsLate (since : ℕ) (s : PanelState) : Type 0 where
+  pub now : ℕ
+  pub present : IsPresent now s.end_state
+  pub late : since + longest_behind < now
+
+-- A command came late behind this moment: nothing was submitted.
+abbrev pub LeavesOut : (since : ℕ) → PanelState → PanelState → Type 0
+LeavesOut since old new = IsLate since old × (new ≡ old)
+
+-- ---- objects that are set
+
 -- The values that words name were found, one after another: those that there are, in order, and the objects for which
 -- there is none, and why.
 pub data FindsAll : List (ℕ × List ℕ) → List (ℕ × Value) → (missed : List (ℕ × ObjectLine))
@@ -194,9 +218,12 @@ pub record SetCommand : Type 0 where
 abbrev pub assignment_in : SetCommand → ℕ × Value
 assignment_in command = (command.target, command.value)
 
--- It was submitted, as the set method of the value's class.
-abbrev pub BeginsSet : SetCommand → PanelState → PanelState → Type 0
-BeginsSet command old new = BeginsSetting command.target command.value command.returned old new
+-- It was submitted, as the set method of the value's class, in time behind the command before it; or it came late, and
+-- counts as one of a link that is lost.
+abbrev pub BeginsSet : (since now : ℕ) → SetCommand → PanelState → PanelState → Type 0
+BeginsSet since now command old new =
+    (IsInTime since now old × BeginsSetting command.target command.value command.returned old new)
+    ⊎ ((now ≡ since) × (command.returned ≡ Err faults.Lost) × LeavesOut since old new)
 
 -- its line, by its outcome
 abbrev pub reported_by : SetCommand → Outcome → ℕ × ObjectLine
@@ -220,27 +247,34 @@ IsAwaited ahead assignments begun waiting =
 -- SET COMMANDS WERE SUBMITTED for these assignments, one after another: for those that were begun. Some of them are in
 -- flight, and the others were waited for and ended so: in the same order, each by its own handle. Never are more than
 -- `ahead` in flight, and none is waited for earlier than need be; behind one that was refused none is submitted before
--- its line was written.
+-- its line was written. Each is in time behind the one before it, of which `since` is the moment, or is left out; the
+-- first one behind the moment at which all began.
 pub data SetsUpTo (ahead : ℕ) (assignments : List (ℕ × Value)) : (begun : List (ℕ × Value)) (waiting : List SetCommand)
-    (lines : List (ℕ × ObjectLine)) (old new : PanelState) → Type 0 where
-  NoneBegun : {s : PanelState} → SetsUpTo ahead assignments [] [] [] s s
-  OneBegun : {begun : List (ℕ × Value)} {waiting : List SetCommand} {lines : List (ℕ × ObjectLine)} {r s t : PanelState}
-      (command : SetCommand)
-      → SetsUpTo ahead assignments begun waiting lines r s → length waiting < ahead → last_refused waiting ≡ false
-      → BeginsSet command s t
-      → SetsUpTo ahead assignments (begun ++ assignment_in command ∷ []) (waiting ++ command ∷ []) lines r t
-  OneEnded : {begun : List (ℕ × Value)} {waiting : List SetCommand} {lines : List (ℕ × ObjectLine)} {r s t : PanelState}
-      (command : SetCommand) (outcome : Outcome)
-      → SetsUpTo ahead assignments begun (command ∷ waiting) lines r s
+    (lines : List (ℕ × ObjectLine)) (since : ℕ) (old new : PanelState) → Type 0 where
+  NoneBegun : {s : PanelState} (now : ℕ) → IsPresent now s.end_state → SetsUpTo ahead assignments [] [] [] now s s
+  OneBegun : {begun : List (ℕ × Value)} {waiting : List SetCommand} {lines : List (ℕ × ObjectLine)} {since : ℕ}
+      {r s t : PanelState} (command : SetCommand) (now : ℕ)
+      → SetsUpTo ahead assignments begun waiting lines since r s → length waiting < ahead
+      → last_refused waiting ≡ false → BeginsSet since now command s t
+      → SetsUpTo ahead assignments (begun ++ assignment_in command ∷ []) (waiting ++ command ∷ []) lines now r t
+  OneEnded : {begun : List (ℕ × Value)} {waiting : List SetCommand} {lines : List (ℕ × ObjectLine)} {since : ℕ}
+      {r s t : PanelState} (command : SetCommand) (outcome : Outcome)
+      → SetsUpTo ahead assignments begun (command ∷ waiting) lines since r s
       → IsAwaited ahead assignments begun (command ∷ waiting) → EndsIn command.returned s t outcome
-      → SetsUpTo ahead assignments begun waiting (lines ++ reported_by command outcome ∷ []) r t
+      → SetsUpTo ahead assignments begun waiting (lines ++ reported_by command outcome ∷ []) since r t
+
+-- An object was set; or that came late.
+abbrev pub SetsOne : ℕ → Value → PanelState → PanelState → Result Unit Trouble → Type 0
+SetsOne target value old new result =
+    SetsValue target value old new result
+    ⊎ ((result ≡ Err (trouble.NotSubmitted faults.Lost)) × (since : ℕ) × LeavesOut since old new)
 
 -- Objects were set to values, one after another in this order, and ended so.
 pub data SetsInTurn : List (ℕ × Value) → (lines : List (ℕ × ObjectLine)) → (old new : PanelState) → Type 0 where
   NoneSet : {s : PanelState} → SetsInTurn [] [] s s
   OneSet : {assignments : List (ℕ × Value)} {lines : List (ℕ × ObjectLine)} {r s t : PanelState} (target : ℕ)
       (value : Value) (result : Result Unit Trouble)
-      → SetsInTurn assignments lines r s → SetsValue target value s t result
+      → SetsInTurn assignments lines r s → SetsOne target value s t result
       → SetsInTurn (assignments ++ (target, value) ∷ [])
       (lines ++ (target, done_line (shown.Value value) result) ∷ []) r t
 
@@ -248,7 +282,8 @@ pub data SetsInTurn : List (ℕ × Value) → (lines : List (ℕ × ObjectLine))
 -- waited for before the next.
 pub record SetsEach (ahead : ℕ) (assignments : List (ℕ × Value)) (lines : List (ℕ × ObjectLine))
     (old new : PanelState) : Type 0 where
-  pub sets : SetsUpTo ahead assignments assignments [] lines old new
+  pub last : ℕ
+  pub sets : SetsUpTo ahead assignments assignments [] lines last old new
   pub one_at_a_time : ahead ≡ 1 → SetsInTurn assignments lines old new
 
 -- where there is a value for each, they are set; else nothing is, and there is a line for each that has none
@@ -296,13 +331,33 @@ GivesUp failure is = ((failure.fault ≡ runs.Write) × (is.failed ≡ true)) �
 -- ---- objects that are read or locked
 
 -- The line of an object shows that it is locked, or that it is not any more, or why not: by LockTotal or Unlock.
-abbrev pub Locks : Bool → ℕ → PanelState → PanelState → ObjectLine → Type 0
-Locks true target old new line =
+abbrev pub AsksLock : Bool → ℕ → PanelState → PanelState → ObjectLine → Type 0
+AsksLock true target old new line =
     (done : Result Unit Trouble) × Reads target class.Block requests.LockTotal done_answered old new done
     × (line ≡ done_line shown.Locked done)
-Locks false target old new line =
+AsksLock false target old new line =
     (done : Result Unit Trouble) × Reads target class.Block requests.Unlock done_answered old new done
     × (line ≡ done_line shown.Unlocked done)
+
+-- The line of an object shows what came of that; or that it came late.
+abbrev pub Locks : Bool → ℕ → PanelState → PanelState → ObjectLine → Type 0
+Locks locks target old new line =
+    AsksLock locks target old new line
+    ⊎ ((line ≡ shown.Failed (trouble.NotSubmitted faults.Lost)) × (since : ℕ) × LeavesOut since old new)
+
+-- It was asked in time behind the command before it; or it came late, and that one's moment stands.
+abbrev pub LocksBehind : (since now : ℕ) → (locks : Bool) → (target : ℕ) → PanelState → PanelState → ObjectLine → Type 0
+LocksBehind since now locks target old new line =
+    (IsInTime since now old × AsksLock locks target old new line)
+    ⊎ ((now ≡ since) × (line ≡ shown.Failed (trouble.NotSubmitted faults.Lost)) × LeavesOut since old new)
+
+-- EACH OF THESE OBJECTS WAS LOCKED OR UNLOCKED IN TIME behind the one before it, of which `since` is the moment, or left
+-- out; the first one behind the moment at which all began.
+pub data LocksInTime (locks : Bool) : List ℕ → (since : ℕ) → (old new : PanelState) → Type 0 where
+  NoneLocked : {s : PanelState} (now : ℕ) → IsPresent now s.end_state → LocksInTime locks [] now s s
+  OneLocked : {targets : List ℕ} {since : ℕ} {r s t : PanelState} (target now : ℕ) (line : ObjectLine)
+      → LocksInTime locks targets since r s → LocksBehind since now locks target s t line
+      → LocksInTime locks (targets ++ target ∷ []) now r t
 
 -- a position, with its name where there is one
 abbrev pub named : ℕ → Result (List ℕ) Trouble → ObjectLine
@@ -497,6 +552,10 @@ pub record HoldsLooking {R : Type 0} (targets : List ℕ) (ready : R → Bool) (
   pub locked : PanelState
   pub locks : InTurn (Locks true) targets lines old locked
   pub looks : LooksWhileHeld (held_of lines) ready input_of locked had has
+
+-- EACH OF THESE OBJECTS WAS LOCKED IN TIME behind the one before it, or left out.
+abbrev pub HoldsInTime : List ℕ → PanelState → Type 0
+HoldsInTime targets old = (locked : PanelState) × (since : ℕ) × LocksInTime true targets since old locked
 
 -- The first of these objects were asked for their locks, and the line of each was written; the last one of them is
 -- locked.

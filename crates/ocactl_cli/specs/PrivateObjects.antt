@@ -22,7 +22,7 @@ use Rattle.ocactl_cli.specs.declared.object_line.ObjectLine.{ObjectLine}
 use Rattle.ocactl_cli.specs.declared.object_line.ObjectLine.TheVariants as shown
 use Rattle.oca_script.specs.declared.fault.ReadFailed.{ReadFailed}
 use Rattle.ocactl_cli.specs.Matching.{without_blank}
-use Rattle.ocactl_cli.specs.Objects.{InTurn, KeepsHeld, StopsUnlocking, ReadsOnce, ends_input, Locks, held_if, held_of}
+use Rattle.ocactl_cli.specs.Objects.{LocksBehind, InTurn, KeepsHeld, StopsUnlocking, ReadsOnce, ends_input, Locks, held_if, held_of}
 use Rattle.ocactl_cli.specs.Objects.{FindsValue, FindsAll, OnlyFinds, GivesUp, SetCommand, SetsUpTo, SetsEach}
 use Rattle.ocactl_cli.specs.Objects.{done_line, reported_line, reported_lines, most_severe, max_severity}
 use Rattle.ocactl_cli.specs.Objects.{last_refused, line_of_object, parsed_ono, object_status}
@@ -61,6 +61,10 @@ pub record ReportsOne (One : ℕ → PanelState → PanelState → ObjectLine �
   pub line : ObjectLine
   pub asks : One target old new line
   pub writes : WritesLine (object_status line) (line_of_object target line) result was is
+
+-- an object was asked so in time, or left out
+abbrev pub LocksOneBehind : (since now : ℕ) → (locks : Bool) → (target : ℕ) → PanelState → PanelState → Type 0
+LocksOneBehind since now locks target old new = (line : ObjectLine) × LocksBehind since now locks target old new line
 
 -- the line of one more was written
 pub record ReportsNext (line : ℕ × ObjectLine) (status now : ℕ) (was is : Output) : Type 0 where
@@ -118,10 +122,10 @@ pub record FindsOneTo (pair : ℕ × List ℕ) (assignments : List Assignment) (
 -- the commands of the first assignments were submitted from a start on, of which these are in flight, and the lines of
 -- the others
 pub record SoFar (ahead : ℕ) (assignments : List (ℕ × Value)) (start : PanelState) (before : Output)
-    (begun : List (ℕ × Value)) (panel : PanelState) (waiting : List SetCommand) (status : ℕ)
+    (begun : List (ℕ × Value)) (since : ℕ) (panel : PanelState) (waiting : List SetCommand) (status : ℕ)
     (is : Output) : Type 0 where
   pub lines : List (ℕ × ObjectLine)
-  pub sets : SetsUpTo ahead assignments begun waiting lines start panel
+  pub sets : SetsUpTo ahead assignments begun waiting lines since start panel
   pub reports : ReportsAll lines status before is
 
 -- all are to be waited for: all are submitted, or the last one, which stands behind those in flight, was refused
@@ -133,25 +137,25 @@ AllAwaited assignments begun behind = (begun ≡ assignments) ⊎ (last_refused 
 pub record WaitsOn (old new : PanelState) (waiting more : List SetCommand) (status now : ℕ)
     (was is : Output) : Type 0 where
   pub on : (ahead : ℕ) (assignments : List (ℕ × Value)) (start : PanelState) (before : Output)
-      (begun : List (ℕ × Value)) (behind : List SetCommand) → AllAwaited assignments begun behind
-      → SoFar ahead assignments start before begun old (waiting ++ behind) status was
-      → SoFar ahead assignments start before begun new (more ++ behind) now is
+      (begun : List (ℕ × Value)) (since : ℕ) (behind : List SetCommand) → AllAwaited assignments begun behind
+      → SoFar ahead assignments start before begun since old (waiting ++ behind) status was
+      → SoFar ahead assignments start before begun since new (more ++ behind) now is
 
 -- whatever was submitted so far, the first was waited for and its line was written, if as many are in flight as may be:
 -- one more may be then
 pub record MakesPlace (ahead : ℕ) (old new : PanelState) (waiting more : List SetCommand) (status now : ℕ)
     (was is : Output) : Type 0 where
   pub on : (assignments : List (ℕ × Value)) (start : PanelState) (before : Output) (begun : List (ℕ × Value))
-      → SoFar ahead assignments start before begun old waiting status was
-      → SoFar ahead assignments start before begun new more now is
+      (since : ℕ) → SoFar ahead assignments start before begun since old waiting status was
+      → SoFar ahead assignments start before begun since new more now is
   pub few : length more < ahead
 
--- whatever was submitted so far, one more was
-pub record SetsOn (ahead : ℕ) (assignment : ℕ × Value) (old new : PanelState) (waiting more : List SetCommand)
-    (status now : ℕ) (was is : Output) : Type 0 where
+-- whatever was submitted so far, the last one at one moment, one more was
+pub record SetsOn (ahead : ℕ) (assignment : ℕ × Value) (since moment : ℕ) (old new : PanelState)
+    (waiting more : List SetCommand) (status now : ℕ) (was is : Output) : Type 0 where
   pub on : (assignments : List (ℕ × Value)) (start : PanelState) (before : Output) (begun : List (ℕ × Value))
-      → SoFar ahead assignments start before begun old waiting status was
-      → SoFar ahead assignments start before (begun ++ assignment ∷ []) new more now is
+      → SoFar ahead assignments start before begun since old waiting status was
+      → SoFar ahead assignments start before (begun ++ assignment ∷ []) moment new more now is
   pub few : length more ≤ ahead
 
 -- the line of one that came out so

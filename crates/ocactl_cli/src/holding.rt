@@ -1,10 +1,11 @@
 //! Locks that are kept until the input ends.
-ghost use Rattle.std.specs.Prelude.{◌≡◌, [], IfErr, IfOk, map};
+ghost use Rattle.std.specs.Prelude.{◌≡◌, ℕ, [], IfErr, IfOk, OnOk, true, map};
 ghost use Rattle.oca_program.specs.declared.fault.RunFault.TheVariants.{NoMemory};
 ghost use Rattle.oca_script.specs.Ends.{input};
-ghost use Rattle.ocactl_cli.specs.Objects.{HoldsAll, HoldsLooking, KeepsUntilEnd, LooksAlways, LooksAtInput};
+ghost use Rattle.ocactl_cli.specs.Objects.{HoldsAll, HoldsInTime, HoldsLooking, KeepsUntilEnd, LocksInTime, LooksAlways};
+ghost use Rattle.ocactl_cli.specs.Objects.{LooksAtInput};
 ghost use Rattle.ocactl_cli.specs.Objects.{LooksWhileHeld, ReadsWhereReady, StopsHolding, StopsLocking, ends_input};
-ghost use Rattle.ocactl_cli.specs.PrivateObjects.{KeepsOrFails, ListsHeld, LocksEach, LocksNextOr};
+ghost use Rattle.ocactl_cli.specs.PrivateObjects.{KeepsOrFails, ListsHeld, LocksEach, LocksNextOr, LocksOneBehind};
 ghost use Rattle.ocactl_cli.specs.PrivateObjects.{ono_number};
 
 use super::object_line::max_severity;
@@ -38,6 +39,7 @@ pub fn hold<E: End, R: Source, W: Sink>(
         (input (R.remaining reader.new) (R.failed reader.new)) printer.old printer.new) }
     ensures looks { IfOk result (λ _. HoldsLooking (map ono_number onos.now) R.ready
         (λ r. input (R.remaining r) (R.failed r)) panel.old reader.old reader.new) }
+    ensures in_time { OnOk result (HoldsInTime (map ono_number onos.now) panel.old) }
 {
     let mut held = Vec::new(alloc);
     match lock_each(panel, onos, &mut held, printer) {
@@ -58,11 +60,13 @@ fn lock_each<E: End, W: Sink>(
         panel.old panel.new status held.new.items printer.old printer.new) }
     ensures stops { IfErr result (λ failure. StopsLocking (map ono_number onos.now) failure.fault
         panel.old panel.new printer.old printer.new) }
+    ensures in_time { OnOk result ((since : ℕ) × LocksInTime true (map ono_number onos.now) since panel.old panel.new) }
 {
     printer.flush()?;
     let mut status = 0;
+    let mut since = panel.end().now();
     for ono in onos {
-        status = lock_next(panel, *ono, held, status, printer)?;
+        status = lock_next(panel, *ono, held, &mut since, status, printer)?;
     }
     Ok(status)
 }
@@ -72,13 +76,15 @@ fn lock_next<E: End, W: Sink>(
     panel: &mut Panel<E>,
     ono: Ono,
     held: &mut Vec<Ono>,
+    since: &mut u64,
     status: u8,
     printer: &mut Printer<W>,
 ) -> Result<u8, Failure>
-    ensures { LocksNextOr ono.0 panel.old panel.new status result held.old.items held.new.items
+    ensures locks { LocksNextOr ono.0 panel.old panel.new status result held.old.items held.new.items
         printer.old printer.new }
+    ensures in_time { LocksOneBehind since.old since.new true ono.0 panel.old panel.new }
 {
-    match lock_one(panel, ono, true, printer) {
+    match lock_one(panel, ono, true, since, printer) {
         Ok(own) => list_held(ono, own, held, status),
         Err(failed) => Err(Failure::from(failed)),
     }

@@ -11,6 +11,7 @@ mod command_line;
 pub mod commands;
 pub mod exchange;
 mod holding;
+mod in_time;
 mod matching;
 mod object_line;
 pub mod objects;

@@ -1,15 +1,18 @@
 //! Several objects: read, set, locked, unlocked. Each has its line.
-ghost use Rattle.std.specs.Prelude.{◌≡◌, [], map, IfOk, IfErr, OnErr};
+ghost use Rattle.std.specs.Prelude.{◌≡◌, ℕ, [], map, IfOk, IfErr, OnOk, OnErr};
 ghost use Rattle.oca_types.specs.Sizes.{span_size};
 ghost use Rattle.ocactl_cli.specs.declared.object_line.ObjectLine.TheVariants.{Failed};
-ghost use Rattle.ocactl_cli.specs.Objects.{AsksAll, AsksPart, Gets, Locks, SetsAll, SetsNoneUnfound, GivesUp};
-ghost use Rattle.ocactl_cli.specs.Objects.{ShowsValue, ShowsPosition, done_line};
+ghost use Rattle.ocactl_cli.specs.Objects.{AsksAll, AsksLock, AsksPart, Gets, Locks, LocksBehind};
+ghost use Rattle.ocactl_cli.specs.Objects.{LocksInTime, SetsAll};
+ghost use Rattle.ocactl_cli.specs.Objects.{SetsNoneUnfound, GivesUp, ShowsValue, ShowsPosition, done_line};
 ghost use Rattle.ocactl_cli.specs.PrivateObjects.{ono_number, pair_of, assignment_of, AddsAssignment, FindsAllTo};
-ghost use Rattle.ocactl_cli.specs.PrivateObjects.{FindsOneTo, GivesUpFinding, SetsFound, ReportsMissing, ReportsOne};
+ghost use Rattle.ocactl_cli.specs.PrivateObjects.{FindsOneTo, GivesUpFinding, LocksOneBehind, SetsFound, ReportsMissing, ReportsOne};
 
+use super::in_time::is_in_time;
 use super::object_line::{ObjectLine, max_severity, report_object};
 use super::setting::{Assignment, set_assignments};
 use super::wanted::wanted;
+use oca_control::ControlFault;
 use oca_model::Value;
 use oca_net::End;
 use oca_panel::{Panel, Trouble};
@@ -218,31 +221,49 @@ pub fn lock_all<E: End, W: Sink>(
         printer.old printer.new) }
     ensures part { OnErr result (AsksPart (Locks locks) (map ono_number onos.now) panel.old panel.new printer.old
         printer.new) }
+    ensures in_time { OnOk result ((since : ℕ) × LocksInTime locks (map ono_number onos.now) since panel.old panel.new) }
 {
     printer.flush()?;
     let mut status = 0;
+    let mut since = panel.end().now();
     for ono in onos {
-        status = max_severity(status, lock_one(panel, *ono, locks, printer)?);
+        let own = lock_one(panel, *ono, locks, &mut since, printer)?;
+        status = max_severity(status, own);
     }
     Ok(status)
 }
 
-/// Locks an object, or takes its lock off, and prints its outcome. Returns the exit status.
+/// Locks an object, or takes its lock off, unless that comes late behind the one before it, and prints its outcome.
+/// Returns the exit status.
 pub fn lock_one<E: End, W: Sink>(
     panel: &mut Panel<E>,
     ono: Ono,
     locks: bool,
+    since: &mut u64,
     printer: &mut Printer<W>,
 ) -> Result<u8, WriteFailed>
-    ensures { ReportsOne (Locks locks) ono.0 panel.old panel.new result printer.old printer.new }
+    ensures reports { ReportsOne (Locks locks) ono.0 panel.old panel.new result printer.old printer.new }
+    ensures in_time { LocksOneBehind since.old since.new locks ono.0 panel.old panel.new }
 {
-    let line = lock(panel, ono, locks);
+    let line = lock_in_time(panel, ono, locks, since);
     report_object(ono, &line, printer)
+}
+
+/// Locks an object, or takes its lock off, at most 15,000 ms after the command before it. Later nothing is sent, as
+/// where the link is lost.
+fn lock_in_time<E: End>(panel: &mut Panel<E>, ono: Ono, locks: bool, since: &mut u64) -> ObjectLine
+    ensures locks { Locks locks ono.0 panel.old panel.new result }
+    ensures in_time { LocksBehind since.old since.new locks ono.0 panel.old panel.new result }
+{
+    if !is_in_time(panel, since) {
+        return ObjectLine::Failed(Trouble::NotSubmitted(ControlFault::Lost));
+    }
+    lock(panel, ono, locks)
 }
 
 /// Locks an object, or takes its lock off.
 fn lock<E: End>(panel: &mut Panel<E>, ono: Ono, locks: bool) -> ObjectLine
-    ensures { Locks locks ono.0 panel.old panel.new result }
+    ensures { AsksLock locks ono.0 panel.old panel.new result }
 {
     if locks {
         let done = panel.lock(ono);

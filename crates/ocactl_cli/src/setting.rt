@@ -3,17 +3,19 @@ ghost use Rattle.std.specs.Prelude.{◌≡◌, ◌≤◌, ◌<◌, [], map, leng
 ghost use Rattle.oca_types.specs.Sizes.{span_size};
 ghost use Rattle.oca_panel.specs.Outcomes.{done_answered};
 ghost use Rattle.ocactl_cli.specs.declared.object_line.ObjectLine.TheVariants as shown;
-ghost use Rattle.ocactl_cli.specs.Objects.{done_line};
-ghost use Rattle.ocactl_cli.specs.PrivateObjects.{assignment_of, reported_set, set_in_flight, EndsRefused, MakesPlace};
+ghost use Rattle.ocactl_cli.specs.Objects.{BeginsSet, done_line};
+ghost use Rattle.ocactl_cli.specs.PrivateObjects.{assignment_of, reported_set, set_command, set_in_flight};
+ghost use Rattle.ocactl_cli.specs.PrivateObjects.{EndsRefused, MakesPlace};
 ghost use Rattle.ocactl_cli.specs.PrivateObjects.{ReportsNext, SetsEachTo, SetsOn, WaitsForFirst, WaitsOn};
 
+use super::in_time::is_in_time;
 use super::object_line::{ObjectLine, max_severity, report_object};
 use oca_control::{ControlFault, Outcome};
 use oca_model::Value;
 use oca_net::End;
 use oca_panel::{InFlight, Panel, done_in};
 use oca_script::{Printer, Sink, WriteFailed};
-use oca_types::{Ono, Span};
+use oca_types::{Handle, Ono, Span};
 
 /// An object, and the value that it is to have.
 #[derive(Clone, Copy)]
@@ -51,35 +53,60 @@ pub fn set_assignments<E: End, W: Sink>(
 {
     let mut waiting = InFlight::new();
     let mut status = 0;
+    let mut since = panel.end().now();
     for assignment in assignments {
-        status = set_next(panel, assignment, ahead, &mut waiting, status, printer)?;
+        status = set_next(
+            panel,
+            assignment,
+            ahead,
+            &mut waiting,
+            &mut since,
+            status,
+            printer,
+        )?;
     }
     await_all(panel, &mut waiting, status, printer)
 }
 
-/// Submits the command that sets an object, as soon as one more may be in flight. Where the link refuses it, all before
-/// it are waited for, and that is printed behind them.
+/// Submits the command that sets an object, as soon as one more may be in flight. Where it comes late or the link
+/// refuses it, all before it are waited for, and that is printed behind them.
 fn set_next<E: End, W: Sink>(
     panel: &mut Panel<E>,
     assignment: &Assignment,
     ahead: Span,
     waiting: &mut InFlight<Assignment>,
+    since: &mut u64,
     status: u8,
     printer: &mut Printer<W>,
 ) -> Result<u8, WriteFailed>
     requires { length waiting.old ≤ span_size ahead }
-    ensures sets { IfOk result (λ now. SetsOn (span_size ahead) (assignment_of assignment.now) panel.old panel.new
+    ensures sets { IfOk result (λ now. SetsOn (span_size ahead) (assignment_of assignment.now) since.old since.new panel.old panel.new
         (map set_in_flight waiting.old) (map set_in_flight waiting.new) status now printer.old printer.new) }
     ensures fails { OnErr result (printer.new.failed ≡ true) }
 {
     let so_far = make_place(panel, ahead, waiting, status, printer)?;
-    match panel.begin_set(assignment.ono, assignment.value) {
+    match begin_in_time(panel, *assignment, since) {
         Ok(handle) => {
             waiting.push(handle, *assignment);
             Ok(so_far)
         }
         Err(fault) => report_refused(panel, *assignment, fault, waiting, so_far, printer),
     }
+}
+
+/// Submits the command that sets an object, at most 15,000 ms after the one before it. Refusals, which change nothing:
+/// `Lost` where it comes later, and those of the link.
+fn begin_in_time<E: End>(
+    panel: &mut Panel<E>,
+    assignment: Assignment,
+    since: &mut u64,
+) -> Result<Handle, ControlFault>
+    ensures { BeginsSet since.old since.new (set_command assignment result) panel.old panel.new }
+{
+    if !is_in_time(panel, since) {
+        return Err(ControlFault::Lost);
+    }
+    panel.begin_set(assignment.ono, assignment.value)
 }
 
 /// Waits for the first set command in flight where as many are as may be, and prints its outcome. Returns the exit

@@ -1,15 +1,24 @@
-use Rattle.std.proofs.Common.{inl, refl}
+use Rattle.std.proofs.Common.{inl, refl, true}
 use Rattle.std.proofs.lemmas.Result.{err_from_is_err_and}
 use Rattle.oca_script.proofs.PrintLemmas.{front}
+use Rattle.ocactl_cli.specs.Objects.{NoneLocked}
+use Rattle.ocactl_cli.proofs.ExchangeLemmas.{present-of}
+use Rattle.ocactl_cli.proofs.ObjectLemmas.{locked-in-time, all-in-time}
 use Rattle.ocactl_cli.proofs.HoldLemmas.{locked-none, locked-next, locking-stopped}
 use Rattle.ocactl_cli.proofs.holding.lock_each.Goals as goal
 
 pub loop-ono-init : goal.loop-ono-init
-loop-ono-init g c = locked-none _ _ _ _ c.requires c.in_ok-flush.ensures.prints c.in_ok-flush.ensures.empty
+loop-ono-init g c = record {
+  locks = locked-none _ _ _ _ c.requires c.in_ok-flush.ensures.prints c.in_ok-flush.ensures.empty;
+  in_time = NoneLocked c.now-since.result (present-of _ _ _ c.end.ensures c.now-since.ensures);
+}
 
 pub loop-ono-preserved : goal.loop-ono-preserved
-loop-ono-preserved g c =
-    locked-next c.args.onos.now c.loop-ono.ono-index _ _ _ _ _ _ _ _ _ _ _ c.loop-ono-test.true c.loop-ono.invariant c.in_ok-status.ensures
+loop-ono-preserved g c = record {
+  locks =
+      locked-next c.args.onos.now c.loop-ono.ono-index _ _ _ _ _ _ _ _ _ _ _ c.loop-ono-test.true c.loop-ono.invariant.locks c.in_ok-status.ensures.locks;
+  in_time = locked-in-time true c.args.onos.now c.loop-ono.ono-index _ _ _ _ _ _ c.loop-ono-test.true c.loop-ono.invariant.in_time c.in_ok-status.ensures.in_time;
+}
 
 pub returns-in_err-flush-clause-stops : goal.returns-in_err-flush-clause-stops
 returns-in_err-flush-clause-stops g c =
@@ -20,4 +29,8 @@ pub returns-in_err-status-clause-stops : goal.returns-in_err-status-clause-stops
 returns-in_err-status-clause-stops g c =
     let p = err_from_is_err_and c.from_residual-in_err-status.result c.from_residual-in_err-status.ensures.1 in
     rw (p.1, p.2) (locking-stopped c.args.onos.now c.loop-ono.ono-index _ _ _ _ _ _ _ _ _ _
-    c.loop-ono-test.true c.loop-ono.invariant c.in_err-status.ensures)
+    c.loop-ono-test.true c.loop-ono.invariant.locks c.in_err-status.ensures.locks)
+
+pub returns-clause-in_time : goal.returns-clause-in_time
+returns-clause-in_time g c =
+    all-in-time true c.args.onos.now c.loop-ono.ono-index _ _ _ c.loop-ono-test.false c.loop-ono.invariant.in_time

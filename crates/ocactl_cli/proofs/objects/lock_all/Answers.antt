@@ -1,17 +1,28 @@
-use Rattle.ocactl_cli.specs.Objects.{Locks}
-use Rattle.ocactl_cli.proofs.ObjectLemmas.{asked-none, asked-next, asked-nothing, asked-until}
+use Rattle.ocactl_cli.specs.Objects.{Locks, NoneLocked}
+use Rattle.ocactl_cli.proofs.ExchangeLemmas.{present-of}
+use Rattle.ocactl_cli.proofs.ObjectLemmas.{asked-none, asked-next, asked-nothing, asked-until, locked-in-time, all-in-time}
 use Rattle.ocactl_cli.proofs.objects.lock_all.Goals as goal
 
 pub loop-ono-init : goal.loop-ono-init
-loop-ono-init g c = asked-none (Locks c.args.locks) _ _ _ c.in_ok-flush.ensures.prints c.in_ok-flush.ensures.empty
+loop-ono-init g c = record {
+  asks = asked-none (Locks c.args.locks) _ _ _ c.in_ok-flush.ensures.prints c.in_ok-flush.ensures.empty;
+  in_time = NoneLocked c.now-since.result (present-of _ _ _ c.end.ensures c.now-since.ensures);
+}
 
 pub loop-ono-preserved : goal.loop-ono-preserved
-loop-ono-preserved g c =
-    asked-next (Locks c.args.locks) c.args.onos.now c.loop-ono.ono-index _ _ _ _ _ _ _ _ _ _ c.loop-ono-test.true c.loop-ono.invariant c.in_ok-lock_one.ensures c.max_severity-status.ensures
+loop-ono-preserved g c = record {
+  asks =
+      asked-next (Locks c.args.locks) c.args.onos.now c.loop-ono.ono-index _ _ _ _ _ _ _ _ _ _ c.loop-ono-test.true c.loop-ono.invariant.asks c.in_ok-own.ensures.reports c.max_severity-status.ensures;
+  in_time = locked-in-time c.args.locks c.args.onos.now c.loop-ono.ono-index _ _ _ _ _ _ c.loop-ono-test.true c.loop-ono.invariant.in_time c.in_ok-own.ensures.in_time;
+}
 
 pub returns-in_err-flush-clause-part : goal.returns-in_err-flush-clause-part
 returns-in_err-flush-clause-part g c = asked-nothing (Locks c.args.locks) _ _ _ _ _ c.in_err-flush.ensures.prints
 
-pub returns-in_err-lock_one-clause-part : goal.returns-in_err-lock_one-clause-part
-returns-in_err-lock_one-clause-part g c =
-    asked-until (Locks c.args.locks) c.args.onos.now c.loop-ono.ono-index _ _ _ _ _ _ _ _ _ _ c.loop-ono-test.true c.loop-ono.invariant c.in_err-lock_one.ensures
+pub returns-in_err-own-clause-part : goal.returns-in_err-own-clause-part
+returns-in_err-own-clause-part g c =
+    asked-until (Locks c.args.locks) c.args.onos.now c.loop-ono.ono-index _ _ _ _ _ _ _ _ _ _ c.loop-ono-test.true c.loop-ono.invariant.asks c.in_err-own.ensures.reports
+
+pub returns-clause-in_time : goal.returns-clause-in_time
+returns-clause-in_time g c =
+    all-in-time c.args.locks c.args.onos.now c.loop-ono.ono-index _ _ _ c.loop-ono-test.false c.loop-ono.invariant.in_time

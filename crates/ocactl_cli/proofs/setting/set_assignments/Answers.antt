@@ -1,4 +1,5 @@
 use Rattle.std.proofs.Common.{◌≡◌, ap, arith, length}
+use Rattle.ocactl_cli.proofs.ExchangeLemmas.{present-of}
 use Rattle.ocactl_cli.proofs.ObjectLemmas.{few-commands, set-none, set-so-far, set-done}
 use Rattle.ocactl_cli.proofs.setting.set_assignments.Goals as goal
 
@@ -6,16 +7,16 @@ pub loop-assignment-init : goal.loop-assignment-init
 loop-assignment-init g c =
     let none : length c.new-waiting.result ≡ 0 = ap length c.new-waiting.ensures in
     record {
-      so_far = set-none _ _ _ _ _ c.requires c.new-waiting.ensures;
+      so_far = set-none _ _ _ _ _ c.now-since.result c.requires c.new-waiting.ensures (present-of _ _ _ c.end.ensures c.now-since.ensures);
       few = omega (arith, none);
     }
 
 pub loop-assignment-preserved : goal.loop-assignment-preserved
 loop-assignment-preserved g c = record {
-  so_far = set-so-far _ c.args.assignments.now c.loop-assignment.assignment-index _ _ _ _ _ _ _ _ _ _ _ c.loop-assignment-test.true c.loop-assignment.invariant.so_far c.in_ok-status.ensures.sets;
+  so_far = set-so-far _ c.args.assignments.now c.loop-assignment.assignment-index _ _ _ _ _ _ _ _ _ _ _ _ _ c.loop-assignment-test.true c.loop-assignment.invariant.so_far c.in_ok-status.ensures.sets;
   few = few-commands _ _ c.in_ok-status.ensures.sets.few;
 }
 
 pub returns-clause-sets : goal.returns-clause-sets
 returns-clause-sets g c =
-    set-done _ c.args.assignments.now c.loop-assignment.assignment-index _ _ _ _ _ _ _ _ _ c.loop-assignment-test.false c.loop-assignment.invariant.so_far c.await_all.ensures.waits
+    set-done _ c.args.assignments.now c.loop-assignment.assignment-index _ _ _ _ _ _ _ _ _ _ c.loop-assignment-test.false c.loop-assignment.invariant.so_far c.await_all.ensures.waits
