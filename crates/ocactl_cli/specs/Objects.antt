@@ -177,7 +177,7 @@ abbrev pub longest_behind : ℕ
 longest_behind = 15000
 
 -- The present moment is at most so long after this one.
-pub record IsInTime (since now : ℕ) (s : PanelState) : Type 0 where
+pub record IsSoonBehind (since now : ℕ) (s : PanelState) : Type 0 where
   pub present : IsPresent now s.end_state
   pub in_time : now ≤ since + longest_behind
 
@@ -222,7 +222,7 @@ assignment_in command = (command.target, command.value)
 -- counts as one of a link that is lost.
 abbrev pub BeginsSet : (since now : ℕ) → SetCommand → PanelState → PanelState → Type 0
 BeginsSet since now command old new =
-    (IsInTime since now old × BeginsSetting command.target command.value command.returned old new)
+    (IsSoonBehind since now old × BeginsSetting command.target command.value command.returned old new)
     ⊎ ((now ≡ since) × (command.returned ≡ Err faults.Lost) × LeavesOut since old new)
 
 -- its line, by its outcome
@@ -348,7 +348,7 @@ Locks locks target old new line =
 -- It was asked in time behind the command before it; or it came late, and that one's moment stands.
 abbrev pub LocksBehind : (since now : ℕ) → (locks : Bool) → (target : ℕ) → PanelState → PanelState → ObjectLine → Type 0
 LocksBehind since now locks target old new line =
-    (IsInTime since now old × AsksLock locks target old new line)
+    (IsSoonBehind since now old × AsksLock locks target old new line)
     ⊎ ((now ≡ since) × (line ≡ shown.Failed (trouble.NotSubmitted faults.Lost)) × LeavesOut since old new)
 
 -- EACH OF THESE OBJECTS WAS LOCKED OR UNLOCKED IN TIME behind the one before it, of which `since` is the moment, or left
