@@ -341,9 +341,9 @@ LEFT = b"4098 not sent\n4101 not sent\n"
 
 def stopped_between(checks):
     """Three objects. The program is stopped for 20 seconds while the command for the first is in flight, and its answer has come by then:
-    the others are left out. Once more where the program was stopped at a moment at which it finds the first one late."""
+    the others are left out. Some times more where the program was stopped at a moment at which it finds the first one late."""
     for name, (words, answered) in SEVERAL.items():
-        for _ in range(PATIENCE):
+        for _ in range(20):
             with checks.scene() as scene:
                 relay, run = scene.relay, scene.control(name, *words)
                 checks.same(f"{name} of three: the first copy", wait_for(lambda: relay.passed == 1 and relay.kept), True)
@@ -354,9 +354,11 @@ def stopped_between(checks):
                 run.send_signal(signal.SIGCONT)
                 out = run.communicate(timeout=PATIENCE)[0]
                 passed, status = len(relay.handles), run.returncode
-            if not out.startswith(b"4097 lost"):
+            is_late = out.startswith(b"4097 lost\n")
+            checks.same(f"{name} of three: what it printed, its status, and how many were sent", (out, status, passed),
+                        ((b"4097 lost" if is_late else answered) + b"\n" + LEFT, 3, 1))
+            if not is_late:
                 break
-        checks.same(f"{name} of three: what it printed, its status, and how many were sent", (out, status, passed), (answered + b"\n" + LEFT, 3, 1))
 
 
 def read_between(checks):

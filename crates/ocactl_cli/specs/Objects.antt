@@ -346,7 +346,8 @@ Locks locks target old new line =
     ⊎ ((line ≡ shown.Failed (trouble.NotSubmitted faults.Lost)) × (since : ℕ) × LeavesOut since old new)
 
 -- It was asked in time behind the command before it; or it came late, and that one's moment stands.
-abbrev pub LocksBehind : (since now : ℕ) → (locks : Bool) → (target : ℕ) → PanelState → PanelState → ObjectLine → Type 0
+abbrev pub LocksBehind : (since now : ℕ) → (locks : Bool) → (target : ℕ) → PanelState → PanelState → ObjectLine
+    → Type 0
 LocksBehind since now locks target old new line =
     (IsSoonBehind since now old × AsksLock locks target old new line)
     ⊎ ((now ≡ since) × (line ≡ shown.Failed (trouble.NotSubmitted faults.Lost)) × LeavesOut since old new)

@@ -2,8 +2,8 @@
 ghost use Rattle.std.specs.Prelude.{◌≡◌, ℕ, [], IfErr, IfOk, OnOk, true, map};
 ghost use Rattle.oca_program.specs.declared.fault.RunFault.TheVariants.{NoMemory};
 ghost use Rattle.oca_script.specs.Ends.{input};
-ghost use Rattle.ocactl_cli.specs.Objects.{HoldsAll, HoldsInTime, HoldsLooking, KeepsUntilEnd, LocksInTime, LooksAlways};
-ghost use Rattle.ocactl_cli.specs.Objects.{LooksAtInput};
+ghost use Rattle.ocactl_cli.specs.Objects.{HoldsAll, HoldsInTime, HoldsLooking, KeepsUntilEnd};
+ghost use Rattle.ocactl_cli.specs.Objects.{LocksInTime, LooksAlways, LooksAtInput};
 ghost use Rattle.ocactl_cli.specs.Objects.{LooksWhileHeld, ReadsWhereReady, StopsHolding, StopsLocking, ends_input};
 ghost use Rattle.ocactl_cli.specs.PrivateObjects.{KeepsOrFails, ListsHeld, LocksEach, LocksNextOr, LocksOneBehind};
 ghost use Rattle.ocactl_cli.specs.PrivateObjects.{ono_number};

@@ -6,7 +6,8 @@ ghost use Rattle.ocactl_cli.specs.Objects.{AsksAll, AsksLock, AsksPart, Gets, Lo
 ghost use Rattle.ocactl_cli.specs.Objects.{LocksInTime, SetsAll};
 ghost use Rattle.ocactl_cli.specs.Objects.{SetsNoneUnfound, GivesUp, ShowsValue, ShowsPosition, done_line};
 ghost use Rattle.ocactl_cli.specs.PrivateObjects.{ono_number, pair_of, assignment_of, AddsAssignment, FindsAllTo};
-ghost use Rattle.ocactl_cli.specs.PrivateObjects.{FindsOneTo, GivesUpFinding, LocksOneBehind, SetsFound, ReportsMissing, ReportsOne};
+ghost use Rattle.ocactl_cli.specs.PrivateObjects.{FindsOneTo, GivesUpFinding, LocksOneBehind, SetsFound};
+ghost use Rattle.ocactl_cli.specs.PrivateObjects.{ReportsMissing, ReportsOne};
 
 use super::in_time::is_in_time;
 use super::object_line::{ObjectLine, max_severity, report_object};
@@ -221,7 +222,8 @@ pub fn lock_all<E: End, W: Sink>(
         printer.old printer.new) }
     ensures part { OnErr result (AsksPart (Locks locks) (map ono_number onos.now) panel.old panel.new printer.old
         printer.new) }
-    ensures in_time { OnOk result ((since : ℕ) × LocksInTime locks (map ono_number onos.now) since panel.old panel.new) }
+    ensures in_time { OnOk result ((since : ℕ) × LocksInTime locks (map ono_number onos.now) since
+        panel.old panel.new) }
 {
     printer.flush()?;
     let mut status = 0;

@@ -80,8 +80,8 @@ fn set_next<E: End, W: Sink>(
     printer: &mut Printer<W>,
 ) -> Result<u8, WriteFailed>
     requires { length waiting.old ≤ span_size ahead }
-    ensures sets { IfOk result (λ now. SetsOn (span_size ahead) (assignment_of assignment.now) since.old since.new panel.old panel.new
-        (map set_in_flight waiting.old) (map set_in_flight waiting.new) status now printer.old printer.new) }
+    ensures sets { IfOk result (λ now. SetsOn (span_size ahead) (assignment_of assignment.now) since.old since.new
+        panel.old panel.new (map set_in_flight waiting.old) (map set_in_flight waiting.new) status now printer.old printer.new) }
     ensures fails { OnErr result (printer.new.failed ≡ true) }
 {
     let so_far = make_place(panel, ahead, waiting, status, printer)?;
