@@ -40,19 +40,23 @@ install_programs() {
     done
 }
 
-# The static library with a heap over malloc, the one without a heap, and the shared one, whose names all begin with `oca_`.
+# The static library with all C of c/ (a panel, a store, a heap over malloc), the one without the heap, and the shared one, whose names all
+# begin with `oca_`.
 install_library() {
     made=crates/oca_c/out/$TARGET
     archive=${LIBRARY:-$made/liboca_c.a}
     work=$(mktemp -d)
     trap 'rm -rf "$work"' EXIT
-    $COMPILER -O2 -fPIC -Wall -Wextra -c -o "$work/malloc.o" examples/c/malloc.c
-    cp "$archive" "$work/liboca.a"
+    for name in panel store malloc; do
+        $COMPILER -O2 -fPIC -Wall -Wextra -Iinclude -c -o "$work/$name.o" "c/$name.c"
+    done
+    cp "$archive" "$work/liboca_c.a"
+    $ARCHIVER rs "$work/liboca_c.a" "$work/panel.o" "$work/store.o" 2> /dev/null
+    cp "$work/liboca_c.a" "$work/liboca.a"
     $ARCHIVER rs "$work/liboca.a" "$work/malloc.o" 2> /dev/null
     $COMPILER -shared -o "$work/liboca.so.$VERSION" -Wl,-soname,liboca.so.$MAJOR -Wl,--version-script=include/oca.map \
         -Wl,--whole-archive "$work/liboca.a" -Wl,--no-whole-archive -Wl,-z,defs
     put 644 include/oca.h include
-    cp "$archive" "$work/liboca_c.a"
     for file in liboca_c.a liboca.a; do put 644 "$work/$file" "$LIB"; done
     put 755 "$work/liboca.so.$VERSION" "$LIB"
     ln -sf "liboca.so.$VERSION" "$ROOT/$LIB/liboca.so.$MAJOR"

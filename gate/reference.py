@@ -15,9 +15,7 @@ CALL = r"^(?:static inline )?(?:(?:enum|struct) oca_\w+|const char|u?int\d+_t|si
 
 # On each page anyway; and what the header's own functions call, which has no page.
 NAMED_ANYWAY = ("struct oca_device", "struct oca_link", "enum oca_result")
-HELPERS = {"oca_device_close_any", "oca_link_close_any", "oca_moment_after", "oca_outcome_of", "oca_panel_give_out", "oca_panel_now",
-           "oca_panel_refused", "oca_panel_state_at", "oca_panel_text", "oca_panel_turn_until", "oca_panel_was_read", "oca_walk_ends_at",
-           "oca_walk_put"}
+HELPERS = {"oca_device_close_any", "oca_link_close_any", "oca_outcome_of"}
 
 # What calls answer besides OCA_DONE, in the order of the numbers: the first row that the name fits says it.
 SET, SUBMITTED = "NO_OBJECT NO_SETTING OTHER_KIND OUT_OF_RANGE", "LOST HANDLES_SPENT SPAN_FULL TOO_LONG"
@@ -29,7 +27,7 @@ ANSWERS = [
     (r"oca_device_add_(block|mute|polarity|boolean)", f"{ADDED} NO_MEMORY CLOSED STARTED"),
     (r"oca_device_add_\w+", f"{ADDED} BAD_RANGE NO_MEMORY CLOSED STARTED"),
     (r"oca_device_start(_within)?", "NO_MEMORY CLOSED STARTED BAD_SIZE"),
-    (r"oca_device_(datagram(_words)?|tick|packets|left_out|objects)", "CLOSED NOT_STARTED"),
+    (r"oca_device_(datagram(_words)?|tick|packets|left_out|objects|waits|stored)", "CLOSED NOT_STARTED"),
     (r"oca_device_(next_lapse|setting|lock|object(_words)?)", "CLOSED NOT_STARTED NOTHING"),
     (r"oca_device_packet", "CLOSED NOT_STARTED NOTHING TOO_SMALL"),
     (r"oca_device_written", "CLOSED NOT_STARTED TOO_SMALL"),
@@ -44,13 +42,17 @@ ANSWERS = [
     (r"oca_link_(datagram|last_heard|is_lost|is_late|in_flight)", "CLOSED"),
     (r"oca_(value|text)_put", "TOO_SMALL NO_VALUE"),
     (r"oca_((value|text|names|members|class)_read|[sg]et_request)", "NO_VALUE"),
+    (r"oca_store_open", "HELD NO_FILE OPEN BAD_PATH NULL SYSTEM"),
+    (r"oca_store_load", "NOTHING NO_FILE BROKEN TOO_SMALL CLOSED NULL SYSTEM"),
+    (r"oca_store_save", "NO_FILE CLOSED NULL SYSTEM"),
 ]
 
 
 def answers_of(name):
     """The results that a call answers with."""
     said = next((said for form, said in ANSWERS if re.fullmatch(form, name)), None)
-    return [f"OCA_{it}" for it in ["DONE", *said.split()]] if said else []
+    of = "OCA_STORE_" if name.startswith("oca_store_") else "OCA_"
+    return [f"{of}{it}" for it in ["DONE", *said.split()]] if said else []
 
 
 def answers_text(header, name):
@@ -110,7 +112,7 @@ def page(name, said, declared, types, general, answers, version):
     about = said.split("\n")[0].split(". ")[0].split("; ")[0].rstrip(".")
     parts = [f'.TH {name} 3 "" "oca {version}" "OCA (AES70) for C"', ".SH NAME", f"{name} \\- {about}", ".SH SYNOPSIS", ".nf", "#include <oca.h>", "",
              *[roff(of) + "\n" for of in types], roff(declared), ".fi", ".SH DESCRIPTION", said]
-    if "enum oca_result oca_" in declared:
+    if re.search("enum oca_(store_)?result oca_", declared):
         parts += [".SH RETURN VALUE", ".nf", roff(answers), ".fi"]
     return "\n".join([*parts, ".SH NOTES", roff(general), ""])
 

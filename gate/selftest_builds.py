@@ -654,7 +654,7 @@ def installs_whole(folder):
     kind, found = f"{os.uname().machine}-unknown-linux-gnu", []
     for at, fails in enumerate(INSTALLS):
         top = folder / f"install-{at}"
-        for name in ("gate", "include", "man", "examples"):
+        for name in ("gate", "include", "man", "c"):
             shutil.copytree(run.TOP / name, top / name, ignore=shutil.ignore_patterns("__pycache__"))
         stand_in(top / "path/cc", COMPILER)
         stand_in(top / "path/ar", '[ "$FAILS" != archive ]')

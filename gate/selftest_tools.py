@@ -268,6 +268,146 @@ def finds_examples(folder):
     return found == [(0, "1 passed, 0 failed")] + [(1, "0 passed, 1 failed")] * 4
 
 
+# Documents, and the lines of their tables that are wrong. Of the good ones each has a table.
+TABLES = [
+    ("a\n\n| b | c |\n|---|---|\n| d | e |\n\nf\n", []), ("| b |\n| :-: |\n", []), ("1. a\n\n   | b |\n   |--|\n   | |\n", []),
+    ("| b | `c\\|d` |\n|---|---|\n| a\\|b | c |\n", []), ("```\n| b | c\n|---|\n```\n\n| b |\n|---|", []),
+    ("a | b |---|---| c\n", [1]), ("text |---|\n\n| b |\n|---|\n", [1]), ("| b | c | |---|---|\n| d | e |\n", [1]),
+    ("| b | c |\n|---|\n| d | e |\n", [1]), ("| b | c |\n|---|---|\n| d |\n", [1]), ("| b | c |\n|---|---|\n| d | e | f |\n", [1]),
+    ("| b | c |\n|---|---|\n| d | e\n", [1]), ("| b | c |\n|---|---|\n| d | e | |---|\n", [1]), ("a\n\n| b | c |\n\n|---|---|\n", [3, 5]),
+    ("| b | c |\n|---|---|\n| d | `e|f` |\n", [1]), ("| b |\n|---|\n| d |\n|---|\n", [1]), ("| b |\n", [1]),
+    ("| b |\n|---|\n\na\n\n| b |\n|---|\n| c | d |\n", [6])]
+
+
+def refuses_broken_tables(folder):
+    """`snippets.py` fails where the table of a document is broken, and says where."""
+    snippets, right = importlib.import_module("snippets"), True
+    top, real = folder / "tables", (snippets.TOP, snippets.DOCUMENTS, sys.argv)
+    (top / "docs").mkdir(parents=True)
+    try:
+        snippets.TOP, snippets.DOCUMENTS, sys.argv = top, [], ["snippets.py", "none"]
+        for name in ("README.md", "docs/A.md"):
+            for text, wrong in TABLES:
+                (top / name).write_text(text)
+                told = io.StringIO()
+                with contextlib.redirect_stdout(told):
+                    status = snippets.main()
+                said = [line.split(": ")[0] for line in told.getvalue().splitlines() if not line.endswith(": as it stands")]
+                count = run.last_line(told.getvalue()).split(" ")[0]
+                if (status, said[:-1]) != (int(bool(wrong)), [f"{name}:{line}" for line in wrong]) or not wrong and count != "1":
+                    print(f"snippets.py: {text!r}: {status}, {said}")
+                    right = False
+            (top / name).unlink()
+    finally:
+        snippets.TOP, snippets.DOCUMENTS, sys.argv = real
+    return right
+
+
+# The sources of a library, and the rows of what is public of it.
+LIBRARY = {
+    "lib.rt": """//! What it is: a
+//! sample. And more.
+//!
+//! Not this.
+mod a;
+pub mod b;
+mod c;
+
+pub use a::{Named, Open, Shape, call};
+pub use oca_other::Other;
+""",
+    "a.rt": """/// A [`Named`](Named) thing, whose (e.g. own)
+/// name it is. More.
+///
+/// # Examples
+#[derive(Clone)]
+pub struct Named {
+    /// Its size.
+    pub size: u8,
+    pub ghost least: { 1 },
+    hidden: u8,
+}
+
+impl Default for Named {
+    /// Not this.
+    fn default() -> Named {}
+}
+
+impl<'a> Named {
+    pub(crate) fn within(&self) {}
+
+    fn own(&self) {}
+
+    /// Its size.
+    pub fn size<F: Field>(
+        &self,
+        at: u8,
+    ) -> u8
+        ensures { result }
+    {
+        self.size
+    }
+}
+
+/// No name of it is used.
+pub struct Unused;
+
+impl Unused {
+    /// Nor this.
+    pub fn unused(&self) {}
+}
+
+/// What is open.
+pub trait Open: Copy {
+    /// How large.
+    const SIZE: usize;
+
+    /// Opens it | or not.
+    fn open(&mut self) -> bool
+        requires { so };
+}
+
+/// Its shape.
+pub enum Shape {
+    /// One.
+    One = 1,
+    Two(u8),
+}
+
+/// Calls.
+pub fn call(at: &mut [u8]) {
+    pub_fn();
+}
+
+fn not_this() {}
+""",
+    "b.rt": "/// By its path.\npub const B: u8 = 1;\n\n/// Two.\npub struct Two(u8, pub u16);\n",
+    "c.rt": "/// Not this.\npub fn hidden() {}\n"}
+LISTED = [
+    ("struct Named { size: u8 }", "A `Named` thing, whose (e.g. own) name it is. Has `Default`."),
+    ("Named::size<F: Field>(&self, at: u8) -> u8", "Its size."), ("trait Open", "What is open."),
+    ("Open::SIZE: usize", "How large."), ("Open::open(&mut self) -> bool", "Opens it | or not."),
+    ("enum Shape { One = 1, Two(u8) }", "Its shape."), ("fn call(at: &mut [u8])", "Calls."),
+    ("const b::B: u8 = 1", "By its path."), ("struct b::Two(u8, u16)", "Two.")]
+
+
+def lists_what_is_public(folder):
+    """`api.py` lists each public item of a library, and no other, with the first sentence of its comment."""
+    api = importlib.import_module("api")
+    source, real = folder / "crates/a/src", api.TOP
+    source.mkdir(parents=True)
+    for name, text in LIBRARY.items():
+        (source / name).write_text(text)
+    try:
+        api.TOP = folder
+        rows, about = api.listed("a"), api.about("a")
+    finally:
+        api.TOP = real
+    for it in [it for it in rows if it not in LISTED] + [it for it in LISTED if it not in rows]:
+        print(f"api.py: {it} in one of both alone")
+    return (rows, about) == (LISTED, "What it is: a sample.")
+
+
 # What a peer says of its questions beside silent hosts, and alone: asked, answered, the slowest in ms, how many
 # datagrams came; and how many checks of these two pass and fail (alone, all being well is no check of its own).
 OF_NEIGHBOURS = [
@@ -463,7 +603,7 @@ def calls_all_that_it_has(folder):
     place.mkdir()
     for name, text in MODULES.items():
         (place / name).write_text(text)
-    left = uncalled([run.TOP / it for it in ("tools", "gate", "bench", "examples")])
+    left = uncalled([run.TOP / it for it in ("tools", "gate", "bench", "examples", "examples/python")])
     for it in left:
         print(f"nothing calls {it}")
     return sorted(uncalled([place])) == UNCALLED and not left
@@ -588,6 +728,7 @@ ROWS = [("edits.py tries edits in groups", tries_edits_in_groups),
         ("neighbours.py judges runs", judges_neighbours), ("all that the tools have is called", calls_all_that_it_has),
         ("edits.py keeps for more groups", keeps_for_more_groups),
         ("snippets.py finds examples of doc comments", finds_examples),
+        ("snippets.py refuses broken tables", refuses_broken_tables), ("api.py lists what is public", lists_what_is_public),
         ("a definition's name stands in one spec", finds_names_defined_twice),
         ("unreliable.py fails each in turn", fails_each_in_turn),
         ("keep.py sees what is not kept", sees_what_is_not_kept)]

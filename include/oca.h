@@ -1,5 +1,5 @@
 /* An OCA (AES70) device and a controller's link to one, for C. Link liboca.a, which has both with the heap's calls, or
- * liboca_c.a and a heap of your own: three functions, whose signatures and rules are in examples/c/malloc.c and heap.c.
+ * liboca_c.a and a heap of your own: three functions, whose signatures and rules are in c/malloc.c and examples/c/heap.c.
  * Built by `make install-library` it runs on every x86-64, and on every AArch64, with Linux; it needs 64 bits.
  *
  * A device is one struct oca_device, and a link one struct oca_link, zeroed before the first call: then it is closed. A call
@@ -31,14 +31,16 @@ extern "C" {
 #if defined(__GNUC__)
 #define OCA_NONNULL __attribute__((nonnull))
 #define OCA_CHECKED __attribute__((nonnull, warn_unused_result))
+#define OCA_LOOKED_AT __attribute__((warn_unused_result))
 #else
 #define OCA_NONNULL
 #define OCA_CHECKED
+#define OCA_LOOKED_AT
 #endif
 
 /* The version of this header: 65,536 for each major one, 256 for each minor one, 1 for each patch. A library of the same major
  * version and at least this minor one keeps what this header says. */
-#define OCA_VERSION 0x010600u
+#define OCA_VERSION 0x010700u
 uint32_t oca_version(void);
 
 enum oca_result {
@@ -352,6 +354,18 @@ enum oca_result oca_device_left_out(struct oca_device *device, bool *left_out) O
  * them, and the answer is OCA_TOO_SMALL. */
 enum oca_result oca_device_written(struct oca_device *device, uint32_t *out, size_t out_len, size_t *count) OCA_NONNULL;
 
+/* Whether the answers to the last datagram wait until the objects are stored, for a device of which what was answered with OCA_STATUS_OK is to
+ * be there after a power cut. They do where the datagram wrote to an object (oca_device_written lists one); and, while something that
+ * datagrams wrote is not stored, where it held a duplicate, whose answer is that of an earlier command. So store the objects (oca_store_save),
+ * say so by oca_device_stored, and then send the packets. Where they cannot be stored, send none of them: for the controller it is as if the
+ * network had lost them, and its next copy of the command, which finds the retained reply, waits too. Other answers leave at once. None wait
+ * before the first datagram. */
+enum oca_result oca_device_waits(struct oca_device *device, bool *waits) OCA_NONNULL;
+
+/* Notes that the objects are stored as they are now, before the next datagram is handed over: no answers wait then. What is set at the front
+ * makes none wait. */
+enum oca_result oca_device_stored(struct oca_device *device) OCA_NONNULL;
+
 /* Hands a clock reading over, in silence: sessions and locks lapse by it. */
 enum oca_result oca_device_tick(struct oca_device *device, uint64_t now) OCA_NONNULL;
 
@@ -395,6 +409,72 @@ enum oca_result oca_device_spec(struct oca_device *device, size_t index, struct 
 /* The lock of an object, which binds this object alone, also where it is a block: kind 1 keeps other peers from all access, 2 from all but reading; and the peer that holds it. OCA_NOTHING
  * where the object is not locked or not there. */
 enum oca_result oca_device_lock(struct oca_device *device, uint32_t ono, uint32_t *kind, uint32_t *ip, uint16_t *port) OCA_NONNULL;
+
+/* ---- the store ---- */
+
+/* A file that holds what a device keeps over a stop, of POSIX systems; OCA_NO_POSIX leaves it out of this header, and a program that does
+ * not call it does not link it. */
+#ifndef OCA_NO_POSIX
+
+/* What became of a call of a store. Where it is OCA_STORE_SYSTEM, a call of the system failed: the store has its name and its errno. */
+enum oca_store_result {
+    OCA_STORE_DONE = 0,
+    OCA_STORE_NOTHING = 1,   /* nothing was stored yet: there is no file */
+    OCA_STORE_HELD = 2,      /* another store has the file open */
+    OCA_STORE_NO_FILE = 3,   /* FILE, FILE.new or FILE.lock is there and no plain file: a folder, a FIFO, a symbolic link */
+    OCA_STORE_BROKEN = 4,    /* the file is not whole, or not of this library */
+    OCA_STORE_TOO_SMALL = 5, /* the file has more bytes than there is room for */
+    OCA_STORE_CLOSED = 6,    /* the store is closed */
+    OCA_STORE_OPEN = 7,      /* it is open */
+    OCA_STORE_BAD_PATH = 8,  /* the path is empty, ends with a slash, or has a name above 250 bytes or a folder above 4,095 */
+    OCA_STORE_NULL = 9,      /* a pointer is null */
+    OCA_STORE_SYSTEM = 10    /* a call of the system failed */
+};
+
+/* A result of a store in words, for a log. */
+static inline const char *oca_store_text(uint32_t result) {
+    switch (result) {
+    case OCA_STORE_DONE: return "done";
+    case OCA_STORE_NOTHING: return "nothing was stored yet";
+    case OCA_STORE_HELD: return "another device has the file";
+    case OCA_STORE_NO_FILE: return "it is no plain file";
+    case OCA_STORE_BROKEN: return "it is not whole, or not of this program";
+    case OCA_STORE_TOO_SMALL: return "the file has more bytes than there is room for";
+    case OCA_STORE_CLOSED: return "the store is closed";
+    case OCA_STORE_OPEN: return "the store is open";
+    case OCA_STORE_BAD_PATH: return "the path names no file";
+    case OCA_STORE_NULL: return "a pointer is null";
+    case OCA_STORE_SYSTEM: return "a call of the system failed";
+    default: return "a result of a later version";
+    }
+}
+
+/* A store: zeroed, it is closed; struct oca_store store = OCA_STORE_INIT; Of the last call of it that answered OCA_STORE_SYSTEM `call` is the
+ * name of the call of the system that failed, as "fsync", and `error` its errno; else they are a null pointer and 0. The other fields are its
+ * own. One call at a time; the struct may be moved, but never copied and both copies used. */
+struct oca_store { bool is_open; int folder, lock, error; const char *call; char name[256]; };
+#define OCA_STORE_INIT {false, 0, 0, 0, NULL, {0}}
+
+/* Opens the store of a file for this program alone, until it is closed or the program ends: a lock on FILE.lock beside it, which is made and
+ * stays. Nothing is written to FILE. The first that applies: OCA_STORE_NULL, OCA_STORE_OPEN, OCA_STORE_BAD_PATH, OCA_STORE_SYSTEM where its
+ * folder can't be opened, OCA_STORE_NO_FILE, OCA_STORE_SYSTEM where FILE.lock can't be made, OCA_STORE_HELD. All but the first two leave it
+ * closed. */
+enum oca_store_result oca_store_open(const char *path, struct oca_store *store) OCA_LOOKED_AT;
+
+/* Reads what was stored last, into room for so many bytes, and tells how many it is; of what is not OCA_STORE_DONE the room may hold anything,
+ * and the length is 0, but of OCA_STORE_TOO_SMALL, where it is how many they are. OCA_STORE_NOTHING where there is no file: a new device.
+ * OCA_STORE_BROKEN: it is empty, cut off, longer than it was or changed, or it is of something else; it stays as it is. */
+enum oca_store_result oca_store_load(struct oca_store *store, void *out, size_t room, size_t *length) OCA_LOOKED_AT;
+
+/* Stores these bytes in the place of what was stored before. OCA_STORE_DONE: they are there after any stop, a power cut among them, as far as
+ * the disk keeps what it says is on it. They are written to FILE.new, that is brought to the disk and takes the place of FILE, and then the
+ * folder is brought to the disk; FILE keeps its mode and its owner. Where anything fails, FILE is whole: what was stored before, or, where
+ * only bringing the folder to the disk failed, these bytes. */
+enum oca_store_result oca_store_save(struct oca_store *store, const void *bytes, size_t length) OCA_LOOKED_AT;
+
+/* Closes a store and lets the lock go; a closed one stays closed, and at a null pointer nothing is done. */
+void oca_store_close(struct oca_store *store);
+#endif
 
 /* ---- the link ---- */
 
@@ -527,253 +607,79 @@ static inline struct oca_own_port oca_own_port(uint64_t seconds, uint32_t micros
  * Where a device is silent the link is lost after some 5 seconds. As a last resort a wait ends where the clock shows no later moment in
  * 100,000 receives.
  * OCA_OPEN where the panel is open; OCA_BAD_SIZE also for a struct of another size. */
-static inline enum oca_result oca_panel_open(struct oca_panel *panel, const struct oca_end *end, uint32_t ip, uint16_t port, uint32_t first_handle, uint8_t span, uint32_t wait_ms) {
-    if (panel->link.is_open) return OCA_OPEN;
-    if (end->size != sizeof *end) return OCA_BAD_SIZE;
-    panel->end = *end;
-    panel->wait_ms = wait_ms;
-    return oca_link_open(&panel->link, ip, port, first_handle, end->now(end->context), span);
-}
+enum oca_result oca_panel_open(struct oca_panel *panel, const struct oca_end *end, uint32_t ip, uint16_t port, uint32_t first_handle, uint8_t span, uint32_t wait_ms);
 
 /* Closes a panel and gives its memory back; a closed one stays closed, and at a null pointer nothing is done. */
-static inline void oca_panel_close(struct oca_panel *panel) {
-    if (panel) oca_link_close_any(&panel->link);
-}
-
-/* The present moment of a panel's end, and whether its link can go on then. */
-static inline uint64_t oca_panel_now(const struct oca_panel *panel) { return panel->end.now(panel->end.context); }
-static inline struct oca_outcome oca_panel_state_at(struct oca_panel *panel, uint64_t now) {
-    bool lost = false, late = false;
-    const enum oca_result found = oca_link_is_lost(&panel->link, &lost);
-    if (found != OCA_DONE) return oca_outcome_of(OCA_ASKED_NOT_SENT, 0, found);
-    if (lost) return oca_outcome_of(OCA_ASKED_LOST, 0, 0);
-    (void)oca_link_is_late(&panel->link, now, &late);
-    return oca_outcome_of(late ? OCA_ASKED_LATE : OCA_ASKED_DONE, 0, 0);
-}
+void oca_panel_close(struct oca_panel *panel);
 
 /* Whether the panel can go on: OCA_ASKED_DONE, or OCA_ASKED_LOST or OCA_ASKED_LATE; OCA_ASKED_NOT_SENT with OCA_CLOSED where it is closed. */
-static inline struct oca_outcome oca_panel_state(struct oca_panel *panel) {
-    if (!panel->link.is_open) return oca_outcome_of(OCA_ASKED_NOT_SENT, 0, OCA_CLOSED);
-    return oca_panel_state_at(panel, oca_panel_now(panel));
-}
-static inline struct oca_outcome oca_panel_give_out(struct oca_panel *panel) {
-    uint8_t bytes[OCA_MOST_BYTES] = {0};
-    uint32_t due = OCA_DUE_NOTHING, handle = 0;
-    size_t len = 0;
-    const uint64_t now = oca_panel_now(panel);
-    const struct oca_outcome state = oca_panel_state_at(panel, now);
-    while (state.asked == OCA_ASKED_DONE) {
-        const enum oca_result found = oca_link_due(&panel->link, now, bytes, sizeof bytes, &len, &due, &handle);
-        if (found != OCA_DONE) return oca_outcome_of(OCA_ASKED_NOT_SENT, 0, found);
-        if (due == OCA_DUE_LOST) return oca_outcome_of(OCA_ASKED_LOST, 0, 0);
-        if (due == OCA_DUE_NOTHING) return state;
-        panel->end.send(panel->end.context, bytes, len);
-    }
-    return state;
-}
-
-/* The moment so many milliseconds behind another one, and at most the last there is; a turn that receives until a moment at most. */
-static inline uint64_t oca_moment_after(uint64_t moment, uint32_t ms) { return moment > UINT64_MAX - ms ? UINT64_MAX : moment + ms; }
-static inline struct oca_outcome oca_panel_turn_until(struct oca_panel *panel, uint64_t until) {
-    uint8_t bytes[OCA_MOST_BYTES + 1] = {0};
-    size_t len = 0;
-    uint32_t ip = 0, reception = 0, answered = 0;
-    uint16_t port = 0;
-    uint64_t due = 0;
-    if (!panel->link.is_open) return oca_panel_state(panel);
-    if (oca_link_next_due(&panel->link, &due) == OCA_DONE && due < until) until = due;
-    if (panel->end.receive(panel->end.context, until, bytes, sizeof bytes, &len, &ip, &port) && len <= OCA_MOST_BYTES)
-        (void)oca_link_datagram(&panel->link, ip, port, bytes, len, oca_panel_now(panel), &reception, &answered);
-    return oca_panel_give_out(panel);
-}
+struct oca_outcome oca_panel_state(struct oca_panel *panel);
 
 /* Takes one turn: receives once, for at most 50 ms or until something is due, whichever is sooner, and sends what is due, keep-alives too. Tells what
  * oca_panel_state does: of a link that this turn finds lost or late that it is. */
-static inline struct oca_outcome oca_panel_turn(struct oca_panel *panel) {
-    if (!panel->link.is_open) return oca_panel_state(panel);
-    return oca_panel_turn_until(panel, oca_moment_after(oca_panel_now(panel), 50));
-}
+struct oca_outcome oca_panel_turn(struct oca_panel *panel);
 
 /* Submits a command by a method of enum oca_method, or one that sets or reads an object by its value, sends it at once and tells its handle:
  * several can be in flight, in the order in which they were begun. What the link refuses, or what has no value, changes nothing; of a link
  * that is late it is OCA_LOST. */
-static inline enum oca_result oca_panel_begin(struct oca_panel *panel, uint32_t ono, uint32_t method, uint8_t count, const uint8_t *params, size_t params_len, uint32_t *handle) {
-    const struct oca_outcome state = oca_panel_state(panel);
-    if (state.asked == OCA_ASKED_LATE) return OCA_LOST;
-    if (!panel->link.is_open) return OCA_CLOSED;
-    const enum oca_result taken = oca_link_call(&panel->link, ono, method, count, params, params_len, oca_panel_now(panel), handle);
-    if (taken == OCA_DONE) (void)oca_panel_give_out(panel);
-    return taken;
-}
-static inline enum oca_result oca_panel_begin_set(struct oca_panel *panel, uint32_t ono, struct oca_value value, uint32_t *handle) {
-    struct oca_request request = {0, 0, 0, 0, {0}};
-    const enum oca_result found = oca_set_request(&value, &request);
-    if (found != OCA_DONE) return found;
-    return oca_panel_begin(panel, ono, (uint32_t)request.level << 16 | request.index, request.count, request.params, request.size, handle);
-}
-static inline enum oca_result oca_panel_begin_get(struct oca_panel *panel, uint32_t ono, uint32_t class_number, uint32_t *handle) {
-    struct oca_request request = {0, 0, 0, 0, {0}};
-    const enum oca_result found = oca_get_request(class_number, &request);
-    if (found != OCA_DONE) return found;
-    return oca_panel_begin(panel, ono, (uint32_t)request.level << 16 | request.index, request.count, request.params, request.size, handle);
-}
+enum oca_result oca_panel_begin(struct oca_panel *panel, uint32_t ono, uint32_t method, uint8_t count, const uint8_t *params, size_t params_len, uint32_t *handle);
+enum oca_result oca_panel_begin_set(struct oca_panel *panel, uint32_t ono, struct oca_value value, uint32_t *handle);
+enum oca_result oca_panel_begin_get(struct oca_panel *panel, uint32_t ono, uint32_t class_number, uint32_t *handle);
 
 /* An answer: ParamCount, and its parameters. */
 struct oca_answer { uint32_t count; size_t params_len; uint8_t params[OCA_MOST_ANSWER]; };
 
 /* How a command that was begun fared, where that is known without a turn, and then its answer is taken; else OCA_ASKED_UNANSWERED, which
  * changes nothing. */
-static inline struct oca_outcome oca_panel_try_finish(struct oca_panel *panel, uint32_t handle, struct oca_answer *answer) {
-    uint32_t status = 0;
-    bool in_flight = true;
-    const enum oca_result taken = oca_link_take(&panel->link, handle, &status, &answer->count, answer->params, sizeof answer->params, &answer->params_len);
-    if (taken == OCA_DONE) return oca_outcome_of(status == OCA_STATUS_OK ? OCA_ASKED_DONE : OCA_ASKED_REFUSED, status, 0);
-    if (oca_link_in_flight(&panel->link, handle, &in_flight) == OCA_DONE && !in_flight) return oca_outcome_of(OCA_ASKED_NO_HANDLE, 0, handle);
-    const struct oca_outcome state = oca_panel_state(panel);
-    return state.asked == OCA_ASKED_DONE ? oca_outcome_of(OCA_ASKED_UNANSWERED, 0, handle) : state;
-}
+struct oca_outcome oca_panel_try_finish(struct oca_panel *panel, uint32_t handle, struct oca_answer *answer);
 
 /* Waits for a command that was begun, and takes its answer. After OCA_ASKED_UNANSWERED it can be waited for again. */
-static inline struct oca_outcome oca_panel_finish(struct oca_panel *panel, uint32_t handle, struct oca_answer *answer) {
-    struct oca_outcome outcome = oca_panel_try_finish(panel, handle, answer);
-    if (outcome.asked != OCA_ASKED_UNANSWERED) return outcome;
-    uint64_t now = oca_panel_now(panel), latest = now;
-    const uint64_t until = oca_moment_after(now, panel->wait_ms);
-    for (uint32_t still = 0; now < until && still < 100000 && outcome.asked == OCA_ASKED_UNANSWERED; still++) {
-        const uint64_t turn = oca_moment_after(now, 50);
-        (void)oca_panel_turn_until(panel, turn < until ? turn : until);
-        outcome = oca_panel_try_finish(panel, handle, answer);
-        now = oca_panel_now(panel);
-        if (now > latest) {
-            latest = now;
-            still = 0;
-        }
-    }
-    return outcome;
-}
-
-/* The outcome of a command that the link did not take, by why. */
-static inline struct oca_outcome oca_panel_refused(enum oca_result result) {
-    if (result == OCA_LOST) return oca_outcome_of(OCA_ASKED_LOST, 0, 0);
-    return result == OCA_NO_VALUE ? oca_outcome_of(OCA_ASKED_NO_VALUE, 0, 0) : oca_outcome_of(OCA_ASKED_NOT_SENT, 0, result);
-}
+struct oca_outcome oca_panel_finish(struct oca_panel *panel, uint32_t handle, struct oca_answer *answer);
 
 /* Asks for a command by a method of enum oca_method with its parameters (their layout is in docs/PROTOCOL.md, section 3), and waits for its
  * answer. */
-static inline struct oca_outcome oca_panel_ask(struct oca_panel *panel, uint32_t ono, uint32_t method, uint8_t count, const uint8_t *params, size_t params_len, struct oca_answer *answer) {
-    uint32_t handle = 0;
-    const enum oca_result begun = oca_panel_begin(panel, ono, method, count, params, params_len, &handle);
-    return begun == OCA_DONE ? oca_panel_finish(panel, handle, answer) : oca_panel_refused(begun);
-}
+struct oca_outcome oca_panel_ask(struct oca_panel *panel, uint32_t ono, uint32_t method, uint8_t count, const uint8_t *params, size_t params_len, struct oca_answer *answer);
 
 /* The same of a method without parameters. */
-static inline struct oca_outcome oca_panel_read(struct oca_panel *panel, uint32_t ono, uint32_t method, struct oca_answer *answer) {
-    static const uint8_t none[1] = {0};
-    return oca_panel_ask(panel, ono, method, 0, none, 0, answer);
-}
+struct oca_outcome oca_panel_read(struct oca_panel *panel, uint32_t ono, uint32_t method, struct oca_answer *answer);
 
 /* Waits for a command that was begun to set an object, or to read one of the class, whose reading it tells. */
-static inline struct oca_outcome oca_panel_finish_set(struct oca_panel *panel, uint32_t handle) {
-    struct oca_answer answer = {0, 0, {0}};
-    return oca_panel_finish(panel, handle, &answer);
-}
-static inline struct oca_outcome oca_panel_finish_get(struct oca_panel *panel, uint32_t handle, uint32_t class_number, struct oca_reading *reading) {
-    struct oca_answer answer = {0, 0, {0}};
-    const struct oca_outcome outcome = oca_panel_finish(panel, handle, &answer);
-    if (outcome.asked != OCA_ASKED_DONE) return outcome;
-    return oca_outcome_of(oca_value_read(class_number, answer.params, answer.params_len, reading) == OCA_DONE ? OCA_ASKED_DONE : OCA_ASKED_UNREADABLE, 0, 0);
-}
+struct oca_outcome oca_panel_finish_set(struct oca_panel *panel, uint32_t handle);
+struct oca_outcome oca_panel_finish_get(struct oca_panel *panel, uint32_t handle, uint32_t class_number, struct oca_reading *reading);
 
 /* Sets an object to a value, by the set method of the value's class. */
-static inline struct oca_outcome oca_panel_set(struct oca_panel *panel, uint32_t ono, struct oca_value value) {
-    uint32_t handle = 0;
-    const enum oca_result begun = oca_panel_begin_set(panel, ono, value, &handle);
-    return begun == OCA_DONE ? oca_panel_finish_set(panel, handle) : oca_panel_refused(begun);
-}
+struct oca_outcome oca_panel_set(struct oca_panel *panel, uint32_t ono, struct oca_value value);
 
 /* The reading of an object of this class, which is not asked: the value, with the least and the greatest of a position and of an integer.
  * OCA_ASKED_NO_VALUE for a block. */
-static inline struct oca_outcome oca_panel_get_of(struct oca_panel *panel, uint32_t ono, uint32_t class_number, struct oca_reading *reading) {
-    uint32_t handle = 0;
-    const enum oca_result begun = oca_panel_begin_get(panel, ono, class_number, &handle);
-    return begun == OCA_DONE ? oca_panel_finish_get(panel, handle, class_number, reading) : oca_panel_refused(begun);
-}
-
-/* What became of a question whose answer was read. */
-static inline struct oca_outcome oca_panel_was_read(enum oca_result read) {
-    return oca_outcome_of(read == OCA_DONE ? OCA_ASKED_DONE : OCA_ASKED_UNREADABLE, 0, 0);
-}
-static inline struct oca_outcome oca_panel_text(const struct oca_answer *answer, struct oca_outcome outcome, struct oca_name *name) {
-    return outcome.asked == OCA_ASKED_DONE ? oca_panel_was_read(oca_text_read(answer->params, answer->params_len, name)) : outcome;
-}
+struct oca_outcome oca_panel_get_of(struct oca_panel *panel, uint32_t ono, uint32_t class_number, struct oca_reading *reading);
 
 /* The class of an object, by GetClassIdentification; of a class that is not of this profile the class number is 0. */
-static inline struct oca_outcome oca_panel_class(struct oca_panel *panel, uint32_t ono, struct oca_class_id *id) {
-    struct oca_answer answer = {0, 0, {0}};
-    const struct oca_outcome outcome = oca_panel_read(panel, ono, OCA_GET_CLASS_IDENTIFICATION, &answer);
-    return outcome.asked == OCA_ASKED_DONE ? oca_panel_was_read(oca_class_read(answer.params, answer.params_len, id)) : outcome;
-}
+struct oca_outcome oca_panel_class(struct oca_panel *panel, uint32_t ono, struct oca_class_id *id);
 
 /* The reading of an object: its class is asked first, and then what oca_panel_get_of asks. */
-static inline struct oca_outcome oca_panel_get(struct oca_panel *panel, uint32_t ono, struct oca_reading *reading) {
-    struct oca_class_id id = {0, {0}, 0};
-    const struct oca_outcome outcome = oca_panel_class(panel, ono, &id);
-    return outcome.asked == OCA_ASKED_DONE ? oca_panel_get_of(panel, ono, id.class_number, reading) : outcome;
-}
+struct oca_outcome oca_panel_get(struct oca_panel *panel, uint32_t ono, struct oca_reading *reading);
 
 /* Keeps other controllers from reading and setting an object, by LockTotal; and takes this panel's lock off it. */
-static inline struct oca_outcome oca_panel_lock(struct oca_panel *panel, uint32_t ono) {
-    struct oca_answer answer = {0, 0, {0}};
-    return oca_panel_read(panel, ono, OCA_LOCK_TOTAL, &answer);
-}
-static inline struct oca_outcome oca_panel_unlock(struct oca_panel *panel, uint32_t ono) {
-    struct oca_answer answer = {0, 0, {0}};
-    return oca_panel_read(panel, ono, OCA_UNLOCK, &answer);
-}
+struct oca_outcome oca_panel_lock(struct oca_panel *panel, uint32_t ono);
+struct oca_outcome oca_panel_unlock(struct oca_panel *panel, uint32_t ono);
 
 /* The role of an object, which its maker gave it, and its label. */
-static inline struct oca_outcome oca_panel_role(struct oca_panel *panel, uint32_t ono, struct oca_name *role) {
-    struct oca_answer answer = {0, 0, {0}};
-    const struct oca_outcome outcome = oca_panel_read(panel, ono, OCA_GET_ROLE, &answer);
-    return oca_panel_text(&answer, outcome, role);
-}
-static inline struct oca_outcome oca_panel_label(struct oca_panel *panel, uint32_t ono, struct oca_name *label) {
-    struct oca_answer answer = {0, 0, {0}};
-    const struct oca_outcome outcome = oca_panel_read(panel, ono, OCA_GET_LABEL, &answer);
-    return oca_panel_text(&answer, outcome, label);
-}
+struct oca_outcome oca_panel_role(struct oca_panel *panel, uint32_t ono, struct oca_name *role);
+struct oca_outcome oca_panel_label(struct oca_panel *panel, uint32_t ono, struct oca_name *label);
 
 /* Gives an object a label. OCA_ASKED_NO_VALUE for one above 64 bytes, or that is no UTF-8. */
-static inline struct oca_outcome oca_panel_set_label(struct oca_panel *panel, uint32_t ono, const struct oca_name *label) {
-    uint8_t params[66] = {0};
-    size_t len = 0;
-    struct oca_answer answer = {0, 0, {0}};
-    const enum oca_result put = oca_text_put(label, params, sizeof params, &len);
-    return put == OCA_DONE ? oca_panel_ask(panel, ono, OCA_SET_LABEL, 1, params, len, &answer) : oca_panel_refused(put);
-}
+struct oca_outcome oca_panel_set_label(struct oca_panel *panel, uint32_t ono, const struct oca_name *label);
 
 /* The name of a switch's position, which is counted from 0. */
-static inline struct oca_outcome oca_panel_position_name(struct oca_panel *panel, uint32_t ono, uint16_t position, struct oca_name *name) {
-    const uint8_t params[2] = {(uint8_t)(position >> 8), (uint8_t)position};
-    struct oca_answer answer = {0, 0, {0}};
-    const struct oca_outcome outcome = oca_panel_ask(panel, ono, OCA_GET_POSITION_NAME, 1, params, sizeof params, &answer);
-    return oca_panel_text(&answer, outcome, name);
-}
+struct oca_outcome oca_panel_position_name(struct oca_panel *panel, uint32_t ono, uint16_t position, struct oca_name *name);
 
 /* The names of a switch's positions. */
-static inline struct oca_outcome oca_panel_position_names(struct oca_panel *panel, uint32_t ono, struct oca_names *names) {
-    struct oca_answer answer = {0, 0, {0}};
-    const struct oca_outcome outcome = oca_panel_read(panel, ono, OCA_GET_POSITION_NAMES, &answer);
-    return outcome.asked == OCA_ASKED_DONE ? oca_panel_was_read(oca_names_read(answer.params, answer.params_len, names)) : outcome;
-}
+struct oca_outcome oca_panel_position_names(struct oca_panel *panel, uint32_t ono, struct oca_names *names);
 
 /* The numbers of a block's members. OCA_ASKED_REFUSED with OCA_STATUS_BUFFER_OVERFLOW where there are more than a response has room for, some
  * 90. */
-static inline struct oca_outcome oca_panel_members(struct oca_panel *panel, uint32_t ono, struct oca_members *members) {
-    struct oca_answer answer = {0, 0, {0}};
-    const struct oca_outcome outcome = oca_panel_read(panel, ono, OCA_GET_MEMBERS, &answer);
-    return outcome.asked == OCA_ASKED_DONE ? oca_panel_was_read(oca_members_read(answer.params, answer.params_len, members)) : outcome;
-}
+struct oca_outcome oca_panel_members(struct oca_panel *panel, uint32_t ono, struct oca_members *members);
 
 /* What a walk finds of an object: its number, that of the block that lists it (0 of the root), what became of the question for its class
  * and its role, they where it is OCA_ASKED_DONE, and of a block what became of the question for its members (as `described` where the
@@ -783,23 +689,6 @@ struct oca_visit { uint32_t ono, container; struct oca_outcome described; struct
 /* The place of a walk, of the caller's: the numbers of objects that were visited at the front, and those that wait at the back. */
 struct oca_place { uint32_t ono, container; };
 struct oca_walk { uint32_t visited, waiting; struct oca_place places[4096]; };
-static inline void oca_walk_put(struct oca_walk *walk, uint32_t ono, uint32_t container) {
-    uint32_t first = 4096 - walk->waiting, at = first;
-    for (uint32_t i = 0; i < walk->visited; i++)
-        if (walk->places[i].ono == ono) return;
-    while (at < 4096 && walk->places[at].ono != ono) at++;
-    if (at == 4096) {
-        if (walk->visited + walk->waiting == 4096) return;
-        walk->waiting++;
-        at = --first;
-    }
-    for (; at > first; at--) walk->places[at] = walk->places[at - 1];
-    walk->places[first].ono = ono;
-    walk->places[first].container = container;
-}
-
-/* Whether a walk can't go on after a question that fared so. */
-static inline bool oca_walk_ends_at(struct oca_outcome outcome) { return outcome.asked == OCA_ASKED_NOT_SENT || outcome.asked == OCA_ASKED_UNANSWERED; }
 
 /* What a walk calls at each object, with what the caller gave for it: it goes on where this answers true. It may ask the panel too. */
 typedef bool (*oca_visitor)(void *context, const struct oca_visit *visit);
@@ -809,34 +698,7 @@ typedef bool (*oca_visitor)(void *context, const struct oca_visit *visit);
  * answer is waited for until it is there or the link is lost, for 20,000 ms at most, however long the panel waits. OCA_ASKED_DONE where all
  * were visited, or the visitor ended it; else why it could not go on: OCA_ASKED_UNANSWERED where in that time neither was so, as where the
  * clock stands still. */
-static inline struct oca_outcome oca_panel_walk(struct oca_panel *panel, struct oca_walk *walk, oca_visitor visit, void *context) {
-    struct oca_members members = {0, {0}};
-    const uint32_t wait_ms = panel->wait_ms;
-    bool goes_on = true;
-    walk->visited = walk->waiting = 0;
-    oca_walk_put(walk, 100, 0);
-    while (goes_on && walk->waiting > 0) {
-        const uint32_t next = 4096 - walk->waiting--;
-        struct oca_visit found = {walk->places[next].ono, walk->places[next].container, {0, 0, 0}, {0, {0}, 0}, {0, {0}}, {0, 0, 0}};
-        walk->places[walk->visited].ono = found.ono;
-        walk->places[walk->visited++].container = found.container;
-        panel->wait_ms = 20000; /* a link is lost, or late, before that */
-        found.described = oca_panel_class(panel, found.ono, &found.id);
-        if (found.described.asked == OCA_ASKED_DONE) found.described = oca_panel_role(panel, found.ono, &found.role);
-        if (found.described.asked != OCA_ASKED_DONE) found.listed = found.described;
-        if (found.described.asked == OCA_ASKED_DONE && found.id.class_number == OCA_CLASS_BLOCK) {
-            found.listed = oca_panel_members(panel, found.ono, &members);
-            for (uint32_t i = found.listed.asked == OCA_ASKED_DONE ? members.count : 0; i > 0; i--) oca_walk_put(walk, members.onos[i - 1], found.ono);
-        }
-        panel->wait_ms = wait_ms;
-        const struct oca_outcome state = oca_panel_state(panel);
-        if (state.asked != OCA_ASKED_DONE) return state;
-        if (oca_walk_ends_at(found.described)) return found.described;
-        if (oca_walk_ends_at(found.listed)) return found.listed;
-        goes_on = visit(context, &found);
-    }
-    return oca_outcome_of(OCA_ASKED_DONE, 0, 0);
-}
+struct oca_outcome oca_panel_walk(struct oca_panel *panel, struct oca_walk *walk, oca_visitor visit, void *context);
 
 #ifdef __cplusplus
 }

@@ -287,6 +287,62 @@ static void tells_written(struct oca_device *d) {
     same("81 written", count == 81 && words[80] == 4097 && words[81] == 0, 1);
 }
 
+/* Whether the answers to a command wait: of this peer, under this handle, at this moment. */
+static bool waits_behind(struct oca_device *d, uint16_t port, uint32_t handle, uint32_t target, uint16_t level, uint16_t index, const uint8_t *params, size_t size) {
+    struct oca_verdict v = {9, 9, 9, 9, 9, 9, 9};
+    uint8_t bytes[64] = {0};
+    bool waits = false;
+    const size_t whole = command(bytes, handle, target, level, index, size > 0, params, size);
+    same("a command of one that waits", oca_device_datagram(d, 1, port, bytes, whole, 1000, &v), OCA_DONE);
+    same("whether its answers wait", oca_device_waits(d, &waits), OCA_DONE);
+    return waits;
+}
+
+/* Which answers wait until the objects are stored: those of what wrote; and, until it is said that they are stored, those of duplicates. */
+static void tells_waits(void) {
+    struct oca_device d = OCA_DEVICE_INIT;
+    struct oca_verdict v = {9, 9, 9, 9, 9, 9, 9};
+    static const uint8_t open[] = {2}, none[] = {3};
+    bool waits = true;
+    same("waits: closed", oca_device_waits(&d, &waits) == OCA_CLOSED && waits, 1);
+    same("stored: closed", oca_device_stored(&d), OCA_CLOSED);
+    same("waits: open", oca_device_open(&d, 3), OCA_DONE);
+    same("waits: a mute", oca_device_add_mute(&d, 100, 4097, text("mute"), 4, true, true), OCA_DONE);
+    same("waits: before the start", oca_device_waits(&d, &waits) == OCA_NOT_STARTED && waits, 1);
+    same("stored: before the start", oca_device_stored(&d), OCA_NOT_STARTED);
+    same("waits: start", oca_device_start(&d, 8, 4), OCA_DONE);
+    same("before the first datagram none waits", oca_device_waits(&d, &waits) == OCA_DONE && !waits, 1);
+    same("stored: before the first datagram", oca_device_stored(&d), OCA_DONE);
+    same("a reading", waits_behind(&d, 2, 1, 4097, 4, 1, open, 0), 0);
+    same("a copy of it, with all stored", waits_behind(&d, 2, 1, 4097, 4, 1, open, 0), 0);
+    same("a lock", waits_behind(&d, 2, 2, 4097, 1, 3, open, 0), 0);
+    same("a command that is refused", waits_behind(&d, 2, 3, 4097, 4, 2, none, 1), 0);
+    same("one that another's lock refuses", waits_behind(&d, 3, 1, 4097, 4, 2, open, 1), 0);
+    same("a command that writes", waits_behind(&d, 2, 4, 4097, 4, 2, open, 1), 1);
+    same("still", oca_device_waits(&d, &waits) == OCA_DONE && waits, 1);
+    same("a tick", oca_device_tick(&d, 1000), OCA_DONE);
+    same("the front", oca_device_set_state(&d, 4097, 1), OCA_DONE);
+    same("leave it", oca_device_waits(&d, &waits) == OCA_DONE && waits, 1);
+    same("a copy of it", waits_behind(&d, 2, 4, 4097, 4, 2, open, 1), 1);
+    same("a copy of the reading", waits_behind(&d, 2, 1, 4097, 4, 1, open, 0), 1);
+    same("another's copy", waits_behind(&d, 3, 1, 4097, 4, 2, open, 1), 1);
+    same("a new reading", waits_behind(&d, 2, 5, 4097, 4, 1, open, 0), 0);
+    same("another command under its handle", waits_behind(&d, 2, 5, 4097, 4, 2, open, 1), 0);
+    same("an empty datagram", oca_device_datagram(&d, 1, 2, get_state, 0, 1000, &v), OCA_DONE);
+    same("does not wait", oca_device_waits(&d, &waits) == OCA_DONE && !waits, 1);
+    same("a copy still does", waits_behind(&d, 2, 4, 4097, 4, 2, open, 1), 1);
+    same("stored", oca_device_stored(&d), OCA_DONE);
+    same("then no answer waits", oca_device_waits(&d, &waits) == OCA_DONE && !waits, 1);
+    same("and no copy", waits_behind(&d, 2, 4, 4097, 4, 2, open, 1), 0);
+    same("the same value once more", waits_behind(&d, 2, 6, 4097, 4, 2, open, 1), 1);
+    same("a label", oca_device_stored(&d) == OCA_DONE && waits_behind(&d, 2, 7, 4097, 2, 9, text("\0\1a"), 3), 1);
+    oca_device_close(&d);
+    same("opened anew", oca_device_open(&d, 3), OCA_DONE);
+    same("and started", oca_device_start(&d, 8, 4), OCA_DONE);
+    same("nothing waits", oca_device_waits(&d, &waits) == OCA_DONE && !waits, 1);
+    oca_device_close(&d);
+}
+
 /* Locks and their holders. */
 static void tells_locks(struct oca_device *d) {
     struct oca_verdict v = {9, 9, 9, 9, 9, 9, 9};
@@ -1045,6 +1101,7 @@ int main(void) {
     same("version", oca_version(), OCA_VERSION);
     device();
     small_device();
+    tells_waits();
     differing_neighbours();
     depths();
     values();

@@ -7,8 +7,8 @@ Device and panel of examples/c are compiled as C11 and as C++17 with -Wall -Wext
 flags of oca.pc (the former with the shared library, the latter with the static one) and by CMake, and run against each other and
 against `ocadev` and `ocactl`, also under valgrind, for AArch64 under emulation, and on an emulated x86-64 of the first kind; what
 is not installed here is named as NOT TRIED. The mixer is killed and started anew behind a network that loses one datagram of five, as
-it is and under the sanitizers. Each call is tried on a closed handle and at its limits (c_library.c), and the panel that the header
-writes over a network that loses, doubles and delays, and at peers that answer wrongly (c_library_panel.c); and calls of
+it is and under the sanitizers. Each call is tried on a closed handle and at its limits (c_library.c), and the panel
+(c/panel.c) over a network that loses, doubles and delays, and at peers that answer wrongly (c_library_panel.c); and calls of
 anything are made in any order (c_library_random.c). Each request
 for memory is refused in turn. Header and library name the same functions, and the library needs what EMBEDDING names. What is
 installed lies below its folder, also with a space in its name or a relative one, and `make uninstall` leaves nothing of it; what
@@ -126,15 +126,15 @@ def against_the_programs(checks, made, folder):
 
 
 def panels(checks, made, prefix, folder):
-    """The panel of the header over a network of its own, strictly compiled, as it is and under the sanitizers, and at `ocadev`: it finds the
+    """The panel of c/panel.c over a network of its own, strictly compiled, as it is and under the sanitizers, and at `ocadev`: it finds the
     objects that `ocactl` finds."""
     for language, compiler in LANGUAGES.items():
         for name, more in ((f"network-{language}", []), (f"network-{language}-sanitized", SANITIZED)):
-            subprocess.run([*compiler, *STRICT, "-Wconversion", *more, f"-I{prefix}/include", "-o", made / name, TOP / "tools/c_library_panel.c",
-                            "-x", "none", prefix / "lib/liboca.a"], check=True)
+            subprocess.run([*compiler, *STRICT, "-Wconversion", *more, f"-I{prefix}/include", "-Doca_link_datagram=handed", "-o", made / name,
+                            TOP / "tools/c_library_panel.c", TOP / "c/panel.c", "-x", "none", prefix / "lib/liboca.a"], check=True)
             out, status = said_by([made / name])
             counts = re.search(r"(\d+) passed, (\d+) failed\n$", out)
-            checks.same(f"the panel of the header ({name})", (counts and counts[2], status), ("0", 0))
+            checks.same(f"the panel of the library ({name})", (counts and counts[2], status), ("0", 0))
             checks.passed += int(counts[1]) if counts else 0
             print(out, end="") if status else None
     for words in ([], ["--tree", TOP / "examples/stagebox.tree"]):
@@ -151,8 +151,8 @@ def random_calls(checks, made, prefix):
     """Calls of devices, links and panels in any order, with any numbers, under the sanitizers: what each answers, and what it writes."""
     for seed, (language, compiler) in enumerate(LANGUAGES.items(), 1):
         program = made / f"random-{language}"
-        subprocess.run([*compiler, *STRICT, *SANITIZED, f"-I{prefix}/include", "-o", program, HERE / "c_library_random.c", "-x", "none", prefix / "lib/liboca.a"],
-                       check=True)
+        subprocess.run([*compiler, *STRICT, *SANITIZED, f"-I{prefix}/include", "-o", program, HERE / "c_library_random.c", TOP / "c/panel.c", "-x", "none",
+                        prefix / "lib/liboca.a"], check=True)
         out, status = said_by([program, CALLS, seed])
         counts = re.search(r"(\d+) passed, (\d+) failed\n$", out)
         checks.same(f"calls of anything ({language})", (counts is not None and int(counts[1]) > CALLS, counts and counts[2], status), (True, "0", 0))
@@ -286,22 +286,24 @@ CARELESS = [("unused-result", it) for it in (
     "oca_device_add(&device, 100, 4096, &spec)",
     "oca_device_add_mute(&device, 100, 4096, text, 4, true, true)", "oca_device_start(&device, 32, 16)",
     "oca_device_start_within(&device, 32, 16, 4)", "oca_link_open(&link, 1, 2, 3, 4, 5)",
-    "oca_link_submit(&link, 1, 2, 3, 0, text, 0, 4, &number)")]
+    "oca_link_submit(&link, 1, 2, 3, 0, text, 0, 4, &number)",
+    "oca_store_open(\"file\", &store)", "oca_store_load(&store, text, 4, &size)", "oca_store_save(&store, text, 4)")]
 CARELESS += [("nonnull", f"(void)!{it}") for it in (
     "oca_device_open(NULL, 1)", "oca_device_tick(NULL, 1)", "oca_device_packets(&device, NULL)",
-    "oca_device_set(&device, 4096, NULL)", "oca_device_spec(&device, 0, NULL)", "oca_link_in_flight(&link, 1, NULL)",
+    "oca_device_set(&device, 4096, NULL)", "oca_device_waits(&device, NULL)", "oca_device_spec(&device, 0, NULL)", "oca_link_in_flight(&link, 1, NULL)",
     "oca_link_next_due(&link, NULL)", "oca_link_due(&link, 1, NULL, 1472, &size, &number, &number)",
     "oca_text_put(NULL, text, 4, &size)")]
 ONE_CALL = """#include <oca.h>
 static struct oca_device device = OCA_DEVICE_INIT;
 static struct oca_link link = OCA_LINK_INIT;
 static struct oca_spec spec;
+static struct oca_store store = OCA_STORE_INIT;
 static uint8_t text[] = "text";
 static uint32_t number;
 static size_t size;
 void calls(void);
 void calls(void) {
-    (void)device, (void)link, (void)spec, (void)text, (void)number, (void)size;
+    (void)device, (void)link, (void)spec, (void)store, (void)text, (void)number, (void)size;
     %s;
 }
 """
@@ -378,10 +380,10 @@ class Asker:
         self.end = socket.socket(socket.AF_INET, socket.SOCK_DGRAM)
         self.end.settimeout(0.25)
 
-    def ask(self, ono, level, index, params=b"", count=0):
+    def ask(self, ono, level, index, params=b"", count=0, tries=40):
         self.handle += 1
         message = struct.pack(">IIIHHB", 17 + len(params), self.handle, ono, level, index, count) + params
-        for _ in range(40):
+        for _ in range(tries):
             self.end.sendto(b"\x3b" + struct.pack(">HIBH", 1, 9 + len(message), 1, 1) + message, self.to)
             try:
                 data = self.end.recv(2000)
@@ -441,7 +443,7 @@ def a_mixer(checks, made, name, before=()):
         checks.same(f"{name}: {ono} {level}.{index} after the restart", asked, (0, params))
     run.kill()
     run.communicate()
-    run = start(2, LD_PRELOAD=str(made / "calls.so"), SLOW="3000") if name == "plain" else start(12 if before else 2)
+    run = start(12 if before else 2)
     asker = Asker(listening(run))
     for value in (1, 2, 3, 4):
         checks.same(f"{name}: the gain is {value}", asker.ask(4194, 5, 2, struct.pack(">h", value), 1), (0, b""))
@@ -453,15 +455,15 @@ def a_mixer(checks, made, name, before=()):
     whole = kept.read_bytes()
     (made / f"kept of {name}.new").mkdir()
     told(["gain 7 -32"], run)
-    checks.same(f"{name}: not kept", run.stderr.readline(), "not kept: Is a directory\n")
+    checks.same(f"{name}: not kept", run.stderr.readline(), f"not kept: {kept}: unlink: Is a directory\n")
     checks.same(f"{name}: and as it was", kept.read_bytes() == whole, True)
     (made / f"kept of {name}.new").rmdir()
     checks.same(f"{name}: kept later", until(lambda: struct.pack("<q", -32) in kept.read_bytes()), True)
-    checks.same(f"{name}: its end", (run.communicate(timeout=120)[1].replace("not kept: Is a directory\n", ""), run.returncode), ("", 0))
+    checks.same(f"{name}: its end", (run.communicate(timeout=120)[1], run.returncode), ("", 0))
     for what, bad in (("cut", whole[:-1]), ("longer", whole + b"\0"), ("turned", whole[:5000] + bytes([whole[5000] ^ 1]) + whole[5001:]), ("empty", b"")):
         kept.write_bytes(bad)
         run = start(1)
-        checks.same(f"{name}: a file that is {what}", (run.communicate(timeout=120)[1], run.returncode), (f"{kept}: not what a mixer kept\n", 1))
+        checks.same(f"{name}: a file that is {what}", (run.communicate(timeout=120)[1], run.returncode), (f"{kept}: it is not whole, or not of this program\n", 1))
         checks.same(f"{name}: and it stays", kept.read_bytes() == bad, True)
 
 
@@ -484,8 +486,8 @@ def calls_of_a_mixer(made, kept, turns, **settings):
 
 
 # What fails as the mixer keeps its second state, how the mixer calls that, and how many calls it has made of that state.
-FAILS = [({}, "", 0), ({"FULL": "3"}, "not kept: No space left on device\n", 0),
-         ({"FAIL_SYNC": "3"}, "not kept: Input/output error\n", 1)]
+FAILS = [({}, "", 0), ({"FULL": "5"}, "write: No space left on device\n", 0),
+         ({"FAIL_SYNC": "3"}, "fsync: Input/output error\n", 1)]
 
 
 def kept_safely(checks, made):
@@ -493,11 +495,91 @@ def kept_safely(checks, made):
     it cannot be written whole or synced it takes no place: the mixer says so, and tries again."""
     for at, (fails, says, before) in enumerate(FAILS):
         kept = made / f"kept safely {at}"
-        wanted = [f"fsync {kept}.new", f"rename {kept}.new {kept}", f"fsync {made}"]
+        wanted = [f"fsync {kept}.new", f"rename {kept.name}.new {kept.name}", f"fsync {made}"]
         calls = [*wanted, *wanted[:before], *wanted]
         said = calls_of_a_mixer(made, kept, (("gain 7 -30", 3), ("gain 7 -31", len(calls))), **fails)
-        checks.same(f"the mixer's file: what is called where {fails} fails", said, (calls, says))
+        noted = f"not kept: {kept}: {says}" if says else ""
+        checks.same(f"the mixer's file: what is called where {fails} fails", said, (calls, noted))
         checks.same(f"and what is kept then, {fails}", struct.pack("<q", -31) in kept.read_bytes(), True)
+
+
+def asked_once(asker, ono, level, index, params=b"", count=0):
+    """The status of a command that is sent once more under its handle, and nothing where no answer comes in a second."""
+    message = struct.pack(">IIIHHB", 17 + len(params), asker.handle, ono, level, index, count) + params
+    asker.end.settimeout(1)
+    asker.end.sendto(b"\x3b" + struct.pack(">HIBH", 1, 9 + len(message), 1, 1) + message, asker.to)
+    try:
+        return asker.end.recv(2000)[18]
+    except OSError:
+        return None
+
+
+def answers_wait(checks, made):
+    """What cannot be stored is not answered, and neither is a copy of it; a command that reads is, at once. Once it can be, a copy
+    is answered, and is there behind a kill."""
+    kept = made / "kept with answers that wait"
+    run, port = serving([made / "mixer-plain", kept, 0, 600])
+    asker, set_it, read_it = Asker(port), (4114, 5, 2, struct.pack(">h", -7), 1), (4114, 5, 1)
+    checks.same("a command that is stored", asker.ask(4113, 4, 2, b"\2", 1), (0, b""))
+    (made / f"{kept.name}.new").mkdir()
+    asker.handle += 1
+    told = [asked_once(asker, *set_it) for _ in range(3)]
+    checks.same("a command that cannot be stored, and copies of it", told, [None] * 3)
+    checks.same("what is kept meanwhile", struct.pack("<q", -7) in kept.read_bytes(), False)
+    own, asker.handle = asker.handle, asker.handle + 1
+    checks.same("a command that reads meanwhile", asked_once(asker, *read_it), 0)
+    asker.handle += 1
+    checks.same("a command that is refused meanwhile", asked_once(asker, 4114, 5, 2, struct.pack(">h", 101), 1), 7)
+    (made / f"{kept.name}.new").rmdir()
+    asker.handle = own
+    checks.same("a copy, once it can be stored", asked_once(asker, *set_it), 0)
+    run.kill()
+    checks.same("what the mixer said", run.communicate(timeout=120)[1], f"not kept: {kept}: unlink: Is a directory\n")
+    run, port = serving([made / "mixer-plain", kept, 0, 600])
+    checks.same("what was answered, behind a kill", Asker(port).ask(*read_it)[1][:2], struct.pack(">h", -7))
+    second = started([made / "mixer-plain", kept, 0, 1])
+    checks.same("a second mixer with the file", second, ("", f"{kept}:".split(" ")[0], 1))
+    run.kill()
+    run.communicate()
+
+
+def killed(checks, made):
+    """The mixer is killed 30 times at random moments while a panel sets one number after another: what was answered is there, or
+    what was asked behind it."""
+    kept, chance, held, answers = made / "kept over kills", random.Random(30), 0, 0
+    for turn in range(30):
+        run, port = serving([made / "mixer-plain", kept, 0, 600])
+        asker, asked, told = Asker(port), held, (0, b"")
+        asker.end.settimeout(0.05)
+        killer = threading.Timer(chance.uniform(0.02, 0.3), run.kill)
+        killer.start()
+        while told == (0, b"") and run.poll() is None:
+            held, asked = asked, (asked + 601) % 700 - 600
+            told = asker.ask(4114, 5, 2, struct.pack(">h", asked), 1, tries=4)
+            answers += told == (0, b"")
+        killer.join()
+        run.communicate()
+        may_be = {asked} if told == (0, b"") else {held, asked}
+        run, port = serving([made / "mixer-plain", kept, 0, 600])
+        held = struct.unpack(">h", Asker(port).ask(4114, 5, 1)[1][:2])[0]
+        run.kill()
+        run.communicate()
+        checks.same(f"kill {turn}: {held} is one of {may_be}", held in may_be, True)
+    checks.same("some numbers were answered", answers > 0, True)
+    print(f"  30 kills, {answers} answers")
+
+
+def from_python(checks, made, prefix):
+    """The program in Python mutes a channel by the shared library, and says that nobody answers."""
+    run, port = serving([made / "device-c11", 0, 4])
+    words = [sys.executable, TOP / "examples/c/mute.py", prefix / "lib/liboca.so", port]
+    checks.same("a channel that is opened", Asker(port).ask(4113, 4, 2, b"\2", 1), (0, b""))
+    checks.same("a mute that Python sets", [said_by([*words, ono]) for ono in (4113, 9)], [("status 0\n", 0), ("status 5\n", 0)])
+    checks.same("the device that Python muted", (run.communicate(timeout=120)[0], run.returncode),
+                ("1: muted 0 dB/10, 2: open 0 dB/10\n1: muted 0 dB/10, 2: muted 0 dB/10\n", 0))
+    with socket.socket(socket.AF_INET, socket.SOCK_DGRAM) as silent:
+        silent.bind(("127.0.0.1", 0))
+        checks.same("Python where nobody answers", said_by([*words[:-1], silent.getsockname()[1]]), ("lost\n", 0))
 
 
 # Put before the mixer: each call of its running device ends the program where nobody has the lock.
@@ -509,7 +591,7 @@ static inline void held(pthread_mutex_t *by) {
     if (pthread_mutex_trylock(by) == 0) abort();
 }
 """ + "".join(f"#define oca_device_{name}(...) (held(&lock), oca_device_{name}(__VA_ARGS__))\n"
-              for name in ("datagram", "packets", "packet", "written", "tick", "next_lapse", "set", "objects", "object", "spec"))
+              for name in ("datagram", "packets", "packet", "waits", "stored", "tick", "next_lapse", "set", "objects", "object", "spec"))
 
 
 def mixers(checks, made, prefix):
@@ -523,6 +605,8 @@ def mixers(checks, made, prefix):
                         f"{prefix}/lib/liboca.a", "-pthread"], check=True)
         a_mixer(checks, made, name)
     kept_safely(checks, made)
+    answers_wait(checks, made)
+    killed(checks, made)
     if shutil.which("valgrind"):
         shutil.copy(made / "mixer-plain", made / "mixer-valgrind")
         a_mixer(checks, made, "valgrind", ["valgrind", "-q", "--error-exitcode=99", "--leak-check=full"])
@@ -556,7 +640,7 @@ def arenas(checks, made):
 
 
 INSTALLED = ["include/oca.h", "lib/cmake/oca/oca-config-version.cmake", "lib/cmake/oca/oca-config.cmake", "lib/liboca.a", "lib/liboca.so",
-             "lib/liboca.so.1", "lib/liboca.so.1.6.0", "lib/liboca_c.a", "lib/pkgconfig/oca.pc",
+             "lib/liboca.so.1", "lib/liboca.so.1.7.0", "lib/liboca_c.a", "lib/pkgconfig/oca.pc",
              "share/man/man3/oca_*.3"]
 
 
@@ -585,8 +669,11 @@ def installed_as_made(checks, made, archive, place):
     there = {it.name: it.read_text() for it in (place / "share/man/man3").glob("oca_*.3")}
     checks.same("the manual pages", (len(pages) > 90, sorted(there)), (True, sorted(pages)))
     checks.same("their texts", there == pages, True)
-    for name, source in (("include/oca.h", TOP / "include/oca.h"), ("lib/liboca_c.a", Path(archive))):
-        checks.same(f"{name} as it was made", (place / name).read_bytes() == source.read_bytes(), True)
+    checks.same("oca.h as it was made", (place / "include/oca.h").read_bytes() == (TOP / "include/oca.h").read_bytes(), True)
+    members = lambda file: subprocess.run(["ar", "t", file], capture_output=True, text=True, check=True).stdout.split()
+    own = members(archive)
+    checks.same("what liboca_c.a has", members(place / "lib/liboca_c.a"), [*own, "panel.o", "store.o"])
+    checks.same("what liboca.a has", members(place / "lib/liboca.a"), [*own, "panel.o", "store.o", "malloc.o"])
     said = (place / "lib/pkgconfig/oca.pc").read_text() + (place / "lib/cmake/oca/oca-config.cmake").read_text()
     named = re.findall(r"^prefix=(.*)$|^set\(oca_include \"(.*)\"\)$", said, re.MULTILINE)
     checks.same("the folders that are named", named, [("/opt/oca", ""), ("", "/opt/oca/include")])
@@ -781,11 +868,12 @@ def names(checks, archive, header, prefix):
     """Each prototype has its symbol, and each symbol of the library its prototype."""
     text = re.sub(r"/\*.*?\*/", "", header.read_text(), flags=re.DOTALL)
     inline = set(re.findall(r"static inline [\w ]+?[ *](oca_\w+)\(", text))
-    prototypes = set(re.findall(r"^(?:enum )?\w+ (oca_\w+)\(", text, flags=re.MULTILINE)) - inline
-    symbols = subprocess.run(["nm", "-g", "--defined-only", archive], capture_output=True, text=True).stdout
-    exported = set(re.findall(r" T (oca_\w+)$", symbols, flags=re.MULTILINE))
-    checks.same("prototypes without a symbol", prototypes - exported, set())
-    checks.same("symbols without a prototype", exported - prototypes, set())
+    prototypes = set(re.findall(r"^(?:(?:enum|struct) )?\w+ (oca_\w+)\(", text, flags=re.MULTILINE)) - inline
+    for name in ("liboca_c.a", "liboca.a"):
+        symbols = subprocess.run(["nm", "-g", "--defined-only", prefix / "lib" / name], capture_output=True, text=True).stdout
+        exported = set(re.findall(r" T (oca_\w+)$", symbols, flags=re.MULTILINE))
+        checks.same(f"prototypes without a symbol in {name}", prototypes - exported, set())
+        checks.same(f"symbols without a prototype in {name}", exported - prototypes, set())
     needed = subprocess.run(["nm", "-u", archive], capture_output=True, text=True).stdout
     checks.same("what the library needs", sorted(set(re.findall(r" U (\w+)$", needed, flags=re.MULTILINE))),
                 ["memcpy", "memmove", "memset", "rattle_alloc", "rattle_dealloc", "rattle_realloc"])
@@ -827,6 +915,7 @@ def main():
         random_calls(checks, made, prefix)
         full_datagram(checks, made)
         mixers(checks, made, prefix)
+        from_python(checks, made, prefix)
         oversize(checks, made)
         examples_alone(checks, made)
         refused_memory(checks, made)
@@ -834,7 +923,7 @@ def main():
             careful = ["valgrind", "-q", "--error-exitcode=99", "--leak-check=full"]
             out, status = said_by([*careful, made / "calls-c11"])
             checks.same("each call under valgrind", status, 0)
-            checks.same("the panel of the header under valgrind", said_by([*careful, made / "network-c11"])[1], 0)
+            checks.same("the panel of the library under valgrind", said_by([*careful, made / "network-c11"])[1], 0)
             run, port = serving([*careful, made / "device-c11", 0, 8])
             checks.same("the panel under valgrind", said_by([*careful, made / "panel-c11", port]), (PANEL, 0))
             checks.same("the device under valgrind", (run.communicate(timeout=120)[0], run.returncode), (AMPLIFIER, 0))

@@ -1,7 +1,7 @@
 /* The panel of the C library over a network and a clock of its own: a device of the library behind it, or a peer that answers as a test
  * wants. It prints what is wrong. With a word, a port of this machine, it prints the objects of the device there, as `ocactl tree` does. */
 #define _POSIX_C_SOURCE 200809L
-/* What a panel hands to its link goes by this file's `handed`. */
+/* What a panel hands to its link goes by this file's `handed`: c/panel.c is compiled beside it, with the same name for it. */
 #define oca_link_datagram handed
 #include <oca.h>
 #undef oca_link_datagram

@@ -108,7 +108,7 @@ static void calls_device(struct oca_device *d) {
     enum oca_result result = OCA_DONE;
     int count = 0;
     bool may_open = false;
-    switch (below(26)) {
+    switch (below(28)) {
     case 0: result = CALL(oca_device_open)(d, (uint16_t)(below(2) ? below(30) : number())), may_open = true; break;
     case 1: result = CALL(oca_device_open_with)(d, (uint16_t)below(30), &spec), may_open = true; break;
     case 2: if (below(8) == 0) oca_device_close(d); return;
@@ -138,6 +138,8 @@ static void calls_device(struct oca_device *d) {
         expect(read->size == sizeof spec || result != OCA_DONE, "a struct of another size is written to");
         break;
     case 24: result = CALL(oca_device_set_position)(d, ono, (uint16_t)number()); break;
+    case 25: result = CALL(oca_device_waits)(d, (bool *)memset(room(0, 1), 0, 1)), count = 0; break;
+    case 26: result = CALL(oca_device_stored)(d); break;
     default: result = CALL(oca_device_lock)(d, ono, (uint32_t *)room(0, 4), (uint32_t *)room(1, 4), (uint16_t *)room(2, 2)), count = 3; break;
     }
     told(result);

@@ -1,12 +1,13 @@
 #!/usr/bin/env python3
 """include/oca.h held against the sources of the library: each prototype, by its parameters' names, order and types, and
-each constant and struct, by its numbers and fields; and the manual pages that are made from it: each call has one.
+each constant and struct, by its numbers and fields; the manual pages that are made from it: each call has one; and the
+list of docs/API.md, which is to be what gate/api.py makes of the sources and the header.
 
 Usage: header.py
 
 The step is tried itself: with two parameters, constants or fields exchanged, left out or of another type, a difference
-must be found, and so must a page with another title, declaration, description or list. The last line is 'N passed, M
-failed'."""
+must be found, and so must a page with another title, declaration, description or list, and a list with another line.
+The last line is 'N passed, M failed'."""
 import re
 import sys
 import tempfile
@@ -14,6 +15,7 @@ from pathlib import Path
 
 TOP = Path(__file__).resolve().parent.parent
 sys.path.insert(0, str(TOP / "gate"))
+import api
 import reference
 
 CALLS = TOP / "crates/oca_c/src"
@@ -49,20 +51,23 @@ def in_c(call, name, kind):
 
 
 def exported():
-    """The calls that the library exports, each with the parameters and the result that the header must have."""
+    """The calls that the library exports, each with the parameters and the result that the header must have: those of
+    Rattle, and those of c/, whose definitions are what the header declares."""
     found = {}
     for file in sorted(CALLS.glob("*.rt")):
         for name, given, result in re.findall(r'pub extern "C" fn (\w+)\(([^)]*)\)\s*(?:-> (\w+))?', file.read_text()):
             pairs = [re.fullmatch(r"(\w+): (.+)", it.strip()).groups() for it in given.split(",") if it.strip()]
             answers = "uint32_t" if name in ("oca_version", "oca_class_with") else {"u32": "enum oca_result"}.get(result, "void")
             found[name] = ([c for of, kind in pairs if kind != "Global" for c in in_c(name, of, kind)], answers)
+    for file in sorted((TOP / "c").glob("*.c")):
+        found.update(prototypes(re.sub(r"\) \{$", ");", file.read_text(), flags=re.M)))
     return found
 
 
 def prototypes(header):
     """The prototypes of the header."""
     found = {}
-    for result, name, given in re.findall(r"^(enum oca_result|uint32_t|void) (oca_\w+)\(([^)]*)\)(?: OCA_\w+)?;", header, re.M):
+    for result, name, given in re.findall(r"^((?:enum|struct) oca_\w+|uint32_t|void) (oca_\w+)\(([^)]*)\)(?: OCA_\w+)?;", header, re.M):
         words = [re.fullmatch(r"(.*?[ *])(\w+)", it.strip()).groups() for it in given.split(",") if it.strip() not in ("", "void")]
         found[name] = ([(of.strip().replace("* ", "*"), it) for of, it in words], result)
     return found
@@ -82,6 +87,11 @@ def fields(header, name):
         of, names = re.fullmatch(r"((?:const )?(?:struct )?\w+) (.*)", line).groups()
         found += [(it.strip(), of) for it in names.split(",")]
     return found
+
+
+def results(header):
+    """What calls answer with, of both kinds."""
+    return numbered(header, "oca_result").keys() | numbered(header, "oca_store_result").keys()
 
 
 def upper(name):
@@ -193,7 +203,7 @@ def stated(header, name):
         return re.findall(r'"(\w+)"', re.search(r"oca_status_text.*?\};", header, re.S)[0])
     if name == "result texts":
         there = dict(re.findall(r'case (OCA_\w+): return "([^"]*)";', header))
-        return {word: there.get(word) for word in texts()} if there.keys() == numbered(header, "oca_result").keys() else there
+        return {word: there.get(word) for word in texts()} if there.keys() == results(header) else there
     of, word = name.split(" ")
     return numbered(header, word) if of == "enum" else fields(header, word)
 
@@ -250,7 +260,12 @@ WRONG = [
     ("struct oca_names { uint32_t count; struct oca_name names[16]; };", "struct oca_names { struct oca_name names[16]; uint32_t count; };"),
     ("uint32_t oca_class_with(const uint16_t *fields, size_t fields_len)", "uint32_t oca_class_with(const uint32_t *fields, size_t fields_len)"),
     ("oca_text_read(const uint8_t *params, size_t params_len, struct oca_name *text)", "oca_text_read(const uint8_t *params, size_t params_len, const struct oca_name *text)"),
-    ("OCA_VERSION 0x010600u", "OCA_VERSION 0x010500u"),
+    ("OCA_VERSION 0x010700u", "OCA_VERSION 0x010500u"),
+    ("oca_device_waits(struct oca_device *device, bool *waits)", "oca_device_waits(struct oca_device *device, bool waits)"),
+    ("oca_store_load(struct oca_store *store, void *out, size_t room, size_t *length)", "oca_store_load(struct oca_store *store, void *out, size_t *length, size_t room)"),
+    ("enum oca_store_result oca_store_save(struct", "enum oca_result oca_store_save(struct"),
+    ("\nvoid oca_store_close(struct oca_store *store);", ""),
+    ('    case OCA_STORE_HELD: return "another device has the file";\n', ""),
 ]
 
 
@@ -288,14 +303,14 @@ def page_faults(name, page, header, comment, version):
     types = set(re.findall(r"((?:struct|enum) oca_\w+)", declared)) - set(reference.NAMED_ANYWAY)
     about = re.fullmatch(rf"{name} \\- (.+)", part(page, "NAME"))
     about = words(about[1]) if about else []
-    results = set(re.findall(r"\bOCA_\w+", part(page, "RETURN VALUE")))
+    answers = set(re.findall(r"\bOCA_\w+", part(page, "RETURN VALUE")))
     tried = [
         ("is not titled by its name and the version", page.startswith(f'.TH {name} 3 "" "oca {version}" ')),
         ("does not say in a line what the call does", about and about == comment[:len(about)]),
         ("does not have its declaration", stands(declared, part(page, "SYNOPSIS"))),
         ("does not say what the header says", comment and words(part(page, "DESCRIPTION"))[:len(comment)] == comment),
         ("does not show what its declaration names", all(f"{it} {{" in part(page, "SYNOPSIS") for it in types)),
-        ("does not say what it can answer", results == set(reference.answers_of(name)) and bool(results) == (f"enum oca_result {name}(" in declared)),
+        ("does not say what it can answer", answers == set(reference.answers_of(name)) and bool(answers) == bool(re.search(f"enum oca_(store_)?result {name}", declared))),
         ("does not say what all calls want",
          words(part(page, "NOTES")) == words(header[:header.index("#ifndef OCA_H")])),
     ]
@@ -309,7 +324,7 @@ def pages_wrong(header, texts):
     version = re.search(r"^Version: (.+)$", (TOP / "include/oca.pc.in").read_text(), re.M)[1]
     said = comments(header)
     wrong = [f"{name}: a page in one of both alone" for name in sorted(calls ^ texts.keys())]
-    unsaid = numbered(header, "oca_result").keys() - {it for name in calls for it in reference.answers_of(name)}
+    unsaid = results(header) - {it for name in calls for it in reference.answers_of(name)}
     wrong += [f"{it}: no call answers with it" for it in sorted(unsaid)]
     for name in sorted(calls & texts.keys()):
         wrong += page_faults(name, texts[name], header, said[name], version)
@@ -324,6 +339,7 @@ WRONG_PAGES = [
     ("oca_panel_walk", r"struct oca_walk \{", "struct {"),
     ("oca_link_due", r"OCA_TOO_SMALL", "OCA_TOO_LONG"), ("oca_link_due", r"OCA_TOO_SMALL.*\n", ""),
     ("oca_panel_get", "one call at a time for a struct", "calls for a struct"),
+    ("oca_store_save", r"OCA_STORE_SYSTEM \(10\).*\n", ""), ("oca_store_save", r"enum oca_store_result \{", "enum oca_result {"),
 ]
 
 
@@ -331,6 +347,23 @@ def is_page_found(header, texts, name, there, other):
     """Whether a page that is wrong so is found."""
     changed = {**texts, name: re.sub(there, other, texts.get(name, ""), count=1)}
     return changed != texts and len(pages_wrong(header, changed)[1]) > len(pages_wrong(header, texts)[1])
+
+
+def list_wrong(page, made):
+    """How many lines the list of docs/API.md is to have, and what is wrong with it: the lines of one of both alone."""
+    there, wanted = page.partition(api.MARK)[2].splitlines(), made.partition(api.MARK)[2].splitlines()
+    wrong = [f"the list of docs/API.md lacks (python3 gate/api.py makes it anew): {it}" for it in wanted if it not in there]
+    wrong += [f"the list of docs/API.md is not to have: {it}" for it in there if it not in wanted]
+    return len(wanted), wrong or ["the list of docs/API.md has another order"] * (there != wanted)
+
+
+# Lists that are wrong: what stands there once, and what stands in its place.
+WRONG_LISTS = [
+    ("| `Device::tick(&mut self, now: u64)` |", "| `Device::tick(&mut self, now: u32)` |"), ("| `const MOST_PEERS: usize = 64` |", "| `const MOST_PEERS` |"),
+    ("Takes every lock of the peer off.", "Takes a lock of the peer off."), (api.MARK, ""), ("## `oca_wait`\n", "## `oca_waits`\n"),
+    ("| `Window::get(self) -> u8` | Its size, from 1 to 64. |\n", ""), ("## `oca.h`", "| `fn none()` | Nothing. |\n## `oca.h`"),
+    ("| `Peers::get(self) -> u8` | How many they are, from 1 to 64. |\n", "| `Peers::get(self) -> u8` | How many they are, from 1 to 64. |\n" * 2),
+]
 
 
 def made_pages():
@@ -345,7 +378,9 @@ def main():
     compared, wrong = differences(header)
     texts = made_pages()
     pages, unsaid = pages_wrong(header, texts)
-    compared, wrong = compared + pages, wrong + unsaid
+    page, made = api.PAGE.read_text(), api.made()
+    lines, unlisted = list_wrong(page, made)
+    compared, wrong = compared + pages + lines, wrong + unsaid + unlisted
     for line in wrong:
         print(f"include/oca.h: {line}")
     found = [header.count(there) == 1 and len(differences(header.replace(there, other))[1]) > 0 for there, other in WRONG]
@@ -356,6 +391,10 @@ def main():
         found.append(is_page_found(header, texts, *it))
         if not found[-1]:
             print(f"not found: {it[2]!r} in place of {it[1]!r} in the page of {it[0]}")
+    for there, other in WRONG_LISTS:
+        found.append(made.count(there) == 1 and len(list_wrong(made.replace(there, other), made)[1]) > 0)
+        if not found[-1]:
+            print(f"not found: {other!r} in place of {there!r} in the list")
     failed = len(wrong) + found.count(False)
     print(f"{compared - len(wrong) + sum(found)} passed, {failed} failed")
     return 1 if failed else 0

@@ -1,7 +1,8 @@
 #!/usr/bin/env python3
 """A device that keeps its state in a file (`ocadev serve --keep FILE`) is stopped and started again: by SIGTERM right behind
 an answer, by `kill -9` at random moments while commands come, with the power cut at each of its system calls, with no room for
-the file, and over files that are broken. Whatever was answered with OK is there.
+the file, with each step of a store refused or slow (the layer of `refusing.c`), and over files that are broken. Whatever was
+answered with OK is there.
 
 Usage: keep.py BIN [KILLS [STOPS]]     BIN is the folder with `ocadev`
 
@@ -11,6 +12,7 @@ import os
 import random
 import re
 import resource
+import select
 import shutil
 import signal
 import socket
@@ -40,7 +42,13 @@ class Peer:
         self.socket = socket.socket(socket.AF_INET, socket.SOCK_DGRAM)
         self.socket.connect(("127.0.0.1", port))
         self.socket.settimeout(0.25)
-        self.handle = 0
+        self.handle, self.answered = 0, []
+
+    def send(self, target, level, index, *params):
+        """Sends a command and waits for nothing; its handle."""
+        self.handle += 1
+        self.socket.send(command(self.handle, target, level, index, *params))
+        return self.handle
 
     def ask(self, target, level, index, *params, tries=40):
         """The status and the parameters of the response, as often as it takes; nothing where the device is gone, or where
@@ -59,6 +67,7 @@ class Peer:
             except ConnectionError:
                 return None
             handle, status = struct.unpack(">IB", got[14:19])
+            self.answered.append(handle)
             if handle == self.handle:
                 return status, got[20:]
         return None
@@ -71,8 +80,8 @@ def limit_files(most):
 
 
 class Checks:
-    def __init__(self, folder):
-        self.folder, self.passed, self.failed = folder, 0, 0
+    def __init__(self, folder, layer=None):
+        self.folder, self.layer, self.passed, self.failed = folder, layer, 0, 0
 
     def same(self, what, got, expected):
         if got == expected:
@@ -81,10 +90,12 @@ class Checks:
             self.failed += 1
             print(f"WRONG: {what}: {got!r:.300} in place of {expected!r:.300}")
 
-    def serve(self, keep, *words, most=None):
-        """A device at a port that the system chooses, what it says before it listens, and a peer of it."""
+    def serve(self, keep, *words, most=None, refusing=False):
+        """A device at a port that the system chooses, what it says before it listens, and a peer of it; beside the file there
+        are what the layer is to refuse and what it told, where it is there."""
         limit = (lambda: limit_files(most)) if most is not None else None
-        run = subprocess.Popen([f"{self.folder}/ocadev", "serve", "--port", "0", "--keep", keep, *words],
+        layer = {"LD_PRELOAD": self.layer, "REFUSING": f"{keep}.refusing", "TOLD": f"{keep}.told"} if refusing else {}
+        run = subprocess.Popen([f"{self.folder}/ocadev", "serve", "--port", "0", "--keep", keep, *words], env={**os.environ, **layer},
                                stdin=subprocess.DEVNULL, stdout=subprocess.PIPE, stderr=subprocess.PIPE, preexec_fn=limit)
         said = run.stderr.readline().decode()
         listening = re.match(r"listening [\d.]+:(\d+)\n", said)
@@ -103,6 +114,11 @@ def stop(run, number=signal.SIGKILL):
     run.send_signal(number)
     out, err = run.communicate(timeout=30)
     return err.decode()
+
+
+def again(keep):
+    """What is told once the state is kept again."""
+    return f"note: the state is kept again: {keep}\n"
 
 
 def set_all(peer):
@@ -247,7 +263,8 @@ def full(checks, folder):
         checks.same(f"{what}, and then there is room: a copy of it", peer.again(TRIM, 5, 2, struct.pack(">h", 9)), (0, b""))
         checks.same(f"{what}, and then there is room: it is kept", b"int16 -600 600 9 " in checks.shown(keep), True)
         told = stop(run)
-        checks.same(f"{what}: told once", (told.count("\n"), told.startswith("note: the state is not kept: ")), (1, True))
+        said = r"note: the state is not kept: [^\n]*\n" + re.escape(again(keep))
+        checks.same(f"{what}: told once, and that there is room", (told, re.fullmatch(said, told) is not None), (told, True))
         with open(keep, "wb") as file:
             file.write(old)
     goes_away(checks, folder)
@@ -272,8 +289,232 @@ def goes_away(checks, folder):
             trim = f"int16 -600 600 {value + more} ".encode()
             checks.same(f"with its folder: {value + more} is kept", trim in checks.shown(keep), True)
     told = stop(run)
-    checks.same("without a folder: told", told.count("note: the state is not kept: "), 2)
-    checks.same("without a folder: told each time once", told.count("\n"), 2)
+    said = (r"note: the state is not kept: [^\n]*\n" + re.escape(again(keep))) * 2
+    checks.same("without a folder: told each time once, and that it is there", (told, re.fullmatch(said, told) is not None), (told, True))
+
+
+def put(path, words):
+    """A file with these words takes the place of the one at this path."""
+    with open(f"{path}.put", "w", encoding="ascii") as file:
+        file.write(words)
+    os.rename(f"{path}.put", path)
+
+
+def lines_told(keep):
+    """What the layer told."""
+    try:
+        with open(f"{keep}.told", encoding="ascii") as file:
+            return file.read().splitlines()
+    except FileNotFoundError:
+        return []
+
+
+def are_refused(keep, step, count):
+    """Waits until so many calls of a step were refused; whether they were."""
+    until = time.monotonic() + 20
+    while lines_told(keep).count(f"refused {step}") < count:
+        if time.monotonic() > until:
+            return False
+        time.sleep(0.01)
+    return True
+
+
+# Each step of a store, the error with which it is refused, and whether the file may be the new one all the same.
+STEPS = [("create", errno.EMFILE, False), ("create", errno.EROFS, False), ("mode", errno.EPERM, False), ("write", errno.ENOSPC, False),
+         ("sync", errno.EIO, False), ("rename", errno.EACCES, False), ("folder", errno.EMFILE, True), ("sync-folder", errno.EIO, True)]
+
+
+def trim_in(shown):
+    """The value that the objects of a file have."""
+    found = re.search(rb"\nobject 4100 .* int16 -600 600 (-?\d+) ", shown)
+    return found and int(found[1])
+
+
+def refused_steps(checks, folder):
+    """While the system refuses a step of a store, no command that wrote is answered, which is told once, and readings are; as
+    soon as it does it again, that is told, a copy of the command is answered, and what it set is there behind a kill."""
+    for at, (step, number, is_replaced) in enumerate(STEPS):
+        keep, what = f"{folder}/steps{at}", f"{step} is refused ({os.strerror(number)})"
+        run, said, peer = checks.serve(keep, refusing=True)
+        checks.same(f"before {what}: a command", peer.ask(TRIM, 5, 2, struct.pack(">h", 5)), (0, b""))
+        put(f"{keep}.refusing", f"{step} {number}")
+        peer.socket.settimeout(20)  # no copies of readings, which wait while something is not stored
+        sent = []
+        for value in (7, 8):
+            sent.append(peer.send(TRIM, 5, 2, struct.pack(">h", value)))
+            # What leaves behind a store leaves before anything that is heard behind it.
+            checks.same(f"{what}: the step is tried, {value}", are_refused(keep, step, len(sent)), True)
+            checks.same(f"{what}: what is read", peer.ask(TRIM, 5, 1), (0, struct.pack(">hhh", value, -600, 600)))
+        peer.socket.send(command(sent[-1], TRIM, 5, 2, struct.pack(">h", 8)))
+        checks.same(f"{what}: the step is tried for a copy", are_refused(keep, step, 3), True)
+        checks.same(f"{what}: another reading", peer.ask(MUTE, 4, 1)[0], 0)
+        checks.same(f"{what}: answers to what was set", [handle for handle in peer.answered if handle in sent], [])
+        checks.same(f"{what}: the file", trim_in(checks.shown(keep)) in ((5, 7, 8) if is_replaced else (5,)), True)
+        os.remove(f"{keep}.refusing")
+        peer.handle = sent[-1]
+        checks.same(f"behind {what}: a copy of a command", peer.again(TRIM, 5, 2, struct.pack(">h", 8)), (0, b""))
+        checks.same(f"behind {what}: it is kept", trim_in(checks.shown(keep)), 8)
+        peer.handle = sent[-1] + 10
+        checks.same(f"behind {what}: a command", peer.ask(TRIM, 5, 2, struct.pack(">h", 9)), (0, b""))
+        reason = "a write failed" if step == "write" else f"{os.strerror(number)} (os error {number})"
+        checks.same(f"{what}: told once, and once that it is kept again", stop(run), f"note: the state is not kept: {keep}: {reason}\n{again(keep)}")
+        run, said, peer = checks.serve(keep)
+        checks.same(f"behind {what}: after a restart", peer and peer.ask(TRIM, 5, 1)[1][:2], struct.pack(">h", 9))
+        stop(run)
+
+
+def short_writes(checks, folder):
+    """Where the system takes a few bytes of each write, the file is whole all the same."""
+    keep = f"{folder}/short"
+    run, said, peer = checks.serve(keep, refusing=True)
+    put(f"{keep}.refusing", "short 7")
+    checks.same("where each write is short: a command", peer.ask(TRIM, 5, 2, struct.pack(">h", 5)), (0, b""))
+    checks.same("where each write is short: what it says", stop(run), "")
+    with open(keep, "rb") as file:
+        checks.same("where each write is short: the file", file.read(), checks.state(keep))
+    checks.same("where each write is short: what was set", trim_in(checks.shown(keep)), 5)
+
+
+IN_FLIGHT, STORES = 8, 10
+
+
+class Setter:
+    """A panel that sets without pause: so many commands are on their way at once, each with another value."""
+
+    def __init__(self, peer):
+        self.peer, self.open, self.statuses, self.last, self.heard = peer, {}, [], 0, time.monotonic()
+
+    def fill(self):
+        """Sends as many as are missing."""
+        while len(self.open) < IN_FLIGHT:
+            self.last += 1
+            value = self.last % 600
+            self.open[self.peer.send(TRIM, 5, 2, struct.pack(">h", value))] = value
+
+    def take(self):
+        """Takes an answer."""
+        handle, status = struct.unpack(">IB", self.peer.socket.recv(2000)[14:19])
+        self.heard = time.monotonic()
+        if self.open.pop(handle, None) is not None:
+            self.statuses.append(status)
+
+    def repeat(self):
+        """Sends copies of what was not answered for a time."""
+        if time.monotonic() - self.heard > 3:
+            self.heard = time.monotonic()
+            for handle, value in self.open.items():
+                self.peer.socket.send(command(handle, TRIM, 5, 2, struct.pack(">h", value)))
+
+
+def slow_store(checks, folder):
+    """Each fsync takes 300 ms, one panel sets without pause, and another only reads: no reading waits for more than one store,
+    as the layer counts them; each command is answered, and what was set is there behind a kill."""
+    keep = f"{folder}/slow"
+    run, said, peer = checks.serve(keep, refusing=True)
+    port = peer.socket.getpeername()[1]
+    setter, reader, before, sent = Setter(peer), Peer(port), {}, 0
+    put(f"{keep}.refusing", "slow 300")
+    until = time.monotonic() + 120
+    while time.monotonic() < until and (lines_told(keep).count("stored") < STORES or setter.open or len(before) > sent):
+        is_over = lines_told(keep).count("stored") >= STORES
+        if not is_over:
+            setter.fill()
+        if not is_over and len(before) == sent:
+            handle = reader.send(TRIM, 5, 1)
+            # Counted behind the sending: what is stored before it is counted, is no store that the reading waited for.
+            before[handle] = lines_told(keep).count("stored")
+        for ready in select.select([peer.socket, reader.socket], [], [], 0.2)[0]:
+            if ready is reader.socket:
+                ready.recv(2000)
+                sent += 1
+                time.sleep(0.02)
+            else:
+                setter.take()
+        setter.repeat()
+    waits, stores = {}, 0
+    for line in lines_told(keep):
+        words = line.split()
+        stores += line == "stored"
+        if words[0] == "sent" and int(words[1]) == reader.socket.getsockname()[1]:
+            waits.setdefault(int(words[2]), stores - before[int(words[2])])
+    checks.same("beside a slow store: readings that are not answered", len(before) - sent, 0)
+    checks.same("beside a slow store: readings that wait for more than one store", [it for it in waits.items() if it[1] > 1], [])
+    checks.same("beside a slow store: some readings wait for one", 1 in waits.values(), True)
+    checks.same("beside a slow store: commands that are not answered", len(setter.open), 0)
+    checks.same("beside a slow store: statuses", set(setter.statuses), {0})
+    checks.same("beside a slow store: more commands than stores", len(setter.statuses) > stores >= STORES, True)
+    checks.same("beside a slow store: what it says", stop(run), "")
+    run, said, peer = checks.serve(keep)
+    checks.same("behind a slow store: after a restart", peer and peer.ask(TRIM, 5, 1)[1][:2], struct.pack(">h", setter.last % 600))
+    stop(run)
+
+
+def refused_locks(checks, folder):
+    """Only where the system says that another one has the lock is that told; else its own reason is."""
+    for number in (errno.ENOLCK, errno.EOPNOTSUPP, errno.ENOSYS, errno.EWOULDBLOCK):
+        keep = f"{folder}/lock{number}"
+        put(f"{keep}.refusing", f"lock {number}")
+        run, said, peer = checks.serve(keep, refusing=True)
+        if peer is not None:
+            stop(run)
+        reason = "another device has it" if number == errno.EWOULDBLOCK else f"{os.strerror(number)} (os error {number})"
+        err = said + run.stderr.read().decode()
+        checks.same(f"a lock that is refused ({number}): nothing is served", (peer is None, run.wait(timeout=30)), (True, 1))
+        checks.same(f"a lock that is refused ({number}): the reason", err, f"note: {keep}.lock: {reason}\nread failed\n")
+        checks.same(f"a lock that is refused ({number}): files that are made", (os.path.exists(keep), os.path.exists(f"{keep}.new")), (False, False))
+
+
+def attributes(path):
+    found = os.lstat(path)
+    return oct(found.st_mode), found.st_uid, found.st_gid
+
+
+def linked(checks, folder):
+    """A symbolic link that is put in the place of the file while it is kept is not followed: the file takes its place, with the
+    mode and the owner that the file had which was there at the start, or was stored last. So has a file behind one that was
+    taken away."""
+    keep, target = f"{folder}/linked", f"{folder}/led"
+    owner = 65534 if os.geteuid() == 0 else os.geteuid()
+    with open(target, "wb") as file:
+        file.write(b"of another\n")
+    os.chmod(target, 0o666)
+    before = attributes(target)
+    run, said, peer = checks.serve(keep)
+    peer.ask(TRIM, 5, 2, struct.pack(">h", 5))
+    stop(run)
+    os.chmod(keep, 0o640)
+    os.chown(keep, owner, -1)
+    mine = attributes(keep)
+    run, said, peer = checks.serve(keep)
+    for value, leads_to in ((6, target), (7, f"{folder}/nothing"), (8, folder), (9, None)):
+        os.remove(keep)
+        if leads_to is not None:
+            os.symlink(leads_to, keep)
+        what = f"a link at FILE, later, to {leads_to}" if leads_to else "no file at FILE, later"
+        checks.same(f"{what}: a command", peer.ask(TRIM, 5, 2, struct.pack(">h", value)), (0, b""))
+        checks.same(f"{what}: mode and owner of the file", attributes(keep), mine)
+        checks.same(f"{what}: what was set", trim_in(checks.shown(keep)), value)
+    with open(target, "rb") as file:
+        checks.same("a link at FILE, later: what it leads to", (file.read(), attributes(target)), (b"of another\n", before))
+    checks.same("a link at FILE, later: nothing is made behind it", os.path.exists(f"{folder}/nothing"), False)
+    # A mode that the file got meanwhile stays, too; and a link that is there at a start is refused.
+    os.chmod(keep, 0o600)
+    peer.ask(TRIM, 5, 2, struct.pack(">h", 10))
+    os.remove(keep)
+    os.symlink(target, keep)
+    peer.ask(TRIM, 5, 2, struct.pack(">h", 11))
+    checks.same("a mode that was changed, and then a link", attributes(keep), (oct(0o100600), *mine[1:]))
+    checks.same("a link at FILE, later: what it says", stop(run), "")
+    # The same where no file was there at the start.
+    fresh = f"{folder}/unlinked"
+    run, said, peer = checks.serve(fresh)
+    peer.ask(TRIM, 5, 2, struct.pack(">h", 5))
+    made = attributes(fresh)
+    os.remove(fresh)
+    os.symlink(target, fresh)
+    checks.same("a link at a FILE that was made: a command", peer.ask(TRIM, 5, 2, struct.pack(">h", 6)), (0, b""))
+    checks.same("a link at a FILE that was made: mode and owner", attributes(fresh), made)
+    stop(run)
 
 
 def mode_and_owner(checks, folder):
@@ -525,14 +766,22 @@ def power_cuts(checks, folder):
 
 
 def main():
-    checks = Checks(sys.argv[1])
     with tempfile.TemporaryDirectory() as folder:
+        layer = f"{folder}/refusing.so"
+        source = os.path.join(os.path.dirname(os.path.abspath(__file__)), "refusing.c")
+        subprocess.run(["cc", "-O1", "-Wall", "-shared", "-fPIC", "-o", layer, source, "-ldl"], check=True)
+        checks = Checks(sys.argv[1], layer)
         restarts(checks, folder)
         written_once(checks, folder)
         kills(checks, folder, int(sys.argv[2]) if len(sys.argv) > 2 else None)
         stops(checks, folder, int(sys.argv[3]) if len(sys.argv) > 3 else STOPS)
         full(checks, folder)
+        refused_steps(checks, folder)
+        short_writes(checks, folder)
+        slow_store(checks, folder)
+        refused_locks(checks, folder)
         mode_and_owner(checks, folder)
+        linked(checks, folder)
         left_over(checks, folder)
         broken(checks, folder)
         others(checks, folder)

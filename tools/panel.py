@@ -970,6 +970,60 @@ def late_orders(folder):
             check(panel.fare("/set", MUTE, "unmuted") is None, "the next order is carried out")
 
 
+def filled(panel):
+    """A connection that has asked for so much, and takes nothing, that the panel writes no more to it, and so reads no
+    more from it: more than the system keeps of what was written."""
+    size = len(panel.ask("GET", "/")[2])
+    most = int(Path("/proc/sys/net/ipv4/tcp_wmem").read_text().split()[2])
+    s = socket.socket()
+    s.setsockopt(socket.SOL_SOCKET, socket.SO_RCVBUF, 4096)
+    s.connect((panel.ip, panel.port))
+    s.settimeout(20)
+    s.sendall(f"GET / HTTP/1.1\r\nHost: {panel.host}\r\n\r\n".encode() * (2 * most // size))
+    time.sleep(0.5)
+    return s
+
+
+def last_answer(s):
+    """The last of the answers on a connection, once it is one to an order, or what came last where it was closed."""
+    rest = b""
+    with contextlib.suppress(OSError):
+        while b"HTTP/1.1 202" not in rest and (piece := s.recv(1 << 20)):
+            rest = rest[-2000:] + piece
+        while not re.search(rb"HTTP/1.1 202.*\r\n\r\n\d+$", rest, re.DOTALL) and (piece := s.recv(1 << 20)):
+            rest += piece
+    return rest[rest.rfind(b"HTTP/1.1"):]
+
+
+def behind_untaken_answers(folder):
+    """An order that came while the panel stood still, on a connection whose answers nobody took so far, is told as not
+    sent: the panel reads it only once they are taken. It is tried again where the machine was so busy that the
+    connection had its 5 seconds."""
+    late = "not sent: too late"
+    with tempfile.TemporaryDirectory() as place:
+        ahead = Ahead(place)
+        with Device(folder) as device, Panel(folder, device.port, **ahead.words) as panel:
+            panel.wait(lambda v: v["walked"] and panel.value(MUTE) is not None)
+            check(panel.fare("/set", MUTE, "muted") is None, "an order before answers that nobody takes")
+            for tried in range(1, 10):
+                with filled(panel) as s:
+                    stop(panel)
+                    s.sendall(post_of(panel, ono=MUTE, value="unmuted"))
+                    ahead.set(2.2 * tried)
+                    panel.process.send_signal(signal.SIGCONT)
+                    time.sleep(0.3)
+                    s.setsockopt(socket.SOL_SOCKET, socket.SO_RCVBUF, 1 << 20)
+                    answer = last_answer(s)
+                if answer.startswith(b"HTTP/1.1 202"):
+                    break
+            ticket = int(answer.rsplit(b"\r\n\r\n", 1)[1]) if answer.startswith(b"HTTP/1.1 202") else 0
+            panel.wait(lambda _: ticket in panel.told)
+            told = panel.told.get(ticket)
+            check(told == late, f"an order that waited behind answers that nobody took, and over 2 s: {told} {answer[-200:]}")
+            said = ocactl(folder, device.port, "get", str(MUTE))
+            check(said == f"{MUTE} muted\n", f"and did nothing: {said}")
+
+
 class Forgetful(Deaf):
     """The same, which counts the copies of each command of these methods."""
 
@@ -1435,7 +1489,7 @@ def main():
     words(folder)
     spans(folder)
     for part in (bound_for, classes, seldom, of_other_classes, visible_first, often, newer_than_an_answer,
-                 beside_an_order, late_orders, over_a_stop, asleep, failing, unwatched, troubled, ailing, counted, without_a_page, at_its_port,
+                 beside_an_order, late_orders, behind_untaken_answers, over_a_stop, asleep, failing, unwatched, troubled, ailing, counted, without_a_page, at_its_port,
                  at_an_old_port, by_its_names, a_mute, limits_of_orders):
         part(folder)
     with Device(folder) as device, Panel(folder, device.port) as panel:

@@ -1,6 +1,6 @@
 #!/usr/bin/env python3
-"""Runs the sessions of README.md and docs/EMBEDDING.md and compares what is printed, and finds their pieces of code in
-the files that they are of, and the examples of doc comments in tests and samples.
+"""Runs the sessions of README.md and docs/EMBEDDING.md and compares what is printed, finds their pieces of code in the
+files that they are of, and the examples of doc comments in tests and samples, and looks at the tables of all documents.
 
 Usage: snippets.py BIN     BIN is the folder with the programs, which sessions call `bin/`
 
@@ -17,6 +17,9 @@ that file line by line, but for its indentation; `...` alone on a line, or in a 
 A fenced block in a doc comment of crates/ must stand so in a file of the tests' crates or of the samples, which the gate
 runs.
 
+A table of a document at the top (README.md, CHANGELOG.md) or in docs/ is lines that begin with a bar. Its second line
+is its rule (`|---|`), which stands nowhere else, and each line ends with a bar and has as many cells as the first.
+
 The last line is 'N passed, M failed'."""
 import os
 import re
@@ -30,6 +33,7 @@ from grants import NOTE
 
 TOP = Path(__file__).resolve().parent.parent
 DOCUMENTS = ["README.md", "docs/EMBEDDING.md"]
+RULE = r"\|(?: *:?-+:? *\|)+"
 
 
 def blocks(text):
@@ -170,10 +174,47 @@ def examples():
             yield f"{file.relative_to(TOP)}:{number}", None if found else "stands in no test and no sample"
 
 
+def cells(row):
+    """How many cells a row of a table has, None where a bar is missing at its end. A bar in a cell is written `\\|`."""
+    return len(re.findall(r"(?<!\\)\|", row)) - 1 if re.fullmatch(r"\|.*(?<!\\)\|", row) else None
+
+
+def fault_of_table(rows):
+    """What is wrong with lines that begin with a bar, or None."""
+    if len(rows) < 2 or not re.fullmatch(RULE, rows[1]):
+        return "is no table: its second line is no rule"
+    for number, row in enumerate(rows):
+        if cells(row) != cells(rows[0]) or (number != 1 and re.search(r"\| *:?-{3,}:? *\|", row)):
+            return f"its line {number + 1} is no row like its head: {row}"
+    return None
+
+
+def tables(text):
+    """Of each table of a document, and of each rule within a line of text: its line, and what is wrong with it or None."""
+    lines = re.sub(r"(?ms)^```.*?^```$", lambda it: "\n" * it[0].count("\n"), text).split("\n")
+    rows = []
+    for number, line in enumerate(map(str.strip, [*lines, ""]), 1):
+        if line.startswith("|"):
+            rows.append(line)
+            continue
+        if rows:
+            yield number - len(rows), fault_of_table(rows)
+        if re.search(r"\| *:?-{3,}:? *\|", line):
+            yield number, "a rule of a table stands within a line of text"
+        rows = []
+
+
+def all_tables():
+    """Of each table of the documents: where it stands, and what is wrong with it or None."""
+    for file in sorted([*TOP.glob("*.md"), *TOP.glob("docs/*.md")]):
+        for number, fault in tables(file.read_text()):
+            yield f"{file.relative_to(TOP)}:{number}", fault
+
+
 def main():
     passed, failed = 0, 0
     checks = [it for name in DOCUMENTS for it in checks_of(name, os.path.abspath(sys.argv[1]))]
-    for where, fault in [*checks, *examples()]:
+    for where, fault in [*checks, *examples(), *all_tables()]:
         passed += fault is None
         failed += fault is not None
         print(f"{where}: {'as it stands' if fault is None else fault}")

@@ -38,6 +38,7 @@ static long requests, reads, writes, refuse, refuse_from, fail_read, fail_write,
 static int (*real_clock_gettime)(clockid_t, struct timespec *);
 static int (*real_fsync)(int);
 static int (*real_rename)(const char *, const char *);
+static int (*real_renameat)(int, const char *, int, const char *);
 static long receives, sends, interrupt, interrupted, fail_receive, fail_send, with, stall, slept, unbooted;
 static long syncs, fail_sync, kept_writes, full;
 static int started, has_sent;
@@ -57,6 +58,7 @@ static void find(void) {
     real_clock_gettime = dlsym(RTLD_NEXT, "clock_gettime");
     real_fsync = dlsym(RTLD_NEXT, "fsync");
     real_rename = dlsym(RTLD_NEXT, "rename");
+    real_renameat = dlsym(RTLD_NEXT, "renameat");
 }
 
 static void on_signal(int number) { (void)number; }
@@ -198,6 +200,13 @@ int rename(const char *from, const char *to) {
     snprintf(line, sizeof line, "rename %.4000s %.4000s\n", from, to);
     tell_call(line);
     return real_rename(from, to);
+}
+
+int renameat(int from_folder, const char *from, int to_folder, const char *to) {
+    char line[8300];
+    snprintf(line, sizeof line, "rename %.4000s %.4000s\n", from, to);
+    tell_call(line);
+    return real_renameat(from_folder, from, to_folder, to);
 }
 
 ssize_t __write(int file, const void *bytes, size_t size) { return write(file, bytes, size); }

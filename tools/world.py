@@ -27,6 +27,9 @@ made on a transcript alone. A peer keeps its session where its admitted datagram
              of it is unanswered that was submitted more than 15,000 ms ago, and each of its datagrams comes to the
              device, by the device's clock, no earlier than it left by the link's, and at most 100,000 ms later. And an
              answer of such a link is that of the only execution under its handle
+ said        of such a link, that execution lies behind the command's submit; where the answer to a get method is OK, it is
+             what the object was then set to, with its limits, by the settings that were made till then: by OK answers to
+             set methods and at the front; no other answer sets anything
  second      the transcript is, byte for byte, that of the second implementation
  premises    there are schedules in which every datagram of a link is within the premises, and that lose, double and
              overtake datagrams
@@ -52,6 +55,20 @@ BATCH = 40
 
 
 # ---- the laws, on a transcript
+
+# the get method of a class and its set method (AES70-2, the profile's numbers)
+READS = {"mute": (4, 1), "polarity": (4, 1), "switch": (4, 1), **dict.fromkeys(["boolean", *oca.WIDTHS], (5, 1))}
+SETS = {kind: (level, 2) for kind, (level, _) in READS.items()}
+
+
+def reading(o):
+    """What a get method gives of an object: ParamCount, and the setting, with the limits of a position or a number."""
+    if o.kind == "switch":
+        return 3, b"".join(n.to_bytes(2, "big") for n in (o.state, 0, len(o.names) - 1))
+    if o.kind in oca.WIDTHS:
+        size, signed = oca.WIDTHS[o.kind]
+        return 3, b"".join(n.to_bytes(size, "big", signed=signed) for n in (o.state, o.low, o.high))
+    return 1, bytes([min(int(o.state), 1) if o.kind == "boolean" else o.state])
 
 
 class Waiting:
@@ -97,6 +114,10 @@ class Laws:
         self.clocks, self.waiting = [0 for _ in self.peers], [{} for _ in self.peers]
         self.heard = {"to-device": collections.Counter(), "to-link": collections.Counter()}
         self.latest = {}
+        # how objects are set, by the law of what is said; nothing of an object that others' commands may have set
+        self.settings = {o.ono: o for o in oca.bench()}
+        self.called_at = [{} for _ in self.peers]      # by handle, the step of the submit
+        self.met = {p: {} for p in self.peers}         # by handle, the step of the execution and what a get method gives
         # what a link in time is: when its unanswered commands were submitted, and when its datagrams left
         self.unanswered, self.left, self.out_of_time = [{} for _ in self.peers], {}, set()
 
@@ -167,6 +188,7 @@ class Laws:
             if handle in self.submitted[step[2]]:
                 raise Break("answers", 0, f"two commands have handle {handle}")
             self.submitted[step[2]][handle] = self.untaken[step[2]][handle] = oca.Command(handle, *step[3:])
+            self.called_at[step[2]][handle] = self.number
             self.go_on(step[2], step[1])
             self.waiting[step[2]][handle] = Waiting(self.clocks[step[2]])
             self.unanswered[step[2]][handle] = self.clocks[step[2]]
@@ -213,10 +235,34 @@ class Laws:
         self.clock = max(self.clock, step[1])
 
     def set(self, step, said):
-        pass
+        if said == "set" and step[1] in self.settings:
+            self.settings[step[1]].state = step[3]
 
     def other(self, step, said):
         self.came_from(step[2], step[1], step[3], said)
+        if said.startswith("served"):
+            for message in oca.check(step[3]):
+                if message[0] == "command" and message[2].level > 1:
+                    self.settings.pop(message[2].target, None)
+
+    def meets(self, p, command, reply):
+        """A command of a link is executed: what its object gives to a get method, or None; and what it is set to."""
+        o = self.settings.get(command.target)
+        get, set_to = o and READS.get(o.kind), o and SETS.get(o.kind)
+        self.met[p][command.handle] = self.number, o and (command.level, command.index) == get and reading(o)
+        if o and (command.level, command.index) == set_to and reply and reply[1] == 0:
+            o.state = int.from_bytes(command.params, "big", signed=o.kind in oca.WIDTHS and oca.WIDTHS[o.kind][1])
+
+    def says(self, link, answer):
+        """An answer of a link in time: its execution lies behind the call, and a reading is what the object held."""
+        handle, status, count, params = answer
+        number, held = self.met[self.peers[link]][handle]
+        self.count["said"] += 1
+        self.count["said, of readings"] += bool(held) and status == 0
+        if number <= self.called_at[link][handle]:
+            raise Break("said", 0, f"handle {handle} was executed before it was submitted")
+        if held and status == 0 and (count, params) != held:
+            raise Break("said", 0, f"the answer under {handle} is {oca.hex_text(params)}, and held was {oca.hex_text(held[1])}")
 
     def to_link(self, step, said):
         self.note_delivery("to-link", step[2])
@@ -272,6 +318,7 @@ class Laws:
                 if any(c.handle == command.handle for c, _ in self.executions[p]):
                     raise Break("in time", 0, f"handle {command.handle} of {oca.peer_text(p)} is executed twice")
             self.executions[p].append((command, reply))
+            self.meets(p, command, reply)
             self.count["once"] += p not in self.forgotten
         in_time = link not in self.out_of_time
         self.count["in time, copies to a forgotten peer"] += kept and in_time and p in self.forgotten
@@ -328,6 +375,8 @@ class Laws:
                 raise Break("only", 0, f"{len(under)} executions under {handle}")
         if link not in self.out_of_time and len(under) != 1:
             raise Break("in time", 0, f"{len(under)} executions under {handle} of a link in time")
+        if link not in self.out_of_time:
+            self.says(link, answer)
         self.untaken[link].pop(handle, None)
 
 
@@ -433,7 +482,7 @@ def work(job):
 def wrong_rules():
     """Devices and links with one rule changed, each with the law that must refuse them and what is changed."""
     judge, submit_to, serve, hear = oca.Session.judge, oca.Link.submit, oca.Device.datagram, oca.Link.datagram
-    due, advance = oca.Link.due, oca.Device.advance
+    due, advance, execute, answer = oca.Link.due, oca.Device.advance, oca.execute, oca.answer
 
     def no_floor(session, window, command):
         kept = [reply for c, reply in session.accepted[-window:] if c.handle == command.handle]
@@ -516,7 +565,57 @@ def wrong_rules():
                 u[3] = None if said.startswith("answered") else u[3]
         return said
 
+    def instead(change):
+        """Objects that give to a get method what they would if this were changed of them."""
+        def answered(tree, o, key, args):
+            seen = o.copy()
+            if key == READS.get(o.kind):
+                change(tree, seen)
+            return answer(tree, seen, key, args)
+        return answered
+
+    def value_before(tree, o):
+        o.state = getattr(o, "before", o.state)
+
+    def other_objects(tree, o):
+        other = {"mute": "polarity", "polarity": "mute"}.get(o.kind)
+        o.state = next((x.state for x in tree if x.kind == other), o.state)
+
+    def limits_exchanged(tree, o):
+        o.low, o.high = o.high, o.low
+
+    def remembers(tree, peer, c):
+        o = next((o for o in tree if o.ono == c.target), None)
+        was = o and o.state
+        done = execute(tree, peer, c)
+        if o and o.state != was:
+            o.before = was
+        return done
+
+    def late_reading(tree, peer, c):
+        oca.answer = instead(value_before)
+        try:
+            return remembers(tree, peer, c)
+        finally:
+            oca.answer = answer
+
+    def earlier_execution(tree, peer, c):
+        tree[0].given = getattr(tree[0], "given", {})
+        return tree[0].given.setdefault(c.asks(), execute(tree, peer, c))
+
+    def sets_and_refuses(tree, peer, c):
+        done = execute(tree, peer, c)
+        o = next((o for o in tree if o.ono == c.target), None)
+        if done[0] == oca.OUT_OF_RANGE and o.kind in oca.WIDTHS:
+            o.state = o.high
+        return done
+
     return {
+        "a reading is the one before the last setting": ("said", oca, "execute", late_reading),
+        "a reading is another object's": ("said", oca, "answer", instead(other_objects)),
+        "limits are exchanged": ("said", oca, "answer", instead(limits_exchanged)),
+        "an answer is that of an earlier execution": ("said", oca, "execute", earlier_execution),
+        "what is refused is set to its limit": ("said", oca, "execute", sets_and_refuses),
         "a window that is one smaller": ("untaken", oca.Session, "judge", lambda session, window,
                                          command: judge(session, window - 1, command)),
         "copies are executed": ("once", oca.Session, "judge", lambda session, window, command: ("fresh", None)),
@@ -646,7 +745,8 @@ HELD = [("answers", "answers"), ("only", "answers of an only execution"),
         ("once", "executions of peers that kept their sessions"),
         ("in time", "executions of links in time"),
         ("in time, of a forgotten peer", "of these, of a peer that was forgotten before"),
-        ("in time, copies to a forgotten peer", "duplicates of such peers")]
+        ("in time, copies to a forgotten peer", "duplicates of such peers"),
+        ("said", "answers of links in time"), ("said, of readings", "of these, readings")]
 MET = [("said too old", "old"), ("said no-room", "without room"), ("said refused", "refused submits"),
        ("said lost", "lost"), ("refused", "refused schedules"), ("front set", "changes at the front"),
        ("front refused", "refused ones")]
@@ -713,6 +813,7 @@ def main():
         "untaken": total["untaken, the oldest of a full window"] and total["untaken, of more peers ever"],
         "room": total["room, of more peers ever"], "once": total["once"],
         "in time": total["in time, of a forgotten peer"] and total["in time, copies to a forgotten peer"],
+        "said": total["said, of readings"],
         "round trip": total["round trips of a command that is still untaken"],
         "through": total["waiting, asked so, and given out again"],
         "second": total["schedules"] >= count and total["refused"],

@@ -1,16 +1,13 @@
 /* A mixer of 32 channels in C, which comes up as it was left: each channel has a mute, a gain in tenths of a decibel and a source.
  * Usage: mixer FILE [PORT [SECONDS]]
- * Lines on standard input are its front: "mute 5", "open 5", "gain 5 -60", "source 5 2". What is set there and by panels is in FILE a
- * fifth of a second later, whole or as it was before. It prints where it listens on standard error.
+ * Lines on standard input are its front: "mute 5", "open 5", "gain 5 -60", "source 5 2". What a panel was told to be set is in FILE before
+ * it is told so; what is set at the front is there a tenth of a second later. It prints where it listens on standard error.
  *
- * Three threads share one struct, under one lock: the main thread has the socket, one reads the front, and one writes the file, so that
- * no panel waits for a disk. */
+ * Two threads share one struct, under one lock: the main thread has the socket and the file, and one reads the front. */
 #define _POSIX_C_SOURCE 200809L
 #include <oca.h>
 
 #include <arpa/inet.h>
-#include <errno.h>
-#include <fcntl.h>
 #include <netinet/in.h>
 #include <poll.h>
 #include <pthread.h>
@@ -34,77 +31,32 @@ static uint64_t now_ms(void) {
 /* ---- what is kept: each object by its number, in order of adding, the root first ---- */
 
 struct kept { uint32_t ono, container; struct oca_spec spec; };
-struct state { char mark[8]; uint64_t sum; struct kept objects[OBJECTS]; };
 
-static const char mark[8] = "mixer 1";
+static struct oca_store store = OCA_STORE_INIT;
 
-static uint64_t sum_of(const struct state *state) {
-    const uint8_t *bytes = (const uint8_t *)state->objects;
-    uint64_t sum = UINT64_C(0xcbf29ce484222325);
-    for (size_t i = 0; i < sizeof state->objects; i++) sum = (sum ^ bytes[i]) * UINT64_C(0x100000001b3);
-    return sum;
+/* Says why the file is not what is wanted. */
+static void complain(const char *what, const char *path, enum oca_store_result result) {
+    const char *why = result == OCA_STORE_SYSTEM ? strerror(store.error) : oca_store_text(result);
+    fprintf(stderr, "%s%s%s%s: %s\n", what, path, store.call ? ": " : "", store.call ? store.call : "", why);
 }
 
-/* Writes all of the bytes, or fails. */
-static bool write_all(int file, const void *from, size_t size) {
-    const char *at = (const char *)from;
-    while (size > 0) {
-        ssize_t some = write(file, at, size);
-        if (some < 0 && errno == EINTR) continue;
-        if (some <= 0) return false;
-        at += some;
-        size -= (size_t)some;
-    }
-    return true;
-}
-
-/* The names of a new file beside this one, and of the folder of both. */
-struct names { char fresh[4096], folder[4096]; };
-
-static bool names_of(const char *path, struct names *names) {
-    const char *slash = strrchr(path, '/');
-    int room = (int)sizeof names->fresh;
-    if (snprintf(names->fresh, sizeof names->fresh, "%s.new", path) >= room) return false;
-    if (!slash) strcpy(names->folder, ".");
-    else snprintf(names->folder, sizeof names->folder, "%.*s", (int)(slash - path + 1), path);
-    return true;
-}
-
-/* Puts the state in the place of the file's: a new file, synced, renamed, and the folder synced. A failure leaves the file as it was. */
-static bool save(const char *path, const struct state *state) {
-    static struct names names;
-    if (!names_of(path, &names)) return false;
-    int file = open(names.fresh, O_WRONLY | O_CREAT | O_TRUNC, 0644);
-    if (file < 0) return false;
-    bool good = write_all(file, state, sizeof *state) && fsync(file) == 0;
-    good = close(file) == 0 && good && rename(names.fresh, path) == 0;
-    if (!good) {
-        unlink(names.fresh);
-        return false;
-    }
-    int folder = open(names.folder, O_RDONLY);
-    if (folder >= 0) {
-        fsync(folder);
-        close(folder);
-    }
-    return true;
-}
-
-/* Reads the file: 1 where it is whole, 0 where there is none, -1 where it is no mixer's or cannot be read. */
-static int load(const char *path, struct state *state) {
-    FILE *file = fopen(path, "rb");
-    if (!file) return errno == ENOENT ? 0 : -1;
-    bool good = fread(state, sizeof *state, 1, file) == 1 && fgetc(file) == EOF && !ferror(file);
-    fclose(file);
-    return good && memcmp(state->mark, mark, sizeof mark) == 0 && state->sum == sum_of(state) ? 1 : -1;
+/* Opens the file and reads the desk; whether it is to be served: as it was kept where something was, which `found` tells. */
+static bool load(const char *path, struct kept *objects, bool *found) {
+    size_t length = 0;
+    enum oca_store_result result = oca_store_open(path, &store);
+    if (result == OCA_STORE_DONE) result = oca_store_load(&store, objects, OBJECTS * sizeof *objects, &length);
+    *found = result == OCA_STORE_DONE;
+    if (*found && length != OBJECTS * sizeof *objects) result = OCA_STORE_BROKEN;
+    if (result == OCA_STORE_DONE || result == OCA_STORE_NOTHING) return true;
+    complain("", path, result);
+    return false;
 }
 
 /* ---- the device ---- */
 
 static struct oca_device device = OCA_DEVICE_INIT;
 static pthread_mutex_t lock = PTHREAD_MUTEX_INITIALIZER;
-static pthread_cond_t set = PTHREAD_COND_INITIALIZER;
-static bool is_set, is_over; /* under the lock, as the device is: something was set that is not kept; the threads are to end */
+static bool is_set, is_over; /* under the lock, as the device is: something was set that is not kept; the thread of the front is to end */
 
 /* What an object of a new desk is. */
 static struct oca_spec new_object(uint32_t channel, uint32_t which) {
@@ -131,48 +83,42 @@ static void restore(struct oca_spec *spec, const struct oca_spec *kept) {
 }
 
 /* Adds an object as it was kept, and as it is new where it was not, or where what was kept is out of its range. */
-static enum oca_result add(uint32_t container, uint32_t ono, struct oca_spec spec, const struct state *state) {
+static enum oca_result add(uint32_t container, uint32_t ono, struct oca_spec spec, const struct kept *objects) {
     struct oca_spec restored = spec;
-    for (size_t i = 0; state && i < OBJECTS; i++)
-        if (state->objects[i].ono == ono) restore(&restored, &state->objects[i].spec);
+    for (size_t i = 0; objects && i < OBJECTS; i++)
+        if (objects[i].ono == ono) restore(&restored, &objects[i].spec);
     enum oca_result answer = oca_device_add(&device, container, ono, &restored);
     return answer == OCA_DONE ? answer : oca_device_add(&device, container, ono, &spec);
 }
 
 /* Makes the desk, as it was kept where it was. */
-static enum oca_result build(const struct state *state) {
+static enum oca_result build(const struct kept *objects) {
     struct oca_spec root = oca_spec_of_block("root");
-    if (state) restore(&root, &state->objects[0].spec);
+    if (objects) restore(&root, &objects[0].spec);
     enum oca_result answer = oca_device_open_with(&device, OBJECTS, &root);
     for (uint32_t channel = 0; channel < CHANNELS && answer == OCA_DONE; channel++) {
-        answer = add(100, block_of(channel), new_object(channel, 0), state);
+        answer = add(100, block_of(channel), new_object(channel, 0), objects);
         for (uint32_t which = MUTE; which <= SOURCE && answer == OCA_DONE; which++)
-            answer = add(block_of(channel), block_of(channel) + which, new_object(channel, which), state);
+            answer = add(block_of(channel), block_of(channel) + which, new_object(channel, which), objects);
     }
     return answer == OCA_DONE ? oca_device_start(&device, 32, 16) : answer;
 }
 
 /* What the device is now, under the lock. */
-static bool tell(struct state *state) {
+static bool tell(struct kept *objects) {
     size_t count = 0;
     bool good = oca_device_objects(&device, &count) == OCA_DONE && count == OBJECTS;
     for (size_t i = 0; i < OBJECTS && good; i++) {
         struct oca_object object = {0, 0, 0, 0, {0}};
-        state->objects[i].spec.size = (uint32_t)sizeof state->objects[i].spec;
-        good = oca_device_object(&device, i, &object) == OCA_DONE && oca_device_spec(&device, i, &state->objects[i].spec) == OCA_DONE;
-        state->objects[i].ono = object.ono;
-        state->objects[i].container = object.container;
+        objects[i].spec.size = (uint32_t)sizeof objects[i].spec;
+        good = oca_device_object(&device, i, &object) == OCA_DONE && oca_device_spec(&device, i, &objects[i].spec) == OCA_DONE;
+        objects[i].ono = object.ono;
+        objects[i].container = object.container;
     }
     return good;
 }
 
-/* ---- its threads ---- */
-
-/* Says that something was set, under the lock. */
-static void was_set(void) {
-    is_set = true;
-    pthread_cond_signal(&set);
-}
+/* ---- its front ---- */
 
 /* A line of the front; whether it set something. */
 static bool turn_knob(const char *line) {
@@ -189,7 +135,7 @@ static bool turn_knob(const char *line) {
     else if (strcmp(word, "mute") != 0 && strcmp(word, "open") != 0) return false;
     pthread_mutex_lock(&lock);
     bool good = ono == block + GAIN ? oca_device_set_signed(&device, ono, number) == OCA_DONE : oca_device_set(&device, ono, &value) == OCA_DONE;
-    if (good) was_set();
+    is_set = is_set || good;
     pthread_mutex_unlock(&lock);
     return good;
 }
@@ -221,32 +167,33 @@ static void *front(void *nothing) {
     return nothing;
 }
 
-/* Writes the file a fifth of a second after something was set, and at the end; where that fails, again a second later. */
-static void *keeper(void *path) {
-    static struct state state;
-    static const struct timespec briefly = {0, 200000000}, a_second = {1, 0};
-    bool ends = false;
-    while (!ends) {
-        pthread_mutex_lock(&lock);
-        while (!is_set && !is_over) pthread_cond_wait(&set, &lock);
-        ends = is_over;
-        pthread_mutex_unlock(&lock);
-        if (!ends) nanosleep(&briefly, NULL);
-        pthread_mutex_lock(&lock);
-        bool wanted = is_set && tell(&state);
-        is_set = false;
-        pthread_mutex_unlock(&lock);
-        if (!wanted) continue;
-        memcpy(state.mark, mark, sizeof mark);
-        state.sum = sum_of(&state);
-        if (save((const char *)path, &state)) continue;
-        perror("not kept");
-        if (!ends) nanosleep(&a_second, NULL);
-        pthread_mutex_lock(&lock);
-        is_set = true;
-        pthread_mutex_unlock(&lock);
-    }
-    return NULL;
+/* ---- its file ---- */
+
+/* Stores the desk as it is now; whether it is stored. That it is not is said once, until it is again. */
+static bool keep(const char *path) {
+    static struct kept objects[OBJECTS];
+    static bool has_complained;
+    pthread_mutex_lock(&lock);
+    bool told = tell(objects);
+    is_set = false;
+    pthread_mutex_unlock(&lock);
+    enum oca_store_result result = told ? oca_store_save(&store, objects, sizeof objects) : OCA_STORE_CLOSED;
+    pthread_mutex_lock(&lock);
+    if (result == OCA_STORE_DONE) oca_device_stored(&device);
+    else is_set = true;
+    pthread_mutex_unlock(&lock);
+    if (result != OCA_STORE_DONE && !has_complained) complain("not kept: ", path, result);
+    has_complained = result != OCA_STORE_DONE;
+    return !has_complained;
+}
+
+/* Stores what was set at the front; where that fails, again a second later. */
+static void keep_front(const char *path) {
+    static uint64_t next;
+    pthread_mutex_lock(&lock);
+    bool wanted = is_set;
+    pthread_mutex_unlock(&lock);
+    if (wanted && now_ms() >= next && !keep(path)) next = now_ms() + 1000;
 }
 
 /* ---- its socket ---- */
@@ -273,26 +220,26 @@ static int wait_ms(void) {
     return !lapses || lapse > now + 100 ? 100 : lapse > now ? (int)(lapse - now) : 0;
 }
 
-/* Hands a datagram in; how many packets answer it. */
-static size_t hand_in(const struct sockaddr_in *from, const uint8_t *bytes, size_t size) {
+/* Hands a datagram in; how many packets answer it, and whether they wait until the desk is stored. */
+static size_t hand_in(const struct sockaddr_in *from, const uint8_t *bytes, size_t size, bool *waits) {
     struct oca_verdict verdict = {0, 0, 0, 0, 0, 0, 0};
-    uint32_t written = 0;
-    size_t count = 0, packets = 0;
+    size_t packets = 0;
     pthread_mutex_lock(&lock);
     oca_device_datagram(&device, ntohl(from->sin_addr.s_addr), ntohs(from->sin_port), bytes, size, now_ms(), &verdict);
     oca_device_packets(&device, &packets);
-    oca_device_written(&device, &written, 0, &count);
-    if (count > 0) was_set();
+    oca_device_waits(&device, waits);
     pthread_mutex_unlock(&lock);
     return packets;
 }
 
-/* Waits, takes what came, and answers it. A send waits for nobody: what has no room is lost, and the panel asks again. */
-static void turn(int file) {
+/* Waits, takes what came, and answers it: what wrote something once that is stored, and else not at all, so that the panel asks again. A send
+ * waits for nobody: what has no room is lost, and the panel asks again too. */
+static void turn(int file, const char *path) {
     static uint8_t bytes[OCA_MOST_BYTES + 1];
     struct pollfd input = {file, POLLIN, 0};
     struct sockaddr_in from;
     socklen_t length = sizeof from;
+    bool waits = false;
     poll(&input, 1, wait_ms());
     ssize_t got = recvfrom(file, bytes, sizeof bytes, MSG_DONTWAIT, (struct sockaddr *)&from, &length);
     if (got < 0 || got > OCA_MOST_BYTES) {
@@ -301,7 +248,8 @@ static void turn(int file) {
         pthread_mutex_unlock(&lock);
         return;
     }
-    size_t packets = hand_in(&from, bytes, (size_t)got);
+    size_t packets = hand_in(&from, bytes, (size_t)got, &waits);
+    if (waits && !keep(path)) return;
     for (size_t i = 0; i < packets; i++) {
         size_t size = 0;
         pthread_mutex_lock(&lock);
@@ -311,37 +259,36 @@ static void turn(int file) {
     }
 }
 
-/* Serves until the moment; whether the threads could be started. */
-static bool serve(int file, char *path, uint64_t end) {
-    pthread_t keeping, reading;
-    bool keeps = pthread_create(&keeping, NULL, keeper, path) == 0;
-    bool reads = keeps && pthread_create(&reading, NULL, front, NULL) == 0;
-    while (reads && now_ms() < end) turn(file);
+/* Serves until the moment; whether the thread of the front could be started. */
+static bool serve(int file, const char *path, uint64_t end) {
+    pthread_t reading;
+    if (pthread_create(&reading, NULL, front, NULL)) return false;
+    while (now_ms() < end) {
+        turn(file, path);
+        keep_front(path);
+    }
     pthread_mutex_lock(&lock);
     is_over = true;
-    pthread_cond_signal(&set);
     pthread_mutex_unlock(&lock);
-    if (reads) pthread_join(reading, NULL);
-    if (keeps) pthread_join(keeping, NULL);
-    return reads;
+    pthread_join(reading, NULL);
+    keep_front(path);
+    return true;
 }
 
 int main(int count, char **words) {
-    static struct state state;
+    static struct kept objects[OBJECTS];
+    bool found = false;
     if (count < 2) {
         fprintf(stderr, "usage: mixer FILE [PORT [SECONDS]]\n");
         return 2;
     }
-    int loaded = load(words[1], &state);
-    if (loaded < 0) {
-        fprintf(stderr, "%s: not what a mixer kept\n", words[1]);
-        return 1;
-    }
-    enum oca_result answer = build(loaded ? &state : NULL);
+    if (!load(words[1], objects, &found)) return 1;
+    enum oca_result answer = build(found ? objects : NULL);
     int file = answer == OCA_DONE ? listen_at(count > 2 ? (uint16_t)atoi(words[2]) : 0) : -1;
     if (answer != OCA_DONE) fprintf(stderr, "not started: %s\n", oca_result_text(answer));
     else if (file < 0) perror("socket");
     bool good = file >= 0 && serve(file, words[1], now_ms() + 1000 * (uint64_t)(count > 3 ? atoi(words[3]) : 1));
     oca_device_close(&device);
+    oca_store_close(&store);
     return good ? 0 : 1;
 }

@@ -12,6 +12,8 @@ ghost use Rattle.oca_device.specs.Written.{written};
 ghost use Rattle.oca_calls.specs.Calls.{HandleBuilds, HandleRuns, HandleStarts, AnsweredWith, KeepsFirst, KeepsPackets};
 ghost use Rattle.oca_calls.specs.Calls.{Opens, RefusesBuilding, RefusesClosed, RefusesRunning};
 ghost use Rattle.oca_calls.specs.Outputs.{WritesNextLapse, WritesWords, put_words, verdict_words};
+ghost use Rattle.oca_calls.specs.Storings.{HasUnstored, KeepsUnstored, RunsUnstored, all_stored, unstored_behind};
+ghost use Rattle.oca_calls.specs.declared.unstored.Unstored.{Unstored};
 
 use oca_calls::answer::Answer;
 use oca_calls::device::MOST_PACKETS;
@@ -106,6 +108,9 @@ pub extern "C" fn oca_device_datagram_words(
         }) bytes.now now))
         × (out.new ≡ put_words (verdict_words (verdict w T E (record { ip = ip; port = port }) bytes.now now)) out.old)
         × (result ≡ 0) }
+    ensures unstored { (w : DeviceSizes) (T : List Object) (E : List Event) (noted : Unstored) →
+        HandleRuns w handle.old.slot.inner T E → HasUnstored handle.old.slot.inner noted →
+        HasUnstored handle.new.slot.inner (unstored_behind noted w T E (record { ip = ip; port = port }) bytes.now now) }
     ensures unwritten { (result ≡ 0) ⊎ (out.new ≡ out.old) }
 {
     let Some(mut behind) = handle.take(alloc) else {
@@ -122,6 +127,7 @@ pub extern "C" fn oca_device_tick(alloc: Global, handle: &mut DeviceHandle, now:
     ensures closed { RefusesClosed handle.old.slot.inner handle.new.slot.inner result }
     ensures building { RefusesBuilding handle.old.slot.inner handle.new.slot.inner result }
     ensures packets { KeepsPackets handle.old.slot.inner handle.new.slot.inner }
+    ensures unstored { KeepsUnstored handle.old.slot.inner handle.new.slot.inner }
     ensures serves { (w : DeviceSizes) (T : List Object) (E : List Event) → HandleRuns w handle.old.slot.inner T E →
         HandleRuns w handle.new.slot.inner T (Tick now ∷ E) × (result ≡ 0) }
 {
@@ -251,6 +257,45 @@ pub extern "C" fn oca_device_written(
         return Answer::Closed.number();
     };
     let answer = behind.written(out, count);
+    handle.put(behind);
+    answer.number()
+}
+
+/// Tells whether the answers to the last datagram wait until the objects are stored.
+#[unsafe(no_mangle)]
+pub extern "C" fn oca_device_waits(
+    alloc: Global,
+    handle: &mut DeviceHandle,
+    waits: &mut bool,
+) -> u32
+    ensures closed { RefusesClosed handle.old.slot.inner handle.new.slot.inner result }
+    ensures building { RefusesBuilding handle.old.slot.inner handle.new.slot.inner result }
+    ensures kept { handle.new.slot.inner ≡ handle.old.slot.inner }
+    ensures writes { (noted : Unstored) → RunsUnstored handle.old.slot.inner noted →
+        (result ≡ 0) × (waits.new ≡ noted.waits) }
+    ensures unwritten { (result ≡ 0) ⊎ (waits.new ≡ waits.old) }
+{
+    let Some(behind) = handle.take(alloc) else {
+        return Answer::Closed.number();
+    };
+    let answer = behind.waits(waits);
+    handle.put(behind);
+    answer.number()
+}
+
+/// Notes that the objects are stored as they are.
+#[unsafe(no_mangle)]
+pub extern "C" fn oca_device_stored(alloc: Global, handle: &mut DeviceHandle) -> u32
+    ensures closed { RefusesClosed handle.old.slot.inner handle.new.slot.inner result }
+    ensures building { RefusesBuilding handle.old.slot.inner handle.new.slot.inner result }
+    ensures packets { KeepsPackets handle.old.slot.inner handle.new.slot.inner }
+    ensures notes { (w : DeviceSizes) (T : List Object) (E : List Event) → HandleRuns w handle.old.slot.inner T E →
+        HandleRuns w handle.new.slot.inner T E × HasUnstored handle.new.slot.inner all_stored × (result ≡ 0) }
+{
+    let Some(mut behind) = handle.take(alloc) else {
+        return Answer::Closed.number();
+    };
+    let answer = behind.stored();
     handle.put(behind);
     answer.number()
 }

@@ -3,6 +3,7 @@ ghost use Rattle.std.specs.Prelude.{pos};
 ghost use Rattle.oca_model.specs.declared.value.Value.TheVariants as values;
 ghost use Rattle.oca_calls.specs.Calls.{HandleSets, KeepsPackets, RefusesBuilding, RefusesClosed};
 ghost use Rattle.oca_calls.specs.FrontCalls.{HandleSetsEntry, HandleSetsWords, State, Integer};
+ghost use Rattle.oca_calls.specs.Storings.{KeepsUnstored};
 
 use oca_calls::answer::Answer;
 use oca_calls::device_handle::DeviceHandle;
@@ -22,6 +23,7 @@ pub extern "C" fn oca_device_set_state(
     ensures closed { RefusesClosed handle.old.slot.inner handle.new.slot.inner result }
     ensures building { RefusesBuilding handle.old.slot.inner handle.new.slot.inner result }
     ensures packets { KeepsPackets handle.old.slot.inner handle.new.slot.inner }
+    ensures unstored { KeepsUnstored handle.old.slot.inner handle.new.slot.inner }
     ensures sets { HandleSetsEntry result handle.old.slot.inner handle.new.slot.inner ono (State state) }
 {
     let Some(mut behind) = handle.take(alloc) else {
@@ -43,6 +45,7 @@ pub extern "C" fn oca_device_set_position(
     ensures closed { RefusesClosed handle.old.slot.inner handle.new.slot.inner result }
     ensures building { RefusesBuilding handle.old.slot.inner handle.new.slot.inner result }
     ensures packets { KeepsPackets handle.old.slot.inner handle.new.slot.inner }
+    ensures unstored { KeepsUnstored handle.old.slot.inner handle.new.slot.inner }
     ensures sets { HandleSets result handle.old.slot.inner handle.new.slot.inner ono (values.Switch position) }
 {
     set(alloc, handle, ono, Value::Switch(position))
@@ -59,6 +62,7 @@ pub extern "C" fn oca_device_set_truth(
     ensures closed { RefusesClosed handle.old.slot.inner handle.new.slot.inner result }
     ensures building { RefusesBuilding handle.old.slot.inner handle.new.slot.inner result }
     ensures packets { KeepsPackets handle.old.slot.inner handle.new.slot.inner }
+    ensures unstored { KeepsUnstored handle.old.slot.inner handle.new.slot.inner }
     ensures sets { HandleSets result handle.old.slot.inner handle.new.slot.inner ono (values.Boolean truth) }
 {
     set(alloc, handle, ono, Value::Boolean(truth))
@@ -75,6 +79,7 @@ pub extern "C" fn oca_device_set_signed(
     ensures closed { RefusesClosed handle.old.slot.inner handle.new.slot.inner result }
     ensures building { RefusesBuilding handle.old.slot.inner handle.new.slot.inner result }
     ensures packets { KeepsPackets handle.old.slot.inner handle.new.slot.inner }
+    ensures unstored { KeepsUnstored handle.old.slot.inner handle.new.slot.inner }
     ensures sets { HandleSetsEntry result handle.old.slot.inner handle.new.slot.inner ono (Integer number) }
 {
     set_integer(alloc, handle, ono, i128::from(number))
@@ -91,6 +96,7 @@ pub extern "C" fn oca_device_set_unsigned(
     ensures closed { RefusesClosed handle.old.slot.inner handle.new.slot.inner result }
     ensures building { RefusesBuilding handle.old.slot.inner handle.new.slot.inner result }
     ensures packets { KeepsPackets handle.old.slot.inner handle.new.slot.inner }
+    ensures unstored { KeepsUnstored handle.old.slot.inner handle.new.slot.inner }
     ensures sets { HandleSetsEntry result handle.old.slot.inner handle.new.slot.inner ono (Integer (pos number)) }
 {
     set_integer(alloc, handle, ono, i128::from(number))
@@ -107,6 +113,7 @@ pub extern "C" fn oca_device_set(
     ensures closed { RefusesClosed handle.old.slot.inner handle.new.slot.inner result }
     ensures building { RefusesBuilding handle.old.slot.inner handle.new.slot.inner result }
     ensures packets { KeepsPackets handle.old.slot.inner handle.new.slot.inner }
+    ensures unstored { KeepsUnstored handle.old.slot.inner handle.new.slot.inner }
     ensures sets { HandleSetsWords result handle.old.slot.inner handle.new.slot.inner ono value.now }
 {
     let Some(mut behind) = handle.take(alloc) else {

@@ -34,7 +34,7 @@ pub starts_behind : (old new : Option DeviceBehind) (u u' : DeviceBehind) (numbe
 starts_behind old new u u' number answer window peers packets o n e k B h = rw (o, n, e) (here (k B (rw o at h)))
   where
     here : Starts answer u u' window peers packets B.list → HandleStarts (answer_number answer) (Some u) (left_by_start answer u') window peers packets B.list
-    here (inl (is, w, p, r, runs, none)) = rw is (inl (refl, w, p, r, runs, none))
+    here (inl (is, w, p, r, runs, none, noted)) = rw is (inl (refl, w, p, r, runs, none, noted))
     here (inr (inl (is, w, p, r, spent))) = rw is (inr (inl (refl, w, p, r, refl)))
     here (inr (inr (is, bad, same))) = rw is (inr (inr (refl, bad, rw same refl)))
 

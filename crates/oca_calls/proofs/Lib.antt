@@ -2,3 +2,4 @@ pub mod Behind
 mod DeviceAsBox
 mod LinkAsBox
 pub mod SpecsAgain
+pub mod Waits

@@ -7,19 +7,20 @@ use Rattle.oca_calls.specs.declared.answer_words.ClassId.{ClassId}
 use Rattle.oca_calls.specs.declared.answer_words.Members.{Members}
 use Rattle.oca_calls.specs.declared.answer_words.Names.{Names}
 use Rattle.oca_calls.specs.declared.name.Name.{Name}
-use Rattle.oca_calls.specs.Calls.{IsName, name_bytes}
+use Rattle.oca_calls.specs.Calls.{IsName, name_bytes, name_sizes}
 use Rattle.oca_calls.specs.Outputs.{WritesToBuffer, class_number}
 
 -- A text is written; or that the parameters are none, and then nothing is written.
 abbrev pub WritesText : Option (List ℕ) → Name → Name → ℕ → Type 0
 WritesText None old new number = (number ≡ 24) × (new ≡ old)
-WritesText (Some text) old new number = (number ≡ 0) × (name_bytes new ≡ text)
+WritesText (Some text) old new number = (number ≡ 0) × (new.size ≡ length text) × (name_bytes new ≡ text)
 
 -- the names of positions, how many they are and they
 abbrev pub WritesNames : Option (List (List ℕ)) → Names → Names → ℕ → Type 0
 WritesNames None old new number = (number ≡ 24) × (new ≡ old)
 WritesNames (Some texts) old new number =
     (number ≡ 0) × (new.count ≡ length texts) × (map name_bytes (take (length texts) new.names) ≡ texts)
+    × (name_sizes (take (length texts) new.names) ≡ map length texts)
 
 -- the numbers of members, how many they are and they
 abbrev pub WritesMembers : Option (List ℕ) → Members → Members → ℕ → Type 0

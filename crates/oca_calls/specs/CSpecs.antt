@@ -32,7 +32,7 @@ use Rattle.oca_calls.specs.declared.value_words.ReadingWords.{ReadingWords}
 use Rattle.oca_calls.specs.declared.value_words.ValueWords.{ValueWords}
 use Rattle.oca_calls.specs.declared.spec_words.SpecWords.{SpecWords}
 use Rattle.oca_calls.specs.Numbers.{answer_number, start_answer}
-use Rattle.oca_calls.specs.Calls.{HandleBuilds, IsName, IsRoom, IsSwitch, name_bytes}
+use Rattle.oca_calls.specs.Calls.{HandleBuilds, IsName, IsRoom, IsSwitch, name_bytes, name_sizes}
 use Rattle.oca_calls.specs.CValues.{AreWordsOf}
 use Rattle.oca_calls.specs.Outputs.{class_number}
 
@@ -276,14 +276,17 @@ AreSettingWords class positions (Some (settings.Number setting least greatest)) 
 pub record IsSpecOf (tree : List Object) (info : ObjectInfo) (w : SpecWords) : Type 0 where
   pub sized : IsSized w
   pub role : name_bytes w.role ≡ info.role
+  pub role_size : w.role.size ≡ length info.role
   pub lockable : lockable_at tree info.ono.0 ≡ Some (is_yes w.lockable)
   pub reading : AreSettingWords (class_number info.class) (length (names_of_ono tree info.ono.0))
       (setting_at tree info.ono.0) w.reading
   pub names : texts_of w ≡ names_of_ono tree info.ono.0
+  pub sizes : name_sizes (names_of w) ≡ map length (names_of_ono tree info.ono.0)
   pub stored : (flags : Option (List Bool))
       × (stored_at tree info.ono.0
       ≡ Some (record { label = name_bytes w.label; enabled = is_yes w.enabled; flags = flags }))
       × IfSome flags (λ them. them ≡ position_flags w)
+  pub label_size : w.label.size ≡ length (name_bytes w.label)
 
 -- a number of 64 bits, as each object has
 abbrev pub FitsBits : ℤ → Type 0

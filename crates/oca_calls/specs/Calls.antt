@@ -26,6 +26,7 @@ use Rattle.oca_calls.specs.declared.answer.Answer.{Answer}
 use Rattle.oca_calls.specs.declared.answer.Answer.TheVariants as answers
 use Rattle.oca_calls.specs.declared.device.DeviceBehind.{DeviceBehind}
 use Rattle.oca_calls.specs.declared.name.Name.{Name}
+use Rattle.oca_calls.specs.Storings.{HasUnstored, all_stored}
 use Rattle.oca_calls.specs.Numbers.{add_answer, set_answer, answer_number}
 
 -- ---- where a device stands
@@ -106,12 +107,13 @@ IsPacketRoom packets = (1 ≤ packets) × (packets ≤ 122)
 abbrev pub IsSpent : DeviceBehind → Type 0
 IsSpent behind = (behind.builder ≡ None) × (behind.device ≡ None)
 
--- A device is started with the objects, and no packet waits; or not, for want of memory, which loses the objects, or
--- where a size is none, which changes nothing.
+-- A device is started with the objects, no packet is there, and nothing is to be stored; or not, for want of memory,
+-- which loses the objects, or where a size is none, which changes nothing.
 abbrev pub Starts : Answer → DeviceBehind → DeviceBehind → ℕ → ℕ → ℕ → List Object → Type 0
 Starts answer old new window peers packets tree =
     ((answer ≡ answers.Done) × IsSize window × IsSize peers × IsPacketRoom packets
-    × RunsBehind (record { window = window; peers = peers }) new tree [] × (new.outbox ≡ first_packets packets []))
+    × RunsBehind (record { window = window; peers = peers }) new tree [] × (new.outbox ≡ first_packets packets [])
+    × (new.unstored ≡ all_stored))
     ⊎ (((answer ≡ answers.NoMemory) × IsSize window × IsSize peers × IsPacketRoom packets × IsSpent new)
     ⊎ ((answer ≡ answers.BadSize) × (IsSize window → IsSize peers → IsPacketRoom packets → ⊥) × (new ≡ old)))
 
@@ -124,7 +126,8 @@ left_by_start _ behind = Some behind
 abbrev pub HandleStarts : ℕ → Option DeviceBehind → Option DeviceBehind → ℕ → ℕ → ℕ → List Object → Type 0
 HandleStarts number old new window peers packets tree =
     ((number ≡ 0) × IsSize window × IsSize peers × IsPacketRoom packets
-    × HandleRuns (record { window = window; peers = peers }) new tree [] × HasPackets new (first_packets packets []))
+    × HandleRuns (record { window = window; peers = peers }) new tree [] × HasPackets new (first_packets packets [])
+    × HasUnstored new all_stored)
     ⊎ (((number ≡ 8) × IsSize window × IsSize peers × IsPacketRoom packets × (new ≡ None))
     ⊎ ((number ≡ 15) × (IsSize window → IsSize peers → IsPacketRoom packets → ⊥) × (new ≡ old)))
 
@@ -157,6 +160,10 @@ HandleAdds number behind built container ono role lockable kind =
 -- the bytes of a name, and whether it is one
 abbrev pub name_bytes : Name → List ℕ
 name_bytes name = take name.size name.text
+
+-- the bytes that names count, one after another
+abbrev pub name_sizes : List Name → List ℕ
+name_sizes names = map (λ name. name.size) names
 
 abbrev pub IsName : Name → Type 0
 IsName name = (name.size ≤ 64) × IsUtf8 (name_bytes name)

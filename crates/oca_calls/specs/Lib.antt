@@ -4,6 +4,7 @@ pub mod Numbers
 pub mod Outputs
 pub mod Calls
 pub mod LinkCalls
+pub mod Storings
 pub mod CValues
 pub mod CSpecs
 pub mod FrontCalls

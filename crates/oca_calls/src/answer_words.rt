@@ -2,7 +2,7 @@
 ghost use Rattle.std.specs.Prelude.{◌≡◌, ◌≤◌, length, map, take};
 ghost use Rattle.oca_model.specs.Members.{class_with};
 ghost use Rattle.oca_calls.specs.AnswerCalls.{number_of_class};
-ghost use Rattle.oca_calls.specs.Calls.{name_bytes};
+ghost use Rattle.oca_calls.specs.Calls.{name_bytes, name_sizes};
 
 use crate::name::{Name, names_with};
 use crate::words::{class_number, put_words};
@@ -41,6 +41,7 @@ impl Names {
         requires { length texts.now ≤ 16 }
         ensures count { result.count ≡ length texts.now }
         ensures names { map name_bytes (take (length texts.now) result.names) ≡ texts.now }
+        ensures sizes { name_sizes (take (length texts.now) result.names) ≡ map length texts.now }
     {
         Names {
             count: texts.len() as u32,

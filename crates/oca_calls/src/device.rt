@@ -22,6 +22,7 @@ ghost use Rattle.oca_calls.specs.FrontCalls.{SetsEntry, SetsFrontFound, SetsWord
 ghost use Rattle.oca_calls.specs.CSpecs.{SpecAddedBy, WritesSpec};
 ghost use Rattle.oca_calls.specs.Outputs.{WritesLock, WritesNextLapse, WritesObject, WritesSetting, WritesWords, put_words};
 ghost use Rattle.oca_calls.specs.Outputs.{verdict_words};
+ghost use Rattle.oca_calls.specs.Storings.{all_stored, unstored_behind};
 
 use crate::answer::Answer;
 use crate::front_values::{integer_at, state_at};
@@ -30,6 +31,7 @@ use crate::reading::Reading;
 use crate::spec_adding::add_spec;
 use crate::spec_reading::read_spec;
 use crate::spec_words::SpecWords;
+use crate::unstored::{Unstored, duplicates_in, has_written};
 use crate::value_words::ValueWords;
 use crate::words::{lock_number, object_words, put_numbers, put_words, words_of};
 use oca_device::{BoundedOutbox, Device};
@@ -47,6 +49,7 @@ pub struct DeviceBehind {
     builder: Option<TreeBuilder>,
     device: Option<Device>,
     outbox: BoundedOutbox,
+    unstored: Unstored,
 }
 
 impl DeviceBehind {
@@ -58,6 +61,7 @@ impl DeviceBehind {
             builder: Some(builder),
             device: None,
             outbox,
+            unstored: Unstored::none(),
         }
     }
 
@@ -179,13 +183,14 @@ impl DeviceBehind {
     fn run(&mut self, outbox: BoundedOutbox, device: Result<Device, NoMemory>) -> Answer
         ensures builder { self.new.builder ≡ self.old.builder }
         ensures done { IfOk device (λ device. (result ≡ Done) × (self.new.device ≡ Some device)
-            × (self.new.outbox ≡ outbox)) }
+            × (self.new.outbox ≡ outbox) × (self.new.unstored ≡ all_stored)) }
         ensures refused { IfErr device (λ _. (result ≡ AnswerNoMemory) × (self.new.device ≡ self.old.device)) }
     {
         match device {
             Ok(device) => {
                 self.device = Some(device);
                 self.outbox = outbox;
+                self.unstored = Unstored::none();
                 Answer::Done
             }
             Err(_) => Answer::NoMemory,
@@ -200,6 +205,8 @@ impl DeviceBehind {
             × (length (packets w T E (DatagramEvent from bytes.now now)) ≤ 122)
             × (out.new ≡ put_words (verdict_words (verdict w T E from bytes.now now)) out.old)
             × (result ≡ Done) }
+        ensures unstored { (w : DeviceSizes) (T : List Object) (E : List Event) → RunsBehind w self.old T E →
+            self.new.unstored ≡ unstored_behind self.old.unstored w T E from bytes.now now }
         ensures building { self.old.device ≡ None → (result ≡ NotStarted) × (self.new ≡ self.old) }
         ensures unwritten { (result ≡ Done) ⊎ (out.new ≡ out.old) }
     {
@@ -207,6 +214,8 @@ impl DeviceBehind {
             return Answer::NotStarted;
         };
         let verdict = device.datagram_within(from, bytes, now, &mut self.outbox);
+        let wrote = has_written(device);
+        self.unstored = self.unstored.after(wrote, duplicates_in(verdict));
         put_words(&words_of(verdict), out);
         Answer::Done
     }
@@ -216,6 +225,7 @@ impl DeviceBehind {
         ensures serves { (w : DeviceSizes) (T : List Object) (E : List Event) → RunsBehind w self.old T E →
             RunsBehind w self.new T (Tick now ∷ E) × (result ≡ Done) }
         ensures packets { self.new.outbox ≡ self.old.outbox }
+        ensures unstored { self.new.unstored ≡ self.old.unstored }
         ensures building { self.old.device ≡ None → (result ≡ NotStarted) × (self.new ≡ self.old) }
     {
         let Some(device) = &mut self.device else {
@@ -250,6 +260,7 @@ impl DeviceBehind {
             RunsBehind w self.new T (Local ono value ∷ E)
             × (result ≡ set_answers (set_fault (state_after w T E).tree ono value)) }
         ensures packets { self.new.outbox ≡ self.old.outbox }
+        ensures unstored { self.new.unstored ≡ self.old.unstored }
         ensures building { self.old.device ≡ None → (result ≡ NotStarted) × (self.new ≡ self.old) }
     {
         let Some(device) = &mut self.device else {
@@ -266,6 +277,7 @@ impl DeviceBehind {
         ensures sets { (w : DeviceSizes) (T : List Object) (E : List Event) → RunsBehind w self.old T E →
             (value : Option ValueItself) × AreWordsOf words value × SetsWords w result self.new T E ono value }
         ensures packets { self.new.outbox ≡ self.old.outbox }
+        ensures unstored { self.new.unstored ≡ self.old.unstored }
         ensures building { self.old.device ≡ None → (result ≡ NotStarted) × (self.new ≡ self.old) }
     {
         if self.device.is_none() {
@@ -282,6 +294,7 @@ impl DeviceBehind {
         ensures sets { (w : DeviceSizes) (T : List Object) (E : List Event) → RunsBehind w self.old T E →
             SetsEntry w result self.new T E ono (State state) }
         ensures packets { self.new.outbox ≡ self.old.outbox }
+        ensures unstored { self.new.unstored ≡ self.old.unstored }
         ensures building { self.old.device ≡ None → (result ≡ NotStarted) × (self.new ≡ self.old) }
     {
         let Some(device) = &self.device else {
@@ -296,6 +309,7 @@ impl DeviceBehind {
         ensures sets { (w : DeviceSizes) (T : List Object) (E : List Event) → RunsBehind w self.old T E →
             SetsEntry w result self.new T E ono (Integer number) }
         ensures packets { self.new.outbox ≡ self.old.outbox }
+        ensures unstored { self.new.unstored ≡ self.old.unstored }
         ensures building { self.old.device ≡ None → (result ≡ NotStarted) × (self.new ≡ self.old) }
     {
         let Some(device) = &self.device else {
@@ -310,6 +324,7 @@ impl DeviceBehind {
         ensures sets { (w : DeviceSizes) (T : List Object) (E : List Event) → RunsBehind w self.old T E →
             SetsFrontFound w result self.new T E ono found }
         ensures packets { self.new.outbox ≡ self.old.outbox }
+        ensures unstored { self.new.unstored ≡ self.old.unstored }
     {
         match found {
             Ok(value) => self.set(ono, value),
@@ -390,6 +405,34 @@ impl DeviceBehind {
         } else {
             Answer::TooSmall
         }
+    }
+
+    /// Tells whether the answers to the last datagram wait until the objects are stored.
+    pub fn waits(&self, waits: &mut bool) -> Answer
+        ensures writes { IsSome self.now.device → (result ≡ Done) × (waits.new ≡ self.now.unstored.waits) }
+        ensures building { self.now.device ≡ None → (result ≡ NotStarted) × (waits.new ≡ waits.old) }
+    {
+        if self.device.is_none() {
+            return Answer::NotStarted;
+        }
+        *waits = self.unstored.waits;
+        Answer::Done
+    }
+
+    /// Notes that the objects are stored as they are: no answers wait.
+    pub fn stored(&mut self) -> Answer
+        ensures notes { IsSome self.old.device → (result ≡ Done) × (self.new.unstored ≡ all_stored) }
+        ensures building { self.old.device ≡ None → (result ≡ NotStarted) × (self.new ≡ self.old) }
+        ensures device { self.new.device ≡ self.old.device }
+        ensures builder { self.new.builder ≡ self.old.builder }
+        ensures packets { self.new.outbox ≡ self.old.outbox }
+    {
+        if self.device.is_none() {
+            return Answer::NotStarted;
+        }
+        let none = Unstored::none();
+        self.unstored = none;
+        Answer::Done
     }
 
     /// Tells how many objects there are.

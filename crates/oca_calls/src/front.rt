@@ -1,6 +1,7 @@
 //! Setting an object behind a handle at the local front panel.
 ghost use Rattle.oca_calls.specs.Calls.{HandleSets, KeepsPackets, RefusesBuilding, RefusesClosed};
 ghost use Rattle.oca_calls.specs.FrontCalls.{HandleSetsEntry, Integer};
+ghost use Rattle.oca_calls.specs.Storings.{KeepsUnstored};
 
 use crate::answer::Answer;
 use crate::device_handle::DeviceHandle;
@@ -12,6 +13,7 @@ pub fn set(alloc: Global, handle: &mut DeviceHandle, ono: u32, value: Value) -> 
     ensures closed { RefusesClosed handle.old.slot.inner handle.new.slot.inner result }
     ensures building { RefusesBuilding handle.old.slot.inner handle.new.slot.inner result }
     ensures packets { KeepsPackets handle.old.slot.inner handle.new.slot.inner }
+    ensures unstored { KeepsUnstored handle.old.slot.inner handle.new.slot.inner }
     ensures sets { HandleSets result handle.old.slot.inner handle.new.slot.inner ono value }
 {
     let Some(mut behind) = handle.take(alloc) else {
@@ -27,6 +29,7 @@ pub fn set_integer(alloc: Global, handle: &mut DeviceHandle, ono: u32, number: i
     ensures closed { RefusesClosed handle.old.slot.inner handle.new.slot.inner result }
     ensures building { RefusesBuilding handle.old.slot.inner handle.new.slot.inner result }
     ensures packets { KeepsPackets handle.old.slot.inner handle.new.slot.inner }
+    ensures unstored { KeepsUnstored handle.old.slot.inner handle.new.slot.inner }
     ensures sets { HandleSetsEntry result handle.old.slot.inner handle.new.slot.inner ono (Integer number) }
 {
     let Some(mut behind) = handle.take(alloc) else {

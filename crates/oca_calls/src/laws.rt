@@ -1,5 +1,6 @@
 //! What the definitions of this crate say of one another.
 ghost use Rattle.oca_calls.specs.CSpecs.{WrittenMakesAgain};
+ghost use Rattle.oca_calls.specs.Storings.{WaitsAsKept};
 
 use oca_tree::law_of_copies;
 
@@ -9,3 +10,9 @@ pub fn law_of_specs()
 {
     law_of_copies();
 }
+
+/// Law: the answers to a datagram wait as they do in a device that keeps its objects in a store.
+#[tactic(auto, using(crate::proofs::Waits::waits_as_kept))]
+pub fn law_of_waits()
+    ensures { WaitsAsKept }
+{}

@@ -22,5 +22,6 @@ pub mod reading;
 pub mod spec_adding;
 pub mod spec_reading;
 pub mod spec_words;
+pub mod unstored;
 pub mod value_words;
 pub mod words;

@@ -1,7 +1,7 @@
 //! The names of a switch's positions, as C hands them over.
 ghost use Rattle.std.specs.Prelude.{◌≡◌, ◌≤◌, [], length, map, take, IfNone, IfSome};
 ghost use Rattle.std.specs.List.{AllByRecursion};
-ghost use Rattle.oca_calls.specs.Calls.{IsName, name_bytes};
+ghost use Rattle.oca_calls.specs.Calls.{IsName, name_bytes, name_sizes};
 
 use crate::words::{put_front, put_words};
 use arrayvec::ArrayVec;
@@ -38,6 +38,7 @@ impl Name {
     pub fn of(text: &str) -> Name
         requires { length text.now ≤ 64 }
         ensures text { name_bytes result ≡ text.now }
+        ensures size { result.size ≡ length text.now }
     {
         let mut place = [0; 64];
         let size = put_front(text.as_bytes(), &mut place);
@@ -51,7 +52,8 @@ impl Name {
 /// The names with these texts, in a place of their own.
 pub fn names_with(texts: &[Text]) -> [Name; MOST_POSITIONS]
     requires { length texts.now ≤ 16 }
-    ensures { map name_bytes (take (length texts.now) result) ≡ texts.now }
+    ensures texts { map name_bytes (take (length texts.now) result) ≡ texts.now }
+    ensures sizes { name_sizes (take (length texts.now) result) ≡ map length texts.now }
 {
     let mut names: ArrayVec<Name, MOST_POSITIONS> = ArrayVec::new();
     for text in texts {

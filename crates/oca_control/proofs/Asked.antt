@@ -1,18 +1,17 @@
 -- A link that runs is asked in time.
-use Rattle.std.proofs.Common.{◌≡◌, ℕ, zero, suc, ◌+◌, ◌-◌, ◌*◌, ◌<◌, ◌≤◌, Bool, true, false, cond, not, ◌&&◌, ◌||◌, max, List, [], ◌∷◌, ◌++◌, length, map, Option, Some, None, Ok, Err, is_none, is_some, refl, sym, ap, ◌∙◌, arith, subst, append_assoc, append-nil}
-use Rattle.std.specs.Prelude.{nat_eq, nat_lt, nat_le}
-use Rattle.std.specs.List.{AllByRecursion, list_any}
+use Rattle.std.proofs.Common.{◌≡◌, ℕ, zero, suc, ◌+◌, ◌-◌, ◌*◌, ◌<◌, ◌≤◌, Bool, true, false, cond, not, max, List, [], ◌∷◌, ◌++◌, length, map, Option, Some, None, Ok, Err, is_some, refl, sym, ap, ◌∙◌, arith, subst, append_assoc, append-nil}
+use Rattle.std.specs.Prelude.{nat_le}
+use Rattle.std.specs.List.{AllByRecursion}
 use Rattle.std.proofs.Math.Dec.{eqb}
 use Rattle.std.proofs.lemmas.Bool.Decides.{nat_tests}
 use Rattle.oca_types.specs.declared.words.Peer.{Peer}
 use Rattle.oca_types.specs.declared.words.Handle.{Handle}
 use Rattle.oca_types.specs.Peers.{CommandFields, RequestFields, same_peer}
-use Rattle.oca_pdu.specs.Messages.{Msg, Command, Response, KeepAlive}
 use Rattle.oca_net.specs.Deliveries.{Delivery, Datagram, Quiet, Failed}
 use Rattle.oca_control.specs.declared.fault.ControlFault.TheVariants as faults
-use Rattle.oca_control.specs.Answers.{AnswerFields, answer_of_response}
-use Rattle.oca_control.specs.Untaken.{Untaken, is_due, is_late, first_due, given_out, waits, answered, hears_all, answer_under, without_handle}
-use Rattle.oca_control.specs.Links.{LinkState, present_moment, late_at, submission, submitted, after_submission, Decision, GivesCommand, GivesKeepAlive, GivesNothing, IsLost, decision, due_answer, due_bytes, after_due, hears_content, taken}
+use Rattle.oca_control.specs.Answers.{AnswerFields}
+use Rattle.oca_control.specs.Untaken.{Untaken, is_due, first_due, given_out, answer_under, without_handle}
+use Rattle.oca_control.specs.Links.{LinkState, present_moment, late_at, submission, submitted, after_submission, Decision, GivesCommand, GivesKeepAlive, GivesNothing, IsLost, decision, due_answer, due_bytes, after_due, taken}
 use Rattle.oca_control.specs.Histories.{Call, Submits, GivesOut, Receives, TakesAnswer, IsCall, IsHistory, clock_of_calls, commands, sendings}
 use Rattle.oca_control.specs.Answering.{last_asked, IsAskedEvery, IsInFlight, IsGivenOutInTime}
 use Rattle.oca_control.specs.Driving.{goes_on, link_from, HearsDelivery, DrivesTurn}
@@ -21,11 +20,10 @@ use Rattle.oca_control.specs.Asking.{beginning}
 use Rattle.oca_control.specs.Running.{NothingIsLeft, HasTimeLeft, HaveTimeLeft, HasTimeAt, delivered_at, AreWithin, IsRun, NothingDone, DroveATurn, TookATurn, Began, Took, BecomesBy, IsAsked, CommandIsInTime}
 use Rattle.oca_control.proofs.Following.{is_at_most, each_map}
 use Rattle.oca_control.proofs.Calls.{is_given, each_without}
-use Rattle.oca_control.proofs.Dues.{Rises, none_first}
+use Rattle.oca_control.proofs.Dues.{Rises}
 use Rattle.oca_control.proofs.Histories.{holds_after}
 use Rattle.oca_control.proofs.InTime.{in_time}
 use Rattle.oca_control.proofs.Lifetimes.{few_sendings, Fits, fits_soon, fits_received, fits_from, fits_submitted, fits_at, calm_fits, time_of}
-use Rattle.oca_control.proofs.Copies.{dated}
 use Rattle.oca_control.proofs.Settling.{due_count, count_length, none_counted, fewer_given, decided_nothing, is_quiet, again, left_from, not_lost_before, moment_from}
 
 -- ---- moments
@@ -590,11 +588,7 @@ begun_time device first opened span ms before old link request now h some short 
     accepted = accepted_now request now old h is
 
     fits : AllByRecursion (Fits ms (present_moment now old)) old.untaken
-    fits = fits_at ms (present_moment now old) old.untaken
-        (each_map (λ u d. later u.last d.2) old.untaken (dated device first opened span before old some p)) time
-      where
-        later : (k : ℕ) → k ≤ old.moment → k ≤ max old.moment now
-        later k q = omega arith
+    fits = fits_at ms (present_moment now old) old.untaken time
 
     small : due_count (present_moment now x) x.untaken < x.span + 1
     small = few (due_count (present_moment now x) x.untaken) (length x.untaken) (count_length (present_moment now x) x.untaken)

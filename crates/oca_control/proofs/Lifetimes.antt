@@ -1,5 +1,5 @@
 -- Commands that are lost before they are late.
-use Rattle.std.proofs.Common.{◌≡◌, ℕ, zero, suc, ◌+◌, ◌-◌, ◌*◌, ◌<◌, ◌≤◌, Bool, true, false, cond, not, ◌&&◌, ◌||◌, max, List, [], ◌∷◌, ◌++◌, length, map, Option, Some, None, Ok, Err, is_none, is_some, refl, sym, ap, ◌∙◌, arith, subst}
+use Rattle.std.proofs.Common.{◌≡◌, ℕ, zero, suc, ◌+◌, ◌-◌, ◌*◌, ◌<◌, ◌≤◌, Bool, true, false, cond, ◌&&◌, ◌||◌, max, List, [], ◌∷◌, ◌++◌, length, map, Option, Some, None, Ok, is_none, refl, sym, ap, ◌∙◌, arith, subst}
 use Rattle.std.specs.Prelude.{nat_eq, nat_lt, nat_le}
 use Rattle.std.specs.List.{AllByRecursion, list_any}
 use Rattle.std.proofs.Math.Dec.{eqb}
@@ -7,7 +7,7 @@ use Rattle.std.proofs.Math.Nat.{suc-mul, mul-le-mul_right}
 use Rattle.std.proofs.lemmas.Bool.Decides.{nat_tests}
 use Rattle.oca_types.specs.declared.words.Peer.{Peer}
 use Rattle.oca_types.specs.declared.words.Handle.{Handle}
-use Rattle.oca_types.specs.Peers.{RequestFields, CommandFields}
+use Rattle.oca_types.specs.Peers.{RequestFields}
 use Rattle.oca_pdu.specs.Messages.{Msg, Command, Response, KeepAlive}
 use Rattle.oca_control.specs.Answers.{AnswerFields, answer_of_response}
 use Rattle.oca_control.specs.Untaken.{Untaken, new_untaken, is_due, is_late, given_out, waits, answered, hears_all}
@@ -187,25 +187,19 @@ time_of ms l left fits =
     (λ u (d : is_due (max l.moment l.moment) u ≡ false) (p : Fits ms l.moment u) w. (p w).0 (waits_young (is_none u.answer) (nat_eq u.times 0) (nat_le 250 (max l.moment l.moment - u.last)) w d).0)
     l.untaken (none_first (max l.moment l.moment) l.untaken q.none) fits
 
--- A command that has time at a moment fits, where it was given out by then.
-pub fits_at : (ms t : ℕ) (us : List Untaken) → AllByRecursion (λ u. u.last ≤ t) us → AllByRecursion (HasTimeAt ms t) us → AllByRecursion (Fits ms t) us
-fits_at ms t us before time = each_both {R = λ (u : Untaken). Fits ms t u} (λ u (b : u.last ≤ t) (p : HasTimeAt ms t u) w. one u b (p w)) us before time
-  where
-    less : (n : ℕ) → (20 - n) * (250 + ms) ≤ (21 - n) * (250 + ms)
-    less n = mul-le-mul_right (250 + ms) (fewer n)
-      where
-        fewer : (n : ℕ) → 20 - n ≤ 21 - n
-        fewer n = omega arith
+positive : (n : ℕ) → nat_eq n 0 ≡ false → 0 < n
+positive n e = grind (arith, nat_tests)
 
-    sooner : (a b k c : ℕ) → a ≤ b → b + k ≤ c → a + k ≤ c
-    sooner a b k c p q = omega arith
+not_zero : (n : ℕ) → 0 < n → nat_eq n 0 ≡ false
+not_zero n p = grind (arith, nat_tests)
 
-    shorter : (a b c : ℕ) → a ≤ b → t + b ≤ c → t + a ≤ c
-    shorter a b c p q = omega arith
+-- A command that has time at a moment fits.
+pub fits_at : (ms t : ℕ) (us : List Untaken) → AllByRecursion (HasTimeAt ms t) us → AllByRecursion (Fits ms t) us
+fits_at ms t us time = each_map {Q = Fits ms t} (λ u (p : HasTimeAt ms t u) w. ((λ z. (p w).1 (positive u.times z)), (p w).0)) us time
 
-    one : (u : Untaken) → u.last ≤ t → t + (21 - u.times) * (250 + ms) ≤ u.submitted + 15000 →
-        (nat_eq u.times 0 ≡ false → u.last + (21 - u.times) * (250 + ms) ≤ u.submitted + 15000) × (t + (20 - u.times) * (250 + ms) ≤ u.submitted + 15000)
-    one u b p = (
-      (λ z. sooner u.last t ((21 - u.times) * (250 + ms)) (u.submitted + 15000) b p),
-      shorter ((20 - u.times) * (250 + ms)) ((21 - u.times) * (250 + ms)) (u.submitted + 15000) (less u.times) p,
-    )
+-- Soon after nothing was left each command has time.
+pub time_soon : (device : Peer) (first opened span ms : ℕ) (before : List Call) (l : LinkState) (now : ℕ) → 0 < span → IsHistory device first opened span before l →
+    NothingIsLeft l → HaveTimeLeft ms l → now ≤ l.moment + ms → AllByRecursion (HasTimeAt ms (present_moment now l)) l.untaken
+time_soon device first opened span ms before l now some p left time soon =
+    each_map {Q = HasTimeAt ms (present_moment now l)} (λ u (q : Fits ms (present_moment now l) u) w. ((q w).1, (λ z. (q w).0 (not_zero u.times z)))) l.untaken
+    (fits_soon ms now l left soon (few_sendings device first opened span before l some p) time)

@@ -6,8 +6,8 @@ use Rattle.oca_control.specs.declared.outcome.Outcome.{Outcome}
 use Rattle.oca_control.specs.declared.outcome.Outcome.TheVariants as outcomes
 use Rattle.oca_control.specs.Untaken.{answer_under}
 use Rattle.oca_control.specs.Links.{LinkState, present_moment}
-use Rattle.oca_control.specs.Asking.{TakesTurns, NoneTaken, OneTaken, Waits}
-use Rattle.oca_control.specs.Waiting.{IsBefore, IsPresentOf, WaitsWhile, TakesATurnAndSees, TakesTurnsBefore, NoTurn, OneTurn, ReceivesInAWait, WaitsUntil, most_turns_of_a_wait}
+use Rattle.oca_control.specs.Asking.{IsPresent, TakesTurns, NoneTaken, OneTaken, Waits}
+use Rattle.oca_control.specs.Waiting.{IsBefore, WaitsWhile, TakesATurnAndSees, TakesTurnsBefore, NoTurn, OneTurn, ReceivesInAWait, WaitsUntil, most_turns_of_a_wait}
 use Rattle.oca_control.specs.PrivateAsking.{Settles, EndsWait}
 use Rattle.oca_control.proofs.Asks.{neither}
 use Rattle.oca_control.proofs.InTurn.{asked_once}
@@ -114,24 +114,17 @@ none_taken (OneTaken {n = n} before none going turn) few = absurd (one_is_more n
 none_is_few : (m : ℕ) → m ≤ 0 → m ≤ most_turns_of_a_wait
 none_is_few m few = omega arith
 
--- at an end that says no moment the link's own is the present one
-link_present : (l : LinkState) (e : EndState) → IsPresentOf (present_moment 0 l) l e
-link_present l e = record { now = 0; present = λ some. absurd (nothing_less some); latest = refl }
-  where
-    nothing_less : 0 < 0 → ⊥
-    nothing_less some = omega arith
-
 -- an answer that was taken without a turn, or a link that was then lost, is so after any time
-pub at_once : (h n : ℕ) (l k : LinkState) (o : Outcome) (d e : EndState) → ((o ≡ outcomes.Unanswered) → ⊥) → Waits h 0 l o k d e → WaitsWhile h n l o k d e
-at_once h n l k (outcomes.Answered a) d e known w = record {
-  from = present_moment 0 l;
-  present = link_present l d;
+pub at_once : (h n now : ℕ) (l k : LinkState) (o : Outcome) (d e : EndState) → IsPresent now d → ((o ≡ outcomes.Unanswered) → ⊥) → Waits h 0 l o k d e → WaitsWhile h n l o k d e
+at_once h n now l k (outcomes.Answered a) d e there known w = record {
+  from = present_moment now l;
+  present = record { now = now; present = there; latest = refl };
   waits = (w.0, w.1, w.2, false, none_is_few w.1 w.3, none_taken w.4 w.3, w.5, w.6);
 }
-at_once h n l k (outcomes.Refused fault) d e known w = absurd w
-at_once h n l k outcomes.Lost d e known w = record {
-  from = present_moment 0 l;
-  present = link_present l d;
+at_once h n now l k (outcomes.Refused fault) d e there known w = absurd w
+at_once h n now l k outcomes.Lost d e there known w = record {
+  from = present_moment now l;
+  present = record { now = now; present = there; latest = refl };
   waits = (w.0, w.1, false, none_is_few w.0 w.2, none_taken w.3 w.2, w.4, w.5);
 }
-at_once h n l k outcomes.Unanswered d e known w = absurd (known refl)
+at_once h n now l k outcomes.Unanswered d e there known w = absurd (known refl)

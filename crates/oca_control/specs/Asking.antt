@@ -1,8 +1,9 @@
 -- The outcome of a command that is asked of a link over an end (*profile*).
-use Rattle.std.specs.Prelude.{◌≡◌, ℕ, ◌+◌, ◌<◌, ◌≤◌, Bool, true, false, ◌||◌, if◌then◌else◌, Some, None, Result, Ok}
-use Rattle.std.specs.Prelude.{Err, IfSome}
+use Rattle.std.specs.Prelude.{◌≡◌, ℕ, ◌+◌, ◌≤◌, Bool, true, false, ◌||◌, if◌then◌else◌, Some, None, Result, Ok}
+use Rattle.std.specs.Prelude.{Err}
 use Rattle.oca_types.specs.declared.words.Handle.{Handle}
 use Rattle.oca_types.specs.Peers.{RequestFields}
+pub use Rattle.oca_net.specs.EndStates.{IsPresent}
 use Rattle.oca_net.specs.EndStates.{EndState}
 use Rattle.oca_control.specs.declared.fault.ControlFault.{ControlFault}
 use Rattle.oca_control.specs.declared.fault.ControlFault.TheVariants as faults
@@ -57,11 +58,6 @@ refused_by faults.HandlesSpent = outcomes.Refused faults.HandlesSpent
 refused_by faults.SpanFull = outcomes.Refused faults.SpanFull
 refused_by faults.TooLong = outcomes.Refused faults.TooLong
 
--- The present moment of an end: none that a receive returned is later. An end that keeps no time may say 0, which
--- counts as the link's own moment.
-abbrev pub IsPresent : ℕ → EndState → Type 0
-IsPresent now e = 0 < now → IfSome e.moment (λ m. m ≤ now)
-
 -- What comes of a command that is to begin at a moment: a link that is late takes none.
 abbrev pub beginning : RequestFields → ℕ → LinkState → Result Handle ControlFault
 beginning request now l = if late_at now l then Err faults.Lost else submission request l
@@ -74,7 +70,8 @@ GivesFirst request now (Ok handle) old new before after =
     × GivesOut now ((submitted request now old).span + 1) (submitted request now old) new before after report
 GivesFirst request now (Err fault) old new before after = (new ≡ old) × (after ≡ before)
 
--- A COMMAND WAS BEGUN at the present moment of the end.
+-- A COMMAND WAS BEGUN at the present moment of the end. Where the end says 0, as one that keeps no time, that counts as
+-- the link's own moment.
 pub record Begins (request : RequestFields) (returned : Result Handle ControlFault) (old new : LinkState)
     (before after : EndState) : Type 0 where
   pub now : ℕ

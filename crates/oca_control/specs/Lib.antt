@@ -2,6 +2,7 @@ pub use Rattle.oca_types.specs.Peers
 pub use Rattle.oca_pdu.specs.Messages
 pub use Rattle.oca_pdu.specs.Encoding
 pub mod Limits
+pub mod FaultWords
 pub mod Answers
 pub mod Contents
 pub mod Copies

@@ -182,10 +182,20 @@ EveryBegunCommandIsInTime =
     IsRun moments link new → AreWithin ms link.moment moments → new.lost ≡ false →
     CommandIsInTime device first opened span ms before request now h link.moment new
 
--- a command that waits for its answer has time left at a moment: all sendings that are left to it come before it is late
+-- A command that waits for its answer has time at a moment: all sendings that are left to it from then on come before
+-- it is late, and so do those that are left to it behind its last one, where it was given out.
 abbrev pub HasTimeAt : ℕ → ℕ → Untaken → Type 0
 HasTimeAt ms t u = is_none u.answer ≡ true →
-    t + (most_sendings + 1 - u.times) * (repeat_time + ms) ≤ u.submitted + longest_life
+    (t + (most_sendings - u.times) * (repeat_time + ms) ≤ u.submitted + longest_life)
+    × (0 < u.times → u.last + (most_sendings + 1 - u.times) * (repeat_time + ms) ≤ u.submitted + longest_life)
+
+-- EACH COMMAND IN FLIGHT HAS TIME by its own submit and its own count of sendings, however many there are: at each moment
+-- within so many ms of one at which nothing was left and each had time left.
+abbrev pub EveryCommandHasTimeSoon : Type 0
+EveryCommandHasTimeSoon =
+    (device : Peer) (first opened span ms : ℕ) (before : List Call) (l : LinkState) (now : ℕ) →
+    0 < span → IsHistory device first opened span before l → NothingIsLeft l → HaveTimeLeft ms l →
+    now ≤ l.moment + ms → AllByRecursion (HasTimeAt ms (present_moment now l)) l.untaken
 
 -- THE OTHERS DECIDE: once a command was begun each command has time left, where each that waited before has time at that
 -- moment; as where none waited. So it is unless the link was lost.

@@ -1,20 +1,20 @@
 //! Why a command is not submitted.
-use thiserror::Error;
+ghost use Rattle.std.specs.Prelude.{◌≡◌};
+ghost use Rattle.oca_control.specs.FaultWords.{control_fault_words};
+
+use std::error::Error;
+use std::fmt::{self, Display, Formatter};
 
 /// Why a command is not submitted, in the order of the tests. The numbers are promised (*profile*).
-#[derive(Clone, Copy, Debug, PartialEq, Eq, Error)]
+#[derive(Clone, Copy, Debug, PartialEq, Eq)]
 pub enum ControlFault {
     /// The link is lost.
-    #[error("the link is lost")]
     Lost = 1,
     /// A command got the handle 4294967295: none is left.
-    #[error("no handle is left")]
     HandlesSpent = 2,
     /// The next handle would not lie below the lowest untaken one plus the span.
-    #[error("the next handle is not below the lowest untaken one plus the span")]
     SpanFull = 3,
     /// The parameters have more than 1,445 bytes.
-    #[error("the parameters have more than 1,445 bytes")]
     TooLong = 4,
 }
 
@@ -25,3 +25,31 @@ const _: () = prove!(ControlFault::HandlesSpent as u8 == 2);
 const _: () = prove!(ControlFault::SpanFull as u8 == 3);
 
 const _: () = prove!(ControlFault::TooLong as u8 == 4);
+
+/// Why a command is not submitted, in words.
+fn words_for(fault: ControlFault) -> &'static str
+    ensures { result.now ≡ control_fault_words fault }
+{
+    match fault {
+        ControlFault::Lost => "the link is lost",
+        ControlFault::HandlesSpent => "no handle is left",
+        ControlFault::SpanFull => {
+            "the next handle is not below the lowest untaken one plus the span"
+        }
+        ControlFault::TooLong => "the parameters have more than 1,445 bytes",
+    }
+}
+
+impl Display for ControlFault {
+    ghost use Rattle.std.specs.Prelude.{Some};
+    ghost use Rattle.oca_control.specs.FaultWords.{control_fault_words};
+
+    ghost output = { λ fault. Some (control_fault_words fault) };
+
+    /// Writes it in words.
+    fn fmt<W: fmt::Write>(&self, f: &mut Formatter<W>) -> fmt::Result {
+        Display::fmt(words_for(*self), f)
+    }
+}
+
+impl Error for ControlFault {}

@@ -3,7 +3,7 @@ ghost use Rattle.oca_control.specs.Answering.{EveryAnswerIsKept, EveryDueCommand
 ghost use Rattle.oca_control.specs.Answering.{EveryCommandIsGivenOutInTime};
 ghost use Rattle.oca_control.specs.Copies.{EveryCopyIsInTime, EveryStepIsInTime, EveryLateLinkStaysLate};
 ghost use Rattle.oca_control.specs.Running.{EveryCallRuns, EveryRunGoesOn, EveryRunIsAsked, EveryEndInTimeServes};
-ghost use Rattle.oca_control.specs.Running.{EveryBegunCommandIsInTime, EveryBegunCommandHasTime};
+ghost use Rattle.oca_control.specs.Running.{EveryBegunCommandIsInTime, EveryBegunCommandHasTime, EveryCommandHasTimeSoon};
 ghost use Rattle.oca_control.specs.Running.{EveryScriptIsKept};
 ghost use Rattle.oca_control.specs.Receptions.{EveryDatagramIsCounted};
 ghost use Rattle.oca_control.specs.Histories.{EveryHistoryIsLawful, EveryLinkAgreesWithItsCalls, BytesHaveOneContent};
@@ -70,7 +70,8 @@ pub fn law_of_giving_out()
 /// began nothing was left to give out and each command had time left, the link is asked every `ms` milliseconds, which
 /// is the premise of [`law_of_giving_out`], or it is lost; `ms` is at most 500. A command has time left where the
 /// sendings that are left to it, `250 + ms` apart, end before it is late; so has each command that is begun in such a
-/// run, and where none else waited when it was begun, whatever the link did before. After a [`begin`](crate::begin)
+/// run, however many others are in flight, each by its own submit; and where none else waited when it was begun, whatever
+/// the link did before. After a [`begin`](crate::begin)
 /// nothing is left, so each command that is begun is given out at once, and from then on in time as long as it waits:
 /// with receives of at most 50 ms, again less than 300 ms after each sending.
 ///
@@ -84,6 +85,7 @@ pub fn law_of_running()
     ensures over_an_end { EveryEndInTimeServes }
     ensures begun { EveryBegunCommandIsInTime }
     ensures others { EveryBegunCommandHasTime }
+    ensures soon { EveryCommandHasTimeSoon }
     ensures in_memory { EveryScriptIsKept }
 {}
 

@@ -34,4 +34,5 @@ pub use link::Link;
 pub use outcome::Outcome;
 pub use reception::Reception;
 pub use report::DriveReport;
+pub use slot::LONGEST_LIFE_MS;
 pub use turning::{give_in_time, is_late, turn};

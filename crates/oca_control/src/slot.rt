@@ -25,8 +25,9 @@ use std::marker::Model;
 /// A command is given out again after so many milliseconds without an answer.
 const REPEAT_MS: u64 = 250;
 
-/// An unanswered command is late more than so many milliseconds after its submit.
-const LONGEST_LIFE_MS: u64 = 15_000;
+/// How long after its submit a command may leave, in milliseconds (*profile*): one that is unanswered later is late, and
+/// no copy of it is given out. While its link is asked in time, its answer has come by then, or the link is lost.
+pub const LONGEST_LIFE_MS: u64 = 15_000;
 
 /// A command is given out at most so often.
 const MOST_SENDINGS: u8 = 20;

@@ -1,6 +1,6 @@
 -- Each answer fits into a datagram.
 use Rattle.std.proofs.Common.{◌≡◌, ℕ, ◌≤◌, Bool, true, false, cond, List, [], ◌∷◌, ◌++◌, length, refl, sym, ap, ◌∙◌, arith}
-use Rattle.std.specs.Prelude.{nat_lt, nat_eq, ◌&&◌, ◌||◌, Option, Some, None, is_none}
+use Rattle.std.specs.Prelude.{nat_lt, nat_eq, ◌&&◌, ◌||◌, not, Option, Some, None, is_none, Result, Ok, Err}
 use Rattle.std.specs.List.{AllByRecursion}
 use Rattle.std.proofs.lemmas.Bool.Decides.{nat_tests}
 use Rattle.oca_types.specs.declared.words.Peer.{Peer}
@@ -11,10 +11,13 @@ use Rattle.oca_types.specs.Status.{status_number}
 use Rattle.oca_types.specs.Sizes.{DeviceSizes}
 use Rattle.oca_pdu.specs.Messages.{Msg, Command, Response, KeepAlive}
 use Rattle.oca_tree.specs.declared.object.Object.{Object}
-use Rattle.oca_tree.specs.declared.request.Request.{Request}
+use Rattle.oca_model.specs.declared.request.Request.{Request}
+use Rattle.oca_model.specs.declared.value.ValueFault.{ValueFault}
+use Rattle.oca_model.specs.Answers.{answer_encoding}
 use Rattle.oca_tree.specs.Objects.{object_of}
-use Rattle.oca_tree.specs.Execution.{TreeAndReply, answer, execution, by_status, status_of, first_that_applies, kind_at, request_at, is_unknown, is_kind_left_out, is_locked, on_both}
-use Rattle.oca_tree.specs.Requests.{is_out_of_range, is_invalid}
+use Rattle.oca_tree.specs.Execution.{TreeAndReply, execution, by_status, status_of, first_that_applies, kind_at, asked_at, is_unknown, is_kind_left_out, is_locked, is_malformed, sets_unlisted, on_both}
+use Rattle.oca_tree.specs.Requests.{fits_positions, asks_out_of_range, asks_invalid}
+use Rattle.oca_tree.specs.Typed.{answer_given}
 use Rattle.oca_tree.specs.Locks.{released}
 use Rattle.oca_tree.specs.Settings.{after_set}
 use Rattle.oca_device.specs.Groups.{IsAnswerMessage}
@@ -41,8 +44,11 @@ not_above n h = grind (arith, nat_tests)
 none_long : 0 ≤ 1452
 none_long = omega arith
 
-status_short : (tree : List Object) (peer : Peer) (o : Object) (r : Request) (s : Status) → (s ≡ status.Ok → length (answer tree o r) ≤ 1452) →
-    length (by_status tree peer (Some o) (Some r) s).parameters ≤ 1452
+abbrev answer_bytes : List Object → Object → Request → ℕ
+answer_bytes tree o r = length (answer_encoding (answer_given tree o r))
+
+status_short : (tree : List Object) (peer : Peer) (o : Object) (r : Request) (s : Status) → (s ≡ status.Ok → answer_bytes tree o r ≤ 1452) →
+    length (by_status tree peer (Some o) (Ok r) s).parameters ≤ 1452
 status_short tree peer o r status.Ok h = h refl
 status_short tree peer o r status.ProtocolVersionError h = none_long
 status_short tree peer o r status.DeviceError h = none_long
@@ -59,21 +65,23 @@ status_short tree peer o r status.PartiallySucceeded h = none_long
 status_short tree peer o r status.Timeout h = none_long
 status_short tree peer o r status.BufferOverflow h = none_long
 
-found_short : (tree : List Object) (peer : Peer) (c : CommandFields) (o : Option Object) (r : Option Request) → request_at o (kind_at o c) c ≡ r →
-    length (by_status tree peer o r (status_of tree peer o c)).parameters ≤ 1452
-found_short tree peer c None r e = none_long
-found_short tree peer c (Some o) None e = none_long
-found_short tree peer c (Some o) (Some r) e =
-    status_short tree peer o r (status_of tree peer (Some o) c) (λ q. not_above (length (answer tree o r))
-    (sym (ap (λ (x : Option Request). on_both (λ o r. nat_lt 1452 (length (answer tree o r))) (Some o) x) e) ∙ last_line (is_none (Some o)) (is_unknown (kind_at (Some o) c)) (is_kind_left_out (kind_at (Some o) c)) (is_locked (Some o) (kind_at (Some o) c) peer) (is_none (request_at (Some o) (kind_at (Some o) c) c))
-    (on_both (λ x y. is_out_of_range x.value y) (Some o) (request_at (Some o) (kind_at (Some o) c) c)) (on_both (λ x y. is_invalid x.lockable x.lock y) (Some o) (request_at (Some o) (kind_at (Some o) c) c))
-    (on_both (λ x y. nat_lt 1452 (length (answer tree x y))) (Some o) (request_at (Some o) (kind_at (Some o) c) c)) q))
+found_short : (tree : List Object) (peer : Peer) (c : CommandFields) (o : Option Object) (asked : Result Request ValueFault) → asked_at o (kind_at o c) c ≡ asked →
+    length (by_status tree peer o asked (status_of tree peer o c)).parameters ≤ 1452
+found_short tree peer c None asked e = none_long
+found_short tree peer c (Some o) (Err fault) e = none_long
+found_short tree peer c (Some o) (Ok r) e =
+    let asked = asked_at (Some o) (kind_at (Some o) c) c in
+    status_short tree peer o r (status_of tree peer (Some o) c) (λ q. not_above (answer_bytes tree o r)
+    (sym (ap (λ (x : Result Request ValueFault). on_both (λ o r. nat_lt 1452 (answer_bytes tree o r)) (Some o) x) e)
+    ∙ last_line (is_none (Some o)) (is_unknown (kind_at (Some o) c)) (is_kind_left_out (kind_at (Some o) c)) (is_locked (Some o) (kind_at (Some o) c) peer)
+    (is_malformed asked || on_both (λ x y. not (fits_positions x.value y)) (Some o) asked) (sets_unlisted asked || on_both (λ x y. asks_out_of_range x.value y) (Some o) asked) (on_both asks_invalid (Some o) asked)
+    (on_both (λ x y. nat_lt 1452 (answer_bytes tree x y)) (Some o) asked) q))
 
 pub execution_short : (tree : List Object) (peer : Peer) (c : CommandFields) → length (execution tree peer c).parameters ≤ 1452
 unfolding execution
 execution_short tree peer c =
     let o = object_of tree c.target in
-    found_short tree peer c o (request_at o (kind_at o c) c) refl
+    found_short tree peer c o (asked_at o (kind_at o c) c) refl
 
 -- ---- the answers of the law
 

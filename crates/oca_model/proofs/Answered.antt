@@ -9,10 +9,10 @@ use Rattle.oca_types.specs.Texts.{text_encoding}
 use Rattle.std.proofs.lemmas.Bool.{eq-eqb}
 use Rattle.oca_types.specs.declared.class.Class.{Class}
 use Rattle.oca_model.specs.declared.answer.Answer.{Answer}
-use Rattle.oca_model.specs.declared.answer.Answer.TheVariants.{Done, Truth, Text, Owner, Reading, Names, Flags, Class as ItsClass, Members}
+use Rattle.oca_model.specs.declared.answer.Answer.TheVariants.{Done, Truth, Text, Owner, Reading, Names, Flags, Class as ItsClass, Members, Descendants}
 use Rattle.oca_types.specs.Classes.{class_identification_encoding}
-use Rattle.oca_model.specs.Members.{class_at, class_in, member_at, member_encoding, IsMember}
-use Rattle.oca_model.specs.MemberFronts.{class_front, member_front}
+use Rattle.oca_model.specs.Members.{class_at, class_in, member_at, member_encoding, IsMember, descendant_at, descendant_encoding, IsDescendant}
+use Rattle.oca_model.specs.MemberFronts.{class_front, member_front, descendant_front}
 use Rattle.oca_model.specs.ListsBack.{lists_back}
 use Rattle.oca_model.specs.Readings.{reading_in, reading_encoding}
 use Rattle.oca_model.specs.Answers.{shape_of_answer, shaped_in, answer_count, answer_encoding, answer_in, IsAnswer, AnswersAreRead}
@@ -37,6 +37,7 @@ shaped of (Names names) is = ap (option_map (λ xs. Names (record { items = xs }
 shaped of (Flags flags) is = ap (option_map (λ xs. Flags (record { items = xs }))) (flags_whole flags.items is)
 shaped of (ItsClass c) is = ap (option_map ItsClass) (class_whole c)
 shaped of (Members members) is = ap (option_map (λ xs. Members (record { items = xs }))) (lists_back IsMember member_encoding member_at member_front 181 members.items is.1 (omega (arith, is.1)) is.0)
+shaped of (Descendants all) is = ap (option_map (λ xs. Descendants (record { items = xs }))) (lists_back IsDescendant descendant_encoding descendant_at descendant_front 120 all.items is.1 (omega (arith, is.1)) is.0)
 
 pub answers_read : AnswersAreRead
 unfolding answer_in

@@ -10,14 +10,15 @@ use Rattle.oca_types.specs.Reading.{unsigned_at, bool_at, text_at}
 use Rattle.oca_types.specs.Texts.{text_encoding}
 use Rattle.oca_model.specs.declared.answer.Answer.{Answer}
 use Rattle.oca_model.specs.declared.answer.Answer.TheVariants.{Done, Truth, Text, Owner, Reading, Names, Flags}
-use Rattle.oca_model.specs.declared.answer.Answer.TheVariants.{Class as ItsClass, Members}
+use Rattle.oca_model.specs.declared.answer.Answer.TheVariants.{Class as ItsClass, Members, Descendants}
 use Rattle.oca_model.specs.declared.answer.Shape.{Shape}
 use Rattle.oca_model.specs.declared.answer.Shape.TheVariants as shape
 use Rattle.oca_model.specs.Parameters.{whole}
 use Rattle.oca_model.specs.Values.{class_of_value}
 use Rattle.oca_model.specs.Readings.{value_without_limits, reading_count, reading_encoding, reading_in, IsReading}
 use Rattle.oca_types.specs.Classes.{class_identification_encoding}
-use Rattle.oca_model.specs.Members.{class_in, member_at, member_encoding, IsMember}
+use Rattle.oca_model.specs.Members.{class_in, member_at, member_encoding, IsMember, descendant_at, descendant_encoding}
+use Rattle.oca_model.specs.Members.{IsDescendant}
 use Rattle.oca_model.specs.Lists.{IsText, Each, list_encoding, list_of_most}
 
 -- the kind of answer that a method has
@@ -50,6 +51,7 @@ shape_of_answer (Names _) = shape.Names
 shape_of_answer (Flags _) = shape.Flags
 shape_of_answer (ItsClass _) = shape.Class
 shape_of_answer (Members _) = shape.Members
+shape_of_answer (Descendants _) = shape.Descendants
 
 -- how many parameters it has (ParamCount)
 abbrev pub answer_count : Answer → ℕ
@@ -62,6 +64,7 @@ answer_count (Names _) = 1
 answer_count (Flags _) = 1
 answer_count (ItsClass _) = 1
 answer_count (Members _) = 1
+answer_count (Descendants _) = 1
 
 -- the bytes of its parameters
 unfoldable pub answer_encoding : Answer → List ℕ
@@ -74,6 +77,7 @@ answer_encoding (Names names) = list_encoding text_encoding names.items
 answer_encoding (Flags flags) = list_encoding bool_encoding flags.items
 answer_encoding (ItsClass c) = class_identification_encoding c
 answer_encoding (Members members) = list_encoding member_encoding members.items
+answer_encoding (Descendants all) = list_encoding descendant_encoding all.items
 
 -- the names that an answer to GetPositionNames gives, at most 16
 abbrev pub switch_names_in : List ℕ → Option (List (List ℕ))
@@ -97,7 +101,8 @@ shaped_in shape.Flags of bytes =
 shaped_in shape.Class of bytes = option_map ItsClass (class_in bytes)
 shaped_in shape.Members of bytes =
     option_map (λ xs. Members (record { items = xs })) (whole (list_of_most 181 member_at bytes))
-shaped_in shape.Descendants of bytes = None
+shaped_in shape.Descendants of bytes =
+    option_map (λ xs. Descendants (record { items = xs })) (whole (list_of_most 120 descendant_at bytes))
 
 -- WHAT PARAMETERS ANSWER to the method of an object of the class, and nothing where they are no such answer.
 unfoldable pub answer_in : Class → Method → ℕ → List ℕ → Option Answer
@@ -115,6 +120,7 @@ IsAnswer of (Names names) = Each IsText names.items × (length names.items ≤ 1
 IsAnswer of (Flags flags) = length flags.items ≤ 16
 IsAnswer of (ItsClass _) = Unit {0}
 IsAnswer of (Members members) = Each IsMember members.items × (length members.items ≤ 181)
+IsAnswer of (Descendants all) = Each IsDescendant all.items × (length all.items ≤ 120)
 
 -- WHAT A DEVICE ANSWERS is what the panel reads.
 abbrev pub AnswersAreRead : Type 0

@@ -7,11 +7,12 @@ use Rattle.oca_types.specs.declared.class.Class.TheVariants as class
 use Rattle.oca_types.specs.Classes.{class_fields_of, class_identification_encoding}
 use Rattle.oca_types.specs.Numbers.{unsigned_encoding}
 use Rattle.oca_types.specs.Reading.{unsigned_at}
+use Rattle.oca_model.specs.declared.member.Descendant.{Descendant}
 use Rattle.oca_model.specs.declared.member.Member.{Member}
 use Rattle.oca_model.specs.Fronts.{u16_front, u32_front}
 use Rattle.oca_model.specs.Lists.{Each, list_encoding, list_of_most}
 use Rattle.oca_model.specs.Members.{class_with, class_id_at, class_at, member_at, class_bytes, member_encoding}
-use Rattle.oca_model.specs.Members.{IsMember}
+use Rattle.oca_model.specs.Members.{IsMember, descendant_at, descendant_encoding, IsDescendant}
 use Rattle.oca_model.specs.ListsBack.{list_front}
 
 abbrev Small : ℕ → Type 0
@@ -123,3 +124,13 @@ member_front m rest is =
     let behind : class_at (class_bytes m.class ++ rest) ≡ Some (m.class, rest) =
     ap (λ k. class_at (class_bytes k ++ rest)) is.1 ∙ class_front c rest ∙ ap (λ k. Some (k, rest)) (sym is.1) in
     rw (number, behind) refl
+
+pub descendant_front : (d : Descendant) (rest : List ℕ) → IsDescendant d →
+    descendant_at (descendant_encoding d ++ rest) ≡ Some (d, rest)
+unfolding descendant_at
+descendant_front d rest is =
+    let behind = unsigned_encoding w32 d.container.0 in
+    let identified : member_at (descendant_encoding d ++ rest) ≡ Some (d.member, behind ++ rest)
+    = ap member_at (append_assoc (member_encoding d.member) behind rest)
+    ∙ member_front d.member (behind ++ rest) is.0 in
+    rw (identified, u32_front d.container.0 rest is.1) refl

@@ -8,6 +8,7 @@ use Rattle.oca_types.specs.declared.class.Class.TheVariants as class
 use Rattle.oca_types.specs.Classes.{class_fields_of, class_identification_encoding}
 use Rattle.oca_types.specs.Numbers.{unsigned_encoding}
 use Rattle.oca_types.specs.Reading.{unsigned_at}
+use Rattle.oca_model.specs.declared.member.Descendant.{Descendant}
 use Rattle.oca_model.specs.declared.member.Member.{Member}
 use Rattle.oca_model.specs.Lists.{list_of_most}
 use Rattle.oca_model.specs.Parameters.{whole, pair_at}
@@ -59,6 +60,21 @@ member_encoding m = unsigned_encoding w32 m.ono.0 ++ class_bytes m.class
 -- A member of a class of this profile.
 abbrev pub IsMember : Member → Type 0
 IsMember m = (c : Class) × (m.class ≡ Some c) × (m.ono.0 < 2 ^ 32)
+
+-- OcaBlockMember: the identification of an object, and behind it the number of the block that contains it
+unfoldable pub descendant_at : List ℕ → Option (Descendant × List ℕ)
+descendant_at bytes =
+    option_map (λ x. (
+      record { member = x.0.0; container = record { 0 = x.0.1 } },
+      x.1,
+    )) (pair_at member_at (unsigned_at w32) bytes)
+
+abbrev pub descendant_encoding : Descendant → List ℕ
+descendant_encoding d = member_encoding d.member ++ unsigned_encoding w32 d.container.0
+
+-- A descendant of a class of this profile.
+abbrev pub IsDescendant : Descendant → Type 0
+IsDescendant d = IsMember d.member × (d.container.0 < 2 ^ 32)
 
 -- the members that an answer to GetMembers gives; no response has room for more than 181
 abbrev pub members_at : List ℕ → Option (List Member)

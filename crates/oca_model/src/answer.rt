@@ -9,7 +9,7 @@ ghost use Rattle.oca_model.specs.Answers.{shaped_in};
 
 use crate::item::Item;
 use crate::list::{put_list, read_list};
-use crate::member::{Member, whole_class};
+use crate::member::{Descendant, Member, whole_class};
 use crate::parameters::whole;
 use crate::reading::Reading;
 use crate::request::{Flags, Names};
@@ -18,6 +18,9 @@ use oca_types::{Class, Method, Ono, Params, PutFault, Text, put_class_identifica
 
 /// The members of a block: a response has room for no more.
 pub type Members = ArrayVec<Member, 181>;
+
+/// The members of a block and all that lie in them: a response has room for no more.
+pub type Descendants = ArrayVec<Descendant, 120>;
 
 /// What is answered to a request that was carried out.
 #[derive(Debug, Drop)]
@@ -40,6 +43,8 @@ pub enum Answer {
     Class(Class),
     /// The members of a block.
     Members(Members),
+    /// The members of a block and all that lie in them.
+    Descendants(Descendants),
 }
 
 /// What kind of answer a method has.
@@ -63,7 +68,7 @@ pub enum Shape {
     Class,
     /// [`Answer::Members`].
     Members,
-    /// All that lies in a block, which the trial leaves out.
+    /// [`Answer::Descendants`].
     Descendants,
 }
 
@@ -115,7 +120,8 @@ fn shaped(shape: Shape, class: Class, params: &[u8]) -> Option<Answer>
         Shape::Flags => Some(Answer::Flags(read_list(params)?)),
         Shape::Class => whole_class(params).map(Answer::Class),
         Shape::Members => Some(Answer::Members(read_list(params)?)),
-        Shape::Done | Shape::Descendants => None,
+        Shape::Descendants => Some(Answer::Descendants(read_list(params)?)),
+        Shape::Done => None,
     }
 }
 
@@ -132,7 +138,8 @@ impl Answer {
             | Answer::Names(_)
             | Answer::Flags(_)
             | Answer::Class(_)
-            | Answer::Members(_) => 1,
+            | Answer::Members(_)
+            | Answer::Descendants(_) => 1,
             Answer::Reading(reading) => reading.count(),
         }
     }
@@ -152,6 +159,7 @@ impl Answer {
             Answer::Flags(flags) => put_list(params, flags.as_slice()),
             Answer::Class(class) => put_class_identification(params, *class),
             Answer::Members(members) => put_list(params, members.as_slice()),
+            Answer::Descendants(all) => put_list(params, all.as_slice()),
         }
     }
 

@@ -7,12 +7,13 @@ ghost use Rattle.oca_types.specs.Reading.{unsigned_at, signed_at, bool_at, text_
 ghost use Rattle.oca_types.specs.Taking.{bytes_left, ReadsAs};
 ghost use Rattle.oca_types.specs.Texts.{text_encoding};
 ghost use Rattle.oca_model.specs.Lists.{IsText};
-ghost use Rattle.oca_model.specs.Members.{member_at, member_encoding, IsMember};
-ghost use Rattle.oca_model.specs.MemberFronts.{member_front};
+ghost use Rattle.oca_model.specs.Members.{member_at, member_encoding, IsMember, descendant_at, descendant_encoding};
+ghost use Rattle.oca_model.specs.Members.{IsDescendant};
+ghost use Rattle.oca_model.specs.MemberFronts.{member_front, descendant_front};
 ghost use Rattle.oca_model.specs.Fronts.{u8_front, u16_front, u32_front, u64_front, i8_front, i16_front, i32_front};
 ghost use Rattle.oca_model.specs.Fronts.{i64_front, bool_front, front_of_text};
 
-use crate::member::{Member, take_class};
+use crate::member::{Descendant, Member, take_class};
 use oca_types::{
     Cursor, Ono, Params, PutFault, ReadFault, Text, put_bool, put_class_identification, put_i8,
     put_i16, put_i32, put_i64, put_text, put_u8, put_u16, put_u32, put_u64,
@@ -264,5 +265,29 @@ impl Item for Member {
             Some(class) => put_class_identification(params, class),
             None => Ok(()),
         }
+    }
+}
+
+impl Item for Descendant {
+    ghost IsItem = { IsDescendant };
+
+    ghost encoding = { descendant_encoding };
+
+    ghost read_at = { descendant_at };
+
+    ghost read_back = { descendant_front };
+
+    #[tactic(auto, unfolding(crate::specs::Members::descendant_at))]
+    /// Takes a descendant: its number, its class and the number of its container.
+    fn take_item(cursor: &mut Cursor<'_>) -> Result<Descendant, ReadFault> {
+        let member = Member::take_item(cursor)?;
+        let container = Ono(cursor.take_u32()?);
+        Ok(Descendant { member, container })
+    }
+
+    /// Appends the descendant: its number, its class and the number of its container. Refusal: `Full`.
+    fn put_item(&self, params: &mut Params) -> Result<(), PutFault> {
+        self.member.put_item(params)?;
+        put_u32(params, self.container.0)
     }
 }

@@ -21,11 +21,11 @@ mod value_number;
 mod value_request;
 mod words;
 
-pub use answer::{Answer, Members, Shape, read_names, read_text, shape_of};
+pub use answer::{Answer, Descendants, Members, Shape, read_names, read_text, shape_of};
 pub use laws::{law_of_answers, law_of_readings, law_of_requests, law_of_values};
 pub use member::{
-    ClassFields, MOST_FIELDS, MOST_MEMBERS, Member, MemberNumbers, class_with, read_class_fields,
-    read_members,
+    ClassFields, Descendant, MOST_FIELDS, MOST_MEMBERS, Member, MemberNumbers, class_with,
+    read_class_fields, read_members,
 };
 pub use reading::{Ranged, Reading, read_value};
 pub use request::{Call, Flags, Names, Request, RequestFault};

@@ -33,6 +33,15 @@ pub struct Member {
     pub class: Option<Class>,
 }
 
+/// An object that lies in a block.
+#[derive(Clone, Copy, Debug, Default, PartialEq, Eq)]
+pub struct Descendant {
+    /// Its number and its class.
+    pub member: Member,
+    /// The number of the block that contains it.
+    pub container: Ono,
+}
+
 /// Whether these are the fields of the class's identifier.
 fn has_fields(class: Class, fields: &[u16]) -> bool
     ensures { result ≡ bytes_eq (class_fields_of class) fields.now }

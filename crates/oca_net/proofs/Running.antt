@@ -1,5 +1,5 @@
 -- Receives and sends one after another.
-use Rattle.std.proofs.Common.{◌≡◌, ℕ, ◌+◌, ◌<◌, Bool, true, false, cond, List, [], ◌∷◌, ◌++◌, refl, sym, ap, ◌∙◌, subst, arith}
+use Rattle.std.proofs.Common.{◌≡◌, ℕ, ◌+◌, ◌<◌, Bool, true, false, cond, List, [], ◌∷◌, ◌++◌, length, refl, sym, ap, ◌∙◌, subst, arith}
 use Rattle.std.specs.Prelude.{IsTrue}
 use Rattle.std.proofs.lemmas.List.{append_assoc, append-nil}
 use Rattle.oca_net.specs.declared.end.Heard.{Heard}
@@ -7,7 +7,7 @@ use Rattle.oca_net.specs.declared.end.Heard.TheVariants as heard
 use Rattle.oca_net.specs.Deliveries.{Delivery, Sent}
 use Rattle.oca_net.specs.Ends.{last_u64, is_failed, one_more, TakesAllBut}
 use Rattle.oca_net.specs.EndStates.{EndState, Receives, SendsAllBut, DeliversAndTakes}
-use Rattle.oca_net.proofs.Sending.{takes_none, takes_more}
+use Rattle.oca_net.proofs.Sending.{counts_more, takes_none, takes_more}
 
 -- ---- what was delivered, and what failed
 
@@ -61,16 +61,19 @@ delivered_closed {ds} {m} {n} {bytes} {a} {b} {c} f g = record {
 delivered_of : {ds : List Delivery} {xs : List Sent} {m n : ℕ} {a b : EndState} → DeliversAndTakes ds xs m n a b → Delivered ds m n a b
 delivered_of r = record { telling = r.telling; grew = r.delivered; failures = r.failures }
 
-runs_of : {ds : List Delivery} {xs : List Sent} {m n : ℕ} {a b : EndState} → Delivered ds m n a b → (IsTrue a.tells → TakesAllBut n a.taken b.taken xs) → DeliversAndTakes ds xs m n a b
-runs_of d taken = record { telling = d.telling; delivered = d.grew; taken = taken; failures = d.failures }
+runs_of : {ds : List Delivery} {xs : List Sent} {m n : ℕ} {a b : EndState} → Delivered ds m n a b → (IsTrue a.tells → TakesAllBut n a.taken b.taken xs) →
+    (b.sends < last_u64 → b.sends ≡ a.sends + length xs) → DeliversAndTakes ds xs m n a b
+runs_of d taken sends = record { telling = d.telling; delivered = d.grew; taken = taken; failures = d.failures; sends = sends }
 
 -- no turns change nothing
 pub runs_none : (e : EndState) → DeliversAndTakes [] [] 0 0 e e
-runs_none e = runs_of (delivered_none e) (λ _. takes_none e.taken e.taken refl)
+runs_none e = runs_of (delivered_none e) (λ _. takes_none e.taken e.taken refl) (λ _. omega arith)
 
 -- turns after turns
 pub runs_more : {ds es : List Delivery} {xs ys : List Sent} {m n k j : ℕ} {a b c : EndState} → DeliversAndTakes ds xs m n a b → DeliversAndTakes es ys k j b c → DeliversAndTakes (ds ++ es) (xs ++ ys) (m + k) (n + j) a c
-runs_more f g = runs_of (delivered_more (delivered_of f) (delivered_of g)) (λ told. takes_more (f.taken told) (g.taken (f.telling ∙ told)))
+runs_more {xs = xs} {ys = ys} f g =
+    runs_of (delivered_more (delivered_of f) (delivered_of g)) (λ told. takes_more (f.taken told) (g.taken (f.telling ∙ told)))
+    (counts_more xs ys _ _ _ f.sends g.sends)
 
 -- one was heard, and the others were given out
 pub runs_one : (x : Delivery) {h : Heard} {bytes : List ℕ} {all : List Sent} {k : ℕ} {a b c : EndState} → Receives h bytes a b → SendsAllBut k b c all →
@@ -78,12 +81,14 @@ pub runs_one : (x : Delivery) {h : Heard} {bytes : List ℕ} {all : List Sent} {
 runs_one x {all = all} {k = k} {c = c} received sent grew =
     runs_of (delivered_one x received sent grew refl)
     (λ told. subst (λ (t : List Sent). TakesAllBut k t c.taken all) (received.taken told) (sent.taken (received.telling ∙ told)))
+    (subst (λ (n : ℕ). c.sends < last_u64 → c.sends ≡ n + length all) received.sends sent.sends)
 
 -- and then Closed
 pub runs_closed : {ds : List Delivery} {xs : List Sent} {m n : ℕ} {bytes : List ℕ} {a b c : EndState} → DeliversAndTakes ds xs m n a b → Receives heard.Closed bytes b c → DeliversAndTakes ds xs m n a c
 runs_closed {xs = xs} {n = n} {a = a} f g =
     runs_of (delivered_closed (delivered_of f) g)
     (λ told. subst (λ (t : List Sent). TakesAllBut n a.taken t xs) (sym (g.taken (f.telling ∙ told))) (f.taken told))
+    (subst (λ (n : ℕ). n < last_u64 → n ≡ a.sends + length xs) (sym g.sends) f.sends)
 
 -- ---- how often was received
 

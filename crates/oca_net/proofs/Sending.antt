@@ -1,9 +1,9 @@
 -- Sends one after another: what an end says of itself then.
-use Rattle.std.proofs.Common.{◌≡◌, ℕ, ◌+◌, ◌<◌, Bool, true, false, cond, List, [], ◌∷◌, ◌++◌, refl, sym, ap, ◌∙◌, subst, arith}
-use Rattle.std.proofs.lemmas.List.{append_assoc, append-nil}
+use Rattle.std.proofs.Common.{◌≡◌, ℕ, ◌+◌, ◌<◌, Bool, true, false, cond, List, [], ◌∷◌, ◌++◌, length, refl, sym, ap, ◌∙◌, subst, arith}
+use Rattle.std.proofs.lemmas.List.{append_assoc, append-nil, length-append}
 use Rattle.oca_types.specs.declared.words.Peer.{Peer}
 use Rattle.oca_net.specs.Deliveries.{Sent}
-use Rattle.oca_net.specs.Ends.{last_u64, taken_after, failures_sent, Lacks, none, both, missing, TakesAllBut}
+use Rattle.oca_net.specs.Ends.{last_u64, one_more, taken_after, failures_sent, Lacks, none, both, missing, TakesAllBut}
 use Rattle.oca_net.specs.EndStates.{EndState, Sends, SendsAllBut}
 
 -- ---- what an end took
@@ -31,6 +31,16 @@ takes_more {k} {j} {a} {b} {c} {xs} {ys} f g = record {
   part = lacks_both k j f.sent xs g.sent ys f.part g.part;
 }
 
+-- ---- how often was sent
+
+-- these were sent, and then those
+pub counts_more : (xs ys : List Sent) (a b c : ℕ) → (b < last_u64 → b ≡ a + length xs) → (c < last_u64 → c ≡ b + length ys) → c < last_u64 → c ≡ a + length (xs ++ ys)
+counts_more xs ys a b c h i below =
+    let last = i below in
+    let before : b < last_u64 = omega arith in
+    let so_far = h before in
+    rw (length-append xs ys) (omega (arith, so_far, last))
+
 -- ---- what an end says of itself
 
 -- nothing was sent
@@ -42,17 +52,19 @@ sends_none e = record {
   closed = refl;
   failures = λ _. omega arith;
   receives = refl;
+  sends = λ _. omega arith;
 }
 
 -- first the ones, then the others
 pub sends_more : {k j : ℕ} {a b c : EndState} {xs ys : List Sent} → SendsAllBut k a b xs → SendsAllBut j b c ys → SendsAllBut (k + j) a c (xs ++ ys)
-sends_more {k} {j} {a} {b} {c} f g = record {
+sends_more {k} {j} {a} {b} {c} {xs} {ys} f g = record {
   telling = g.telling ∙ f.telling;
   delivered = λ told. g.delivered (f.telling ∙ told) ∙ f.delivered told;
   taken = λ told. takes_more (f.taken told) (g.taken (f.telling ∙ told));
   closed = g.closed ∙ f.closed;
   failures = summed a.failures b.failures c.failures k j f.failures g.failures;
   receives = g.receives ∙ f.receives;
+  sends = counts_more xs ys a.sends b.sends c.sends f.sends g.sends;
 }
   where
     summed : (a b c k j : ℕ) → (b < last_u64 → b ≡ a + k) → (c < last_u64 → c ≡ b + j) → c < last_u64 → c ≡ a + (k + j)
@@ -71,11 +83,15 @@ sends_one {to} {bytes} {was_taken} {a} {b} s = record {
   closed = s.closed;
   failures = counted was_taken a.failures b.failures s.failures;
   receives = s.receives;
+  sends = λ below. once a.sends b.sends s.sends below;
 }
   where
     took : (x : Bool) (t t' : List Sent) → t' ≡ taken_after x to bytes t → TakesAllBut (cond x 0 1) t t' ((record { to = to; bytes = bytes }) ∷ [])
     took true t t' e = record { sent = (record { to = to; bytes = bytes }) ∷ []; grew = e; part = both (record { to = to; bytes = bytes }) none }
     took false t t' e = record { sent = []; grew = e ∙ sym (append-nil t); part = missing (record { to = to; bytes = bytes }) none }
+
+    once : (m n : ℕ) → n ≡ one_more m → n < last_u64 → n ≡ m + 1
+    once m n e below = omega arith
 
     counted : (x : Bool) (m n : ℕ) → n ≡ failures_sent x m → n < last_u64 → n ≡ m + cond x 0 1
     counted true m n e below = omega arith

@@ -25,7 +25,7 @@ pub record MemoryState : Type 0 where
   pub failures : ℕ
   pub receives : ℕ
 
--- An end in memory tells, and keeps no time.
+-- An end in memory tells, and keeps no time: its present moment is 0.
 abbrev pub state_of_memory : MemoryState → EndState
 state_of_memory e =
     record {
@@ -35,7 +35,10 @@ state_of_memory e =
       closed = e.closed;
       failures = e.failures;
       receives = e.receives;
+      sends = e.send_number;
       moment = None;
+      earliest = 0;
+      latest = 0;
     }
 
 -- an entry of a script

@@ -13,7 +13,7 @@ use Rattle.oca_net.specs.declared.udp.BindFault.{BindFault}
 use Rattle.oca_net.specs.declared.udp.BindFault.TheVariants as fault
 use Rattle.oca_net.specs.declared.udp.BindError.{BindError}
 use Rattle.oca_net.specs.declared.udp.BindError.TheVariants as error
-use Rattle.oca_net.specs.Ends.{one_more, is_failed, failures_after, failures_sent}
+use Rattle.oca_net.specs.Ends.{last_u64, one_more, is_failed, failures_after, failures_sent}
 use Rattle.oca_net.specs.EndStates.{EndState}
 
 -- What the calls of the system were, numbered from 1 in their order: looks at the clock, receives and sends. How many
@@ -37,6 +37,15 @@ is_signal _ = false
 abbrev pub is_interrupted : Option Error → Bool
 is_interrupted None = false
 is_interrupted (Some e) = is_signal (error_kind e)
+
+-- the machine does not have the address at which a socket was to be bound, where that failed for this reason
+abbrev pub is_unavailable : ErrorKind → Bool
+is_unavailable kind.AddrNotAvailable = true
+is_unavailable _ = false
+
+abbrev pub lacks_address : Option Error → Bool
+lacks_address None = false
+lacks_address (Some e) = is_unavailable (error_kind e)
 
 -- the reason of what failed
 abbrev pub reason_of : {X : Type 0} → Result X Error → Option Error
@@ -87,13 +96,14 @@ pub record IsBegunAgain (refused : Option Error) (calls calls_now signals signal
   pub signals_so : signals_now ≡ signals_after refused (many_more signals again)
   pub last : is_interrupted refused ≡ true → again + 1 ≡ most_tries
 
--- Where it is bound, its counts of failures and of receives, the latest moment that it said, the calls of the system,
+-- Where it is bound, its counts of failures, of receives and of sends, the latest moment that it said, the calls of the system,
 -- until which moment the last receive was to wait, why the last receive or send that failed did so, and that of
 -- receives and of sends alone.
 pub record SocketState : Type 0 where
   pub local : Peer
   pub failures : ℕ
   pub receives : ℕ
+  pub sends : ℕ
   pub moment : ℕ
   pub system : CallState
   pub until : ℕ
@@ -101,7 +111,7 @@ pub record SocketState : Type 0 where
   pub receive_fault : Option Error
   pub send_fault : Option Error
 
--- An end at a socket does not tell, and keeps time.
+-- An end at a socket does not tell, and keeps time. Its present moment is no earlier than the latest that it has said.
 abbrev pub state_of_socket : SocketState → EndState
 state_of_socket e =
     record {
@@ -111,7 +121,10 @@ state_of_socket e =
       closed = false;
       failures = e.failures;
       receives = e.receives;
+      sends = e.sends;
       moment = Some e.moment;
+      earliest = e.moment;
+      latest = last_u64;
     }
 
 -- an end that is bound here and has done nothing
@@ -121,6 +134,7 @@ new_socket local =
       local = local;
       failures = 0;
       receives = 0;
+      sends = 0;
       moment = 0;
       system = record { calls = 0; looked = 0; reading = 0; received = 0; taken = None; refused = None; signals = 0 };
       until = 0;
@@ -155,6 +169,7 @@ after_heard h system until fault e =
       local = e.local;
       failures = failures_after h e.failures;
       receives = one_more e.receives;
+      sends = e.sends;
       moment = if is_failed h then e.moment else max e.moment system.reading;
       system = system;
       until = until;
@@ -196,6 +211,7 @@ after_sent was_taken system fault e =
       local = e.local;
       failures = failures_sent was_taken e.failures;
       receives = e.receives;
+      sends = one_more e.sends;
       moment = e.moment;
       system = system;
       until = e.until;

@@ -1,7 +1,7 @@
 //! What the loops of device and controller ask of an end.
-ghost use Rattle.std.specs.Prelude.{◌≤◌, ◌<◌, length, IfSome};
+ghost use Rattle.std.specs.Prelude.{◌≤◌, length};
 ghost use Rattle.oca_net.specs.Ends.{largest_datagram};
-ghost use Rattle.oca_net.specs.EndStates.{EndState, Receives, Sends};
+ghost use Rattle.oca_net.specs.EndStates.{EndState, IsPresent, Receives, Sends};
 
 use oca_types::{Packet, Peer};
 
@@ -24,7 +24,8 @@ pub enum Heard {
 ///
 /// Where an end tells, `delivered` and `taken` of its state are all that it delivered and took. Of an end that does not
 /// tell, these two say nothing; whether it has returned Closed, and its counts, are said of every end. An end that
-/// keeps time says the latest moment that it has returned; of one that keeps none, nothing is said of its moments.
+/// keeps time says the latest moment that it has returned; of one that keeps none, nothing is said of its moments. And
+/// each end says the earliest and the latest moment that it may return as its present one.
 pub trait End {
     /// What the end says of itself.
     ghost state: { Self → EndState };
@@ -43,10 +44,7 @@ pub trait End {
 
     /// The end's present moment: no earlier than any that a receive has returned. 0 where the end keeps no time.
     fn now(&self) -> u64
-        ensures { 0 < result → IfSome (state self.now).moment (λ m. m ≤ result) }
-    {
-        0
-    }
+        ensures { IsPresent result (state self.now) };
 
     /// Sends a datagram of at most 1,472 bytes: whether the end took it. `false` is a failure.
     fn send(&mut self, to: Peer, bytes: &[u8]) -> bool

@@ -1,7 +1,7 @@
 //! Why calls of the system fail.
 ghost use Rattle.std.specs.Prelude.{◌≡◌};
 ghost use Rattle.std.specs.IoError.{error_kind};
-ghost use Rattle.oca_net.specs.Sockets.{is_interrupted, is_signal, reason_of, says_none_came};
+ghost use Rattle.oca_net.specs.Sockets.{is_interrupted, is_signal, lacks_address, reason_of, says_none_came};
 
 use std::io;
 
@@ -30,6 +30,16 @@ pub(crate) fn is_signal(reason: &io::Error) -> bool
     ensures { result ≡ is_signal (error_kind reason.now) }
 {
     matches!(reason.kind(), io::ErrorKind::Interrupted)
+}
+
+/// Whether a socket was not bound since the machine does not have the address.
+pub(crate) fn lacks_address(reason: Option<io::Error>) -> bool
+    ensures { result ≡ lacks_address reason }
+{
+    match reason {
+        Some(reason) => matches!(reason.kind(), io::ErrorKind::AddrNotAvailable),
+        None => false,
+    }
 }
 
 /// Whether the reason is that no datagram has come: the time of the wait is over, or a signal interrupted it.

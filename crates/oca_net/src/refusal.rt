@@ -1,4 +1,5 @@
 //! Whether a host refuses a port, and whether this machine has lost an address.
+use crate::reason::{lacks_address, reason_of};
 use oca_types::Peer;
 use std::io;
 use std::net::{Net, SocketAddrV4, UdpSocket};
@@ -22,10 +23,8 @@ pub fn is_refused<R: Net>(rt: &R, ip: u32, peer: Peer) -> bool {
 /// as at an address whose interface is down, from which the system may send by another one, and where another reason
 /// stands against it: then nothing is known.
 pub fn is_gone<R: Net>(rt: &R, ip: u32) -> bool {
-    match UdpSocket::bind(rt, SocketAddrV4::from(Peer { ip, port: 0 })) {
-        Ok(_) => false,
-        Err(reason) => reason.kind() == io::ErrorKind::AddrNotAvailable,
-    }
+    let bound = UdpSocket::bind(rt, SocketAddrV4::from(Peer { ip, port: 0 }));
+    lacks_address(reason_of(&bound))
 }
 
 /// Asks the peer over a socket that is bound at this address and dropped behind the answer.

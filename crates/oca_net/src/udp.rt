@@ -95,6 +95,7 @@ pub struct UdpEnd<'a, C: Clock> {
     buffer: Vec<u8>,
     failures: u64,
     receives: u64,
+    sends: u64,
     failed_receive: Option<io::Error>,
     failed_send: Option<io::Error>,
 }
@@ -109,6 +110,7 @@ impl<'a, C: Clock> Model for UdpEnd<'a, C> {
       local = a.local;
       failures = a.failures;
       receives = a.receives;
+      sends = a.sends;
       moment = a.socket.latest;
       system = record {
         calls = a.socket.system.calls;
@@ -170,6 +172,7 @@ impl<'a, C: Clock> UdpEnd<'a, C> {
             buffer,
             failures: 0,
             receives: 0,
+            sends: 0,
             failed_receive: None,
             failed_send: None,
         })
@@ -339,7 +342,8 @@ impl<'a, C: Clock> End for UdpEnd<'a, C> {
 
     /// The milliseconds since `bind`, as [`UdpEnd::now`].
     fn now(&self) -> u64
-        ensures { self.now.moment ≤ result }
+        ensures later { self.now.moment ≤ result }
+        ensures fits { result ≤ last_u64 }
     {
         UdpEnd::now(self)
     }
@@ -352,6 +356,7 @@ impl<'a, C: Clock> End for UdpEnd<'a, C> {
         ensures again { IsBegunAgain self.new.system.refused self.old.system.calls self.new.system.calls
             self.old.system.signals self.new.system.signals }
     {
+        step(&mut self.sends);
         match send_datagram(&mut self.socket, to, bytes) {
             Ok(()) => true,
             Err(reason) => {

@@ -1,6 +1,6 @@
 -- The reply of any execution fits a response.
 use Rattle.std.proofs.Common.{◌≡◌, ℕ, ◌+◌, ◌^◌, ◌<◌, ◌≤◌, Bool, true, false, cond, List, length, Option, Some, None, refl, arith, lit<, lit≤}
-use Rattle.std.specs.Prelude.{nat_lt}
+use Rattle.std.specs.Prelude.{nat_lt, Result, Ok, Err}
 use Rattle.std.proofs.lemmas.Bool.Decides.{nat_tests}
 use Rattle.oca_types.specs.declared.words.Peer.{Peer}
 use Rattle.oca_types.specs.declared.words.Reply.{Reply}
@@ -12,15 +12,17 @@ use Rattle.oca_types.specs.Peers.{CommandFields}
 use Rattle.oca_pdu.specs.Messages.{ResponseFields}
 use Rattle.oca_pdu.specs.Encoding.{ResponseFits}
 use Rattle.oca_tree.specs.declared.object.Object.{Object}
-use Rattle.oca_tree.specs.declared.object.Value.{Value}
-use Rattle.oca_tree.specs.declared.object.Value.TheVariants as values
-use Rattle.oca_tree.specs.declared.object.Switch.{Switch}
-use Rattle.oca_tree.specs.declared.request.SwitchRequest.{SwitchRequest}
-use Rattle.oca_tree.specs.declared.request.SwitchRequest.TheVariants as switches
-use Rattle.oca_tree.specs.declared.request.Request.{Request}
-use Rattle.oca_tree.specs.declared.request.Request.TheVariants as requests
+use Rattle.oca_model.specs.declared.answer.Answer.{Answer}
+use Rattle.oca_model.specs.declared.answer.Answer.TheVariants as answers
+use Rattle.oca_model.specs.declared.reading.Reading.{Reading}
+use Rattle.oca_model.specs.declared.reading.Reading.TheVariants as readings
+use Rattle.oca_model.specs.declared.request.Request.{Request}
+use Rattle.oca_model.specs.declared.value.ValueFault.{ValueFault}
+use Rattle.oca_model.specs.Answers.{answer_count, answer_encoding}
+use Rattle.oca_model.specs.Readings.{reading_count}
 use Rattle.oca_tree.specs.Objects.{object_of}
-use Rattle.oca_tree.specs.Execution.{TreeAndReply, parameters, answer, setting_parameters, position_parameters, switch_parameters, first_that_applies, status_lines, status_of, kind_at, request_at, refused, by_status, execution}
+use Rattle.oca_tree.specs.Execution.{TreeAndReply, first_that_applies, status_lines, status_of, kind_at, asked_at, refused, by_status, execution}
+use Rattle.oca_tree.specs.Typed.{answer_given}
 use Rattle.oca_device.specs.States.{reply_of}
 
 -- the response with a reply, under a handle
@@ -33,24 +35,15 @@ IsSmall x = (x.count < 256) × (length x.parameters ≤ 1452)
 refused_small : (tree : List Object) (s : Status) → IsSmall (refused tree s)
 refused_small tree s = (lit< tt, lit≤ tt)
 
-setting_counts : (v : Value) → length (setting_parameters v) < 256
-setting_counts (values.Number range) = lit< tt
-setting_counts (values.Boolean truth) = lit< tt
-setting_counts _ = lit< tt
+reading_counts : (r : Reading) → reading_count r < 256
+reading_counts (readings.Mute state) = lit< tt
+reading_counts (readings.Polarity state) = lit< tt
+reading_counts (readings.Boolean truth) = lit< tt
+reading_counts _ = lit< tt
 
-position_counts : (s : Switch) (q : SwitchRequest) → length (position_parameters s q) < 256
-position_counts s switches.GetPosition = lit< tt
-position_counts s _ = lit< tt
-
-switch_counts : (v : Value) (q : SwitchRequest) → length (switch_parameters v q) < 256
-switch_counts (values.Switch s) q = position_counts s q
-switch_counts _ q = lit< tt
-
-counts : (tree : List Object) (o : Object) (r : Request) → length (parameters tree o r) < 256
-unfolding parameters
-counts tree o requests.GetSetting = setting_counts o.value
-counts tree o (requests.Switch q) = switch_counts o.value q
-counts tree o _ = lit< tt
+counts : (a : Answer) → answer_count a < 256
+counts (answers.Reading r) = reading_counts r
+counts _ = lit< tt
 
 passed : (b : Bool) (s more : Status) → (s ≡ status.Ok → ⊥) → cond b s more ≡ status.Ok → more ≡ status.Ok
 passed true s more wrong e = absurd (wrong e)
@@ -67,20 +60,20 @@ small : (tree : List Object) (p : Peer) (c : CommandFields) → IsSmall (executi
 unfolding execution
 small tree p c = by_object (object_of tree c.target)
   where
-    by_object : (o : Option Object) → IsSmall (by_status tree p o (request_at o (kind_at o c) c) (status_of tree p o c))
+    by_object : (o : Option Object) → IsSmall (by_status tree p o (asked_at o (kind_at o c) c) (status_of tree p o c))
     by_object None = refused_small tree (status_of tree p None c)
-    by_object (Some o) = by_request (kind_at (Some o) c) (request_at (Some o) (kind_at (Some o) c) c)
+    by_object (Some o) = by_request (kind_at (Some o) c) (asked_at (Some o) (kind_at (Some o) c) c)
       where
-        by_status_of : (r : Request) (s : Status) → (s ≡ status.Ok → length (answer tree o r) ≤ 1452) → IsSmall (by_status tree p (Some o) (Some r) s)
-        by_status_of r status.Ok h = (counts tree o r, h refl)
+        by_status_of : (r : Request) (s : Status) → (s ≡ status.Ok → length (answer_encoding (answer_given tree o r)) ≤ 1452) → IsSmall (by_status tree p (Some o) (Ok r) s)
+        by_status_of r status.Ok h = (counts (answer_given tree o r), h refl)
         by_status_of r _ h = (lit< tt, lit≤ tt)
 
-        by_request : (kind : MethodKind) (r : Option Request) → IsSmall (by_status tree p (Some o) r (first_that_applies (status_lines tree p (Some o) kind r)))
-        by_request kind None = refused_small tree (first_that_applies (status_lines tree p (Some o) kind None))
-        by_request kind (Some r) = by_status_of r (first_that_applies (status_lines tree p (Some o) kind (Some r)))
-            (λ e. within (length (answer tree o r))
-            (not_over _ (passed _ status.InvalidRequest _ (λ x. cc) (passed _ status.ParameterOutOfRange _ (λ x. cc) (passed _ status.Locked _ (λ x. cc)
-            (passed _ status.NotImplemented _ (λ x. cc) (passed _ status.BadMethod _ (λ x. cc) e)))))))
+        by_request : (kind : MethodKind) (r : Result Request ValueFault) → IsSmall (by_status tree p (Some o) r (first_that_applies (status_lines tree p (Some o) kind r)))
+        by_request kind (Err fault) = refused_small tree (first_that_applies (status_lines tree p (Some o) kind (Err fault)))
+        by_request kind (Ok r) = by_status_of r (first_that_applies (status_lines tree p (Some o) kind (Ok r)))
+            (λ e. within (length (answer_encoding (answer_given tree o r)))
+            (not_over _ (passed _ status.InvalidRequest _ (λ x. cc) (passed _ status.ParameterOutOfRange _ (λ x. cc) (passed _ status.ParameterError _ (λ x. cc) (passed _ status.Locked _ (λ x. cc)
+            (passed _ status.NotImplemented _ (λ x. cc) (passed _ status.BadMethod _ (λ x. cc) e))))))))
 
 status_fits : (s : Status) → status_number s < 256
 status_fits status.Ok = lit< tt

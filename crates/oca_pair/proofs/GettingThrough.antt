@@ -223,14 +223,14 @@ runs_opening w s tree starts i x e = record {
   sent = λ h. tt;
 }
 
-after_more : (es more : List Step) (n : Network) → after_steps (es ++ more) n ≡ after_steps more (after_steps es n)
+pub after_more : (es more : List Step) (n : Network) → after_steps (es ++ more) n ≡ after_steps more (after_steps es n)
 after_more [] more n = refl
 after_more (e ∷ es) more n = after_more es more (after_step e n)
 
 -- ---- a command of a link
 
 -- the step's outcome says that the link took it
-took : (r : Request) (h : Handle) (l : LinkState) → submit_outcome (submission r l) ∷ [] ≡ outcomes.Submitted h ∷ [] → submission r l ≡ Ok h
+pub took : (r : Request) (h : Handle) (l : LinkState) → submit_outcome (submission r l) ∷ [] ≡ outcomes.Submitted h ∷ [] → submission r l ≡ Ok h
 took r h l e = by (submission r l) e
   where
     by : (a : Result Handle ControlFault) → submit_outcome a ∷ [] ≡ outcomes.Submitted h ∷ [] → a ≡ Ok h

@@ -515,7 +515,7 @@ timed_own p end m us left out g bytes now at f kind arrives = elim kind [
 abbrev pub TimedAt : ℕ → List Departure → Network → Type 0
 TimedAt i left n = (l : PeerLink) → slice_get n.links i ≡ Some l → Timed l.peer (end_of l.link.next) l.link.moment l.link.untaken left n.to_device (state_of (past n)).notes
 
-same_some : {X : Type 0} (x y : X) → Some x ≡ Some y → x ≡ y
+pub same_some : {X : Type 0} (x y : X) → Some x ≡ Some y → x ≡ y
 same_some x y e = cc
 
 -- a link of another number is of another peer
@@ -580,7 +580,7 @@ timed_step_due law s i k now left n sound in_time g (Some x) e =
     (apart_at n.links k i x l sound.apart e own other) (g l own))
 
 -- what stands at a place of a list that a function was mapped over
-mapped_at : {X Y : Type 0} (f : X → Y) (xs : List X) (i : ℕ) (y : Y) → slice_get (map f xs) i ≡ Some y → (x : X) × (slice_get xs i ≡ Some x) × (f x ≡ y)
+pub mapped_at : {X Y : Type 0} (f : X → Y) (xs : List X) (i : ℕ) (y : Y) → slice_get (map f xs) i ≡ Some y → (x : X) × (slice_get xs i ≡ Some x) × (f x ≡ y)
 mapped_at f [] i y e = cc
 mapped_at f (x ∷ xs) zero y e = (x, refl, same_some (f x) y e)
 mapped_at f (x ∷ xs) (suc i) y e = mapped_at f xs i y e
@@ -597,7 +597,7 @@ timed_step_reception i now left n g (Some d) = λ l own. let z = mapped_at (hear
     one z false f = f
 
 -- the device's clock when a datagram comes
-clock_is : (now : ℕ) (n : Network) → (looked_at now (past n)).moment ≡ clock_at now n
+pub clock_is : (now : ℕ) (n : Network) → (looked_at now (past n)).moment ≡ clock_at now n
 clock_is now n = let stands1 : Stands n.sizes n.tree (looked_at now (past n)) (Passes now ∷ happenings n.events) = passing n.sizes n.tree now (state_of (past n)) (happenings n.events) (stands_by n.sizes n.tree n.events) in stands1.clock_is
 
 timed_step_delivery : (i k now : ℕ) (left : List Departure) (n : Network) → StepIsInTime i left (ToDevice k now) n → TimedAt i left n → (o : Option SentDatagram) → slice_get n.to_device k ≡ o →

@@ -18,5 +18,8 @@ pub mod Lawful
 pub mod RoundTrip
 pub mod GettingThrough
 pub mod InTime
+pub mod ObjectsKept
+pub mod Saying
+pub mod SayingTyped
 pub mod Example
 pub mod Runs

@@ -6,5 +6,6 @@ pub mod Laws
 pub mod RoundTrip
 pub mod GettingThrough
 pub mod InTime
+pub mod Saying
 pub mod Transcripts
 pub mod PrivateRunning

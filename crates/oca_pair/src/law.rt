@@ -10,8 +10,12 @@ ghost use Rattle.oca_pair.specs.RoundTrip.{EveryRoundTripBringsTheAnswer};
 ghost use Rattle.oca_pair.specs.GettingThrough.{EveryCommandGetsThrough};
 ghost use Rattle.oca_pair.specs.InTime.{EveryCommandInTimeIsExecutedOnce, EveryAnswerInTimeIsOfOneExecution};
 ghost use Rattle.oca_pair.specs.InTime.{NoCopyInTimeFindsItsSessionForgotten};
+ghost use Rattle.oca_pair.specs.Saying.{OfEachAnswer, IsOfOneExecutionSince, RefusalsChangeNothing, OksSayWhatIsHeld};
+ghost use Rattle.oca_pair.specs.Saying.{ReadingsWereHeld, SettingsWereMade, ClassesStay, ClassesMetAreThoseAtFirst};
 
+use oca_model::{law_of_answers, law_of_requests};
 use oca_pdu::{law_reading, law_written_is_read_back};
+use oca_tree::law_of_typed_requests;
 
 /// Over every schedule and for all sizes of window, peers and span: each answer that a link holds or gave under a
 /// handle is what an execution gave, for that link's peer, of the very command that the link submitted under that
@@ -91,4 +95,41 @@ pub fn law_once_in_time()
     ensures session { NoCopyInTimeFindsItsSessionForgotten }
 {
     law_written_is_read_back();
+}
+
+/// Over every schedule and for all sizes: what the answer to a command says of the device. A link submits a command
+/// under a handle in a step, and holds its answer at the end of the schedule, or gave it. The premises are those of
+/// [`law_once_in_time`]: the link and the network are in time.
+///
+/// Between: the answer is that of the only execution of the command, and this happened with the delivery of one of its
+/// copies in a step after the call. It met the objects that the device then held by its law, and the device holds what
+/// it left.
+///
+/// Refused: where the status is not OK, this execution changed nothing, and the status is the first that applies.
+///
+/// OK: where the status is OK, and the device's objects were a tree at first, whose texts and numbers are of their
+/// types: what is read of the answer is what the object with the command's number answered, and the device holds what
+/// the request made of this object, the others being as they were. The answer is read by the class of the object, or is
+/// to a method of OcaRoot or OcaWorker.
+///
+/// In a panel's words: what is read of the answer to a get method is what the object read, with its limits, at a moment
+/// between the call and the answer. Where a set method is answered with OK, the object was set to the value by this
+/// call, once, between the call and the answer, and reads as the value with the limits that it had. A command without
+/// an answer was executed at most once: that is [`law_once_in_time`].
+///
+/// Class: the class of the object with a number never changes in a schedule. So what was answered to
+/// GetClassIdentification stays true.
+pub fn law_of_what_is_said()
+    ensures between { OfEachAnswer IsOfOneExecutionSince }
+    ensures refused { OfEachAnswer RefusalsChangeNothing }
+    ensures ok { OfEachAnswer OksSayWhatIsHeld }
+    ensures reads { OfEachAnswer ReadingsWereHeld }
+    ensures sets { OfEachAnswer SettingsWereMade }
+    ensures class { ClassesStay }
+    ensures met { OfEachAnswer ClassesMetAreThoseAtFirst }
+{
+    law_written_is_read_back();
+    law_of_requests();
+    law_of_answers();
+    law_of_typed_requests();
 }

@@ -1,5 +1,5 @@
 -- The port's turns.
-use Rattle.std.proofs.Common.{◌≡◌, ℕ, zero, suc, ◌<◌, ◌≤◌, ◌+◌, ◌/◌, ◌%◌, refl, arith}
+use Rattle.std.proofs.Common.{◌≡◌, ℕ, zero, suc, ◌<◌, ◌/◌, ◌%◌, refl, arith}
 use Rattle.oca_panel.specs.OwnPorts.{HandlesRiseOrRest, handles_a_turn, even_or_odd}
 
 same-remainder : (x y : ℕ) → x < 2 → y < 2 → even_or_odd x ≡ even_or_odd y → x ≡ y

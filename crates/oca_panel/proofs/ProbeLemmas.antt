@@ -2,7 +2,7 @@
 use Rattle.std.proofs.Common.{◌≡◌, ◌+◌, ℕ, Bool, Option, Some, None, sym, ap, ◌∙◌, subst}
 use Rattle.oca_types.specs.declared.words.Handle.{Handle}
 use Rattle.oca_types.specs.declared.words.Peer.{Peer}
-use Rattle.oca_net.specs.EndStates.{EndState}
+use Rattle.oca_net.specs.EndStates.{EndState, IsPresent}
 use Rattle.oca_control.specs.declared.report.DriveReport.{DriveReport}
 use Rattle.oca_control.specs.Driving.{GivesOut}
 use Rattle.oca_control.specs.Links.{LinkState, new_link, submission, submitted}
@@ -13,22 +13,24 @@ number_or_none None = 0
 number_or_none (Some h) = h.0
 
 -- the question has the first handle
-pub asked-under : (device : Peer) (first : ℕ) (old : LinkState) (r : Option Handle) (h : Handle)
-    → old ≡ new_link device first 0 16 → r ≡ handle_in (submission question old) → r ≡ Some h → first ≡ h.0
-asked-under device first old r h new is some =
+pub asked-under : (device : Peer) (first now : ℕ) (old : LinkState) (r : Option Handle) (h : Handle)
+    → old ≡ new_link device first now 16 → r ≡ handle_in (submission question old) → r ≡ Some h → first ≡ h.0
+asked-under device first now old r h new is some =
     sym (ap (λ (l : LinkState). number_or_none (handle_in (submission question l))) new)
     ∙ ap number_or_none (sym is) ∙ ap number_or_none some
 
-pub asked-all : (device : Peer) (first : ℕ) (old sub l last : LinkState) (d e f : EndState) (report : DriveReport) (h : Handle) (answered : Bool) (r : Option Handle)
-    → old ≡ new_link device first 0 16 → r ≡ handle_in (submission question old) → r ≡ Some h → sub ≡ submitted question 0 old
-    → GivesOut 0 (sub.span + 1) sub l d e report → AsksRounds device h.0 answered l last e f → AsksQuestion device first answered d f
-asked-all device first old sub l last d e f report h answered r new is some submits gives rounds =
-    let made : sub ≡ submitted question 0 (new_link device first 0 16) = submits ∙ ap (submitted question 0) new in
+pub asked-all : (device : Peer) (first now : ℕ) (old sub l last : LinkState) (d e f : EndState) (report : DriveReport) (h : Handle) (answered : Bool) (r : Option Handle)
+    → IsPresent now d → old ≡ new_link device first now 16 → r ≡ handle_in (submission question old) → r ≡ Some h → sub ≡ submitted question now old
+    → GivesOut now (sub.span + 1) sub l d e report → AsksRounds device h.0 answered l last e f → AsksQuestion device first answered d f
+asked-all device first now old sub l last d e f report h answered r present new is some submits gives rounds =
+    let made : sub ≡ submitted question now (new_link device first now 16) = submits ∙ ap (submitted question now) new in
     record {
+      now = now;
+      present = present;
       link = l;
       last = last;
       between = e;
       report = report;
-      gives = subst (λ (s : LinkState). GivesOut 0 (s.span + 1) s l d e report) made gives;
-      rounds = subst (λ (n : ℕ). AsksRounds device n answered l last e f) (sym (asked-under device first old r h new is some)) rounds;
+      gives = subst (λ (s : LinkState). GivesOut now (s.span + 1) s l d e report) made gives;
+      rounds = subst (λ (n : ℕ). AsksRounds device n answered l last e f) (sym (asked-under device first now old r h new is some)) rounds;
     }

@@ -1,5 +1,5 @@
 -- What can be asked of an object of a class, and what requests of values ask.
-use Rattle.std.proofs.Common.{◌≡◌, ℕ, ◌+◌, ◌≤◌, ◌<◌, List, [], length, ◌++◌, Option, Some, None, Result, Err, refl, sym, ◌∙◌, subst, arith}
+use Rattle.std.proofs.Common.{◌≡◌, ℕ, ◌+◌, ◌≤◌, List, [], length, Option, Some, None, Result, refl, sym, ◌∙◌, subst, arith}
 use Rattle.std.proofs.lemmas.List.{length-append}
 use Rattle.std.specs.Int.{w16}
 use Rattle.std.specs.Str.{chars}
@@ -23,7 +23,7 @@ use Rattle.oca_model.specs.declared.request.Request.TheVariants.{GetClassIdentif
 use Rattle.oca_model.specs.declared.request.RequestFault.TheVariants.{OtherClass, Full}
 use Rattle.oca_model.specs.declared.value.Value.{Value}
 use Rattle.oca_model.specs.declared.value_request.ValueRequest.{ValueRequest}
-use Rattle.oca_model.specs.Requests.{AskedBy, IsCallFor, parameters_of, count_of}
+use Rattle.oca_model.specs.Requests.{AskedBy, parameters_of}
 use Rattle.oca_model.specs.ValueRequests.{request_to, CallsMethod, CallsMethodIfAny as AsksForValue}
 use Rattle.oca_model.specs.Values.{class_of_value, get_method, set_method, value_encoding}
 use Rattle.oca_panel.specs.declared.trouble.Trouble.{Trouble}

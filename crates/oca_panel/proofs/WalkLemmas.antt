@@ -1,5 +1,5 @@
 -- The members of a block, listed or not.
-use Rattle.std.proofs.Common.{◌≡◌, ℕ, Bool, true, false, List, ◌++◌, Result, Ok, Err, refl}
+use Rattle.std.proofs.Common.{◌≡◌, ℕ, Bool, true, false, List, ◌++◌, Ok, Err, refl}
 use Rattle.oca_types.specs.declared.class.Class.TheVariants as class
 use Rattle.oca_types.specs.declared.words.Ono.{Ono}
 use Rattle.oca_model.specs.declared.request.Request.TheVariants as requests

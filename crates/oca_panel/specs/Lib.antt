@@ -1,6 +1,7 @@
 pub mod Panels
 pub mod InFlight
 pub mod Outcomes
+pub mod TroubleWords
 pub mod Objects
 pub mod Walks
 pub mod OwnPorts

@@ -1,5 +1,4 @@
 -- For private contracts: what can be asked of an object of a class.
-use Rattle.std.specs.Prelude.{ℕ}
 use Rattle.oca_types.specs.declared.class.Class.{Class}
 use Rattle.oca_model.specs.declared.request.Request.{Request}
 use Rattle.oca_model.specs.declared.request.RequestFault.{RequestFault}

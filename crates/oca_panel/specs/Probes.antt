@@ -6,7 +6,7 @@ use Rattle.oca_types.specs.Peers.{RequestFields}
 use Rattle.oca_pdu.specs.declared.message.Form.TheVariants.{Seconds}
 use Rattle.oca_pdu.specs.Messages.{OneKeepAlive}
 use Rattle.oca_pdu.specs.Encoding.{pdu_encoding}
-use Rattle.oca_net.specs.EndStates.{EndState, Sends}
+use Rattle.oca_net.specs.EndStates.{EndState, IsPresent, Sends}
 use Rattle.oca_control.specs.declared.fault.ControlFault.{ControlFault}
 use Rattle.oca_control.specs.declared.outcome.Outcome.{Outcome}
 use Rattle.oca_control.specs.declared.outcome.Outcome.TheVariants as outcomes
@@ -58,13 +58,16 @@ AsksRounds device h true old new before after =
     (n : ℕ) × (m : LinkState) × (e : EndState) × (n < 4) × AsksInVain device h n old m before e
     × AsksRound device h true m new e after
 
--- The question was submitted to a new link under this handle at moment 0, and sent; and whether it was answered.
+-- The question was submitted to a new link under this handle, at the end's present moment, and sent; and whether it was
+-- answered.
 pub record AsksQuestion (device : Peer) (first : ℕ) (answered : Bool) (before after : EndState) : Type 0 where
+  pub now : ℕ
+  pub present : IsPresent now before
   pub link : LinkState
   pub last : LinkState
   pub between : EndState
   pub report : DriveReport
-  pub gives : GivesOut 0 17 (submitted question 0 (new_link device first 0 16)) link before between report
+  pub gives : GivesOut now 17 (submitted question now (new_link device first now 16)) link before between report
   pub rounds : AsksRounds device first answered link last between after
 
 -- A DEVICE WAS ASKED whether it answers commands of a port, by a question that changes nothing and by keep-alives; and

@@ -4,6 +4,7 @@
 //! nothing but its keep-alives comes back. This is found out before a command is sent that does something, by one that
 //! reads.
 ghost use Rattle.std.specs.Prelude.{◌≡◌};
+ghost use Rattle.oca_net.specs.EndStates.{IsPresent};
 ghost use Rattle.oca_control.specs.Links.{new_link, submission, submitted};
 ghost use Rattle.oca_panel.specs.Probes.{AsksQuestion, AsksRound, AsksRounds, Probes, SendsKeepAlive, handle_in};
 ghost use Rattle.oca_panel.specs.Probes.{has_answer, question};
@@ -37,15 +38,16 @@ pub enum Probed {
 }
 
 /// Asks a device whether it answers the commands of the end's port: for the class of its root, under this handle, and
-/// beside it for keep-alives, for a second at most.
+/// beside it for keep-alives, for a second at most, from the end's present moment on.
 ///
 /// The question changes nothing on the device. It uses the handle up: a link over the same end begins above it. Where
 /// the device was heard, also before this call, and did not answer, another port is to be taken.
 pub fn probe<E: End>(end: &mut Watched<E>, device: Peer, handle: Handle) -> Probed
     ensures { Probes device handle.0 end.old.end_state end.new result }
 {
-    let mut link = Link::new(device, handle, 0, Span::default());
-    let answered = asks(&mut link, end, device, handle);
+    let now = end.now();
+    let mut link = Link::new(device, handle, now, Span::default());
+    let answered = asks(&mut link, end, device, handle, now);
     by_answer(answered, end.heard())
 }
 
@@ -62,15 +64,23 @@ fn by_answer(answered: bool, heard: Option<u64>) -> Probed
     }
 }
 
-/// Asks for the class of the root, and beside it for keep-alives: whether the command was answered.
-fn asks<E: End>(link: &mut Link, end: &mut Watched<E>, device: Peer, first: Handle) -> bool
-    requires { link.old ≡ new_link device first.0 0 16 }
+/// Asks for the class of the root at the present moment, and beside it for keep-alives: whether the command was
+/// answered.
+fn asks<E: End>(
+    link: &mut Link,
+    end: &mut Watched<E>,
+    device: Peer,
+    first: Handle,
+    now: u64,
+) -> bool
+    requires new { link.old ≡ new_link device first.0 now 16 }
+    requires present { IsPresent now end.old.end_state }
     ensures { AsksQuestion device first.0 result end.old.end_state end.new.end_state }
 {
-    let Some(handle) = submit(link) else {
+    let Some(handle) = submit(link, now) else {
         return false;
     };
-    give_out(link, end, 0);
+    give_out(link, end, now);
     asks_rounds(link, end, device, handle)
 }
 
@@ -105,12 +115,12 @@ fn is_answer(outcome: &Outcome) -> bool
     }
 }
 
-/// Submits the command that asks for the class of the root.
-fn submit(link: &mut Link) -> Option<Handle>
+/// Submits the command that asks for the class of the root, at this moment.
+fn submit(link: &mut Link, now: u64) -> Option<Handle>
     ensures handle { result ≡ handle_in (submission question link.old) }
-    ensures link { link.new ≡ submitted question 0 link.old }
+    ensures link { link.new ≡ submitted question now link.old }
 {
-    match link.submit(ROOT, GET_CLASS, 0, &[], 0) {
+    match link.submit(ROOT, GET_CLASS, 0, &[], now) {
         Ok(handle) => Some(handle),
         Err(_) => None,
     }

@@ -9,7 +9,7 @@
 //! status.
 //!
 //! Between commands call [`Panel::turn`], which sends keep-alives too: a panel that is silent for 15 seconds loses its
-//! locks. No copy of a command is sent more than 15,000 ms after it was asked for: the command is then lost.
+//! locks. No copy of a command is sent more than 15,000 ms after it was submitted: the command is then lost.
 #![tactic(auto)]
 
 mod answering;

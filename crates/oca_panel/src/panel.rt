@@ -150,7 +150,8 @@ impl<E: End> Panel<E> {
     pub fn is_lost(&self) -> bool
         ensures { IsFoundLost self.now result }
     {
-        self.link.is_lost() || is_late(&self.link, self.end.now())
+        let now = self.end.now();
+        self.link.is_lost() || is_late(&self.link, now)
     }
 
     /// The lowest handle whose answer came and was not taken yet; `None` where there is none. So a program finds the

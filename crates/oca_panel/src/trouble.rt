@@ -24,7 +24,12 @@ pub enum Trouble {
 }
 
 impl Display for Trouble {
-    /// Writes it.
+    ghost use Rattle.std.specs.Prelude.{Some};
+    ghost use Rattle.oca_panel.specs.TroubleWords.{trouble_words};
+
+    ghost output = { λ trouble. Some (trouble_words trouble) };
+
+    /// Writes it in words.
     fn fmt<W: fmt::Write>(&self, f: &mut Formatter<W>) -> fmt::Result {
         match self {
             Trouble::Refused(status) => match status_name(*status) {

@@ -69,9 +69,9 @@ impl<E: End> Watched<E> {
 }
 
 impl<E: End> End for Watched<E> {
-    ghost use Rattle.std.specs.Prelude.{◌≡◌, ◌≤◌, ◌<◌, IfSome, length};
+    ghost use Rattle.std.specs.Prelude.{◌≡◌, ◌≤◌, length};
     ghost use Rattle.oca_net.specs.Ends.{largest_datagram};
-    ghost use Rattle.oca_net.specs.EndStates.{Receives, Sends};
+    ghost use Rattle.oca_net.specs.EndStates.{IsPresent, Receives, Sends};
     ghost use Rattle.oca_panel.specs.Watching.{heard_after, state_watched};
 
     ghost state = { state_watched };
@@ -100,7 +100,7 @@ impl<E: End> End for Watched<E> {
 
     /// The end's present moment.
     fn now(&self) -> u64
-        ensures { 0 < result → IfSome self.now.end_state.moment (λ m. m ≤ result) }
+        ensures { IsPresent result self.now.end_state }
     {
         self.end.now()
     }

@@ -6,6 +6,7 @@ mod ocadev;
 mod program;
 mod script;
 mod textree;
+mod view;
 
 use std::alloc::Global;
 use std::fmt::Display;

@@ -1,5 +1,6 @@
 -- What commands and the front panel leave: the texts that they set are in UTF-8 and of at most 64 bytes, and no role and no number changes.
 use Rattle.std.proofs.Common.{◌≡◌, ℕ, zero, suc, ◌+◌, ◌<◌, ◌≤◌, ◌==◌, Bool, true, false, cond, ◌&&◌, List, [], ◌∷◌, length, map, take, drop, Option, Some, None, refl, sym, ap, ◌∙◌, subst, arith, eqb-true}
+use Rattle.std.specs.Prelude.{Result, Ok, Err, nat_lt, slice_set}
 use Rattle.std.specs.List.{All, find, range_with_len}
 use Rattle.std.specs.Option.{option_map, option_and_then}
 use Rattle.std.specs.Str.{chars, is_utf8}
@@ -7,6 +8,7 @@ use Rattle.std.specs.Int.{w16}
 use Rattle.std.proofs.lemmas.Bool.{and_parts, both_ways, eq-eqb}
 use Rattle.std.proofs.lemmas.List.Elements.{All-cons, All-head, All-tail, All-set, All-map, All-weaker}
 use Rattle.std.proofs.lemmas.Str.{IsUtf8-from_is_utf8}
+use Rattle.oca_types.specs.declared.class.Class.{Class}
 use Rattle.oca_types.specs.declared.class.Method.{Method}
 use Rattle.oca_types.specs.declared.class.Method.TheVariants as methods
 use Rattle.oca_types.specs.declared.class.MethodKind.{MethodKind}
@@ -15,23 +17,26 @@ use Rattle.oca_types.specs.declared.status.Status.{Status}
 use Rattle.oca_types.specs.declared.status.Status.TheVariants as status
 use Rattle.oca_types.specs.declared.words.Peer.{Peer}
 use Rattle.oca_types.specs.Peers.{CommandFields}
-use Rattle.oca_types.specs.Reading.{unsigned_at, is_text_of, text_front, text_at}
+use Rattle.oca_types.specs.Reading.{unsigned_at, bool_at, is_text_of, text_front, text_at}
 use Rattle.oca_model.specs.declared.value.Value.{Value as Setting}
 use Rattle.oca_model.specs.declared.value.Value.TheVariants as settings
 use Rattle.oca_tree.specs.declared.object.Object.{Object}
 use Rattle.oca_tree.specs.declared.object.Switch.{Switch}
 use Rattle.oca_tree.specs.declared.object.Value.{Value}
 use Rattle.oca_tree.specs.declared.object.Value.TheVariants as values
-use Rattle.oca_tree.specs.declared.request.Request.{Request}
-use Rattle.oca_tree.specs.declared.request.Request.TheVariants as requests
-use Rattle.oca_tree.specs.declared.request.SwitchRequest.{SwitchRequest}
-use Rattle.oca_tree.specs.declared.request.SwitchRequest.TheVariants as switches
-use Rattle.oca_model.specs.Parameters.{whole, pair_at, items_at, list_at}
-use Rattle.oca_tree.specs.Requests.{positions, with_parameters, without_parameters, setting_request, request_carried}
-use Rattle.oca_tree.specs.Execution.{changed, changed_value, changed_switch, changed_positions, TreeAndReply, execution, request_at, kind_at, status_of, by_status}
+use Rattle.oca_model.specs.declared.request.Request.{Request}
+use Rattle.oca_model.specs.declared.request.Request.TheVariants as requests
+use Rattle.oca_model.specs.declared.value.ValueFault.{ValueFault}
+use Rattle.oca_model.specs.declared.value.ValueFault.TheVariants.{Malformed}
+use Rattle.oca_model.specs.Lists.{list_of_most}
+use Rattle.oca_model.specs.Parameters.{whole, pair_at, items_at}
+use Rattle.oca_model.specs.Requests.{bare, counted, as_request, request_in}
+use Rattle.oca_model.specs.Values.{all, or_fault, value_in}
+use Rattle.oca_tree.specs.Execution.{TreeAndReply, execution, asked_at, kind_at, status_of, by_status}
+use Rattle.oca_tree.specs.Typed.{changed_by, value_changed_by, set_to, with_positions}
 use Rattle.oca_tree.specs.declared.setting.SetFault.{SetFault}
-use Rattle.oca_tree.specs.Settings.{request_for, front, set_fault, set_where, after_set}
-use Rattle.oca_tree.specs.Objects.{has_number, object_of, with_object}
+use Rattle.oca_tree.specs.Settings.{front, set_fault, set_where, after_set}
+use Rattle.oca_tree.specs.Objects.{class_of, has_number, object_of, with_object}
 use Rattle.oca_tree.specs.Locks.{without_lock_of, is_held_by, released}
 use Rattle.oca_tree.specs.Copies.{names_in}
 use Rattle.oca_textree.specs.Written.{IsShortText, IsNamed}
@@ -82,12 +87,13 @@ whole-short P (Some (y, [])) x h e = let same : y ≡ x = cc in subst P same (h 
 whole-short P (Some (y, b ∷ rest)) x h e = absurd (cc)
 
 with-short : {X : Type 0} (P : X → Type 0) (number count : ℕ) (read : List ℕ → Option (X × List ℕ)) (params : List ℕ) (x : X)
-    → ((y : X × List ℕ) → read params ≡ Some y → P y.0) → with_parameters number read count params ≡ Some x → P x
-with-short P number count read params x h e = by (count == number) e
+    → ((y : X × List ℕ) → read params ≡ Some y → P y.0) → counted number count (all read params) ≡ Ok x → P x
+with-short {X = X} P number count read params x h e = by (count == number) (whole (read params)) (λ y q. whole-short P (read params) y h q) e
   where
-    by : (b : Bool) → cond b (whole (read params)) None ≡ Some x → P x
-    by true t = whole-short P (read params) x h t
-    by false t = absurd (cc)
+    by : (b : Bool) (o : Option X) → ((y : X) → o ≡ Some y → P y) → cond b (or_fault Malformed o) (Err Malformed) ≡ Ok x → P x
+    by true (Some y) is t = let same : y ≡ x = cc in subst P same (is y refl)
+    by true None is t = let no : ⊥ = cc in absurd no
+    by false o is t = let no : ⊥ = cc in absurd no
 
 second-short : (params : List ℕ) (y : (ℕ × List ℕ) × List ℕ) → pair_at (unsigned_at w16) text_at params ≡ Some y → IsShortText y.0.1
 second-short params y e = by (unsigned_at w16 params) e
@@ -119,113 +125,111 @@ items-short (suc n) bytes y e = by (text_at bytes) (text-short bytes) (items-sho
     by None is more h = absurd (cc)
     by (Some x) is more h = pair-with x.0 (items_at text_at n x.1) (is x refl) (more x.1) h
 
-list-short : (n : ℕ) (bytes : List ℕ) (y : List (List ℕ) × List ℕ) → list_at text_at n bytes ≡ Some y → All IsShortText y.0
-list-short n bytes y e = by (unsigned_at w16 bytes) e
+list-short : (bytes : List ℕ) (y : List (List ℕ) × List ℕ) → list_of_most 16 text_at bytes ≡ Some y → All IsShortText y.0
+list-short bytes y e = by (unsigned_at w16 bytes) e
   where
-    test : (b : Bool) (after : List ℕ) → cond b (items_at text_at n after) None ≡ Some y → All IsShortText y.0
-    test true after h = items-short n after y h
-    test false after h = absurd (cc)
+    test : (b : Bool) (n : ℕ) (after : List ℕ) → cond b None (items_at text_at n after) ≡ Some y → All IsShortText y.0
+    test false n after h = items-short n after y h
+    test true n after h = absurd (cc)
 
-    by : (o : Option (ℕ × List ℕ)) → option_and_then (λ x. cond (x.0 == n) (items_at text_at n x.1) None) o ≡ Some y → All IsShortText y.0
+    by : (o : Option (ℕ × List ℕ)) → option_and_then (λ n. cond (nat_lt 16 n.0) None (items_at text_at n.0 n.1)) o ≡ Some y → All IsShortText y.0
     by None h = absurd (cc)
-    by (Some x) h = test (x.0 == n) x.1 h
+    by (Some x) h = test (nat_lt 16 x.0) x.0 x.1 h
 
 -- ---- what is asked
 
 -- the texts that a request sets are short
 unfoldable SetsShort : Request → Type 0
 SetsShort (requests.SetLabel text) = IsShortText text
-SetsShort (requests.Switch (switches.SetPositionName n text)) = IsShortText text
-SetsShort (requests.Switch (switches.SetPositionNames texts)) = All IsShortText texts
+SetsShort (requests.SetPositionName n text) = IsShortText text
+SetsShort (requests.SetPositionNames texts) = All IsShortText texts.items
 SetsShort _ = Unit {0}
 
-plainly : (q r : Request) (count : ℕ) (params : List ℕ) → SetsShort q → without_parameters q count params ≡ Some r → SetsShort r
+plainly : (q r : Request) (count : ℕ) (params : List ℕ) → SetsShort q → bare q count params ≡ Ok r → SetsShort r
 plainly q r count params h e = by ((count == 0) && (length params == 0)) e
   where
-    by : (b : Bool) → cond b (Some q) None ≡ Some r → SetsShort r
+    by : (b : Bool) → cond b (Ok q) (Err Malformed) ≡ Ok r → SetsShort r
     by true t = let same : q ≡ r = cc in subst SetsShort same h
-    by false t = absurd (cc)
+    by false t = let no : ⊥ = cc in absurd no
 
-asked : {X : Type 0} (f : X → Request) (o : Option X) (r : Request) → ((x : X) → o ≡ Some x → SetsShort (f x)) → option_map f o ≡ Some r → SetsShort r
-asked f None r h e = absurd (cc)
-asked f (Some x) r h e = let same : f x ≡ r = cc in subst SetsShort same (h x refl)
+asked : {X : Type 0} (f : X → Request) (read : Result X ValueFault) (r : Request) → ((x : X) → read ≡ Ok x → SetsShort (f x)) → as_request f read ≡ Ok r → SetsShort r
+asked f (Err fault) r h e = let no : ⊥ = cc in absurd no
+asked f (Ok x) r h e = let same : f x ≡ r = cc in subst SetsShort same (h x refl)
 
-asked-setting : (value : Value) (count : ℕ) (params : List ℕ) (r : Request) → setting_request value count params ≡ Some r → SetsShort r
-unfolding SetsShort
-asked-setting values.Block count params r e = absurd (cc)
-asked-setting (values.Mute state) count params r e = absurd (cc)
-asked-setting (values.Polarity state) count params r e = absurd (cc)
-asked-setting (values.Switch switch) count params r e = absurd (cc)
-asked-setting (values.Boolean truth) count params r e = asked requests.SetBoolean _ r (λ x q. tt) e
-asked-setting (values.Number range) count params r e = asked requests.SetNumber _ r (λ x q. tt) e
-
-asked-short : (value : Value) (method : Method) (count : ℕ) (params : List ℕ) (r : Request) → request_carried value method count params ≡ Some r → SetsShort r
-unfolding request_carried SetsShort
-asked-short value methods.GetClassIdentification count params r e = plainly requests.GetClassIdentification r count params tt e
-asked-short value methods.GetLockable count params r e = plainly requests.GetLockable r count params tt e
-asked-short value methods.LockTotal count params r e = plainly requests.LockTotal r count params tt e
-asked-short value methods.Unlock count params r e = plainly requests.Unlock r count params tt e
-asked-short value methods.GetRole count params r e = plainly requests.GetRole r count params tt e
-asked-short value methods.LockReadonly count params r e = plainly requests.LockReadonly r count params tt e
-asked-short value methods.GetEnabled count params r e = plainly requests.GetEnabled r count params tt e
-asked-short value methods.SetEnabled count params r e = asked requests.SetEnabled _ r (λ x q. tt) e
-asked-short value methods.GetLabel count params r e = plainly requests.GetLabel r count params tt e
-asked-short value methods.SetLabel count params r e =
-    asked requests.SetLabel (with_parameters 1 text_at count params) r (λ x q. with-short IsShortText 1 count text_at params x (text-short params) q) e
-asked-short value methods.GetOwner count params r e = plainly requests.GetOwner r count params tt e
-asked-short value methods.GetMembers count params r e = plainly requests.GetMembers r count params tt e
-asked-short value methods.GetMembersRecursive count params r e = plainly requests.GetMembersRecursive r count params tt e
-asked-short value methods.GetState count params r e = plainly requests.GetState r count params tt e
-asked-short value methods.SetState count params r e = asked requests.SetState _ r (λ x q. tt) e
-asked-short value methods.GetPosition count params r e = plainly (requests.Switch switches.GetPosition) r count params tt e
-asked-short value methods.SetPosition count params r e = asked (λ n. requests.Switch (switches.SetPosition n)) _ r (λ x q. tt) e
-asked-short value methods.GetPositionName count params r e = asked (λ n. requests.Switch (switches.GetPositionName n)) _ r (λ x q. tt) e
-asked-short value methods.SetPositionName count params r e =
-    asked (λ x. requests.Switch (switches.SetPositionName x.0 x.1)) (with_parameters 2 (pair_at (unsigned_at w16) text_at) count params) r
+asked-short : (of : Class) (method : Method) (count : ℕ) (params : List ℕ) (r : Request) → request_in of method count params ≡ Ok r → SetsShort r
+unfolding request_in SetsShort
+asked-short of methods.GetClassIdentification count params r e = plainly requests.GetClassIdentification r count params tt e
+asked-short of methods.GetLockable count params r e = plainly requests.GetLockable r count params tt e
+asked-short of methods.LockTotal count params r e = plainly requests.LockTotal r count params tt e
+asked-short of methods.Unlock count params r e = plainly requests.Unlock r count params tt e
+asked-short of methods.GetRole count params r e = plainly requests.GetRole r count params tt e
+asked-short of methods.LockReadonly count params r e = plainly requests.LockReadonly r count params tt e
+asked-short of methods.GetEnabled count params r e = plainly requests.GetEnabled r count params tt e
+asked-short of methods.GetLabel count params r e = plainly requests.GetLabel r count params tt e
+asked-short of methods.GetOwner count params r e = plainly requests.GetOwner r count params tt e
+asked-short of methods.GetMembers count params r e = plainly requests.GetMembers r count params tt e
+asked-short of methods.GetMembersRecursive count params r e = plainly requests.GetMembersRecursive r count params tt e
+asked-short of methods.GetPositionNames count params r e = plainly requests.GetPositionNames r count params tt e
+asked-short of methods.GetPositionEnableds count params r e = plainly requests.GetPositionEnableds r count params tt e
+asked-short of methods.GetState count params r e = plainly requests.Get r count params tt e
+asked-short of methods.GetPosition count params r e = plainly requests.Get r count params tt e
+asked-short of methods.GetSetting count params r e = plainly requests.Get r count params tt e
+asked-short of methods.SetState count params r e = asked requests.Set (counted 1 count (value_in of params)) r (λ x q. tt) e
+asked-short of methods.SetPosition count params r e = asked requests.Set (counted 1 count (value_in of params)) r (λ x q. tt) e
+asked-short of methods.SetSetting count params r e = asked requests.Set (counted 1 count (value_in of params)) r (λ x q. tt) e
+asked-short of methods.SetEnabled count params r e = asked requests.SetEnabled (counted 1 count (all bool_at params)) r (λ x q. tt) e
+asked-short of methods.SetLabel count params r e =
+    asked requests.SetLabel (counted 1 count (all text_at params)) r (λ x q. with-short IsShortText 1 count text_at params x (text-short params) q) e
+asked-short of methods.GetPositionName count params r e = asked requests.GetPositionName (counted 1 count (all (unsigned_at w16) params)) r (λ x q. tt) e
+asked-short of methods.SetPositionName count params r e =
+    asked (λ x. requests.SetPositionName x.0 x.1) (counted 2 count (all (pair_at (unsigned_at w16) text_at) params)) r
     (λ x q. with-short (λ (y : ℕ × List ℕ). IsShortText y.1) 2 count (pair_at (unsigned_at w16) text_at) params x (second-short params) q) e
-asked-short value methods.GetPositionNames count params r e = plainly (requests.Switch switches.GetPositionNames) r count params tt e
-asked-short value methods.SetPositionNames count params r e =
-    asked (λ x. requests.Switch (switches.SetPositionNames x)) (with_parameters 1 (list_at text_at (positions value)) count params) r
-    (λ x q. with-short (All IsShortText) 1 count (list_at text_at (positions value)) params x (list-short (positions value) params) q) e
-asked-short value methods.GetPositionEnabled count params r e = asked (λ n. requests.Switch (switches.GetPositionEnabled n)) _ r (λ x q. tt) e
-asked-short value methods.SetPositionEnabled count params r e = asked (λ x. requests.Switch (switches.SetPositionEnabled x.0 x.1)) _ r (λ x q. tt) e
-asked-short value methods.GetPositionEnableds count params r e = plainly (requests.Switch switches.GetPositionEnableds) r count params tt e
-asked-short value methods.SetPositionEnableds count params r e = asked (λ x. requests.Switch (switches.SetPositionEnableds (record { items = x }))) _ r (λ x q. tt) e
-asked-short value methods.GetSetting count params r e = plainly requests.GetSetting r count params tt e
-asked-short value methods.SetSetting count params r e = asked-setting value count params r e
+asked-short of methods.SetPositionNames count params r e =
+    asked (λ xs. requests.SetPositionNames (record { items = xs })) (counted 1 count (all (list_of_most 16 text_at) params)) r
+    (λ x q. with-short (All IsShortText) 1 count (list_of_most 16 text_at) params x (list-short params) q) e
+asked-short of methods.GetPositionEnabled count params r e = asked requests.GetPositionEnabled (counted 1 count (all (unsigned_at w16) params)) r (λ x q. tt) e
+asked-short of methods.SetPositionEnabled count params r e = asked (λ x. requests.SetPositionEnabled x.0 x.1) (counted 2 count (all (pair_at (unsigned_at w16) bool_at) params)) r (λ x q. tt) e
+asked-short of methods.SetPositionEnableds count params r e = asked (λ xs. requests.SetPositionEnableds (record { items = xs })) (counted 1 count (all (list_of_most 16 bool_at) params)) r (λ x q. tt) e
 
-request-short : (o : Object) (kind : MethodKind) (c : CommandFields) (r : Request) → request_at (Some o) kind c ≡ Some r → SetsShort r
-request-short o (Known method access) c r e = asked-short o.value method c.count c.params r e
-request-short o LeftOut c r e = absurd (cc)
-request-short o Unknown c r e = absurd (cc)
+request-short : (o : Object) (kind : MethodKind) (c : CommandFields) (r : Request) → asked_at (Some o) kind c ≡ Ok r → SetsShort r
+request-short o (Known method access) c r e = asked-short (class_of o.value) method c.count c.params r e
+request-short o LeftOut c r e = let no : ⊥ = cc in absurd no
+request-short o Unknown c r e = let no : ⊥ = cc in absurd no
 
 -- ---- what is changed
 
-switch-kept : (s : Switch) (q : SwitchRequest) → SetsShort (requests.Switch q) → All IsShortText s.names.items → All IsShortText (changed_switch s q).names.items
+-- a value that is set has the names that it had
+set-named : (v : Value) (new : Setting) → names_in (set_to v new) ≡ names_in v
+unfolding names_in
+set-named values.Block new = refl
+set-named (values.Mute state) (settings.Mute s) = refl
+set-named (values.Mute state) _ = refl
+set-named (values.Polarity state) (settings.Polarity s) = refl
+set-named (values.Polarity state) _ = refl
+set-named (values.Switch switch) (settings.Switch n) = refl
+set-named (values.Switch switch) _ = refl
+set-named (values.Boolean truth) (settings.Boolean b) = refl
+set-named (values.Boolean truth) _ = refl
+set-named (values.Number range) new = refl
+
+-- what is changed of the positions leaves short names
+positions-kept : (change : Switch → Switch) → ((s : Switch) → All IsShortText s.names.items → All IsShortText (change s).names.items) → (v : Value) → All IsShortText (names_in v) → All IsShortText (names_in (with_positions change v))
+unfolding names_in
+positions-kept change keeps values.Block h = h
+positions-kept change keeps (values.Mute state) h = h
+positions-kept change keeps (values.Polarity state) h = h
+positions-kept change keeps (values.Switch s) h = keeps s h
+positions-kept change keeps (values.Boolean truth) h = h
+positions-kept change keeps (values.Number range) h = h
+
+value-kept : (v : Value) (r : Request) → SetsShort r → All IsShortText (names_in v) → All IsShortText (names_in (value_changed_by v r))
 unfolding SetsShort
-switch-kept s (switches.SetPositionName n text) is h = All-set IsShortText s.names.items n text is h
-switch-kept s (switches.SetPositionNames texts) is h = is
-switch-kept s switches.GetPosition is h = h
-switch-kept s (switches.SetPosition n) is h = h
-switch-kept s (switches.GetPositionName n) is h = h
-switch-kept s switches.GetPositionNames is h = h
-switch-kept s (switches.GetPositionEnabled n) is h = h
-switch-kept s (switches.SetPositionEnabled n truth) is h = h
-switch-kept s switches.GetPositionEnableds is h = h
-switch-kept s (switches.SetPositionEnableds truths) is h = h
-
-positions-kept : (s : Switch) (r : Request) → SetsShort r → All IsShortText s.names.items → All IsShortText (changed_positions s r).names.items
-positions-kept s (requests.Switch q) is h = switch-kept s q is h
-positions-kept s _ is h = h
-
-value-kept : (v : Value) (r : Request) → SetsShort r → All IsShortText (names_in v) → All IsShortText (names_in (changed_value v r))
-unfolding changed_value names_in
-value-kept values.Block r is h = h
-value-kept (values.Mute state) r is h = h
-value-kept (values.Polarity state) r is h = h
-value-kept (values.Switch s) r is h = positions-kept s r is h
-value-kept (values.Boolean truth) r is h = h
-value-kept (values.Number range) r is h = h
+value-kept v (requests.Set new) is h = subst (All IsShortText) (sym (set-named v new)) h
+value-kept v (requests.SetPositionName n text) is h = positions-kept (λ s. record s { names = record { items = slice_set s.names.items n text } }) (λ s k. All-set IsShortText s.names.items n text is k) v h
+value-kept v (requests.SetPositionNames texts) is h = positions-kept (λ s. record s { names = texts }) (λ s k. is) v h
+value-kept v (requests.SetPositionEnabled n truth) is h = positions-kept (λ s. record s { enableds = record { items = slice_set s.enableds.items n truth } }) (λ s k. k) v h
+value-kept v (requests.SetPositionEnableds flags) is h = positions-kept (λ s. record s { enableds = flags }) (λ s k. k) v h
+value-kept v _ is h = h
 
 -- the same number, container, role, and whether it can be locked
 pub record IsSameBut (o new : Object) : Type 0 where
@@ -237,7 +241,7 @@ pub record IsSameBut (o new : Object) : Type 0 where
 abbrev valued_as : Object → Value → Object
 valued_as o v = record o { value = v }
 
-value-named : (o : Object) (r : Request) → SetsShort r → IsNamed o → IsNamed (valued_as o (changed_value o.value r))
+value-named : (o : Object) (r : Request) → SetsShort r → IsNamed o → IsNamed (valued_as o (value_changed_by o.value r))
 value-named o r is h = record {
   ono = h.ono;
   container = h.container;
@@ -247,8 +251,8 @@ value-named o r is h = record {
   names = value-kept o.value r is h.names;
 }
 
-changed-same : (o : Object) (peer : Peer) (r : Request) → SetsShort r → IsSameBut o (changed o peer r)
-unfolding changed SetsShort
+changed-same : (o : Object) (peer : Peer) (r : Request) → SetsShort r → IsSameBut o (changed_by o peer r)
+unfolding changed_by SetsShort
 changed-same o peer requests.LockTotal is = record { number = refl; role = refl; lockable = refl; named = λ h. record { ono = h.ono; container = h.container; role = h.role; some = h.some; label = h.label; names = h.names } }
 changed-same o peer requests.LockReadonly is = record { number = refl; role = refl; lockable = refl; named = λ h. record { ono = h.ono; container = h.container; role = h.role; some = h.some; label = h.label; names = h.names } }
 changed-same o peer requests.Unlock is = record { number = refl; role = refl; lockable = refl; named = λ h. record { ono = h.ono; container = h.container; role = h.role; some = h.some; label = h.label; names = h.names } }
@@ -294,17 +298,17 @@ abbrev KeptBy : List Object → TreeAndReply → Type 0
 KeptBy tree x = Rooted tree → All IsNamed tree → Rooted x.tree × All IsNamed x.tree
 
 carried : (tree : List Object) (peer : Peer) (n : ℕ) (o : Object) (r : Request) → object_of tree n ≡ Some o → SetsShort r → Rooted tree → All IsNamed tree
-    → Rooted (with_object tree (changed o peer r)) × All IsNamed (with_object tree (changed o peer r))
+    → Rooted (with_object tree (changed_by o peer r)) × All IsNamed (with_object tree (changed_by o peer r))
 carried tree peer n o r at is root named =
     let same = changed-same o peer r is in
-    (root-placed tree n o (changed o peer r) at same root, placed tree (changed o peer r) (same.named (named-at tree n o at named)) named)
+    (root-placed tree n o (changed_by o peer r) at same root, placed tree (changed_by o peer r) (same.named (named-at tree n o at named)) named)
 
-by-status : (tree : List Object) (peer : Peer) (n : ℕ) (o : Option Object) (r : Option Request) (s : Status) → object_of tree n ≡ o
-    → ((x : Object) (q : Request) → o ≡ Some x → r ≡ Some q → SetsShort q) → KeptBy tree (by_status tree peer o r s)
-by-status tree peer n (Some o) (Some r) status.Ok at is root named = carried tree peer n o r at (is o r refl refl) root named
+by-status : (tree : List Object) (peer : Peer) (n : ℕ) (o : Option Object) (r : Result Request ValueFault) (s : Status) → object_of tree n ≡ o
+    → ((x : Object) (q : Request) → o ≡ Some x → r ≡ Ok q → SetsShort q) → KeptBy tree (by_status tree peer o r s)
+by-status tree peer n (Some o) (Ok r) status.Ok at is root named = carried tree peer n o r at (is o r refl refl) root named
 by-status tree peer n None r s at is root named = (root, named)
-by-status tree peer n (Some o) None s at is root named = (root, named)
-by-status tree peer n (Some o) (Some r) s at is root named = (root, named)
+by-status tree peer n (Some o) (Err fault) s at is root named = (root, named)
+by-status tree peer n (Some o) (Ok r) s at is root named = (root, named)
 
 -- A COMMAND LEAVES the root as it was made, and objects that fit a line.
 pub command-kept : (tree : List Object) (peer : Peer) (c : CommandFields) → KeptBy tree (execution tree peer c)
@@ -312,33 +316,22 @@ unfolding execution
 command-kept tree peer c = by (object_of tree c.target) refl
   where
     by : (o : Option Object) → object_of tree c.target ≡ o
-        → KeptBy tree (by_status tree peer o (request_at o (kind_at o c) c) (status_of tree peer o c))
-    by None at = by-status tree peer c.target None (request_at None (kind_at None c) c) (status_of tree peer None c) at (λ x q e. absurd (cc))
+        → KeptBy tree (by_status tree peer o (asked_at o (kind_at o c) c) (status_of tree peer o c))
+    by None at = by-status tree peer c.target None (asked_at None (kind_at None c) c) (status_of tree peer None c) at (λ x q e. absurd (cc))
     by (Some o) at =
-        by-status tree peer c.target (Some o) (request_at (Some o) (kind_at (Some o) c) c) (status_of tree peer (Some o) c) at
+        by-status tree peer c.target (Some o) (asked_at (Some o) (kind_at (Some o) c) c) (status_of tree peer (Some o) c) at
         (λ x q e f. request-short o (kind_at (Some o) c) c q f)
 
 -- ---- what the front panel sets
 
 -- no value is a text
-setting-short : (value : Setting) → SetsShort (request_for value)
+set-short : (value : Setting) → SetsShort (requests.Set value)
 unfolding SetsShort
-setting-short (settings.Mute state) = tt
-setting-short (settings.Polarity state) = tt
-setting-short (settings.Switch position) = tt
-setting-short (settings.Boolean truth) = tt
-setting-short (settings.Int8 setting) = tt
-setting-short (settings.Int16 setting) = tt
-setting-short (settings.Int32 setting) = tt
-setting-short (settings.Int64 setting) = tt
-setting-short (settings.Uint8 setting) = tt
-setting-short (settings.Uint16 setting) = tt
-setting-short (settings.Uint32 setting) = tt
-setting-short (settings.Uint64 setting) = tt
+set-short value = tt
 
 by-fault : (tree : List Object) (n : ℕ) (fault : Option SetFault) (o : Option Object) (value : Setting) → object_of tree n ≡ o → Rooted tree → All IsNamed tree
     → Rooted (set_where fault tree o value) × All IsNamed (set_where fault tree o value)
-by-fault tree n None (Some o) value at root named = carried tree front n o (request_for value) at (setting-short value) root named
+by-fault tree n None (Some o) value at root named = carried tree front n o (requests.Set value) at (set-short value) root named
 by-fault tree n None None value at root named = (root, named)
 by-fault tree n (Some fault) o value at root named = (root, named)
 

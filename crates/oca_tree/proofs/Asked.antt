@@ -17,8 +17,9 @@ use Rattle.oca_tree.specs.declared.request.Request.TheVariants as requests
 use Rattle.oca_tree.specs.declared.request.SwitchRequest.TheVariants as switches
 use Rattle.oca_tree.specs.Kinds.{number_of_kind_at}
 use Rattle.oca_model.specs.Parameters.{whole, pair_at, items_at, list_at}
-use Rattle.oca_tree.specs.Requests.{positions, with_parameters, without_parameters, setting_request, request_carried}
-use Rattle.oca_tree.specs.Execution.{request_at}
+use Rattle.oca_tree.specs.Requests.{positions}
+use Rattle.oca_tree.specs.PrivateRequests.{with_parameters, without_parameters, setting_request, request_carried}
+use Rattle.oca_tree.specs.PrivateExecution.{request_at}
 use Rattle.oca_model.proofs.Steps.{with_first}
 
 unfoldable pub FitsPositions : Value → Request → Type 0
@@ -49,7 +50,7 @@ module _ {X : Type 0} (item : List ℕ → Option (X × List ℕ)) where
   one_more n first None xs rest h e = cc
   one_more n first (Some y) xs rest h e = let same : first ∷ y.0 ≡ xs = ap (front_or []) e in sym (ap length same) ∙ ap suc (h y.0 y.1 refl)
 
-  items_length : (n : ℕ) (bytes : List ℕ) (xs : List X) (rest : List ℕ) → items_at item n bytes ≡ Some (xs, rest) → length xs ≡ n
+  pub items_length : (n : ℕ) (bytes : List ℕ) (xs : List X) (rest : List ℕ) → items_at item n bytes ≡ Some (xs, rest) → length xs ≡ n
   unfolding items_at
   items_length zero bytes xs rest e = let same : [] ≡ xs = ap (front_or []) e in sym (ap length same)
   items_length (suc n) bytes xs rest e = by (item bytes) (items_length n) e
@@ -70,7 +71,7 @@ module _ {X : Type 0} (item : List ℕ → Option (X × List ℕ)) where
       by None h = cc
       by (Some x) h = test (x.0 == n) x.1 h
 
-  whole_length : (n : ℕ) (o : Option (List X × List ℕ)) (xs : List X) → ((ys : List X) (rest : List ℕ) → o ≡ Some (ys, rest) → length ys ≡ n) → whole o ≡ Some xs → length xs ≡ n
+  pub whole_length : (n : ℕ) (o : Option (List X × List ℕ)) (xs : List X) → ((ys : List X) (rest : List ℕ) → o ≡ Some (ys, rest) → length ys ≡ n) → whole o ≡ Some xs → length xs ≡ n
   whole_length n None xs h e = cc
   whole_length n (Some (ys, [])) xs h e = let same : ys ≡ xs = cc in sym (ap length same) ∙ h ys [] refl
   whole_length n (Some (ys, b ∷ rest)) xs h e = cc

@@ -16,11 +16,12 @@ use Rattle.oca_types.specs.Peers.{CommandFields}
 use Rattle.oca_tree.specs.declared.object.Object.{Object}
 use Rattle.oca_tree.specs.declared.request.Request.{Request}
 use Rattle.oca_tree.specs.Objects.{object_of, has_number, with_object}
-use Rattle.oca_tree.specs.Requests.{request_carried, is_out_of_range, is_invalid}
-use Rattle.oca_tree.specs.Execution.{execution, refused, carried_out, parameters, answer, parameter_count, changed, status_of, by_status, request_at, kind_at}
+use Rattle.oca_tree.specs.PrivateRequests.{request_carried, is_out_of_range, is_invalid}
+use Rattle.oca_tree.specs.PrivateExecution.{execution_in_bytes, own_carried_out, parameters, answer, parameter_count, changed, own_status, by_own_status, request_at}
+use Rattle.oca_tree.specs.Execution.{refused, kind_at}
 use Rattle.oca_tree.specs.Trees.{IsTree, IsSound}
 use Rattle.oca_tree.specs.Written.{is_ok}
-use Rattle.oca_tree.specs.PrivateSteps.{plain_request, MayCall, IsRefusedAt, IsRequestFor, PutsAll, Executes}
+use Rattle.oca_tree.specs.PrivateSteps.{plain_request, MayCall, IsRefusedAt, IsRequestFor, PutsAll, ExecutesInBytes}
 use Rattle.oca_tree.proofs.Plain.{plain_asks, plain_in_range, plain_valid, plain_unchanged}
 use Rattle.oca_tree.proofs.Positions.{find_some, find_passes, place_found, with_object_at, same_element}
 use Rattle.oca_tree.proofs.Asked.{request_fits}
@@ -50,33 +51,33 @@ plain_ok o peer c method r may plain none empty =
     request_ok o peer c method r may asked (plain_in_range method r plain o.value) (plain_valid method r plain o.lockable o.lock)
 
 module _ (tree : List Object) (peer : Peer) (c : CommandFields) where
-  pub exec_none : object_of tree c.target ≡ None → execution tree peer c ≡ refused tree statuses.BadOno
-  unfolding execution
+  pub exec_none : object_of tree c.target ≡ None → execution_in_bytes tree peer c ≡ refused tree statuses.BadOno
+  unfolding execution_in_bytes
   exec_none e = rw e refl
 
   module _ (o : Object) (found : object_of tree c.target ≡ Some o) where
-    at_object : execution tree peer c ≡ by_status tree peer (Some o) (request_at (Some o) (kind_at (Some o) c) c) (status_of tree peer (Some o) c)
-    unfolding execution
-    at_object = ap (λ x. by_status tree peer x (request_at x (kind_at x c) c) (status_of tree peer x c)) found
+    at_object : execution_in_bytes tree peer c ≡ by_own_status tree peer (Some o) (request_at (Some o) (kind_at (Some o) c) c) (own_status tree peer (Some o) c)
+    unfolding execution_in_bytes
+    at_object = ap (λ x. by_own_status tree peer x (request_at x (kind_at x c) c) (own_status tree peer x c)) found
 
-    pub exec_refused : (s : Status) → IsRefusedAt s o peer c → execution tree peer c ≡ refused tree s
+    pub exec_refused : (s : Status) → IsRefusedAt s o peer c → execution_in_bytes tree peer c ≡ refused tree s
     exec_refused s h = at_object ∙ h tree
 
     module _ (r : Request) (asked : IsRequestFor (Ok r) o peer c) where
-      with_request : by_status tree peer (Some o) (request_at (Some o) (kind_at (Some o) c) c) (status_of tree peer (Some o) c) ≡ by_status tree peer (Some o) (Some r) (status_of tree peer (Some o) c)
-      with_request = ap (λ x. by_status tree peer (Some o) x (status_of tree peer (Some o) c)) asked.0
+      with_request : by_own_status tree peer (Some o) (request_at (Some o) (kind_at (Some o) c) c) (own_status tree peer (Some o) c) ≡ by_own_status tree peer (Some o) (Some r) (own_status tree peer (Some o) c)
+      with_request = ap (λ x. by_own_status tree peer (Some o) x (own_status tree peer (Some o) c)) asked.0
 
-      pub exec_full : 1452 < length (answer tree o r) → execution tree peer c ≡ refused tree statuses.BufferOverflow
+      pub exec_full : 1452 < length (answer tree o r) → execution_in_bytes tree peer c ≡ refused tree statuses.BufferOverflow
       exec_full h =
           let long : nat_lt 1452 (length (answer tree o r)) ≡ true = grind arith in
-          let full : status_of tree peer (Some o) c ≡ statuses.BufferOverflow = asked.3 tree ∙ (rw long refl) in
-          at_object ∙ with_request ∙ ap (by_status tree peer (Some o) (Some r)) full
+          let full : own_status tree peer (Some o) c ≡ statuses.BufferOverflow = asked.3 tree ∙ (rw long refl) in
+          at_object ∙ with_request ∙ ap (by_own_status tree peer (Some o) (Some r)) full
 
-      pub exec_ok : length (answer tree o r) ≤ 1452 → execution tree peer c ≡ carried_out tree peer o r
+      pub exec_ok : length (answer tree o r) ≤ 1452 → execution_in_bytes tree peer c ≡ own_carried_out tree peer o r
       exec_ok h =
           let short : nat_lt 1452 (length (answer tree o r)) ≡ false = grind arith in
-          let fine : status_of tree peer (Some o) c ≡ statuses.Ok = asked.3 tree ∙ (rw short refl) in
-          at_object ∙ with_request ∙ ap (by_status tree peer (Some o) (Some r)) fine
+          let fine : own_status tree peer (Some o) c ≡ statuses.Ok = asked.3 tree ∙ (rw short refl) in
+          at_object ∙ with_request ∙ ap (by_own_status tree peer (Some o) (Some r)) fine
 
 -- what was found at an index
 module _ (tree : List Object) (peer : Peer) (c : CommandFields) (i : ℕ) (o : Object) (place : Some i ≡ position (has_number c.target) tree) (here : o ≡ get_or tree i o) where
@@ -98,11 +99,11 @@ module _ (tree : List Object) (peer : Peer) (c : CommandFields) (i : ℕ) (o : O
       with_object_at tree i c.target new (same ∙ eqb-true o.ono.0 c.target numbered) place
 
   module _ (r : Request) (asked : IsRequestFor (Ok r) o peer c) (out : List ℕ) where
-    pub full_at : (s : Status) → PutsAll (Err s) [] out (parameters tree o r) → execution tree peer c ≡ refused tree s
+    pub full_at : (s : Status) → PutsAll (Err s) [] out (parameters tree o r) → execution_in_bytes tree peer c ≡ refused tree s
     full_at s (is, long) = exec_full tree peer c o found_at r asked (omega (arith, long)) ∙ ap (refused tree) (sym is)
 
     module _ (count : ℕ) (puts : PutsAll (Ok count) [] out (parameters tree o r)) (short : length out ≤ 1452) where
-      pub done_at : execution tree peer c ≡ record { tree = set tree i (changed o peer r); status = statuses.Ok; count = count; parameters = out }
+      pub done_at : execution_in_bytes tree peer c ≡ record { tree = set tree i (changed o peer r); status = statuses.Ok; count = count; parameters = out }
       done_at =
           exec_ok tree peer c o found_at r asked (rw (← puts.0) short)
           ∙ ap (λ t. record { tree = t; status = statuses.Ok; count = parameter_count tree o r; parameters = answer tree o r }) (placed (changed o peer r) (changed_ono o peer r))
@@ -116,7 +117,7 @@ module _ (tree : List Object) (peer : Peer) (c : CommandFields) (i : ℕ) (o : O
 
   -- what only reads leaves the tree
   pub read_at : (method : Method) (r : Request) → MayCall method o peer c → plain_request method ≡ Some r → c.count ≡ 0 → length c.params ≡ 0
-      → (result : Result ℕ Status) (out : List ℕ) → PutsAll result [] out (parameters tree o r) → length out ≤ 1452 → Executes result tree tree out peer c
+      → (result : Result ℕ Status) (out : List ℕ) → PutsAll result [] out (parameters tree o r) → length out ≤ 1452 → ExecutesInBytes result tree tree out peer c
   read_at method r may plain none empty (Ok count) out puts short =
       let same : set tree i (changed o peer r) ≡ tree =
       ap (set tree i) (plain_unchanged method r plain o peer ∙ here) ∙ set-get_or tree i o in

@@ -1,19 +1,17 @@
 -- What setting an object does, from what each of its steps found.
-use Rattle.std.proofs.Common.{◌≡◌, ℕ, ◌≤◌, length, arith, Bool, true, false, cond, List, [], get_or, set, refl, sym, ap, ◌∙◌}
-use Rattle.std.specs.Prelude.{Option, Some, None, not}
+use Rattle.std.proofs.Common.{◌≡◌, ℕ, Bool, true, false, cond, List, [], get_or, set, refl, sym, ap, ◌∙◌}
+use Rattle.std.specs.Prelude.{Option, Some, None, Ok, not}
 use Rattle.std.specs.List.{position}
 use Rattle.oca_types.specs.Peers.{CommandFields}
 use Rattle.oca_types.specs.declared.class.Class.TheVariants as class
 use Rattle.oca_types.specs.declared.class.Method.{Method}
 use Rattle.oca_types.specs.declared.class.MethodKind.{MethodKind}
 use Rattle.oca_types.specs.declared.class.MethodKind.TheVariants.{Known, LeftOut, Unknown}
-use Rattle.oca_types.specs.Methods.{access}
 use Rattle.oca_types.specs.declared.status.Status.TheVariants as statuses
 use Rattle.oca_tree.specs.declared.object.Lock.{Lock}
 use Rattle.oca_tree.specs.declared.object.Object.{Object}
 use Rattle.oca_tree.specs.declared.object.Value.{Value as Held}
 use Rattle.oca_tree.specs.declared.object.Value.TheVariants as values
-use Rattle.oca_tree.specs.declared.request.SwitchRequest.TheVariants as switches
 use Rattle.oca_model.specs.declared.value.Value.{Value}
 use Rattle.oca_model.specs.declared.value.Value.TheVariants as to_set
 use Rattle.oca_model.specs.Values.{class_of_value}
@@ -22,30 +20,29 @@ use Rattle.oca_tree.specs.declared.setting.SetFault.TheVariants as faults
 use Rattle.oca_tree.specs.Objects.{class_of, object_of, has_number, with_object}
 use Rattle.oca_tree.specs.Locks.{lock_refuses}
 use Rattle.oca_tree.specs.Places.{is_block_value}
-use Rattle.oca_tree.specs.Requests.{request_carried, is_out_of_range, is_invalid}
-use Rattle.oca_tree.specs.Execution.{TreeAndReply, changed, execution, answer, joined, parameters, switch_parameters, kind_at, request_at, is_locked}
-use Rattle.oca_tree.specs.Settings.{request_for, is_of_its_class, fault_at, set_fault_in, set_fault, front, set_where, after_set, AnyPeerSetsTheSame, status_for, SetsTheSame, FrontSetsAsPeersDo}
+use Rattle.oca_types.specs.declared.class.Access.{Access}
+use Rattle.oca_types.specs.declared.words.Peer.{Peer}
+use Rattle.oca_model.specs.declared.request.Request.TheVariants as asks
+use Rattle.oca_model.specs.Answers.{answer_encoding}
+use Rattle.oca_model.specs.Requests.{request_in}
+use Rattle.oca_tree.specs.Requests.{cannot_be, asks_out_of_range, asks_invalid}
+use Rattle.oca_tree.specs.Execution.{TreeAndReply, kind_at, asked_at, is_locked, carried_out, refused, execution}
+use Rattle.oca_tree.specs.PrivateRequests.{is_out_of_range, is_invalid, request_for}
+use Rattle.oca_tree.specs.PrivateExecution.{changed}
+use Rattle.oca_tree.specs.Typed.{answer_given, changed_by}
+use Rattle.oca_tree.specs.Settings.{is_of_its_class, fault_at, set_fault_in, set_fault, front, set_where, after_set, AnyPeerSetsTheSame, status_for, SetsTheSame, FrontSetsAsPeersDo}
 use Rattle.oca_tree.specs.Trees.{IsTree}
 use Rattle.oca_tree.proofs.Asked.{FitsPositions}
-use Rattle.oca_tree.proofs.Executing.{found_at, within_at, sound_at, placed, known_access, request_ok, exec_refused, exec_ok}
+use Rattle.oca_tree.proofs.Executing.{found_at, within_at, sound_at, every_at, placed}
+use Rattle.oca_tree.proofs.TypedRefusals.{out_for}
+use Rattle.oca_tree.proofs.TypedSetting.{set_same}
 use Rattle.oca_tree.proofs.Sound.{changed_place, changed_ono, changed_sound, written_tree}
 
 pub any_peer : AnyPeerSetsTheSame
-unfolding changed
-any_peer o peer (to_set.Mute s) = refl
-any_peer o peer (to_set.Polarity s) = refl
-any_peer o peer (to_set.Switch n) = refl
-any_peer o peer (to_set.Boolean b) = refl
-any_peer o peer (to_set.Int8 n) = refl
-any_peer o peer (to_set.Int16 n) = refl
-any_peer o peer (to_set.Int32 n) = refl
-any_peer o peer (to_set.Int64 n) = refl
-any_peer o peer (to_set.Uint8 n) = refl
-any_peer o peer (to_set.Uint16 n) = refl
-any_peer o peer (to_set.Uint32 n) = refl
-any_peer o peer (to_set.Uint64 n) = refl
+unfolding changed_by
+any_peer o peer value = refl
 
-valid : (lockable : Bool) (lock : Option Lock) (value : Value) → is_invalid lockable lock (request_for value) ≡ false
+pub valid : (lockable : Bool) (lock : Option Lock) (value : Value) → is_invalid lockable lock (request_for value) ≡ false
 unfolding is_invalid
 valid lockable lock (to_set.Mute s) = refl
 valid lockable lock (to_set.Polarity s) = refl
@@ -60,7 +57,7 @@ valid lockable lock (to_set.Uint16 n) = refl
 valid lockable lock (to_set.Uint32 n) = refl
 valid lockable lock (to_set.Uint64 n) = refl
 
-fits : (held : Held) (value : Value) → FitsPositions held (request_for value)
+pub fits : (held : Held) (value : Value) → FitsPositions held (request_for value)
 unfolding FitsPositions
 fits held (to_set.Mute s) = tt
 fits held (to_set.Polarity s) = tt
@@ -75,14 +72,23 @@ fits held (to_set.Uint16 n) = tt
 fits held (to_set.Uint32 n) = tt
 fits held (to_set.Uint64 n) = tt
 
-in_range : (held : Held) (value : Value) → fault_at held value ≡ None → is_out_of_range held (request_for value) ≡ false
-in_range held value e = by (is_block_value held) (is_of_its_class (class_of held) value) (is_out_of_range held (request_for value)) e
+-- what has no fault is in range, and of the class
+pub in_range : (held : Held) (value : Value) → fault_at held value ≡ None → is_out_of_range held (request_for value) ≡ false
+in_range held value e = out_for held value ∙ by (is_block_value held) (is_of_its_class (class_of held) value) (cannot_be held value) e
   where
     by : (a b out : Bool) → cond a (Some faults.NoSetting) (cond (not b) (Some faults.OtherKind) (cond out (Some faults.OutOfRange) None)) ≡ None → out ≡ false
     by a b false h = refl
     by true b true h = cc
     by false true true h = cc
     by false false true h = cc
+
+pub is_taken : (held : Held) (value : Value) → fault_at held value ≡ None → is_of_its_class (class_of held) value ≡ true
+is_taken held value e = by (is_block_value held) (is_of_its_class (class_of held) value) (cannot_be held value) e
+  where
+    by : (a b out : Bool) → cond a (Some faults.NoSetting) (cond (not b) (Some faults.OtherKind) (cond out (Some faults.OutOfRange) None)) ≡ None → b ≡ true
+    by true b out h = cc
+    by false true out h = refl
+    by false false out h = cc
 
 -- a command to the object of this number, for what was found by the number
 abbrev to : ℕ → CommandFields
@@ -105,11 +111,15 @@ module _ (tree : List Object) (number i : ℕ) (o : Object) (place : Some i ≡ 
   fault_there = ap (λ x. set_fault_in x value) found
 
   module _ (fine : fault_at o.value value ≡ None) where
+    pub range_there : (d : Object) → is_out_of_range (get_or tree i d).value (request_for value) ≡ false
+    range_there d = ap (λ (x : Object). is_out_of_range x.value (request_for value)) (every_at tree front (to number) i o place here d) ∙ in_range o.value value fine
+
     pub set_there : after_set tree number value ≡ set tree i (changed o front (request_for value))
     unfolding after_set
     set_there =
         ap (λ f. set_where f tree (object_of tree number) value) (fault_there ∙ fine)
         ∙ ap (λ x. set_where None tree x value) found
+        ∙ ap (with_object tree) (sym (set_same o value (is_taken o.value value fine)))
         ∙ placed tree front (to number) i o place here (changed o front (request_for value)) (changed_ono o front (request_for value))
 
     pub tree_there : IsTree tree → IsTree (set tree i (changed o front (request_for value)))
@@ -117,30 +127,20 @@ module _ (tree : List Object) (number i : ℕ) (o : Object) (place : Some i ≡ 
         let new = changed_sound o front (request_for value) (sound_at tree front (to number) i o place here sound) (in_range o.value value fine) (valid o.lockable o.lock value) (fits o.value value) in
         written_tree tree i o (changed o front (request_for value)) (within_at tree front (to number) i o place here) here (changed_place o front (request_for value)) new sound
 
+-- ---- a command that sets a value
+
+module _ (tree : List Object) (peer : Peer) (c : CommandFields) (o : Object) (found : object_of tree c.target ≡ Some o) (method : Method) (reached : Access)
+    (kind : kind_at (Some o) c ≡ Known method reached) (free : lock_refuses o.lock peer reached ≡ false) (value : Value)
+    (asked : request_in (class_of o.value) method c.count c.params ≡ Ok (asks.Set value)) where
+  refused_set : cannot_be o.value value ≡ true → execution tree peer c ≡ refused tree statuses.ParameterOutOfRange
+  unfolding execution asks_out_of_range
+  refused_set e = rw (found, kind, free, asked, e) refl
+
+  carried_set : cannot_be o.value value ≡ false → execution tree peer c ≡ carried_out tree peer o (asks.Set value)
+  unfolding execution asks_out_of_range asks_invalid answer_given answer_encoding
+  carried_set e = rw (found, kind, free, asked, e) refl
+
 -- ---- the front sets as a peer's command does
-
-no_switch_answer : (held : Held) (n : ℕ) → switch_parameters held (switches.SetPosition n) ≡ []
-no_switch_answer values.Block n = refl
-no_switch_answer (values.Mute state) n = refl
-no_switch_answer (values.Polarity state) n = refl
-no_switch_answer (values.Switch switch) n = refl
-no_switch_answer (values.Boolean truth) n = refl
-no_switch_answer (values.Number range) n = refl
-
-no_answer : (tree : List Object) (o : Object) (value : Value) → parameters tree o (request_for value) ≡ []
-unfolding parameters
-no_answer tree o (to_set.Mute s) = refl
-no_answer tree o (to_set.Polarity s) = refl
-no_answer tree o (to_set.Switch n) = no_switch_answer o.value n
-no_answer tree o (to_set.Boolean b) = refl
-no_answer tree o (to_set.Int8 n) = refl
-no_answer tree o (to_set.Int16 n) = refl
-no_answer tree o (to_set.Int32 n) = refl
-no_answer tree o (to_set.Int64 n) = refl
-no_answer tree o (to_set.Uint8 n) = refl
-no_answer tree o (to_set.Uint16 n) = refl
-no_answer tree o (to_set.Uint32 n) = refl
-no_answer tree o (to_set.Uint64 n) = refl
 
 -- a value is one of its own class, which is none of a block
 own_class : (value : Value) → is_of_its_class (class_of_value value) value ≡ true
@@ -181,9 +181,9 @@ no_block (values.Switch switch) value e = refl
 no_block (values.Boolean truth) value e = refl
 no_block (values.Number range) value e = refl
 
--- then the fault is whether the value is out of range
+-- then the fault is whether the object cannot be it
 fault_taken : (held : Held) (value : Value) (out : Bool) → class_of held ≡ class_of_value value →
-    is_out_of_range held (request_for value) ≡ out → fault_at held value ≡ cond out (Some faults.OutOfRange) None
+    cannot_be held value ≡ out → fault_at held value ≡ cond out (Some faults.OutOfRange) None
 fault_taken held value out same e =
     let takes : is_of_its_class (class_of held) value ≡ true =
     ap (λ c. is_of_its_class c value) same ∙ own_class value in
@@ -193,36 +193,30 @@ pub as_peers : FrontSetsAsPeersDo
 unfolding set_fault after_set
 as_peers tree peer c o value found same free asked = by_kind (kind_at (Some o) c) refl free asked
   where
-    fault_is : (out : Bool) → is_out_of_range o.value (request_for value) ≡ out → set_fault tree c.target value ≡ cond out (Some faults.OutOfRange) None
+    fault_is : (out : Bool) → cannot_be o.value value ≡ out → set_fault tree c.target value ≡ cond out (Some faults.OutOfRange) None
     fault_is out e = ap (λ x. set_fault_in x value) found ∙ fault_taken o.value value out same e
 
-    set_here : is_out_of_range o.value (request_for value) ≡ false → after_set tree c.target value ≡ set_where None tree (Some o) value
+    set_here : cannot_be o.value value ≡ false → after_set tree c.target value ≡ set_where None tree (Some o) value
     set_here e = ap (λ f. set_where f tree (object_of tree c.target) value) (fault_is false e) ∙ ap (λ x. set_where None tree x value) found
 
-    by_range : (method : Method) → kind_at (Some o) c ≡ Known method (access method) → lock_refuses o.lock peer (access method) ≡ false →
-        request_carried o.value method c.count c.params ≡ Some (request_for value) → (out : Bool) → is_out_of_range o.value (request_for value) ≡ out →
+    by_range : (method : Method) (reached : Access) → kind_at (Some o) c ≡ Known method reached → lock_refuses o.lock peer reached ≡ false →
+        request_in (class_of o.value) method c.count c.params ≡ Ok (asks.Set value) → (out : Bool) → cannot_be o.value value ≡ out →
         SetsTheSame tree c.target value (execution tree peer c)
-    by_range method kind free asked true e =
-        let refused = exec_refused tree peer c o found statuses.ParameterOutOfRange (λ t. rw (kind, free, asked, e) refl) in
+    by_range method reached kind free asked true e =
+        let refused = refused_set tree peer c o found method reached kind free value asked e in
         record {
           tree_is = ap (λ (x : TreeAndReply). x.tree) refused ∙ sym (unset tree c.target value faults.OutOfRange (fault_is true e));
           status_is = ap (λ (x : TreeAndReply). x.status) refused ∙ sym (ap status_for (fault_is true e));
         }
-    by_range method kind free asked false e =
-        let r = request_for value in
-        let ok = request_ok o peer c method r (kind, free) asked e (valid o.lockable o.lock value) in
-        let none : answer tree o r ≡ [] = ap joined (no_answer tree o value) in
-        let short : length (answer tree o r) ≤ 1452 = rw none (omega arith) in
-        let carried = exec_ok tree peer c o found r ok short in
+    by_range method reached kind free asked false e =
+        let carried = carried_set tree peer c o found method reached kind free value asked e in
         record {
           tree_is = ap (λ (x : TreeAndReply). x.tree) carried ∙ ap (with_object tree) (any_peer o peer value) ∙ sym (set_here e);
           status_is = ap (λ (x : TreeAndReply). x.status) carried ∙ sym (ap status_for (fault_is false e));
         }
 
-    by_kind : (k : MethodKind) → kind_at (Some o) c ≡ k → is_locked (Some o) k peer ≡ false → request_at (Some o) k c ≡ Some (request_for value) →
+    by_kind : (k : MethodKind) → kind_at (Some o) c ≡ k → is_locked (Some o) k peer ≡ false → asked_at (Some o) k c ≡ Ok (asks.Set value) →
         SetsTheSame tree c.target value (execution tree peer c)
-    by_kind (Known method reached) kind free asked =
-        let is = known_access (class_of o.value) (record { level = c.level; index = c.index }) method reached kind in
-        by_range method (kind ∙ ap (Known method) is) (ap (lock_refuses o.lock peer) (sym is) ∙ free) asked (is_out_of_range o.value (request_for value)) refl
-    by_kind LeftOut kind free asked = cc
-    by_kind Unknown kind free asked = cc
+    by_kind (Known method reached) kind free asked = by_range method reached kind free asked (cannot_be o.value value) refl
+    by_kind LeftOut kind free asked = let no : ⊥ = cc in absurd no
+    by_kind Unknown kind free asked = let no : ⊥ = cc in absurd no

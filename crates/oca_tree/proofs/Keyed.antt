@@ -10,7 +10,7 @@ use Rattle.oca_tree.specs.declared.object.Object.{Object}
 use Rattle.oca_tree.specs.declared.request.Request.{Request}
 use Rattle.std.proofs.lemmas.Option.{get_or_from_slice_get}
 use Rattle.std.proofs.Math.Seq.{map-set_same}
-use Rattle.oca_tree.specs.Execution.{changed}
+use Rattle.oca_tree.specs.PrivateExecution.{changed}
 use Rattle.oca_tree.specs.Locks.{without_lock_of, is_held_by}
 use Rattle.oca_tree.specs.PrivateObjects.{IsKeyed}
 use Rattle.oca_tree.proofs.Sound.{shape_of, shapes}

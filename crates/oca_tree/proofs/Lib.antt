@@ -18,3 +18,13 @@ pub mod Takes
 pub mod Totals
 pub mod Fronts
 pub mod SetRequests
+pub mod TypedAnswers
+pub mod TypedChanges
+pub mod TypedRequests
+pub mod TypedRight
+pub mod TypedRefusals
+pub mod TypedExecution
+pub mod TypedCommands
+pub mod NumberKinds
+pub mod TypedSetting
+pub mod TypedOwn

@@ -15,8 +15,8 @@ use Rattle.oca_tree.specs.declared.object.Value.TheVariants as values
 use Rattle.oca_tree.specs.declared.request.Request.{Request}
 use Rattle.oca_tree.specs.declared.request.Request.TheVariants as requests
 use Rattle.oca_tree.specs.declared.request.SwitchRequest.TheVariants as switches
-use Rattle.oca_tree.specs.Requests.{request_carried, without_parameters, is_unlisted, is_bad_switch_request, is_outside, is_out_of_range, is_invalid}
-use Rattle.oca_tree.specs.Execution.{changed, changed_value, changed_mute, changed_polarity, changed_positions, changed_truth, changed_range}
+use Rattle.oca_tree.specs.PrivateRequests.{request_carried, without_parameters, is_unlisted, is_bad_switch_request, is_outside, is_out_of_range, is_invalid}
+use Rattle.oca_tree.specs.PrivateExecution.{changed, changed_value, changed_mute, changed_polarity, changed_positions, changed_truth, changed_range}
 use Rattle.oca_tree.specs.PrivateSteps.{plain_request}
 
 -- what a request asks of each kind of value is in range, and changes nothing of it

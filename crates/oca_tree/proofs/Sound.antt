@@ -22,8 +22,9 @@ use Rattle.oca_tree.specs.Kinds.{IsOfType, number_class}
 use Rattle.oca_tree.specs.Objects.{class_of}
 use Rattle.oca_tree.specs.Places.{Place, place_of, places, is_block_value}
 use Rattle.oca_tree.specs.Locks.{without_lock_of, is_held_by}
-use Rattle.oca_tree.specs.Requests.{is_enabled, is_out_of_range, is_outside, is_bad_position, is_bad_switch_request, is_invalid}
-use Rattle.oca_tree.specs.Execution.{changed, changed_value, changed_switch, changed_positions, changed_range}
+use Rattle.oca_tree.specs.Requests.{is_enabled}
+use Rattle.oca_tree.specs.PrivateRequests.{is_out_of_range, is_outside, is_bad_position, is_bad_switch_request, is_invalid}
+use Rattle.oca_tree.specs.PrivateExecution.{changed, changed_value, changed_switch, changed_positions, changed_range}
 use Rattle.oca_tree.proofs.Asked.{FitsPositions}
 use Rattle.oca_tree.specs.Trees.{IsTree, IsSound, IsSoundValue, IsSoundRange, IsSoundSwitch}
 

@@ -3,6 +3,7 @@ pub mod Places
 pub mod Objects
 pub mod Locks
 pub mod Requests
+pub mod Typed
 pub mod Execution
 pub mod Written
 pub mod Trees
@@ -14,5 +15,10 @@ pub mod Readers
 pub mod Copies
 pub mod Settings
 pub mod SetRequests
+pub mod TypedLaws
+pub mod PrivateRequests
+pub mod PrivateExecution
+pub mod PrivateTypes
+pub mod PrivateTyped
 pub mod PrivateSteps
 pub mod PrivateObjects

@@ -32,14 +32,17 @@ use Rattle.oca_tree.specs.Kinds.{IsOfType}
 use Rattle.oca_tree.specs.Places.{places, reaches}
 use Rattle.oca_tree.specs.Objects.{Store}
 use Rattle.oca_tree.specs.Locks.{lock_refuses}
-use Rattle.oca_tree.specs.Requests.{request_carried, is_out_of_range, is_invalid}
-use Rattle.oca_tree.specs.Execution.{identification_encoding, block_member_encoding, joined, answer, kind_at}
-use Rattle.oca_tree.specs.Execution.{request_at, status_of, by_status, refused, execution}
+use Rattle.oca_tree.specs.PrivateRequests.{request_carried, is_out_of_range, is_invalid}
+use Rattle.oca_tree.specs.PrivateExecution.{identification_encoding, block_member_encoding, joined, answer}
+use Rattle.oca_tree.specs.Execution.{kind_at}
+use Rattle.oca_tree.specs.PrivateExecution.{request_at, own_status, by_own_status, execution_in_bytes}
+use Rattle.oca_tree.specs.Execution.{TreeAndReply, refused, execution}
 use Rattle.oca_tree.specs.Written.{is_ok}
 use Rattle.oca_tree.specs.Trees.{IsTree, IsSoundValue}
 use Rattle.oca_tree.specs.Building.{add_fault, object_of_spec, is_bad_value}
 use Rattle.oca_tree.specs.Starts.{with_flags, has_other_flags, restored, start_fault}
-use Rattle.oca_tree.specs.Settings.{request_for, fault_at}
+use Rattle.oca_tree.specs.PrivateRequests.{request_for}
+use Rattle.oca_tree.specs.Settings.{fault_at}
 
 -- members and descendants in one: whether an object is listed, and how
 abbrev pub is_listed : List Object → ℕ → Bool → Object → Bool
@@ -103,7 +106,7 @@ MayCall method o peer c =
 -- The command is refused at the object, whatever the tree.
 abbrev pub IsRefusedAt : Status → Object → Peer → CommandFields → Type 0
 IsRefusedAt s o peer c = (tree : List Object) →
-    by_status tree peer (Some o) (request_at (Some o) (kind_at (Some o) c) c) (status_of tree peer (Some o) c)
+    by_own_status tree peer (Some o) (request_at (Some o) (kind_at (Some o) c) c) (own_status tree peer (Some o) c)
     ≡ refused tree s
 
 abbrev pub IsMethodFor : Result Method Status → Object → Peer → CommandFields → Type 0
@@ -116,15 +119,22 @@ IsRequestFor (Ok r) o peer c =
     (request_at (Some o) (kind_at (Some o) c) c ≡ Some r)
     × (is_out_of_range o.value r ≡ false) × (is_invalid o.lockable o.lock r ≡ false)
     × ((tree : List Object) →
-    status_of tree peer (Some o) c
+    own_status tree peer (Some o) c
     ≡ (if nat_lt most_parameter_bytes (length (answer tree o r)) then status.BufferOverflow else status.Ok))
 IsRequestFor (Err s) o peer c = IsRefusedAt s o peer c × (is_ok s ≡ false)
 
--- A command was carried out, or refused with nothing changed, as its execution says.
+-- A command was carried out, or refused with nothing changed, as this execution of it says.
+abbrev pub ExecutesAs : TreeAndReply → Result ℕ Status → List Object → List Object → List ℕ → Type 0
+ExecutesAs execution (Ok count) old new out =
+    execution ≡ record { tree = new; status = status.Ok; count = count; parameters = out }
+ExecutesAs execution (Err s) old new out = (execution ≡ refused old s) × (new ≡ old) × (is_ok s ≡ false)
+
+-- as its execution in bytes says, and as its execution says
+abbrev pub ExecutesInBytes : Result ℕ Status → List Object → List Object → List ℕ → Peer → CommandFields → Type 0
+ExecutesInBytes result old new out peer c = ExecutesAs (execution_in_bytes old peer c) result old new out
+
 abbrev pub Executes : Result ℕ Status → List Object → List Object → List ℕ → Peer → CommandFields → Type 0
-Executes (Ok count) old new out peer c =
-    execution old peer c ≡ record { tree = new; status = status.Ok; count = count; parameters = out }
-Executes (Err s) old new out peer c = (execution old peer c ≡ refused old s) × (new ≡ old) × (is_ok s ≡ false)
+Executes result old new out peer c = ExecutesAs (execution old peer c) result old new out
 
 -- A value is made where it is in range.
 abbrev pub MakesValue : Option Value → Value → Type 0

@@ -1,109 +1,21 @@
--- What a command asks: a method with its parameters (AES70-2; the numbers of methods are the profile's).
-use Rattle.std.specs.Prelude.{ℕ, ◌==◌, ◌&&◌, ◌||◌, not, Bool, false, if◌then◌else◌, List, length, nat_lt}
-use Rattle.std.specs.Prelude.{slice_index_or, Option, Some, None, is_none, int_le}
-use Rattle.std.specs.Option.{option_map}
-use Rattle.std.specs.Int.{w8, w16}
-use Rattle.oca_types.specs.declared.class.Method.{Method}
-use Rattle.oca_types.specs.declared.class.Method.TheVariants as methods
-use Rattle.oca_types.specs.Reading.{unsigned_at, bool_at, text_at}
-use Rattle.oca_tree.specs.declared.object.Lock.{Lock}
+-- What an object cannot be asked (AES70-2).
+use Rattle.std.specs.Prelude.{ℕ, ◌==◌, ◌&&◌, not, Bool, true, false, length, nat_lt, slice_index_or, Option, Some, None}
+use Rattle.std.specs.Prelude.{is_none, ℤ, int_le}
+use Rattle.oca_model.specs.declared.request.Request.{Request}
+use Rattle.oca_model.specs.declared.request.Request.TheVariants as asked
+use Rattle.oca_model.specs.declared.value.Value.{Value as Setting}
+use Rattle.oca_model.specs.declared.value.Value.TheVariants as set
+use Rattle.oca_model.specs.ValueNumbers.{integer_in}
+use Rattle.oca_tree.specs.declared.object.Object.{Object}
 use Rattle.oca_tree.specs.declared.object.Range.{Range}
 use Rattle.oca_tree.specs.declared.object.Switch.{Switch}
 use Rattle.oca_tree.specs.declared.object.Value.{Value}
 use Rattle.oca_tree.specs.declared.object.Value.TheVariants as values
-use Rattle.oca_tree.specs.declared.request.Request.{Request}
-use Rattle.oca_tree.specs.declared.request.Request.TheVariants as requests
-use Rattle.oca_tree.specs.declared.request.SwitchRequest.{SwitchRequest}
-use Rattle.oca_tree.specs.declared.request.SwitchRequest.TheVariants as switches
-use Rattle.oca_model.specs.Parameters.{whole, pair_at, list_at}
-use Rattle.oca_tree.specs.Kinds.{number_of_kind_at}
-
--- ---- how parameters are given
-
--- ParamCount is 0 and there are no bytes
-abbrev pub without_parameters : Request → ℕ → List ℕ → Option Request
-without_parameters request count params = if (count == 0) && (length params == 0) then Some request else None
-
--- ParamCount is the number of parameters, and the bytes are exactly their encodings
-abbrev pub with_parameters : {X : Type 0} → ℕ → (List ℕ → Option (X × List ℕ)) → ℕ → List ℕ → Option X
-with_parameters number read count params = if count == number then whole (read params) else None
-
--- ---- what a method asks of an object with this value, or nothing where the parameters are not the method's
 
 -- how many positions there are
 abbrev pub positions : Value → ℕ
 positions (values.Switch switch) = length switch.names.items
 positions _ = 0
-
-abbrev pub setting_request : Value → ℕ → List ℕ → Option Request
-setting_request (values.Boolean _) count params =
-    option_map requests.SetBoolean (with_parameters 1 bool_at count params)
-setting_request (values.Number range) count params =
-    option_map requests.SetNumber (with_parameters 1 (number_of_kind_at range.kind) count params)
-setting_request _ count params = None
-
-abbrev pub position_name_request : ℕ → List ℕ → Option Request
-position_name_request count params =
-    option_map (λ x. requests.Switch (switches.SetPositionName x.0 x.1))
-    (with_parameters 2 (pair_at (unsigned_at w16) text_at) count params)
-
-abbrev pub position_enabled_request : ℕ → List ℕ → Option Request
-position_enabled_request count params =
-    option_map (λ x. requests.Switch (switches.SetPositionEnabled x.0 x.1))
-    (with_parameters 2 (pair_at (unsigned_at w16) bool_at) count params)
-
--- a list has exactly as many items as the switch has positions
-abbrev pub position_names_request : Value → ℕ → List ℕ → Option Request
-position_names_request value count params =
-    option_map (λ x. requests.Switch (switches.SetPositionNames x))
-    (with_parameters 1 (list_at text_at (positions value)) count params)
-
-abbrev pub position_enableds_request : Value → ℕ → List ℕ → Option Request
-position_enableds_request value count params =
-    option_map (λ x. requests.Switch (switches.SetPositionEnableds (record { items = x })))
-    (with_parameters 1 (list_at bool_at (positions value)) count params)
-
-unfoldable pub request_carried : Value → Method → ℕ → List ℕ → Option Request
-request_carried value methods.GetClassIdentification count params =
-    without_parameters requests.GetClassIdentification count params
-request_carried value methods.GetLockable count params = without_parameters requests.GetLockable count params
-request_carried value methods.LockTotal count params = without_parameters requests.LockTotal count params
-request_carried value methods.Unlock count params = without_parameters requests.Unlock count params
-request_carried value methods.GetRole count params = without_parameters requests.GetRole count params
-request_carried value methods.LockReadonly count params = without_parameters requests.LockReadonly count params
-request_carried value methods.GetEnabled count params = without_parameters requests.GetEnabled count params
-request_carried value methods.SetEnabled count params =
-    option_map requests.SetEnabled (with_parameters 1 bool_at count params)
-request_carried value methods.GetLabel count params = without_parameters requests.GetLabel count params
-request_carried value methods.SetLabel count params =
-    option_map requests.SetLabel (with_parameters 1 text_at count params)
-request_carried value methods.GetOwner count params = without_parameters requests.GetOwner count params
-request_carried value methods.GetMembers count params = without_parameters requests.GetMembers count params
-request_carried value methods.GetMembersRecursive count params =
-    without_parameters requests.GetMembersRecursive count params
-request_carried value methods.GetState count params = without_parameters requests.GetState count params
-request_carried value methods.SetState count params =
-    option_map requests.SetState (with_parameters 1 (unsigned_at w8) count params)
-request_carried value methods.GetPosition count params =
-    without_parameters (requests.Switch switches.GetPosition) count params
-request_carried value methods.SetPosition count params =
-    option_map (λ n. requests.Switch (switches.SetPosition n)) (with_parameters 1 (unsigned_at w16) count params)
-request_carried value methods.GetPositionName count params =
-    option_map (λ n. requests.Switch (switches.GetPositionName n)) (with_parameters 1 (unsigned_at w16) count params)
-request_carried value methods.SetPositionName count params = position_name_request count params
-request_carried value methods.GetPositionNames count params =
-    without_parameters (requests.Switch switches.GetPositionNames) count params
-request_carried value methods.SetPositionNames count params = position_names_request value count params
-request_carried value methods.GetPositionEnabled count params =
-    option_map (λ n. requests.Switch (switches.GetPositionEnabled n)) (with_parameters 1 (unsigned_at w16) count params)
-request_carried value methods.SetPositionEnabled count params = position_enabled_request count params
-request_carried value methods.GetPositionEnableds count params =
-    without_parameters (requests.Switch switches.GetPositionEnableds) count params
-request_carried value methods.SetPositionEnableds count params = position_enableds_request value count params
-request_carried value methods.GetSetting count params = without_parameters requests.GetSetting count params
-request_carried value methods.SetSetting count params = setting_request value count params
-
--- ---- what an object cannot be asked
 
 -- whether the position is one of the switch
 abbrev pub is_position : Switch → ℕ → Bool
@@ -117,40 +29,39 @@ is_enabled switch n = slice_index_or switch.enableds.items n false
 abbrev pub can_be_current : Switch → ℕ → Bool
 can_be_current switch n = is_position switch n && is_enabled switch n
 
--- an enumeration value that is not listed (both enumerations list 1 and 2)
-abbrev pub is_unlisted : Request → Bool
-is_unlisted (requests.SetState n) = not ((n == 1) || (n == 2))
-is_unlisted _ = false
+-- a list has as many items as the switch has positions
+abbrev pub fits_positions : Value → Request → Bool
+fits_positions value (asked.SetPositionNames names) = length names.items == positions value
+fits_positions value (asked.SetPositionEnableds flags) = length flags.items == positions value
+fits_positions value _ = true
 
--- a position that is not there, or a current position that is disabled
-abbrev pub is_bad_position : Switch → SwitchRequest → Bool
-is_bad_position switch (switches.SetPosition n) = not (can_be_current switch n)
-is_bad_position switch (switches.GetPositionName n) = not (is_position switch n)
-is_bad_position switch (switches.SetPositionName n name) = not (is_position switch n)
-is_bad_position switch (switches.GetPositionEnabled n) = not (is_position switch n)
-is_bad_position switch (switches.SetPositionEnabled n truth) = not (is_position switch n)
-is_bad_position switch _ = false
+-- of a switch, a position that is not there
+abbrev pub lacks_position : Value → ℕ → Bool
+lacks_position (values.Switch switch) n = not (is_position switch n)
+lacks_position _ n = false
 
 -- a setting outside its range
-abbrev pub is_outside : Range → Request → Bool
-is_outside range (requests.SetNumber n) = not (int_le range.least n && int_le n range.greatest)
-is_outside range _ = false
+abbrev pub is_beyond : Range → Option ℤ → Bool
+is_beyond range None = false
+is_beyond range (Some n) = not (int_le range.least n && int_le n range.greatest)
 
--- of a switch, what is asked of its positions
-abbrev pub is_bad_switch_request : Switch → Request → Bool
-is_bad_switch_request switch (requests.Switch request) = is_bad_position switch request
-is_bad_switch_request switch _ = false
+-- what the object cannot be set to: a position that is not there or disabled, a setting outside its range
+abbrev pub cannot_be : Value → Setting → Bool
+cannot_be (values.Switch switch) (set.Switch n) = not (can_be_current switch n)
+cannot_be (values.Number range) setting = is_beyond range (integer_in setting)
+cannot_be _ setting = false
 
-unfoldable pub is_out_of_range : Value → Request → Bool
-is_out_of_range (values.Mute _) request = is_unlisted request
-is_out_of_range (values.Polarity _) request = is_unlisted request
-is_out_of_range (values.Switch switch) request = is_bad_switch_request switch request
-is_out_of_range (values.Number range) request = is_outside range request
-is_out_of_range _ request = false
+unfoldable pub asks_out_of_range : Value → Request → Bool
+asks_out_of_range value (asked.Set setting) = cannot_be value setting
+asks_out_of_range value (asked.GetPositionName n) = lacks_position value n
+asks_out_of_range value (asked.SetPositionName n name) = lacks_position value n
+asks_out_of_range value (asked.GetPositionEnabled n) = lacks_position value n
+asks_out_of_range value (asked.SetPositionEnabled n truth) = lacks_position value n
+asks_out_of_range value _ = false
 
 -- a lock of an object that is not lockable, or taking a lock off where there is none
-unfoldable pub is_invalid : Bool → Option Lock → Request → Bool
-is_invalid lockable lock requests.LockTotal = not lockable
-is_invalid lockable lock requests.LockReadonly = not lockable
-is_invalid lockable lock requests.Unlock = is_none lock
-is_invalid lockable lock _ = false
+unfoldable pub asks_invalid : Object → Request → Bool
+asks_invalid o asked.LockTotal = not o.lockable
+asks_invalid o asked.LockReadonly = not o.lockable
+asks_invalid o asked.Unlock = is_none o.lock
+asks_invalid o _ = false

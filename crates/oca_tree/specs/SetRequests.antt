@@ -1,15 +1,16 @@
 -- What a device makes of the request of a panel that sets a value.
-use Rattle.std.specs.Prelude.{◌≡◌, ℕ, false, List, Some}
+use Rattle.std.specs.Prelude.{◌≡◌, ℕ, false, List, Some, Ok}
 use Rattle.oca_types.specs.declared.words.Peer.{Peer}
 use Rattle.oca_types.specs.Peers.{CommandFields}
+use Rattle.oca_model.specs.declared.request.Request.TheVariants as asked
 use Rattle.oca_model.specs.declared.value.Value.{Value}
 use Rattle.oca_model.specs.declared.value_request.ValueRequest.{ValueRequest}
 use Rattle.oca_model.specs.Values.{class_of_value, value_encoding, set_method, IsOfItsType}
 use Rattle.oca_model.specs.ValueRequests.{CallsMethod}
 use Rattle.oca_tree.specs.declared.object.Object.{Object}
 use Rattle.oca_tree.specs.Objects.{class_of, object_of}
-use Rattle.oca_tree.specs.Execution.{execution, kind_at, request_at, is_locked}
-use Rattle.oca_tree.specs.Settings.{request_for, after_set}
+use Rattle.oca_tree.specs.Execution.{execution, kind_at, asked_at, is_locked}
+use Rattle.oca_tree.specs.Settings.{after_set}
 
 -- the command that a request is, of an object and under a handle
 abbrev pub command_for : ℕ → ℕ → ValueRequest → CommandFields
@@ -30,7 +31,7 @@ SetsTo value request = CallsMethod (class_of_value value) (set_method value) req
 abbrev pub IsUnderstood : Type 0
 IsUnderstood = (value : Value) (request : ValueRequest) (handle target : ℕ) (o : Object) → IsOfItsType value →
     SetsTo value request → class_of o.value ≡ class_of_value value
-    → let c = command_for handle target request in request_at (Some o) (kind_at (Some o) c) c ≡ Some (request_for value)
+    → let c = command_for handle target request in asked_at (Some o) (kind_at (Some o) c) c ≡ Ok (asked.Set value)
 
 -- Executing it, where no lock refuses it, sets the object as the device's own front would: to that value, or not at all
 -- where it is out of range.

@@ -1,6 +1,6 @@
 -- A change at the device's own front: an object is set as its class's own set method sets it, and no lock refuses it
 -- (profile).
-use Rattle.std.specs.Prelude.{◌≡◌, ℕ, Bool, true, false, not, if◌then◌else◌, List, Option, Some, None, pos}
+use Rattle.std.specs.Prelude.{◌≡◌, ℕ, Bool, true, false, not, if◌then◌else◌, List, Option, Some, None, Ok}
 use Rattle.oca_types.specs.declared.words.Peer.{Peer}
 use Rattle.oca_types.specs.declared.status.Status.{Status}
 use Rattle.oca_types.specs.declared.status.Status.TheVariants as statuses
@@ -10,33 +10,17 @@ use Rattle.oca_types.specs.declared.class.Class.TheVariants as class
 use Rattle.oca_model.specs.declared.value.Value.{Value}
 use Rattle.oca_model.specs.declared.value.Value.TheVariants.{Mute, Polarity, Switch, Boolean, Int8, Int16, Int32, Int64}
 use Rattle.oca_model.specs.declared.value.Value.TheVariants.{Uint8, Uint16, Uint32, Uint64}
-use Rattle.oca_model.specs.Values.{class_of_value, mute_number, polarity_number}
+use Rattle.oca_model.specs.declared.request.Request.TheVariants as asked
+use Rattle.oca_model.specs.Values.{class_of_value}
 use Rattle.oca_tree.specs.declared.object.Object.{Object}
 use Rattle.oca_tree.specs.declared.object.Value.{Value as Held}
-use Rattle.oca_tree.specs.declared.request.Request.{Request}
-use Rattle.oca_tree.specs.declared.request.Request.TheVariants as requests
-use Rattle.oca_tree.specs.declared.request.SwitchRequest.TheVariants as switches
 use Rattle.oca_tree.specs.declared.setting.SetFault.{SetFault}
 use Rattle.oca_tree.specs.declared.setting.SetFault.TheVariants as faults
 use Rattle.oca_tree.specs.Places.{is_block_value}
 use Rattle.oca_tree.specs.Objects.{class_of, object_of, with_object}
-use Rattle.oca_tree.specs.Requests.{is_out_of_range}
-use Rattle.oca_tree.specs.Execution.{TreeAndReply, changed, execution, kind_at, request_at, is_locked}
-
--- the request of the set method of the value's class: SetState, SetPosition or SetSetting
-abbrev pub request_for : Value → Request
-request_for (Mute state) = requests.SetState (mute_number state)
-request_for (Polarity state) = requests.SetState (polarity_number state)
-request_for (Switch position) = requests.Switch (switches.SetPosition position)
-request_for (Boolean truth) = requests.SetBoolean truth
-request_for (Int8 setting) = requests.SetNumber setting
-request_for (Int16 setting) = requests.SetNumber setting
-request_for (Int32 setting) = requests.SetNumber setting
-request_for (Int64 setting) = requests.SetNumber setting
-request_for (Uint8 setting) = requests.SetNumber (pos setting)
-request_for (Uint16 setting) = requests.SetNumber (pos setting)
-request_for (Uint32 setting) = requests.SetNumber (pos setting)
-request_for (Uint64 setting) = requests.SetNumber (pos setting)
+use Rattle.oca_tree.specs.Requests.{cannot_be}
+use Rattle.oca_tree.specs.Typed.{changed_by}
+use Rattle.oca_tree.specs.Execution.{TreeAndReply, execution, kind_at, asked_at, is_locked}
 
 -- whether the value is one of the class
 unfoldable pub is_of_its_class : Class → Value → Bool
@@ -60,7 +44,7 @@ abbrev pub fault_at : Held → Value → Option SetFault
 fault_at held value =
     if is_block_value held then Some faults.NoSetting
     else (if not (is_of_its_class (class_of held) value) then Some faults.OtherKind
-    else (if is_out_of_range held (request_for value) then Some faults.OutOfRange else None))
+    else (if cannot_be held value then Some faults.OutOfRange else None))
 
 -- before all these: there is no object
 abbrev pub set_fault_in : Option Object → Value → Option SetFault
@@ -71,13 +55,13 @@ set_fault_in (Some o) value = fault_at o.value value
 unfoldable pub set_fault : List Object → ℕ → Value → Option SetFault
 set_fault tree number value = set_fault_in (object_of tree number) value
 
--- The peer in whose name the front asks. What a value's request changes is the same for each peer (AnyPeerSetsTheSame).
+-- The peer in whose name the front asks. What a value changes is the same for each peer (AnyPeerSetsTheSame).
 abbrev pub front : Peer
 front = record { ip = 0; port = 0 }
 
 -- an object is changed where there is no fault
 abbrev pub set_where : Option SetFault → List Object → Option Object → Value → List Object
-set_where None tree (Some o) value = with_object tree (changed o front (request_for value))
+set_where None tree (Some o) value = with_object tree (changed_by o front (asked.Set value))
 set_where _ tree _ value = tree
 
 -- THE TREE AFTER SETTING the object with this number: at a fault, it is as it was.
@@ -87,7 +71,7 @@ after_set tree number value = set_where (set_fault tree number value) tree (obje
 -- Whichever peer asks, the object is set the same.
 abbrev pub AnyPeerSetsTheSame : Type 0
 AnyPeerSetsTheSame = (o : Object) (peer : Peer) (value : Value) →
-    changed o peer (request_for value) ≡ changed o front (request_for value)
+    changed_by o peer (asked.Set value) ≡ changed_by o front (asked.Set value)
 
 -- the status of a command that asks for what the front was asked for: OK where there is no fault
 abbrev pub status_for : Option SetFault → Status
@@ -106,19 +90,10 @@ abbrev pub FrontSetsAsPeersDo : Type 0
 FrontSetsAsPeersDo = (tree : List Object) (peer : Peer) (c : CommandFields) (o : Object) (value : Value) →
     object_of tree c.target ≡ Some o → class_of o.value ≡ class_of_value value →
     is_locked (Some o) (kind_at (Some o) c) peer ≡ false →
-    request_at (Some o) (kind_at (Some o) c) c ≡ Some (request_for value) →
+    asked_at (Some o) (kind_at (Some o) c) c ≡ Ok (asked.Set value) →
     SetsTheSame tree c.target value (execution tree peer c)
 
--- whether a request sets a value
-abbrev pub sets_a_value : Request → Bool
-sets_a_value (requests.SetState _) = true
-sets_a_value (requests.Switch (switches.SetPosition _)) = true
-sets_a_value (requests.SetBoolean _) = true
-sets_a_value (requests.SetNumber _) = true
-sets_a_value _ = false
-
--- Whatever a command can set an object to is a value of the object's class, to which the front can set it.
+-- Whatever a command can set an object to is a value of the object's class.
 abbrev pub EachSettingIsAValue : Type 0
-EachSettingIsAValue = (o : Object) (c : CommandFields) (r : Request) →
-    request_at (Some o) (kind_at (Some o) c) c ≡ Some r → sets_a_value r ≡ true → is_out_of_range o.value r ≡ false →
-    (value : Value) × (class_of o.value ≡ class_of_value value) × (request_for value ≡ r)
+EachSettingIsAValue = (o : Object) (c : CommandFields) (value : Value) →
+    asked_at (Some o) (kind_at (Some o) c) c ≡ Ok (asked.Set value) → class_of o.value ≡ class_of_value value

@@ -6,12 +6,12 @@ ghost use Rattle.std.specs.Int.{w8, w16};
 ghost use Rattle.oca_types.specs.Numbers.{bool_encoding, unsigned_encoding};
 ghost use Rattle.oca_types.specs.Putting.{Puts};
 ghost use Rattle.oca_types.specs.Texts.{text_encoding};
-ghost use Rattle.oca_tree.specs.Requests.{is_out_of_range};
+ghost use Rattle.oca_tree.specs.PrivateRequests.{is_out_of_range};
 ghost use Rattle.oca_model.specs.Lists.{list_encoding};
-ghost use Rattle.oca_tree.specs.Execution.{state_encoding, position_parameters, switch_parameters, setting_parameters};
-ghost use Rattle.oca_tree.specs.Execution.{parameters, joined};
+ghost use Rattle.oca_tree.specs.PrivateExecution.{state_encoding, position_parameters, switch_parameters, setting_parameters};
+ghost use Rattle.oca_tree.specs.PrivateExecution.{parameters, joined};
 ghost use Rattle.oca_model.specs.Values.{mute_number, polarity_number};
-ghost use Rattle.oca_tree.specs.Requests.{is_bad_position};
+ghost use Rattle.oca_tree.specs.PrivateRequests.{is_bad_position};
 ghost use Rattle.oca_tree.specs.Trees.{IsTree, IsSoundValue, IsSoundSwitch, IsSoundRange};
 ghost use Rattle.oca_tree.specs.PrivateSteps.{is_listed, item_encoding, counted_as, PutsAll};
 ghost use Rattle.oca_tree.specs.declared.object.Object.{Object as AnObject};
@@ -280,7 +280,7 @@ fn put_switch_answer(
 }
 
 /// What a switch answers; any other value answers nothing to it.
-#[tactic(auto, unfolding(crate::specs::Requests::is_out_of_range, crate::specs::Trees::IsSoundValue))]
+#[tactic(auto, unfolding(crate::specs::PrivateRequests::is_out_of_range, crate::specs::Trees::IsSoundValue))]
 fn put_position_answer(
     out: &mut Params,
     value: &Value,
@@ -322,7 +322,7 @@ fn put_setting(out: &mut Params, value: &Value) -> Result<u8, Status>
 /// Appends the parameters of the answer of the object, which stands at index `place`, and says how many they are,
 /// unless it is too long. Inlined, it is one jump table with the one that made the request.
 #[inline(always)]
-#[tactic(auto, unfolding(crate::specs::Execution::parameters))]
+#[tactic(auto, unfolding(crate::specs::PrivateExecution::parameters))]
 pub(crate) fn put_answer(
     out: &mut Params,
     objects: &Objects,

@@ -1,9 +1,9 @@
 //! What a request changes in its object.
 ghost use Rattle.std.specs.Prelude.{◌≡◌, ◌≤◌, ◌+◌, false};
 ghost use Rattle.oca_tree.specs.Locks.{lock_of_one};
-ghost use Rattle.oca_tree.specs.Requests.{is_out_of_range};
-ghost use Rattle.oca_tree.specs.Execution.{changed, changed_value, changed_switch, mute_state, polarity_state};
-ghost use Rattle.oca_tree.specs.Requests.{is_bad_position};
+ghost use Rattle.oca_tree.specs.PrivateRequests.{is_out_of_range};
+ghost use Rattle.oca_tree.specs.PrivateExecution.{changed, changed_value, changed_switch, mute_state, polarity_state};
+ghost use Rattle.oca_tree.specs.PrivateRequests.{is_bad_position};
 ghost use Rattle.oca_tree.specs.Trees.{IsSoundValue, IsSoundSwitch};
 
 use crate::marks::Marks;
@@ -56,7 +56,7 @@ fn change_switch(switch: &mut Switch, request: SwitchRequest<'_>)
 
 /// Sets what a request sets of a value; any other leaves it.
 #[inline(always)]
-#[tactic(auto, unfolding(crate::specs::Execution::changed_value, crate::specs::Requests::is_out_of_range, crate::specs::Trees::IsSoundValue))]
+#[tactic(auto, unfolding(crate::specs::PrivateExecution::changed_value, crate::specs::PrivateRequests::is_out_of_range, crate::specs::Trees::IsSoundValue))]
 fn change_value(value: &mut Value, request: Request<'_>)
     requires sound { IsSoundValue value.old }
     requires there { is_out_of_range value.old request ≡ false }
@@ -94,7 +94,7 @@ fn change_value(value: &mut Value, request: Request<'_>)
 
 /// Carries out what a request changes. `marks` count the locks of the tree that are held.
 #[inline(always)]
-#[tactic(auto, unfolding(crate::specs::Execution::changed))]
+#[tactic(auto, unfolding(crate::specs::PrivateExecution::changed))]
 pub(crate) fn change(object: &mut Object, marks: &mut Marks, peer: Peer, request: Request<'_>)
     requires sound { IsSoundValue object.old.value }
     requires range { is_out_of_range object.old.value request ≡ false }

@@ -5,7 +5,7 @@ ghost use Rattle.oca_types.specs.Peers.{fields_of};
 ghost use Rattle.oca_tree.specs.Objects.{has_number};
 ghost use Rattle.oca_tree.specs.Locks.{lock_count};
 ghost use Rattle.oca_tree.specs.Trees.{IsTree, IsSound};
-ghost use Rattle.oca_tree.specs.PrivateSteps.{MayCall, IsMethodFor, IsRequestFor, Executes};
+ghost use Rattle.oca_tree.specs.PrivateSteps.{MayCall, IsMethodFor, IsRequestFor, Executes, ExecutesInBytes};
 ghost use Rattle.oca_types.specs.declared.class.MethodKind.TheVariants.{Known};
 ghost use Rattle.oca_types.specs.Methods.{access};
 ghost use Rattle.oca_tree.specs.Written.{is_write, calls_a_write};
@@ -78,7 +78,7 @@ fn carry_out_at(
     requires empty { out.old.items ≡ [] }
     requires tree { IsTree objects.old.list }
     requires count { marks.old.locks ≡ lock_count objects.old.list }
-    ensures done { Executes result objects.old.list objects.new.list out.new.items peer (fields_of command.now) }
+    ensures done { ExecutesInBytes result objects.old.list objects.new.list out.new.items peer (fields_of command.now) }
     ensures tree { IsTree objects.new.list }
     ensures count { marks.new.locks ≡ lock_count objects.new.list }
 {

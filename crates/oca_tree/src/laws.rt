@@ -4,6 +4,7 @@ ghost use Rattle.oca_tree.specs.SetRequests.{IsUnderstood, IsCarriedOut};
 ghost use Rattle.oca_tree.specs.Settings.{AnyPeerSetsTheSame, EachSettingIsAValue, FrontSetsAsPeersDo};
 ghost use Rattle.oca_tree.specs.Starts.{PlainAddsTheSame};
 ghost use Rattle.oca_tree.specs.Trees.{DescendantsFollowChains};
+ghost use Rattle.oca_tree.specs.TypedLaws.{AnswersAreRight, CommandsAreTyped, RefusedKeepsTree, SettingsAreRead};
 
 use crate::tree::Tree;
 
@@ -45,4 +46,14 @@ pub fn law_of_starts()
 /// [`position_names_of`](Tree::position_names_of) and [`start_of`](Tree::start_of).
 pub fn law_of_copies()
     ensures { DescriptionMakesAgain }
+{}
+
+/// Laws: a command whose status is OK asked one request of one object, which was put back as the request makes it, and
+/// the answer is what the object answered; any other status changed nothing. A value that was set is read, with the
+/// limits that it had; and what is answered is an answer of the object's class, of its method's kind.
+pub fn law_of_typed_requests()
+    ensures did { CommandsAreTyped }
+    ensures refused { RefusedKeepsTree }
+    ensures settings { SettingsAreRead }
+    ensures right { AnswersAreRight }
 {}

@@ -33,6 +33,7 @@ pub use builder::{AddFault, Kind, Spec, TreeBuilder};
 pub use infos::ObjectInfos;
 pub use laws::{
     law_of_copies, law_of_descendants, law_of_set_requests, law_of_settings, law_of_starts,
+    law_of_typed_requests,
 };
 pub use object::{Lock, LockKind};
 pub use oca_model::{MuteState, PolarityState, Value};

@@ -1,6 +1,7 @@
 //! What a command asks of an object, with its parameters read.
 ghost use Rattle.std.specs.Prelude.{◌≡◌, ◌==◌, ◌≤◌, length};
-ghost use Rattle.oca_tree.specs.Requests.{request_carried, positions, is_out_of_range, is_invalid};
+ghost use Rattle.oca_tree.specs.PrivateRequests.{request_carried, is_out_of_range, is_invalid};
+ghost use Rattle.oca_tree.specs.Requests.{positions};
 ghost use Rattle.oca_tree.specs.Trees.{IsSoundValue};
 ghost use Rattle.oca_tree.specs.PrivateSteps.{plain_request};
 
@@ -51,7 +52,7 @@ pub enum Request<'a> {
 
 /// The request, where there are no parameters.
 fn without_parameters<'a>(request: Request<'a>, count: u8, params: &[u8]) -> Option<Request<'a>>
-    ensures { result ≡ Rattle.oca_tree.specs.Requests.without_parameters request.entry count params.now }
+    ensures { result ≡ Rattle.oca_tree.specs.PrivateRequests.without_parameters request.entry count params.now }
 {
     if count == 0 && params.is_empty() {
         Some(request)
@@ -62,7 +63,7 @@ fn without_parameters<'a>(request: Request<'a>, count: u8, params: &[u8]) -> Opt
 
 /// What SetSetting asks.
 fn setting_request<'a>(value: &Value, count: u8, params: &[u8]) -> Option<Request<'a>>
-    ensures { result ≡ Rattle.oca_tree.specs.Requests.setting_request value.now count params.now }
+    ensures { result ≡ Rattle.oca_tree.specs.PrivateRequests.setting_request value.now count params.now }
 {
     match value {
         Value::Boolean(_) => Some(Request::SetBoolean(take::one_bool(count, params)?)),
@@ -86,7 +87,7 @@ pub(crate) fn positions(value: &Value) -> usize
 
 /// What SetPositionName asks.
 fn position_name_request(count: u8, params: &[u8]) -> Option<Request<'_>>
-    ensures { result ≡ Rattle.oca_tree.specs.Requests.position_name_request count params.now }
+    ensures { result ≡ Rattle.oca_tree.specs.PrivateRequests.position_name_request count params.now }
 {
     let (position, name) = take::position_and_text(count, params)?;
     Some(Request::Switch(SwitchRequest::SetPositionName(position, name)))
@@ -94,7 +95,7 @@ fn position_name_request(count: u8, params: &[u8]) -> Option<Request<'_>>
 
 /// What SetPositionEnabled asks.
 fn position_enabled_request<'a>(count: u8, params: &[u8]) -> Option<Request<'a>>
-    ensures { result ≡ Rattle.oca_tree.specs.Requests.position_enabled_request count params.now }
+    ensures { result ≡ Rattle.oca_tree.specs.PrivateRequests.position_enabled_request count params.now }
 {
     let (position, truth) = take::position_and_bool(count, params)?;
     Some(Request::Switch(SwitchRequest::SetPositionEnabled(position, truth)))
@@ -102,7 +103,7 @@ fn position_enabled_request<'a>(count: u8, params: &[u8]) -> Option<Request<'a>>
 
 /// What SetPositionNames asks: a list of as many names as there are positions.
 fn position_names_request<'a>(value: &Value, count: u8, params: &'a [u8]) -> Option<Request<'a>>
-    ensures { result ≡ Rattle.oca_tree.specs.Requests.position_names_request value.now count params.now }
+    ensures { result ≡ Rattle.oca_tree.specs.PrivateRequests.position_names_request value.now count params.now }
 {
     let names = take::texts(positions(value), count, params)?;
     Some(Request::Switch(SwitchRequest::SetPositionNames(names)))
@@ -110,7 +111,7 @@ fn position_names_request<'a>(value: &Value, count: u8, params: &'a [u8]) -> Opt
 
 /// What SetPositionEnableds asks: a list of as many Booleans as there are positions.
 fn position_enableds_request<'a>(value: &Value, count: u8, params: &[u8]) -> Option<Request<'a>>
-    ensures { result ≡ Rattle.oca_tree.specs.Requests.position_enableds_request value.now count params.now }
+    ensures { result ≡ Rattle.oca_tree.specs.PrivateRequests.position_enableds_request value.now count params.now }
 {
     let truths = take::bools(positions(value), count, params)?;
     Some(Request::Switch(SwitchRequest::SetPositionEnableds(truths)))
@@ -118,7 +119,7 @@ fn position_enableds_request<'a>(value: &Value, count: u8, params: &[u8]) -> Opt
 
 /// Whether the request sets a state that is none of the listed.
 fn is_unlisted(request: &Request<'_>) -> bool
-    ensures { result ≡ Rattle.oca_tree.specs.Requests.is_unlisted request.now }
+    ensures { result ≡ Rattle.oca_tree.specs.PrivateRequests.is_unlisted request.now }
 {
     match request {
         Request::SetState(state) => *state != 1 && *state != 2,
@@ -138,7 +139,7 @@ fn can_be_current(switch: &Switch, position: u16) -> bool
 /// Whether the request names a position that is not there, or a disabled one to be the current.
 fn is_bad_position(switch: &Switch, request: &SwitchRequest<'_>) -> bool
     requires { length switch.now.enableds.items ≡ length switch.now.names.items }
-    ensures { result ≡ Rattle.oca_tree.specs.Requests.is_bad_position switch.now request.now }
+    ensures { result ≡ Rattle.oca_tree.specs.PrivateRequests.is_bad_position switch.now request.now }
 {
     match request {
         SwitchRequest::SetPosition(position) => !can_be_current(switch, *position),
@@ -155,7 +156,7 @@ fn is_bad_position(switch: &Switch, request: &SwitchRequest<'_>) -> bool
 /// Whether what is asked of a switch names a position that is not there, or a disabled one to be the current.
 fn is_bad_switch_request(switch: &Switch, request: &Request<'_>) -> bool
     requires { length switch.now.enableds.items ≡ length switch.now.names.items }
-    ensures { result ≡ Rattle.oca_tree.specs.Requests.is_bad_switch_request switch.now request.now }
+    ensures { result ≡ Rattle.oca_tree.specs.PrivateRequests.is_bad_switch_request switch.now request.now }
 {
     match request {
         Request::Switch(request) => is_bad_position(switch, request),
@@ -165,7 +166,7 @@ fn is_bad_switch_request(switch: &Switch, request: &Request<'_>) -> bool
 
 /// Whether the request sets a number outside its range.
 fn is_outside(range: &Range, request: &Request<'_>) -> bool
-    ensures { result ≡ Rattle.oca_tree.specs.Requests.is_outside range.now request.now }
+    ensures { result ≡ Rattle.oca_tree.specs.PrivateRequests.is_outside range.now request.now }
 {
     match request {
         Request::SetNumber(setting) => *setting < range.least || range.greatest < *setting,
@@ -175,7 +176,7 @@ fn is_outside(range: &Range, request: &Request<'_>) -> bool
 
 impl<'a> Request<'a> {
     /// What a method asks that only reads and has no parameters; nothing for any other.
-    #[tactic(auto, unfolding(crate::specs::Requests::request_carried))]
+    #[tactic(auto, unfolding(crate::specs::PrivateRequests::request_carried))]
     pub(crate) fn plain(method: Method) -> Option<Request<'a>>
         ensures { result ≡ plain_request method }
     {
@@ -201,7 +202,7 @@ impl<'a> Request<'a> {
 
     /// Reads what a method with these parameters asks of an object with this value; nothing where
     /// they are not the method's.
-    #[tactic(auto, unfolding(crate::specs::Requests::request_carried))]
+    #[tactic(auto, unfolding(crate::specs::PrivateRequests::request_carried))]
     pub(crate) fn read(
         value: &Value,
         method: Method,
@@ -238,7 +239,7 @@ impl<'a> Request<'a> {
     }
 
     /// Whether it asks for a value that the object cannot take or a position that is not there.
-    #[tactic(auto, unfolding(crate::specs::Requests::is_out_of_range, crate::specs::Trees::IsSoundValue))]
+    #[tactic(auto, unfolding(crate::specs::PrivateRequests::is_out_of_range, crate::specs::Trees::IsSoundValue))]
     pub(crate) fn is_out_of_range(&self, value: &Value) -> bool
         requires { IsSoundValue value.now }
         ensures { result ≡ is_out_of_range value.now self.now }
@@ -252,7 +253,7 @@ impl<'a> Request<'a> {
     }
 
     /// Whether it asks for a lock that cannot be taken, or to take off one that is not there.
-    #[tactic(auto, unfolding(crate::specs::Requests::is_invalid))]
+    #[tactic(auto, unfolding(crate::specs::PrivateRequests::is_invalid))]
     pub(crate) fn is_invalid(&self, object: &Object) -> bool
         ensures { result ≡ is_invalid object.now.lockable object.now.lock self.now }
     {

@@ -3,7 +3,8 @@ ghost use Rattle.std.specs.Prelude.{◌≡◌, OnErr};
 ghost use Rattle.std.specs.Result.{result_err};
 ghost use Rattle.oca_tree.specs.Locks.{lock_count};
 ghost use Rattle.oca_tree.specs.Trees.{IsTree, IsSoundValue};
-ghost use Rattle.oca_tree.specs.Settings.{request_for, is_of_its_class, set_fault, after_set, front};
+ghost use Rattle.oca_tree.specs.PrivateRequests.{request_for};
+ghost use Rattle.oca_tree.specs.Settings.{is_of_its_class, set_fault, after_set, front};
 ghost use Rattle.oca_tree.specs.PrivateSteps.{ChecksSetting};
 
 use crate::answer::{mute_number, polarity_number};
@@ -104,6 +105,7 @@ fn is_of_its_class(class: Class, value: Value) -> bool
 }
 
 /// What is asked of an object that holds this value, or why it cannot be set so.
+#[tactic(auto, using(crate::proofs::TypedRefusals::out_for))]
 fn check_setting(held: &Held, value: Value) -> Result<Request<'static>, SetFault>
     requires { IsSoundValue held.now }
     ensures { ChecksSetting result held.now value }

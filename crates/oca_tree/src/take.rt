@@ -6,7 +6,7 @@ ghost use Rattle.oca_types.specs.Reading.{unsigned_at, bool_at, text_at};
 ghost use Rattle.oca_types.specs.Taking.{bytes_left, ReadsAs};
 ghost use Rattle.oca_tree.specs.Kinds.{number_of_kind_at};
 ghost use Rattle.oca_model.specs.Parameters.{whole, pair_at, items_at, list_at};
-ghost use Rattle.oca_tree.specs.Requests.{with_parameters};
+ghost use Rattle.oca_tree.specs.PrivateRequests.{with_parameters};
 
 use crate::held::{HeldText, HeldTexts};
 use crate::object::NumberKind;

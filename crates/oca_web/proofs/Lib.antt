@@ -1,3 +1,4 @@
+pub mod PageLemmas
 pub mod OrderLemmas
 pub mod StepLemmas
 pub mod ResultLemmas

@@ -1,6 +1,6 @@
 -- Orders: what pages want done with objects, in the order in which they came (*profile*).
 use Rattle.std.specs.Prelude.{◌≡◌, ◌⊎◌, ℕ, ◌+◌, ◌==◌, ◌||◌, Bool, true, false, if◌then◌else◌, List, [], ◌∷◌, ◌++◌}
-use Rattle.std.specs.Prelude.{length, nat_lt, ◌≤◌, drop, remove, slice_get, Option, Some, None, Result, Ok, Err}
+use Rattle.std.specs.Prelude.{length, nat_lt, ◌<◌, ◌≤◌, drop, remove, slice_get, Option, Some, None, Result, Ok, Err}
 use Rattle.std.specs.List.{list_any}
 use Rattle.oca_types.specs.declared.class.Class.{Class}
 use Rattle.oca_types.specs.declared.class.Class.TheVariants as class
@@ -100,10 +100,29 @@ pub record SubmitsOrder (ahead : ℕ) (old : OrdersState) (before : PanelState) 
     pub in_time : ahead + now ≤ order.last
     pub asks : BeginsAsking order.ono.0 (class_asked order.action) (request_asked order.action) (Ok handle) before after
 
--- whether one was submitted: where none was, nothing changed
+-- an order is next, and its last moment has passed at a moment of the end's; or the link refuses its command for this
+-- reason, which changes nothing
+pub record IsTooLate (ahead : ℕ) (s : OrdersState) (p : PanelState) : Type 0 where
+  pub order : Order
+  pub ready : ready_of s.waiting s.in_flight ≡ Some order
+  pub now : ℕ
+  pub present : IsPresent now p.end_state
+  pub late : order.last < ahead + now
+
+pub record IsNotTaken (s : OrdersState) (p : PanelState) : Type 0 where
+  pub order : Order
+  pub ready : ready_of s.waiting s.in_flight ≡ Some order
+  pub reason : Trouble
+  pub asks : BeginsAsking order.ono.0 (class_asked order.action) (request_asked order.action) (Err reason) p p
+
+-- WHY NO ORDER IS SUBMITTED: none is next, it is too late for the one that is, or the link does not take its command.
+abbrev pub IsHeldBack : ℕ → OrdersState → PanelState → Type 0
+IsHeldBack ahead s p = (ready_of s.waiting s.in_flight ≡ None) ⊎ (IsTooLate ahead s p ⊎ IsNotTaken s p)
+
+-- whether one was submitted: where none was, nothing changed, and none can be
 abbrev pub SubmitsFirst : ℕ → Bool → OrdersState → PanelState → OrdersState → PanelState → Type 0
 SubmitsFirst ahead true old before new after = SubmitsOrder ahead old before new after
-SubmitsFirst ahead false old before new after = (new ≡ old) × (after ≡ before)
+SubmitsFirst ahead false old before new after = (new ≡ old) × (after ≡ before) × IsHeldBack ahead old before
 
 -- ---- an order is answered
 
@@ -198,6 +217,10 @@ without_waiting s = record s { waiting = []; results = with_unsent why.TooLate s
 pub data Steps {S P : Type 0} (Step : S → P → S → P → Type 0) : S → P → S → P → Type 0 where
   NoStep : {s : S} {p : P} → Steps Step s p s p
   OneMore : {s t u : S} {p q r : P} → Steps Step s p t q → Step t q u r → Steps Step s p u r
+
+-- no order is left that could be submitted, or 32 are in flight
+abbrev pub NoneIsLeft : ℕ → OrdersState → PanelState → Type 0
+NoneIsLeft ahead s p = IsHeldBack ahead s p ⊎ (32 ≤ length s.in_flight)
 
 -- ORDERS WERE SUBMITTED, in the order in which they came, each once and in time; nothing else was asked.
 abbrev pub SubmitsOrders : ℕ → OrdersState → PanelState → OrdersState → PanelState → Type 0

@@ -1,7 +1,8 @@
 -- Which object is read again, and when (*profile*). Moments are in milliseconds.
 use Rattle.std.specs.Prelude.{◌≡◌, ℕ, ◌+◌, ◌-◌, ◌≤◌, nat_lt, nat_le, Bool, true, ◌&&◌, if◌then◌else◌, List, slice_get}
-use Rattle.std.specs.Prelude.{Option, Some, None}
-use Rattle.std.specs.List.{list_any}
+use Rattle.std.specs.Prelude.{Option, Some, None, ◌⊎◌, ◌<◌, ◌==◌, min, [], ◌∷◌, ◌++◌, length, slice_set}
+use Rattle.std.specs.List.{list_any, position}
+use Rattle.oca_net.specs.Ends.{last_u64}
 use Rattle.oca_web.specs.declared.ask.Ask.{Ask}
 use Rattle.oca_web.specs.declared.object.Object.{Object}
 use Rattle.oca_web.specs.declared.poll.Page.{Page}
@@ -19,6 +20,27 @@ has_open_page now pages = list_any (λ p. is_live now p) pages
 
 abbrev pub shows : (now place : ℕ) → List Page → Bool
 shows now place pages = list_any (λ p. is_live now p && holds_place place p) pages
+
+-- two pages show the same
+abbrev pub shows_same : Page → Page → Bool
+shows_same p q = (q.first == p.first) && (q.count == p.count)
+
+-- what is kept of a page that asked for values at this moment, and shows so many objects from this one on
+abbrev pub page_asked : (now first visible : ℕ) → Page
+page_asked now first visible =
+    record { first = first; count = min visible 512; until = min (now + 2500) last_u64 }
+
+-- It is kept in the place of the first that showed the same; where none did, behind all others while fewer than eight
+-- are kept, else in the place of another. All others stay.
+abbrev pub KeepsPageAt : Option ℕ → Page → List Page → List Page → Type 0
+KeepsPageAt (Some at) page old new = new ≡ slice_set old at page
+KeepsPageAt None page old new =
+    ((length old < 8) × (new ≡ old ++ page ∷ []))
+    ⊎ ((8 ≤ length old) × ((at : ℕ) × (at < length old) × (new ≡ slice_set old at page)))
+
+-- A PAGE ASKED FOR VALUES, and is kept.
+abbrev pub OpensPage : Page → List Page → List Page → Type 0
+OpensPage page old new = KeepsPageAt (position (shows_same page) old) page old new
 
 -- at most ten times a second where a page shows it, and once in five seconds where none does
 abbrev pub pause_of : Bool → ℕ

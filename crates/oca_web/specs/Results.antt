@@ -2,15 +2,16 @@
 use Rattle.std.specs.Prelude.{◌≡◌, ℕ, List, [], ◌∷◌, ◌++◌, codes, decimal, Result, Ok, Err}
 use Rattle.json.specs.Token.{Token, begin_array, begin_object, end_array, end_object, key, null, number, string}
 use Rattle.json.specs.Print.{print}
+use Rattle.oca_panel.specs.TroubleWords.{trouble_words}
 use Rattle.oca_web.specs.declared.order.NotDone.{NotDone}
 use Rattle.oca_web.specs.declared.order.NotDone.TheVariants as why
 use Rattle.oca_web.specs.declared.order.OrderResult.{OrderResult}
 
--- whether an order was carried out: null, or words that say why not
+-- whether an order was carried out: null, or why not, in words
 abbrev pub WritesTrouble : Result Unit NotDone → List Token → List Token → Type 0
 WritesTrouble (Ok u) old new = new ≡ old ++ null ∷ []
 WritesTrouble (Err why.TooLate) old new = new ≡ old ++ string (codes "not sent: too late") ∷ []
-WritesTrouble (Err (why.Trouble e)) old new = (words : List ℕ) × (new ≡ old ++ string words ∷ [])
+WritesTrouble (Err (why.Trouble e)) old new = new ≡ old ++ string (trouble_words e) ∷ []
 
 -- what stands before it: the order's ticket and its object
 abbrev pub with_names : OrderResult → List Token → List Token

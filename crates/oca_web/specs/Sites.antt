@@ -1,5 +1,5 @@
 -- What requests do to the view of a device (*profile*). The link is not in their reach at all.
-use Rattle.std.specs.Prelude.{◌≡◌, ◌≢◌, ◌⊎◌, ℕ, ◌+◌, min, List, codes, decimal, Bool, true, if◌then◌else◌, Option, Some}
+use Rattle.std.specs.Prelude.{◌≡◌, ◌≢◌, ◌⊎◌, ◌≤◌, ℕ, ◌+◌, min, List, [], codes, decimal, Bool, true, if◌then◌else◌, Option, Some}
 use Rattle.std.specs.Prelude.{None, Result, Ok, Err}
 use Rattle.std.specs.Str.{bytes_eq}
 use Rattle.std.specs.declared.alloc.AllocError.{AllocError}
@@ -82,11 +82,16 @@ pub record Orders (old : Site) (request : Request (List ℕ)) (response : Respon
   pub post : bytes_eq (codes "POST") (method_of request) ≡ true
   pub adds : AddsFor (uri_path (head_of request).uri) request.body old response new
 
--- NOTHING IS ORDERED: of a request that is not let in the whole view stays as it was.
+-- THE REQUEST IS REFUSED: with a status of 400 or above, and no body.
+pub record IsTurnedAway (response : Response) : Type 0 where
+  pub status : 400 ≤ response.status
+  pub body : response.body.items ≡ []
+
+-- NOTHING IS ORDERED: a request that is not let in is refused, and the whole view stays as it was.
 pub record OrdersNothing (old : Site) (request : Request (List ℕ)) (response : Response) (new : Site) : Type 0 where
   pub status : response.status ≢ 202
   pub keeps : KeepsAll old new
-  pub refused : (lets_request_in old.names.items request ≡ true) ⊎ (new.view ≡ old.view)
+  pub refused : (lets_request_in old.names.items request ≡ true) ⊎ ((new.view ≡ old.view) × IsTurnedAway response)
 
 abbrev pub Answers : Site → Request (List ℕ) → Response → Site → Type 0
 Answers old request response new = Orders old request response new ⊎ OrdersNothing old request response new

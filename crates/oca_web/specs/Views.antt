@@ -1,10 +1,19 @@
 -- What a view of a device does over its panel (*profile*).
-use Rattle.std.specs.Prelude.{◌≡◌, ℕ, ◌+◌, ◌-◌, ◌*◌, min, max, nat_le, nat_lt, Bool, true, false, Result, Ok, Err}
+use Rattle.std.specs.Prelude.{◌≡◌, ◌⊎◌, ℕ, ◌+◌, ◌-◌, ◌*◌, min, max, nat_le, nat_lt, Bool, true, false, Option, Result, Ok}
+use Rattle.std.specs.Prelude.{Err}
 use Rattle.oca_types.specs.declared.words.NoMemory.{NoMemory}
+use Rattle.oca_types.specs.declared.words.Handle.{Handle}
+use Rattle.oca_types.specs.declared.class.Class.{Class}
+use Rattle.oca_types.specs.Sizes.{span_size}
 use Rattle.oca_control.specs.declared.report.DriveReport.{DriveReport}
-use Rattle.oca_panel.specs.Panels.{PanelState}
-use Rattle.oca_panel.specs.Renewals.{TurnsWith}
-use Rattle.oca_web.specs.Orders.{OrdersState, LosesOrders, SettlesOrders, SubmitsOrders, with_passed, without_waiting}
+use Rattle.oca_control.specs.declared.outcome.Outcome.{Outcome}
+use Rattle.oca_panel.specs.Panels.{PanelState, SettlesIn}
+use Rattle.oca_panel.specs.Renewals.{IsRenewed, TurnsWith}
+use Rattle.oca_panel.specs.Beginnings.{BeginsAsking}
+use Rattle.oca_web.specs.declared.ask.Ask.{Ask}
+use Rattle.oca_web.specs.declared.view.Reach.{Reach}
+use Rattle.oca_web.specs.Asking.{class_for, request_of_ask}
+use Rattle.oca_web.specs.Orders.{OrdersState, LosesOrders, NoneIsLeft, SettlesOrders, SubmitsOrders, with_passed, without_waiting}
 
 -- THE PROGRAM'S CLOCK at a moment of the end, which it is so far ahead of: it never goes back.
 abbrev pub moment_noted : (ahead moment before : ℕ) → ℕ
@@ -24,6 +33,18 @@ abbrev pub orders_after : Bool → OrdersState → OrdersState
 orders_after true s = without_waiting s
 orders_after false s = s
 
+-- ANSWERS WERE TAKEN, one after another, each under the handle of its command: nothing was sent.
+pub data TakesAnswers : PanelState → PanelState → Type 0 where
+  NoneTaken : {p : PanelState} → TakesAnswers p p
+  OneTaken : {p q r : PanelState} (handle : ℕ) (outcome : Outcome) → TakesAnswers p q → SettlesIn handle q r outcome
+      → TakesAnswers p r
+
+-- QUESTIONS WERE ASKED, one after another: each asks something to know an object, and sets nothing.
+pub data AsksQuestions : PanelState → PanelState → Type 0 where
+  NoneAsked : {p : PanelState} → AsksQuestions p p
+  OneAsked : {p q r : PanelState} (ono : ℕ) (of : Option Class) (ask : Ask) (handle : Handle) → AsksQuestions p q
+      → BeginsAsking ono (class_for of) (request_of_ask ask) (Ok handle) q r → AsksQuestions p r
+
 -- A TURN WAS TAKEN, and then the results of the orders that were answered were noted; what followed of it only took
 -- answers to questions.
 pub record TurnsAndSettles (old : OrdersState) (before : PanelState) (new : OrdersState) (after : PanelState)
@@ -33,29 +54,39 @@ pub record TurnsAndSettles (old : OrdersState) (before : PanelState) (new : Orde
   pub settled : PanelState
   pub turns : TurnsWith report before turned
   pub settles : SettlesOrders old turned new settled
+  pub answers : TakesAnswers settled after
 
--- Where the link is lost or late, all orders are noted as lost, and the panel goes on with another link; else nothing
--- changes.
-pub record RenewsLost (old : OrdersState) (before : PanelState) (new : OrdersState) (after : PanelState) : Type 0 where
+-- Where the link is lost or late, all orders are noted as lost, and the panel goes on with another link to the same
+-- device, whose first handle is the next one; else nothing changes.
+pub record RenewsLost (reach : Reach) (next : ℕ) (old : OrdersState) (before : PanelState) (new : OrdersState)
+    (after : PanelState) : Type 0 where
   pub is_lost : Bool
   pub loses : LosesOrders is_lost before old new
   pub same : is_lost ≡ false → after ≡ before
+  pub renews : is_lost ≡ true → IsRenewed reach.device next (span_size reach.span) before after
+
+-- No order is left that could be submitted, 32 are in flight, or half of the handles are used.
+abbrev pub RestsBehind : (first next ahead : ℕ) → OrdersState → PanelState → Type 0
+RestsBehind first next ahead s p = (half_spent first next ≡ true) ⊎ NoneIsLeft ahead s p
 
 -- Where the link is lost or late all orders are noted as lost, and those that waited for too long as not sent; and then
--- those that wait are submitted, in their order and before any question, over the same panel where the link is not lost;
--- this is the panel then. What followed of it only asked questions. The program's clock reads `now`, and is so far ahead
--- of the end's.
-pub record SubmitsAll (ahead now : ℕ) (old : OrdersState) (before : PanelState) (new : OrdersState) (submitted : PanelState) : Type 0
-  where
-    pub is_lost : Bool
-    pub between : OrdersState
-    pub renewed : PanelState
-    pub loses : LosesOrders is_lost before old between
-    pub same : is_lost ≡ false → renewed ≡ before
-    pub submits : SubmitsOrders ahead (with_passed now between) renewed new submitted
+-- those that wait are submitted, in their order and before any question, over the same panel where the link is not lost,
+-- and else over one with another link to the same device, whose first handle is the next one; this is the panel then. The
+-- program's clock reads `now`, and is so far ahead of the end's.
+pub record SubmitsAll (reach : Reach) (first next ahead now : ℕ) (old : OrdersState) (before : PanelState)
+    (new : OrdersState) (submitted : PanelState) : Type 0 where
+  pub is_lost : Bool
+  pub between : OrdersState
+  pub renewed : PanelState
+  pub loses : LosesOrders is_lost before old between
+  pub same : is_lost ≡ false → renewed ≡ before
+  pub renews : is_lost ≡ true → IsRenewed reach.device next (span_size reach.span) before renewed
+  pub submits : SubmitsOrders ahead (with_passed now between) renewed new submitted
+  pub rests : RestsBehind first next ahead new submitted
 
-abbrev pub Continues : (ahead now : ℕ) → Result Unit NoMemory → OrdersState → PanelState → OrdersState → PanelState
-    → Type 0
-Continues ahead now (Ok u) old before new after = (submitted : PanelState)
-    × SubmitsAll ahead now old before new submitted
-Continues ahead now (Err e) old before new after = Unit {0}
+-- What followed of it only asked questions.
+abbrev pub Continues : Reach → (first next ahead now : ℕ) → Result Unit NoMemory → OrdersState → PanelState → OrdersState
+    → PanelState → Type 0
+Continues reach first next ahead now (Ok u) old before new after = (submitted : PanelState)
+    × SubmitsAll reach first next ahead now old before new submitted × AsksQuestions submitted after
+Continues reach first next ahead now (Err e) old before new after = Unit {0}

@@ -2,8 +2,9 @@
 //!
 //! Each function writes members into the `Writer` that it is given, in their order; `tree_json` and `values_json` own
 //! one.
-ghost use Rattle.std.specs.Prelude.{◌≡◌, ℕ, List, [], ◌∷◌, ◌++◌, decimal, IfOk, OnOk};
+ghost use Rattle.std.specs.Prelude.{◌≡◌, [], ◌∷◌, ◌++◌, decimal, IfOk, OnOk};
 ghost use Rattle.json.specs.Token.{key, number, string};
+ghost use Rattle.oca_panel.specs.TroubleWords.{trouble_words};
 ghost use Rattle.oca_web.specs.Results.{WritesResults, WritesResult, EndsWithResults, WritesTrouble, WritesValues};
 
 use crate::inventory::Inventory;
@@ -72,7 +73,7 @@ fn put_both(out: &mut Writer, least: Value, greatest: Value) -> Result<(), Alloc
 
 /// Why something was not done.
 fn put_words(alloc: Global, out: &mut Writer, trouble: Trouble) -> Result<(), AllocError>
-    ensures { OnOk result ((words : List ℕ) × (out.new.tokens ≡ out.old.tokens ++ string words ∷ [])) }
+    ensures { OnOk result (out.new.tokens ≡ out.old.tokens ++ string (trouble_words trouble) ∷ []) }
 {
     let words = format!(in alloc; "{trouble}")?;
     out.string(words.as_str())

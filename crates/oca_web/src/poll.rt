@@ -1,4 +1,8 @@
 //! Which object is read again next, and when.
+ghost use Rattle.std.specs.Prelude.{◌≡◌, ◌<◌, IfSome, length};
+ghost use Rattle.std.specs.List.{position};
+ghost use Rattle.oca_web.specs.Polling.{KeepsPageAt, shows_same};
+
 use crate::ask::Ask;
 use crate::object::Object;
 use arrayvec::ArrayVec;
@@ -52,13 +56,20 @@ impl Default for Page {
 
 impl Page {
     ghost use Rattle.std.specs.Prelude.{◌≡◌, ◌&&◌};
-    ghost use Rattle.oca_web.specs.Polling.{holds_place, is_live};
+    ghost use Rattle.oca_web.specs.Polling.{holds_place, is_live, shows_same};
 
     /// Whether it counts as open.
     fn is_live(&self, now: u64) -> bool
         ensures { result ≡ is_live now self.now }
     {
         now < self.until
+    }
+
+    /// Whether another one shows the same.
+    fn shows_same(&self, other: &Page) -> bool
+        ensures { result ≡ shows_same other.now self.now }
+    {
+        self.first == other.first && self.count == other.count
     }
 
     /// Whether it is open and shows the object at this place.
@@ -84,7 +95,7 @@ pub struct Poll {
 impl Poll {
     ghost use Rattle.std.specs.Prelude.{◌≡◌, ◌-◌, ◌&&◌, nat_le};
     ghost use Rattle.std.specs.Option.{option_map};
-    ghost use Rattle.oca_web.specs.Polling.{ReadsAgain, has_open_page, pause_of, shows};
+    ghost use Rattle.oca_web.specs.Polling.{OpensPage, ReadsAgain, has_open_page, page_asked, pause_of, shows};
 
     /// No round, and no page.
     pub fn new(now: u64) -> Poll {
@@ -99,25 +110,16 @@ impl Poll {
     }
 
     /// A page asked for values at this moment, which shows so many objects from this one on.
-    pub fn open(&mut self, now: u64, first: usize, visible: usize) {
+    pub fn open(&mut self, now: u64, first: usize, visible: usize)
+        ensures { OpensPage (page_asked now first visible) self.old.pages.items self.new.pages.items }
+    {
         let page = Page {
             first,
             count: visible.min(MOST_VISIBLE),
             until: now.saturating_add(OPEN_MS),
         };
-        if !self.pages.is_full() && !self.has_same(page) {
-            self.pages.push(page);
-            return;
-        }
-        put_page(self.pages.as_mut_slice(), page);
-    }
-
-    /// Whether a page is kept that shows the same.
-    fn has_same(&self, page: Page) -> bool {
-        self.pages
-            .as_slice()
-            .iter()
-            .any(|one| one.first == page.first && one.count == page.count)
+        let place = place_of_same(self.pages.as_slice(), page);
+        keep_page(&mut self.pages, page, place);
     }
 
     /// Whether a page is open.
@@ -273,21 +275,45 @@ fn hidden_in(passed: u64, objects: usize) -> usize {
     share.saturating_add(1) as usize
 }
 
-/// Puts a page in the place of the one that shows the same, or else of the one that asked longest ago.
-fn put_page(pages: &mut [Page], page: Page) {
+/// Where the first page is kept that shows the same.
+#[tactic(auto, using(crate::proofs::PageLemmas::place_within))]
+fn place_of_same(pages: &[Page], page: Page) -> Option<usize>
+    ensures place { result ≡ position (shows_same page) pages.now }
+    ensures within { IfSome result (λ at. at < length pages.now) }
+{
+    pages.iter().position(|one| one.shows_same(&page))
+}
+
+/// Keeps a page at this place, or else behind all others, or where eight are kept in the place of the one that asked
+/// longest ago.
+fn keep_page(pages: &mut ArrayVec<Page, 8>, page: Page, place: Option<usize>)
+    requires { IfSome place (λ at. at < length pages.old.items) }
+    ensures { KeepsPageAt place page pages.old.items pages.new.items }
+{
+    if let Some(at) = place {
+        pages.as_mut_slice()[at] = page;
+        return;
+    }
+    if !pages.is_full() {
+        pages.push(page);
+        return;
+    }
+    let at = oldest(pages.as_slice());
+    pages.as_mut_slice()[at] = page;
+}
+
+/// Where the page is kept that asked longest ago.
+fn oldest(pages: &[Page]) -> usize
+    requires { 0 < length pages.now }
+    ensures { result < length pages.now }
+{
     let mut oldest = 0usize;
-    for at in 0..pages.len() {
-        if pages[at].first == page.first && pages[at].count == page.count {
-            pages[at] = page;
-            return;
-        }
+    for at in 1..pages.len() {
         if pages[at].until < pages[oldest].until {
             oldest = at;
         }
     }
-    if oldest < pages.len() {
-        pages[oldest] = page;
-    }
+    oldest
 }
 
 /// What is read of an object, where its class is known.

@@ -31,7 +31,7 @@ pub struct Site {
 }
 
 impl Site {
-    ghost use Rattle.std.specs.Prelude.{◌≡◌, ◌≢◌, [], IfOk, IfErr, Some};
+    ghost use Rattle.std.specs.Prelude.{◌≡◌, ◌≢◌, ◌≤◌, [], IfOk, IfErr, Some};
     ghost use Rattle.serde_json.specs.View.{view};
     ghost use Rattle.oca_web.specs.Bodies.{IsOrderIn, IsOrderOf, IsValueIn, last_in, ono_in};
     ghost use Rattle.http_server.specs.Response.{IsBlank};
@@ -83,7 +83,8 @@ impl Site {
 
     /// The status of a request that is not let in: for another host, from another page, or of another kind.
     fn refusal(&self, request: &Request<Bytes>) -> StatusCode
-        ensures { result ≢ 202 }
+        ensures other { result ≢ 202 }
+        ensures error { 400 ≤ result }
     {
         let headers = request.headers();
         let host = field(headers, header::HOST);

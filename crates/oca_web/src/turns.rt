@@ -1,5 +1,5 @@
 //! Orders over a panel: they are submitted in their order, and what the answers say is noted under their tickets.
-ghost use Rattle.oca_web.specs.Orders.{LosesOrders, SettlesAt, SettlesOrders, SubmitsFirst, SubmitsOrders};
+ghost use Rattle.oca_web.specs.Orders.{LosesOrders, NoneIsLeft, SettlesAt, SettlesOrders, SubmitsFirst, SubmitsOrders};
 
 use crate::order::Sent;
 use crate::orders::Orders;
@@ -16,7 +16,8 @@ pub fn submit_first<E: End>(orders: &mut Orders, panel: &mut Panel<E>, ahead: u6
     let Some(order) = orders.ready() else {
         return false;
     };
-    if order.last < ahead || order.last - ahead < panel.end().now() {
+    let now = panel.end().now();
+    if order.last < ahead || order.last - ahead < now {
         return false;
     }
     match panel.begin_request(order.ono, order.action.class(), &order.action.request()) {
@@ -29,9 +30,11 @@ pub fn submit_first<E: End>(orders: &mut Orders, panel: &mut Panel<E>, ahead: u6
 }
 
 /// Submits the orders that wait, as far as the link takes them, in the order in which they came, each once and in time.
-#[tactic(auto, using(crate::proofs::StepLemmas::one_submitted))]
+/// None is left then that could be submitted, or 32 are in flight.
+#[tactic(auto, using(crate::proofs::StepLemmas::submit_rules))]
 pub fn submit_orders<E: End>(orders: &mut Orders, panel: &mut Panel<E>, ahead: u64)
-    ensures { SubmitsOrders ahead orders.old panel.old orders.new panel.new }
+    ensures submits { SubmitsOrders ahead orders.old panel.old orders.new panel.new }
+    ensures rests { NoneIsLeft ahead orders.new panel.new }
 {
     for _order in 0..32u32 {
         if !submit_first(orders, panel, ahead) {

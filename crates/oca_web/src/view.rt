@@ -71,10 +71,10 @@ pub struct View {
 impl View {
     ghost use Rattle.std.specs.Prelude.{◌≡◌, ◌-◌, ◌==◌, ◌&&◌, IfOk, length};
     ghost use Rattle.oca_net.specs.Ends.{one_more};
-    ghost use Rattle.oca_web.specs.Orders.{AddsTicket, SettlesOrders, SubmitsOrders, has_orders};
+    ghost use Rattle.oca_web.specs.Orders.{AddsTicket, SettlesOrders, SubmitsOrders, has_orders, no_orders};
     ghost use Rattle.oca_web.specs.Bodies.{IsForWord};
-    ghost use Rattle.oca_web.specs.Views.{Continues, RenewsLost, TurnsAndSettles, half_spent, moment_noted, orders_after};
-    ghost use Rattle.oca_web.specs.Views.{stood_still};
+    ghost use Rattle.oca_web.specs.Views.{AsksQuestions, Continues, RenewsLost, RestsBehind, TakesAnswers, TurnsAndSettles};
+    ghost use Rattle.oca_web.specs.Views.{half_spent, moment_noted, orders_after, stood_still};
     ghost use Rattle.oca_web.specs.Walking.{BeginsAnew, KeepsWalk, StaysOver};
 
     /// A view of a device of which nothing is known, over a panel whose first handle this is.
@@ -84,7 +84,14 @@ impl View {
         span: Span,
         first: Handle,
         now: u64,
-    ) -> Result<View, NoMemory> {
+    ) -> Result<View, NoMemory>
+        ensures orders { IfOk result (λ view. view.orders ≡ no_orders) }
+        ensures first { IfOk result (λ view. view.first_handle ≡ first.0) }
+        ensures next { IfOk result (λ view. view.next_handle ≡ first.0) }
+        ensures ahead { IfOk result (λ view. view.ahead ≡ 0) }
+        ensures now { IfOk result (λ view. view.news.now ≡ now) }
+        ensures reach { IfOk result (λ view. view.reach ≡ record { device = device; span = span }) }
+    {
         Ok(View {
             reach: Reach { device, span },
             first_handle: first.0,
@@ -173,22 +180,27 @@ impl View {
         self.is_spent() && self.orders.in_flight() == 0 && self.inventory.in_flight() == 0
     }
 
-    /// The panel goes on over another end, whose present moment this is, with a new link whose first handle this is: the
-    /// orders that wait and what is known of the device stay.
-    pub fn take_end(&mut self, first: Handle, moment: u64)
-        ensures orders { self.new.orders ≡ self.old.orders }
+    /// The panel goes on over another end, whose present moment this is, with a new link whose first handle this is. The
+    /// end before it has this last moment, and sent so many datagrams; that is noted as by [`View::note`], and returned is
+    /// what that returns, so that the time until the change is counted as well. Where the program did not stand still,
+    /// the orders that wait stay; what is known of the device does in any case.
+    pub fn take_end(&mut self, first: Handle, moment: u64, last: u64, sent: u64) -> bool
+        ensures now { self.new.news.now ≡ moment_noted self.old.ahead last self.old.news.now }
+        ensures stood { result ≡ stood_still self.old.news.now self.new.news.now }
+        ensures orders { self.new.orders ≡ orders_after result self.old.orders }
         ensures inventory { self.new.inventory ≡ self.old.inventory }
         ensures first { self.new.first_handle ≡ first.0 }
         ensures next { self.new.next_handle ≡ first.0 }
-        ensures ahead { self.new.ahead ≡ self.old.news.now - moment }
-        ensures now { self.new.news.now ≡ self.old.news.now }
+        ensures ahead { self.new.ahead ≡ self.new.news.now - moment }
     {
+        let stood_still = self.note(last, sent);
         self.submitted_before = self.submitted();
         self.sent_before = self.news.sent;
         self.first_handle = first.0;
         self.next_handle = first.0;
         self.made = moment;
         self.ahead = self.news.now.saturating_sub(moment);
+        stood_still
     }
 
     /// How many milliseconds the program's clock is ahead of that of the end.
@@ -213,6 +225,7 @@ impl View {
         ensures now { self.new.news.now ≡ moment_noted self.old.ahead moment self.old.news.now }
         ensures stood { result ≡ stood_still self.old.news.now self.new.news.now }
         ensures orders { self.new.orders ≡ orders_after result self.old.orders }
+        ensures inventory { self.new.inventory ≡ self.old.inventory }
     {
         let before = self.news.now;
         self.news.now = before.max(self.ahead.saturating_add(moment));
@@ -257,7 +270,7 @@ impl View {
     }
 
     /// Takes one turn of the panel, which receives once and sends what is due, and takes the answers that came.
-    #[tactic(auto, using(crate::proofs::WalkLemmas::keeps_stays, crate::proofs::WalkLemmas::stays_on))]
+    #[tactic(auto, using(crate::proofs::WalkLemmas::keeps_stays, crate::proofs::WalkLemmas::stays_on, crate::proofs::StepLemmas::answer_rules))]
     pub fn take_turn<E: End>(&mut self, panel: &mut Panel<E>) -> Result<(), NoMemory>
         ensures orders { TurnsAndSettles self.old.orders panel.old self.new.orders panel.new }
         ensures walk { StaysOver self.old.inventory self.new.inventory }
@@ -274,8 +287,8 @@ impl View {
     /// as far as there is room. Where half of the handles are used nothing is.
     #[tactic(auto, using(crate::proofs::WalkLemmas::walk_rules))]
     pub fn go_on<E: End>(&mut self, panel: &mut Panel<E>) -> Result<(), NoMemory>
-        ensures orders { Continues self.old.ahead self.old.news.now result self.old.orders panel.old self.new.orders
-            panel.new }
+        ensures orders { Continues self.old.reach self.old.first_handle self.old.next_handle self.old.ahead
+            self.old.news.now result self.old.orders panel.old self.new.orders panel.new }
         ensures walk { StaysOver self.old.inventory self.new.inventory }
     {
         let now = self.news.now;
@@ -292,6 +305,7 @@ impl View {
     /// Submits the orders that wait, in time, unless half of the handles are used.
     fn submit_all<E: End>(&mut self, panel: &mut Panel<E>, ahead: u64)
         ensures orders { SubmitsOrders ahead self.old.orders panel.old self.new.orders panel.new }
+        ensures rests { RestsBehind self.old.first_handle self.old.next_handle ahead self.new.orders panel.new }
         ensures inventory { self.new.inventory ≡ self.old.inventory }
     {
         if self.is_spent() {
@@ -325,10 +339,11 @@ impl View {
     }
 
     /// Takes the answers to questions, and learns what they say.
-    #[tactic(auto, using(crate::proofs::WalkLemmas::keeps_stays))]
+    #[tactic(auto, using(crate::proofs::WalkLemmas::keeps_stays, crate::proofs::StepLemmas::answer_rules))]
     fn take_answers<E: End>(&mut self, panel: &mut Panel<E>) -> Result<(), NoMemory>
         ensures orders { self.new.orders ≡ self.old.orders }
         ensures walk { StaysOver self.old.inventory self.new.inventory }
+        ensures panel { TakesAnswers panel.old panel.new }
     {
         let mut at = 0usize;
         for _ in 0..32u32 {
@@ -341,9 +356,11 @@ impl View {
     }
 
     /// Takes the answer to the question in flight at this place. Returns whether it is there.
+    #[tactic(auto, using(crate::proofs::StepLemmas::answer_rules))]
     fn take_answer<E: End>(&mut self, panel: &mut Panel<E>, at: usize) -> Result<bool, NoMemory>
         ensures orders { self.new.orders ≡ self.old.orders }
         ensures walk { KeepsWalk self.old.inventory self.new.inventory }
+        ensures panel { TakesAnswers panel.old panel.new }
     {
         let Some(asked) = self.inventory.asked_at(at) else {
             return Ok(false);
@@ -361,8 +378,11 @@ impl View {
     /// Where the link is lost or late, all orders are noted as lost, and another link and another walk begin.
     #[tactic(auto, using(crate::proofs::WalkLemmas::keeps_begins))]
     fn renew_lost<E: End>(&mut self, panel: &mut Panel<E>) -> Result<(), NoMemory>
-        ensures orders { RenewsLost self.old.orders panel.old self.new.orders panel.new }
+        ensures orders { RenewsLost self.old.reach self.old.next_handle self.old.orders panel.old self.new.orders
+            panel.new }
         ensures walk { BeginsAnew self.old.inventory self.new.inventory }
+        ensures first { self.new.first_handle ≡ self.old.first_handle }
+        ensures next { self.new.next_handle ≡ self.old.next_handle }
     {
         if !lose_orders(&mut self.orders, panel) {
             return Ok(());
@@ -376,9 +396,11 @@ impl View {
     }
 
     /// Asks what is to be asked, as far as half of the span is left for orders.
+    #[tactic(auto, using(crate::proofs::StepLemmas::question_rules))]
     fn ask_all<E: End>(&mut self, panel: &mut Panel<E>) -> Result<(), NoMemory>
         ensures orders { self.new.orders ≡ self.old.orders }
         ensures walk { KeepsWalk self.old.inventory self.new.inventory }
+        ensures panel { AsksQuestions panel.old panel.new }
     {
         for _ in 0..32u32 {
             if !self.may_ask() {
@@ -395,9 +417,11 @@ impl View {
     }
 
     /// Asks one question. Returns whether it was submitted, or is about no object.
+    #[tactic(auto, using(crate::proofs::StepLemmas::question_rules))]
     fn ask<E: End>(&mut self, panel: &mut Panel<E>, question: Question) -> bool
         ensures orders { self.new.orders ≡ self.old.orders }
         ensures walk { KeepsWalk self.old.inventory self.new.inventory }
+        ensures panel { AsksQuestions panel.old panel.new }
     {
         let Some((ono, class)) = self.inventory.target_of(question.place) else {
             return true;

@@ -1,5 +1,5 @@
 -- The outcomes of commands, and their text.
-use Rattle.std.proofs.Common.{◌≡◌, Bool, ℕ, ◌+◌, ◌-◌, ◌<◌, ◌≤◌, true, false, List, [], ◌∷◌, ◌++◌, length, Result, Ok, Err, refl, sym, ap, ◌∙◌, subst, arith, append-nil, append_assoc, inl, inr}
+use Rattle.std.proofs.Common.{◌≡◌, ◌⊎◌, Bool, ℕ, ◌+◌, ◌-◌, ◌<◌, ◌≤◌, true, false, List, [], ◌∷◌, ◌++◌, length, Result, Ok, Err, refl, sym, ap, ◌∙◌, subst, arith, append-nil, append_assoc, inl, inr}
 use Rattle.std.specs.Prelude.{OnOk, ℤ, Option, Some, None, map, ◌==◌, ◌||◌, if◌then◌else◌}
 use Rattle.std.proofs.lemmas.Bool.{ne_eqb}
 use Rattle.std.proofs.lemmas.List.{map-append, length-map}
@@ -19,14 +19,15 @@ use Rattle.oca_control.specs.declared.outcome.Outcome.TheVariants as outcomes
 use Rattle.oca_panel.specs.declared.trouble.Trouble.{Trouble}
 use Rattle.oca_panel.specs.declared.trouble.Trouble.TheVariants as trouble
 use Rattle.oca_panel.specs.Outcomes.{done_or_trouble, done_answered}
-use Rattle.oca_panel.specs.Panels.{PanelState, BeginsIn, IsKnown, is_lost_or_unanswered}
+use Rattle.oca_panel.specs.Panels.{PanelState, BeginsIn, is_lost_or_unanswered}
 use Rattle.oca_panel.specs.InFlight.{BeginsBehind, BeginsUnless, FinishesFirst, FirstIsUnknown, SettlesFirst, put_behind}
-use Rattle.oca_control.proofs.Waits.{at_once, received_in_wait}
+use Rattle.oca_control.proofs.Asks.{waits_asked}
+use Rattle.oca_control.proofs.Waits.{received_in_wait}
 use Rattle.ocactl_cli.specs.Objects.{trouble_status}
 use Rattle.ocactl_cli.specs.Trees.{listed_status}
 use Rattle.oca_control.specs.Links.{LinkState}
-use Rattle.oca_control.specs.Asking.{refused_by, Begins, IsPresent}
-use Rattle.oca_control.specs.Waiting.{WaitsWhile}
+use Rattle.oca_control.specs.Asking.{refused_by, Begins, Waits, ReceivesSoOften, IsPresent}
+use Rattle.oca_control.specs.Waiting.{ReceivesInAWait, WaitsWhile}
 use Rattle.ocactl_cli.specs.Requests.{LineAsked, Send}
 use Rattle.ocactl_cli.specs.Exchanges.{SessionState, FirstIsOpen, TakesOne, Idles, IdledNot, OneTurned, OnePrinted, AwaitsFirst, Awaits, NoneAwaited, OneAwaited, AwaitsUntil, SubmitsCommand, Refuses, Concludes, FinishesLines, ended_by, line_wait, outcome_line, outcome_status, WritesOutcome, TakesUp, since, longest_at_hand}
 use Rattle.ocactl_cli.specs.PrivateExchanges.{PrintsUnlessFailed, AwaitsAndPrints, IdlesAndPrints, SendsAndPrints, DoesLineAndPrints, DoesTakenUpAndPrints, Submitted, TakesFirst, is_write_failure}
@@ -130,8 +131,8 @@ refuses request returned f queue more old new ahead refused socket is_open at_ha
     subst (λ (x : SessionState). (session_of new more ahead refused socket is_open at_hand ≡ x) × Refuses request f x) e (all, there)
 
 -- the present moment, by what the end says of itself
-pub present-of : (d e : EndState) (now : ℕ) → d ≡ e → IsPresent now d → IsPresent now e
-present-of d e now is h = subst (IsPresent now) is h
+pub present_of : (d e : EndState) (now : ℕ) → d ≡ e → IsPresent now d → IsPresent now e
+present_of d e now is h = subst (IsPresent now) is h
 
 pub took-up : (queue : List (ℕ × Unit {0})) (p : PanelState) (ahead : ℕ) (refused : Bool) (socket : Option ℤ) (is_open : Bool) (at_hand : Option ℕ) (before : SessionState) (now from : ℕ)
     → session_of p queue ahead refused socket is_open at_hand ≡ before → IsPresent now p.end_state → from ≡ since at_hand now
@@ -159,20 +160,42 @@ none-came h n l k (outcomes.Refused fault) d e w = absurd w.waits
 none-came h n l k outcomes.Lost d e w = refl
 none-came h n l k outcomes.Unanswered d e w = refl
 
+-- nor where it was known
+none-known : (h : ℕ) (l k : LinkState) (o : Outcome) (d e : EndState) → Waits h 0 l o k d e → is_lost_or_unanswered o ≡ (outcome_status o == 3)
+none-known h l k (outcomes.Answered a) d e w = by (a.status == 0)
+  where
+    by : (b : Bool) → false ≡ ((if b then 0 else 4) == 3)
+    by true = refl
+    by false = refl
+none-known h l k (outcomes.Refused fault) d e w = absurd w
+none-known h l k outcomes.Lost d e w = refl
+none-known h l k outcomes.Unanswered d e w = refl
+
+-- nothing was received where it was known
+asks-none : (h : ℕ) (o : Outcome) (l k : LinkState) (d e : EndState) → Waits h 0 l o k d e → ReceivesInAWait d.receives e.receives
+asks-none h o l k d e w = λ below. by o (waits_asked h 0 l k d e o w below)
+  where
+    by : (p : Outcome) → ReceivesSoOften 0 p d.receives e.receives → e.receives ≤ d.receives + 4294967295
+    by (outcomes.Answered a) r = omega (arith, r)
+    by (outcomes.Refused fault) r = omega (arith, r)
+    by outcomes.Lost r = omega (arith, r)
+    by outcomes.Unanswered r = omega (arith, r)
+
 none-so-far : (refused was now lost three : Bool) → now ≡ (was || lost) → lost ≡ three → (refused || now) ≡ ((refused || was) || three)
 none-so-far true was now lost three e f = refl
 none-so-far false was now lost three e f = e ∙ ap (λ (x : Bool). was || x) f
 
 awaited-one : (h : ℕ) (o : Outcome) (queue rest : List (ℕ × Unit {0})) (old new : PanelState) (ahead : ℕ) (refused : Bool) (socket : Option ℤ) (is_open : Bool) (at_hand : Option ℕ)
-    → queue ≡ (h, tt) ∷ rest → WaitsWhile h line_wait old.link o new.link old.end_state new.end_state → new.unanswered ≡ (old.unanswered || is_lost_or_unanswered o)
+    → queue ≡ (h, tt) ∷ rest → WaitsWhile h line_wait old.link o new.link old.end_state new.end_state ⊎ Waits h 0 old.link o new.link old.end_state new.end_state
+    → ReceivesInAWait old.end_state.receives new.end_state.receives → is_lost_or_unanswered o ≡ (outcome_status o == 3) → new.unanswered ≡ (old.unanswered || is_lost_or_unanswered o)
     → AwaitsFirst (session_of old queue ahead refused socket is_open at_hand) (session_of new rest ahead refused socket is_open at_hand) o
-awaited-one h o queue rest old new ahead refused socket is_open at_hand first waits unanswered = record {
+awaited-one h o queue rest old new ahead refused socket is_open at_hand first waits asks none unanswered = record {
   handle = h;
   first = ap (map (λ (c : ℕ × Unit {0}). c.0)) first;
   waits = waits;
-  asks = received_in_wait h _ old.link new.link old.end_state new.end_state o waits.waits;
+  asks = asks;
   ahead = refl;
-  unanswered = none-so-far refused old.unanswered new.unanswered (is_lost_or_unanswered o) (outcome_status o == 3) unanswered (none-came h line_wait old.link new.link o old.end_state new.end_state waits);
+  unanswered = none-so-far refused old.unanswered new.unanswered (is_lost_or_unanswered o) (outcome_status o == 3) unanswered none;
   socket = refl;
   is_open = refl;
   at_hand = refl;
@@ -185,18 +208,16 @@ first-awaited came queue rest old new ahead refused socket is_open at_hand befor
     let waits : WaitsWhile h.0 line_wait old.link came.1 new.link old.end_state new.end_state =
     subst (λ (n : ℕ). WaitsWhile h.0 n old.link came.1 new.link old.end_state new.end_state) time h.2.waits in
     subst (λ (x : SessionState). AwaitsFirst x (session_of new rest ahead refused socket is_open at_hand) came.1) e
-    (awaited-one h.0 came.1 queue rest old new ahead refused socket is_open at_hand h.1 waits h.2.unanswered)
-
--- what is known is an outcome
-known-so : (o : Outcome) → IsKnown o → o ≡ outcomes.Unanswered → ⊥
-known-so o known e = subst IsKnown e known
+    (awaited-one h.0 came.1 queue rest old new ahead refused socket is_open at_hand h.1 (inl waits)
+    (received_in_wait h.0 _ old.link new.link old.end_state new.end_state came.1 waits.waits) (none-came h.0 line_wait old.link new.link came.1 old.end_state new.end_state waits) h.2.unanswered)
 
 pub first-settled : (came : Unit {0} × Outcome) (queue rest : List (ℕ × Unit {0})) (old new : PanelState) (ahead : ℕ) (refused : Bool) (socket : Option ℤ) (is_open : Bool) (at_hand : Option ℕ) (before : SessionState)
     → session_of old queue ahead refused socket is_open at_hand ≡ before → SettlesFirst (Some came) queue rest old new
     → AwaitsFirst before (session_of new rest ahead refused socket is_open at_hand) came.1
 first-settled came queue rest old new ahead refused socket is_open at_hand before e h =
     subst (λ (x : SessionState). AwaitsFirst x (session_of new rest ahead refused socket is_open at_hand) came.1) e
-    (awaited-one h.0 came.1 queue rest old new ahead refused socket is_open at_hand h.1 (at_once h.0 line_wait old.link new.link came.1 old.end_state new.end_state (known-so came.1 h.2.known) h.2.waits) h.2.unanswered)
+    (awaited-one h.0 came.1 queue rest old new ahead refused socket is_open at_hand h.1 (inr h.2.waits)
+    (asks-none h.0 came.1 old.link new.link old.end_state new.end_state h.2.waits) (none-known h.0 old.link new.link came.1 old.end_state new.end_state h.2.waits) h.2.unanswered)
 
 -- it is not known how the first came out
 pub first-unknown : (queue rest : List (ℕ × Unit {0})) (old new : PanelState) (ahead : ℕ) (refused : Bool) (socket : Option ℤ) (is_open : Bool) (at_hand : Option ℕ) (before : SessionState)

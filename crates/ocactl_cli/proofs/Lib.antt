@@ -8,4 +8,5 @@ mod TreeLemmas
 mod HoldLemmas
 mod MatchLemmas
 mod SocketLemmas
+mod BesideLemmas
 mod RowLemmas

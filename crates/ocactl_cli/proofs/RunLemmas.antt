@@ -18,10 +18,14 @@ use Rattle.oca_program.specs.declared.fault.RunFault.{RunFault}
 use Rattle.oca_program.specs.declared.fault.RunFault.TheVariants.{Write}
 use Rattle.ocactl_replay.specs.Requests.{asked_call}
 use Rattle.ocactl_replay.specs.Replaying.{ServesCall as CallsLink}
+use Rattle.oca_types.specs.declared.words.Peer.{Peer}
+use Rattle.ocactl_cli.specs.Beside.{AsksIfThere}
 use Rattle.ocactl_cli.specs.Exchanges.{SendsLines, SessionState}
+use Rattle.ocactl_cli.proofs.BesideLemmas.{asked_from, not_asked}
 use Rattle.oca_panel.specs.Panels.{PanelState}
 use Rattle.ocactl_cli.specs.Objects.{GivesUp, HoldsAll, StopsHolding}
-use Rattle.ocactl_cli.specs.Runs.{AsksOver, HoldsObjects, IsDone, ReplaysScript, RunsFrom, RunsWords, SendsOne, EndsWithText}
+use Rattle.ocactl_cli.specs.Runs.{AsksOver, DoesTask, DoesThenNotes, HoldsObjects, IsDone, ReplaysScript, RunsFrom, RunsWords, SendsOne, EndsWithText}
+use Rattle.ocactl_cli.specs.declared.tasks.Task.{Task}
 use Rattle.ocactl_cli.specs.declared.words.Linking.{Linking}
 use Rattle.ocactl_cli.specs.declared.words.Reach.{Reach}
 use Rattle.ocactl_cli.specs.declared.words.Sending.{Sending}
@@ -55,21 +59,31 @@ pub replays-part : (linking : Linking) (link after : LinkState) (e : ReplayFault
 replays-part linking link after e why had has was is same made h =
     record { after = after; replayed = Err e; ends = ap failed same; outcome = subst (λ (l : LinkState). Replayed l after (Err e) had has was is) made h }
 
-pub sends-all : (reach : Reach) (sending : Sending) (own : OwnPort) (before : EndState) (status : ℕ) (was is : Output) → IsPortByClock own
-    → AsksOver reach own.first_handle.0 sending before (Ok status) was is → SendsOne reach sending before (Ok status) was is
-sends-all reach sending own before status was is by h = record { own = own; by_clock = by; sent = Ok status; asks = h; ends = refl }
+pub sends-all : (reach : Reach) (sending : Sending) (own : OwnPort) (before behind last : EndState) (status : ℕ) (was is : Output) → IsPortByClock own
+    → last ≡ behind → AsksOver reach own.first_handle.0 sending before behind (Ok status) was is → SendsOne reach sending before last (Ok status) was is
+sends-all reach sending own before behind last status was is by same h = rw same (record { own = own; by_clock = by; sent = Ok status; asks = h; ends = refl })
 
-pub sends-part : (reach : Reach) (sending : Sending) (own : OwnPort) (before : EndState) (e : WriteFailed) (why : RunFault) (was is : Output) → IsPortByClock own
-    → why ≡ Write → AsksOver reach own.first_handle.0 sending before (Err e) was is → SendsOne reach sending before (Err why) was is
-sends-part reach sending own before e why was is by same h = record { own = own; by_clock = by; sent = Err e; asks = h; ends = ap failed same }
+pub sends-part : (reach : Reach) (sending : Sending) (own : OwnPort) (before behind : EndState) (e : WriteFailed) (why : RunFault) (was is : Output) → IsPortByClock own
+    → why ≡ Write → AsksOver reach own.first_handle.0 sending before behind (Err e) was is → SendsOne reach sending before behind (Err why) was is
+sends-part reach sending own before behind e why was is by same h = record { own = own; by_clock = by; sent = Err e; asks = h; ends = ap failed same }
 
-pub runs-all : (session after : SessionState) (u : Unit {0}) (status : ℕ) (had has : Input) (was is : Output)
-    → status ≡ (if after.unanswered then 3 else 0) → SendsLines session after was is had has (Ok u) → RunsFrom session (Ok status) had has was is
-runs-all session after u status had has was is same h = record { after = after; sent = Ok u; sends = h; ends = ap ended same }
+pub runs-all : (device : Peer) (session after : SessionState) (behind : EndState) (u : Unit {0}) (how : Result ℕ RunFault) (had has : Input) (was is : Output)
+    → how ≡ ended (if after.unanswered then 3 else 0) → AsksIfThere device after.end_state behind → SendsLines session after was is had has (Ok u)
+    → RunsFrom device session behind how had has was is
+runs-all device session after behind u how had has was is same asks h =
+    record { after = after; sent = Ok u; sends = h; ends = same; beside = asks }
 
-pub runs-part : (session after : SessionState) (e : ReplayFault) (why : RunFault) (had has : Input) (was is : Output)
-    → why ≡ run_fault e → SendsLines session after was is had has (Err e) → RunsFrom session (Err why) had has was is
-runs-part session after e why had has was is same h = record { after = after; sent = Err e; sends = h; ends = ap failed same }
+pub runs-part : (device : Peer) (session after : SessionState) (behind : EndState) (e : ReplayFault) (why : RunFault) (had has : Input) (was is : Output)
+    → why ≡ run_fault e → behind ≡ after.end_state → SendsLines session after was is had has (Err e)
+    → RunsFrom device session behind (Err why) had has was is
+runs-part device session after behind e why had has was is same end_same h =
+    record { after = after; sent = Err e; sends = h; ends = ap failed same; beside = not_asked device after.end_state behind end_same }
+
+-- a task was done over this panel, and behind it the device was asked at most whether it is there
+pub notes-behind : (what : Task) (device : Peer) (old after : PanelState) (last behind : EndState) (how : Result ℕ RunFault) (had has : Input) (was is : Output)
+    → DoesTask what old after how had has was is → last ≡ after.end_state → AsksIfThere device last behind → DoesThenNotes what device old behind how had has was is
+notes-behind what device old after last behind how had has was is does same asks =
+    record { after = after; does = does; beside = asked_from device last after.end_state behind same asks }
 
 -- what was done or given up, as its call says it
 pub done-so : (Done : ℕ → Type 0) (r : Result ℕ Failure) (is : Output) → IfOk r Done → IfErr r (λ failure. GivesUp failure is) → IsDone Done (fault_in r) is

@@ -12,9 +12,10 @@ use Rattle.oca_control.specs.declared.outcome.Outcome.{Outcome}
 use Rattle.oca_control.specs.declared.outcome.Outcome.TheVariants as outcomes
 use Rattle.oca_control.specs.declared.report.DriveReport.{DriveReport}
 use Rattle.oca_control.specs.Answers.{answer_fields}
+use Rattle.oca_control.specs.Limits.{longest_life}
 use Rattle.oca_control.specs.Links.{LinkState, IsNextDue, NeverIsDue, late_at}
 use Rattle.oca_control.specs.Turning.{Turns}
-use Rattle.oca_control.specs.Asking.{Begins, Asks, IsPresent, refused_by}
+use Rattle.oca_control.specs.Asking.{Begins, Asks, Waits, IsPresent, refused_by}
 use Rattle.oca_control.specs.Waiting.{ReceivesInAWait, WaitsWhile}
 use Rattle.oca_control.specs.Untaken.{answer_under}
 use Rattle.oca_script.specs.declared.fault.ReplayFault.{ReplayFault}
@@ -103,11 +104,13 @@ pub record IsFoundLostNow (s : SessionState) (found : Bool) : Type 0 where
   pub present : IsPresent now s.end_state
   pub lost : found ≡ (s.link.lost || late_at now s.link)
 
--- The first command in flight was waited for, and came out so.
+-- The first command in flight came out so: it was waited for, or that was known without a turn and without a look at the
+-- end's moment.
 pub record AwaitsFirst (old new : SessionState) (outcome : Outcome) : Type 0 where
   pub handle : ℕ
   pub first : old.in_flight ≡ handle ∷ new.in_flight
   pub waits : WaitsWhile handle line_wait old.link outcome new.link old.end_state new.end_state
+      ⊎ Waits handle 0 old.link outcome new.link old.end_state new.end_state
   pub asks : ReceivesInAWait old.end_state.receives new.end_state.receives
   pub ahead : new.ahead ≡ old.ahead
   pub unanswered : new.unanswered ≡ (old.unanswered || outcome_status outcome == 3)
@@ -168,9 +171,10 @@ pub record TakesUp (old new : SessionState) : Type 0 where
   pub present : IsPresent now old.end_state
   pub at_hand : new ≡ record old { at_hand = Some (since old.at_hand now) }
 
--- how long a line may be at hand before its command is submitted, in milliseconds
+-- How long a line may be at hand before its command is submitted, in milliseconds: as long as a command may take to
+-- leave.
 abbrev pub longest_at_hand : ℕ
-longest_at_hand = 15000
+longest_at_hand = longest_life
 
 -- The command got this handle and was sent at once, and is in flight behind the others. Its line was not at hand for
 -- longer than it may be.

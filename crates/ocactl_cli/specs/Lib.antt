@@ -2,6 +2,7 @@ pub mod Requests
 pub mod Exchanges
 pub mod Objects
 pub mod Reasons
+pub mod Beside
 pub mod PrivateExchanges
 pub mod PrivateObjects
 pub mod Words

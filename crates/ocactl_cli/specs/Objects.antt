@@ -17,6 +17,7 @@ use Rattle.oca_program.specs.declared.fault.Failure.{Failure}
 use Rattle.oca_program.specs.declared.fault.RunFault.{RunFault}
 use Rattle.oca_program.specs.declared.fault.RunFault.TheVariants as runs
 use Rattle.oca_control.specs.Asking.{IsPresent}
+use Rattle.oca_control.specs.Limits.{longest_life}
 use Rattle.oca_control.specs.declared.fault.ControlFault.{ControlFault}
 use Rattle.oca_control.specs.declared.fault.ControlFault.TheVariants as faults
 use Rattle.oca_control.specs.declared.outcome.Outcome.{Outcome}
@@ -172,9 +173,9 @@ done_line line (Err why) = shown.Failed why
 
 -- ---- commands in time
 
--- how long after the command before it one may be submitted, in milliseconds
+-- How long after the command before it one may be submitted, in milliseconds: as long as a command may take to leave.
 abbrev pub longest_behind : ℕ
-longest_behind = 15000
+longest_behind = longest_life
 
 -- The present moment is at most so long after this one.
 pub record IsSoonBehind (since now : ℕ) (s : PanelState) : Type 0 where

@@ -22,6 +22,7 @@ use Rattle.oca_panel.specs.Panels.{PanelState}
 use Rattle.ocactl_replay.specs.Requests.{asked_call}
 use Rattle.ocactl_replay.specs.Replaying.{ServesCall as CallsLink}
 use Rattle.ocactl_cli.specs.Asked.{OptionsAsk, IsRefusal}
+use Rattle.ocactl_cli.specs.Beside.{AsksIfThere}
 use Rattle.ocactl_cli.specs.Exchanges.{AsksOnce, SendsLines, SessionState}
 use Rattle.ocactl_cli.specs.Objects.{AsksAll, AsksPart, HoldsAll, StopsHolding, Gets, Locks, SetsAll, SetsNoneUnfound}
 use Rattle.ocactl_cli.specs.Objects.{is_locking}
@@ -100,30 +101,30 @@ pub record ReplaysScript (linking : Linking) (ended : Result ℕ RunFault) (had 
 
 -- ---- one command
 
--- It was asked over a new link and an end that did nothing before, for as many turns as were given, and its outcome
--- was written.
-pub record AsksOver (reach : Reach) (first : ℕ) (sending : Sending) (before : EndState) (sent : Result ℕ WriteFailed)
-    (was is : Output) : Type 0 where
+-- It was asked over a new link and this end, for as many turns as were given, and its outcome was written. Nothing else
+-- was sent: the end is as that left it.
+pub record AsksOver (reach : Reach) (first : ℕ) (sending : Sending) (before behind : EndState)
+    (sent : Result ℕ WriteFailed) (was is : Output) : Type 0 where
   pub after : LinkState
-  pub behind : EndState
   pub asks : AsksOnce (sending_fields sending).command sending.turns (link_for reach first 0) after before behind sent
       was is
 
 -- The status is that of its outcome, by a first handle of the clock's where none is given.
-pub record SendsOne (reach : Reach) (sending : Sending) (before : EndState) (ended : Result ℕ RunFault)
+pub record SendsOne (reach : Reach) (sending : Sending) (before behind : EndState) (ended : Result ℕ RunFault)
     (was is : Output) : Type 0 where
   pub own : OwnPort
   pub by_clock : IsPortByClock own
   pub sent : Result ℕ WriteFailed
-  pub asks : AsksOver reach own.first_handle.0 sending before sent was is
+  pub asks : AsksOver reach own.first_handle.0 sending before behind sent was is
   pub ends : ended ≡ ended_by_send sent
 
 -- over a socket that was bound at one address, the one that was given where one was, and at the port that was given or
--- one of the system's choice
+-- one of the system's choice, and did nothing before
 pub record SendsBound (reach : Reach) (sending : Sending) (ended : Result ℕ RunFault) (was is : Output) : Type 0 where
   pub local : Peer
+  pub behind : EndState
   pub bound : IsBoundFrom reach.ip (port_or_any reach.port) local
-  pub sends : SendsOne reach sending (end_at local) ended was is
+  pub sends : SendsOne reach sending (end_at local) behind ended was is
 
 -- ONE COMMAND was sent, or the device was not reached.
 abbrev pub SendsAt : Reach → Sending → Result ℕ RunFault → Output → Output → Type 0
@@ -147,13 +148,15 @@ new_session link end_state ahead socket =
       at_hand = None;
     }
 
--- The commands on standard input were sent over this session; the status is 3 where one of them got no answer.
-pub record RunsFrom (session : SessionState) (ended : Result ℕ RunFault) (had has : Input)
-    (was is : Output) : Type 0 where
+-- The commands on standard input were sent over this session; the status is 3 where one of them got no answer. Behind
+-- that the device was asked at most whether it is there; then the end was so.
+pub record RunsFrom (device : Peer) (session : SessionState) (behind : EndState) (ended : Result ℕ RunFault)
+    (had has : Input) (was is : Output) : Type 0 where
   pub after : SessionState
   pub sent : Result Unit ReplayFault
   pub sends : SendsLines session after was is had has sent
   pub ends : ended ≡ ended_by_lines after.unanswered sent
+  pub beside : AsksIfThere device after.end_state behind
 
 -- over a new link to a device that is reached as the words say, up to as many at once as were given
 pub record RunsLines (reach : Reach) (ahead : ℕ) (ended : Result ℕ RunFault) (had has : Input)
@@ -161,8 +164,9 @@ pub record RunsLines (reach : Reach) (ahead : ℕ) (ended : Result ℕ RunFault)
   pub link : LinkState
   pub end_state : EndState
   pub socket : ℤ
+  pub behind : EndState
   pub reaches : IsReached reach false link end_state
-  pub runs : RunsFrom (new_session link end_state ahead (Some socket)) ended had has was is
+  pub runs : RunsFrom reach.device (new_session link end_state ahead (Some socket)) behind ended had has was is
 
 -- nothing was read or written, since the device was not reached
 abbrev pub Unreached : Result ℕ RunFault → Input → Input → Output → Output → Type 0
@@ -218,6 +222,13 @@ DoesTask (task.Unlock onos) old new ended had has was is =
     AsksEach (Locks false) (map ono_number onos.items) old new ended was is × (has ≡ had)
 DoesTask task.Tree old new ended had has was is = PrintsObjects old new ended was is × (has ≡ had)
 
+-- The same, and behind it the device was asked at most whether it is there; then the end was so.
+pub record DoesThenNotes (what : Task) (device : Peer) (old : PanelState) (behind : EndState) (ended : Result ℕ RunFault)
+    (had has : Input) (was is : Output) : Type 0 where
+  pub after : PanelState
+  pub does : DoesTask what old after ended had has was is
+  pub beside : AsksIfThere device after.end_state behind
+
 -- the time of so many waits of 50 ms, in milliseconds of 32 bits
 abbrev pub time_of_turns : ℕ → ℕ
 time_of_turns turns = min (turns * 50) 4294967295
@@ -233,9 +244,9 @@ pub record DoesOver (reach : Reach) (turns : ℕ) (what : Task) (ended : Result 
     (was is : Output) : Type 0 where
   pub link : LinkState
   pub end_state : EndState
-  pub after : PanelState
+  pub behind : EndState
   pub reaches : IsReached reach (is_locking what) link end_state
-  pub does : DoesTask what (new_panel link end_state turns) after ended had has was is
+  pub does : DoesThenNotes what reach.device (new_panel link end_state turns) behind ended had has was is
 
 -- THE TASK was done, or the device was not reached.
 abbrev pub DoesAt : Reach → ℕ → Task → Result ℕ RunFault → Input → Input → Output → Output → Type 0

@@ -130,7 +130,8 @@ sending_in words =
 
 -- ---- several commands, and objects
 
--- how many set commands may be in flight, how many turns a command waits for its answer, and how the device is reached
+-- how many set commands may be in flight, how many times 50 ms a command waits for its answer, and how the device is
+-- reached
 pub record HandlingFields : Type 0 where
   pub reach : ReachFields
   pub turns : ℕ

@@ -154,7 +154,7 @@ const RUN_PORT: ArgumentRow = ArgumentRow {
 const TURNS: ArgumentRow = ArgumentRow {
     name: "turns",
     value: "T",
-    help: "Gives up on a command after T waits of up to 50 ms each [default: 200]",
+    help: "Gives up on a command after T times 50 ms [default: 200]",
     kind: Kind::Optional,
 };
 

@@ -8,6 +8,7 @@ ghost use Rattle.ocactl_cli.specs.Objects.{LooksWhileHeld, ReadsWhereReady, Stop
 ghost use Rattle.ocactl_cli.specs.PrivateObjects.{KeepsOrFails, ListsHeld, LocksEach, LocksNextOr, LocksOneBehind};
 ghost use Rattle.ocactl_cli.specs.PrivateObjects.{ono_number};
 
+use super::in_time::present;
 use super::object_line::max_severity;
 use super::objects::{lock_all, lock_one};
 use oca_net::End;
@@ -64,7 +65,7 @@ fn lock_each<E: End, W: Sink>(
 {
     printer.flush()?;
     let mut status = 0;
-    let mut since = panel.end().now();
+    let mut since = present(panel);
     for ono in onos {
         status = lock_next(panel, *ono, held, &mut since, status, printer)?;
     }

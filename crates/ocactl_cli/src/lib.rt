@@ -7,6 +7,7 @@
 //! its own: [`commands`], [`exchange`], [`objects`]; `replay` is the library `ocactl_replay`.
 #![tactic(auto)]
 
+mod bound_end;
 mod command_line;
 pub mod commands;
 pub mod exchange;

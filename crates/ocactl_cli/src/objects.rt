@@ -9,7 +9,7 @@ ghost use Rattle.ocactl_cli.specs.PrivateObjects.{ono_number, pair_of, assignmen
 ghost use Rattle.ocactl_cli.specs.PrivateObjects.{FindsOneTo, GivesUpFinding, LocksOneBehind, SetsFound};
 ghost use Rattle.ocactl_cli.specs.PrivateObjects.{ReportsMissing, ReportsOne};
 
-use super::in_time::is_in_time;
+use super::in_time::{is_in_time, present};
 use super::object_line::{ObjectLine, max_severity, report_object};
 use super::setting::{Assignment, set_assignments};
 use super::wanted::wanted;
@@ -227,7 +227,7 @@ pub fn lock_all<E: End, W: Sink>(
 {
     printer.flush()?;
     let mut status = 0;
-    let mut since = panel.end().now();
+    let mut since = present(panel);
     for ono in onos {
         let own = lock_one(panel, *ono, locks, &mut since, printer)?;
         status = max_severity(status, own);

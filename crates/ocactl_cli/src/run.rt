@@ -1,5 +1,6 @@
 //! A run of the program.
 ghost use Rattle.std.specs.Prelude.{◌≡◌, ℤ, IfErr, IfOk, Some, false, if◌then◌else◌, map};
+ghost use Rattle.ocactl_cli.specs.Beside.{AsksIfThere, TakesKeepAlives};
 ghost use Rattle.clap.specs.Words.{kind_of};
 ghost use Rattle.oca_types.specs.Sizes.{span_size};
 ghost use Rattle.oca_script.specs.Ends.{input};
@@ -14,9 +15,11 @@ ghost use Rattle.oca_program.specs.Faults.{asks_for_text};
 ghost use Rattle.ocactl_cli.specs.Runs.{run_status, RunsProgram, RunsWords, DoesByMatches, DoesMatchedCommand};
 ghost use Rattle.ocactl_cli.specs.Runs.{DoesByOptions, DoesRequest, AnswersUnmatched, PrintsHelp, EndsWithText};
 ghost use Rattle.ocactl_cli.specs.Runs.{ReplaysScript, SendsAt, SendsOne, AsksOver, RunsAt, RunsFrom, DoesAt, DoesTask};
+ghost use Rattle.ocactl_cli.specs.Runs.{DoesThenNotes};
 ghost use Rattle.ocactl_cli.specs.Runs.{AsksEach, new_session, time_of_turns};
 ghost use Rattle.ocactl_cli.specs.Sockets.{IsUnreached, port_or_any};
 
+use super::bound_end::BoundEnd;
 use super::commands::send_all;
 use super::exchange::ask_once;
 use super::holding::hold;
@@ -337,8 +340,8 @@ fn sent<N: Net + Clock, W: Sink, F: Sink>(
     note_span(alloc, reach.span, faults);
     match bound_to_send(alloc, system, reach) {
         Ok(end) => {
-            let end = Watched::new(end, reach.device);
-            sent_over(alloc, system, end, reach, sending, printer, faults)
+            let mut end = Watched::new(end, reach.device);
+            sent_over(alloc, system, &mut end, reach, sending, printer, faults)
         }
         Err(failure) => Err(failure),
     }
@@ -361,21 +364,22 @@ fn bound_to_send<N: Net + Clock>(
 }
 
 /// The same over an end.
-fn sent_over<N: Net + Clock, W: Sink, F: Sink>(
+fn sent_over<N: Net + Clock, E: BoundEnd, W: Sink, F: Sink>(
     alloc: Global,
     system: &N,
-    mut end: Watched<UdpEnd<'_, N>>,
+    end: &mut Watched<E>,
     reach: Reach,
     sending: &Sending,
     printer: &mut Printer<W>,
     faults: &mut Printer<F>,
 ) -> Result<u8, Failure>
-    ensures { SendsOne reach sending.now end.entry.end_state (fault_in result) printer.old printer.new }
+    ensures { SendsOne reach sending.now end.old.end_state end.new.end_state
+        (fault_in result) printer.old printer.new }
 {
     let own = OwnPort::now(system);
-    match send_one(reach, own.first_handle, &mut end, sending, printer) {
+    match send_one(reach, own.first_handle, end, sending, printer) {
         Ok(status) => {
-            note_no_answer(alloc, system, &mut end, reach, status == 3, false, faults);
+            note_no_answer(alloc, system, end, reach, status == 3, false, faults);
             Ok(status)
         }
         Err(failed) => Err(Failure::from(failed)),
@@ -400,7 +404,8 @@ fn ran<N: Net + Clock, R: Source, W: Sink, F: Sink>(
     match reached(alloc, system, reach, false, faults) {
         Ok((link, end)) => {
             let session = session_over(link, end, ahead);
-            ran_over(alloc, system, session, reach, reader, printer, faults)
+            let (ended, _end) = ran_over(alloc, system, session, reach, reader, printer, faults);
+            ended
         }
         Err(failure) => Err(failure),
     }
@@ -418,40 +423,43 @@ fn session_over<'a, N: Net + Clock>(
     Session::new(link, end, ahead, socket)
 }
 
-/// The same over a session.
-fn ran_over<N: Net + Clock, R: Source, W: Sink, F: Sink>(
+/// The same over a session. Returns the end, too.
+fn ran_over<N: Net, E: BoundEnd, R: Source, W: Sink, F: Sink>(
     alloc: Global,
     system: &N,
-    mut session: Session<Watched<UdpEnd<'_, N>>>,
+    mut session: Session<Watched<E>>,
     reach: Reach,
     reader: &mut R,
     printer: &mut Printer<W>,
     faults: &mut Printer<F>,
-) -> Result<u8, Failure>
-    ensures { RunsFrom session.entry (fault_in result)
+) -> (Result<u8, Failure>, Watched<E>)
+    ensures { RunsFrom reach.device session result.1.end_state (fault_in result.0)
         (input (R.remaining reader.old) (R.failed reader.old))
         (input (R.remaining reader.new) (R.failed reader.new)) printer.old printer.new }
 {
     match send_all(&mut session, reader, printer) {
-        Ok(()) => Ok(concluded(alloc, system, session, reach, faults)),
-        Err(stopped) => Err(Failure::from(stopped)),
+        Ok(()) => concluded(alloc, system, session, reach, faults),
+        Err(stopped) => (Err(Failure::from(stopped)), session.into_end()),
     }
 }
 
-/// The exit status of a session that is over; why it is silent, where it is, is printed.
-fn concluded<N: Net + Clock, F: Sink>(
+/// The exit status of a session that is over, and its end; why it is silent, where it is, is printed.
+#[tactic(auto, using(crate::proofs::BesideLemmas::asked_from))]
+fn concluded<N: Net, E: BoundEnd, F: Sink>(
     alloc: Global,
     system: &N,
-    session: Session<Watched<UdpEnd<'_, N>>>,
+    session: Session<Watched<E>>,
     reach: Reach,
     faults: &mut Printer<F>,
-) -> u8
-    ensures { result ≡ if session.entry.unanswered then 3 else 0 }
+) -> (Result<u8, Failure>, Watched<E>)
+    ensures status { fault_in result.0 ≡ Ok (if session.unanswered then 3 else 0) }
+    ensures beside { AsksIfThere reach.device session.end_state result.1.end_state }
 {
     let status = session_status(session.unanswered());
     let silent = session.is_lost();
-    note_end(alloc, system, session.into_end(), reach, silent, faults);
-    status
+    let mut end = session.into_end();
+    note_no_answer(alloc, system, &mut end, reach, silent, true, faults);
+    (Ok(status), end)
 }
 
 /// The exit status of a session, by whether a command got no answer.
@@ -459,18 +467,6 @@ fn session_status(unanswered: bool) -> u8
     ensures { result ≡ if unanswered then 3 else 0 }
 {
     if unanswered { 3 } else { 0 }
-}
-
-/// Prints why an end is silent, where it is, and lets it go.
-fn note_end<N: Net + Clock, F: Sink>(
-    alloc: Global,
-    system: &N,
-    mut end: Watched<UdpEnd<'_, N>>,
-    reach: Reach,
-    silent: bool,
-    faults: &mut Printer<F>,
-) {
-    note_no_answer(alloc, system, &mut end, reach, silent, true, faults);
 }
 
 /// Does something with objects over a socket, and prints it.
@@ -492,7 +488,10 @@ fn done<N: Net + Clock, R: Source, W: Sink, F: Sink>(
     match reached(alloc, system, reach, task.locks(), faults) {
         Ok((link, end)) => {
             let panel = Panel::new(link, end, time_of(turns));
-            done_over(alloc, system, panel, reach, task, reader, printer, faults)
+            let (ended, _end) = done_over(
+                alloc, system, panel, reach, task, reader, printer, faults,
+            );
+            ended
         }
         Err(failure) => Err(failure),
     }
@@ -505,28 +504,33 @@ fn time_of(turns: u32) -> u32
     turns.saturating_mul(50)
 }
 
-/// The same over a link.
-fn done_over<N: Net + Clock, R: Source, W: Sink, F: Sink>(
+/// The same over a link. Returns the end, too.
+fn done_over<N: Net, E: BoundEnd, R: Source, W: Sink, F: Sink>(
     alloc: Global,
     system: &N,
-    mut panel: Panel<Watched<UdpEnd<'_, N>>>,
+    mut panel: Panel<Watched<E>>,
     reach: Reach,
     task: &Task,
     reader: &mut R,
     printer: &mut Printer<W>,
     faults: &mut Printer<F>,
-) -> Result<u8, Failure>
-    ensures { (after : PanelState) × DoesTask task.now panel.entry after (fault_in result)
+) -> (Result<u8, Failure>, Watched<E>)
+    ensures { DoesThenNotes task.now reach.device panel result.1.end_state (fault_in result.0)
         (input (R.remaining reader.old) (R.failed reader.old))
         (input (R.remaining reader.new) (R.failed reader.new)) printer.old printer.new }
 {
-    match do_task(alloc, &mut panel, task, reader, printer) {
-        Ok(status) => {
-            let silent = status == 3 && panel.unanswered();
-            note_end(alloc, system, panel.into_end(), reach, silent, faults);
-            Ok(status)
-        }
-        Err(failure) => Err(failure),
+    let ended = do_task(alloc, &mut panel, task, reader, printer);
+    let silent = panel.unanswered() && is_unanswered(&ended);
+    let mut end = panel.into_end();
+    note_no_answer(alloc, system, &mut end, reach, silent, true, faults);
+    (ended, end)
+}
+
+/// Whether a task ended since an answer did not come.
+fn is_unanswered(ended: &Result<u8, Failure>) -> bool {
+    match ended {
+        Ok(status) => *status == 3,
+        Err(_) => false,
     }
 }
 
@@ -590,7 +594,7 @@ fn send_one<E: End, W: Sink>(
     sending: &Sending,
     printer: &mut Printer<W>,
 ) -> Result<u8, WriteFailed>
-    ensures { AsksOver reach first.0 sending.now (E.state end.old) result printer.old printer.new }
+    ensures { AsksOver reach first.0 sending.now (E.state end.old) (E.state end.new) result printer.old printer.new }
 {
     let mut link = reach.link(first.0, 0);
     ask_once(&mut link, end, sending.command(), sending.turns, printer)
@@ -598,15 +602,21 @@ fn send_one<E: End, W: Sink>(
 
 /// Prints what is known of why a command got no answer, where one got none: why a send failed, where one has, and when
 /// the device was heard. `asks` is whether one that was not heard is asked once more whether it is there.
-fn note_no_answer<N: Net + Clock, F: Sink>(
+#[tactic(auto, using(crate::proofs::BesideLemmas::not_asked, crate::proofs::BesideLemmas::takes_keep_alives))]
+fn note_no_answer<N: Net, E: BoundEnd, F: Sink>(
     alloc: Global,
     system: &N,
-    end: &mut Watched<UdpEnd<'_, N>>,
+    end: &mut Watched<E>,
     reach: Reach,
     silent: bool,
     asks: bool,
     faults: &mut Printer<F>,
-) {
+)
+    ensures beside { AsksIfThere reach.device end.old.end_state end.new.end_state }
+    ensures told { TakesKeepAlives reach.device end.old.end_state end.new.end_state }
+    ensures unasked { asks ≡ false → end.new.end_state ≡ end.old.end_state }
+    ensures answered { silent ≡ false → end.new.end_state ≡ end.old.end_state }
+{
     if silent {
         note_failed_send(alloc, end.end().last_failed_send(), faults);
         note_silence(alloc, system, end, reach, asks, faults);

@@ -6,7 +6,8 @@ ghost use Rattle.ocactl_cli.specs.Exchanges.{is_over, longest_at_hand, since};
 ghost use Rattle.ocactl_cli.specs.Exchanges.{time_beside, time_until};
 ghost use Rattle.ocactl_cli.specs.PrivateExchanges.{Submitted, TakesFirst};
 
-use oca_control::{ControlFault, Link, Outcome};
+use super::in_time::present;
+use oca_control::{ControlFault, LONGEST_LIFE_MS, Link, Outcome};
 use oca_net::End;
 use oca_panel::{InFlight, Panel};
 use oca_types::{Handle, Request, Span};
@@ -19,10 +20,6 @@ const WAIT_MS: u32 = u32::MAX;
 
 /// The longest wait for input, in milliseconds: an hour.
 const LONGEST_WAIT_MS: u64 = 3_600_000;
-
-/// How long a line may be at hand before its command is submitted, in milliseconds: while the program is awake no
-/// answer is awaited for so long.
-const LONGEST_AT_HAND_MS: u64 = 15_000;
 
 /// A panel, the commands in flight on it in the order of their lines, how many may be, and whether one was refused so
 /// far. Besides the end's descriptor, where it has one, whether a command was submitted, and since when the next
@@ -173,7 +170,7 @@ impl<E: End> Session<E> {
     pub fn take_up(&mut self)
         ensures { TakesUp self.old self.new }
     {
-        let now = self.panel.end().now();
+        let now = present(&self.panel);
         self.at_hand = Some(since(self.at_hand, now));
     }
 
@@ -183,7 +180,7 @@ impl<E: End> Session<E> {
         requires { length self.old.in_flight < 32 }
         ensures { Submitted (request_of request.entry) result self.old self.new }
     {
-        let now = self.panel.end().now();
+        let now = present(&self.panel);
         if comes_late(self.at_hand, now) {
             return Err(ControlFault::Lost);
         }
@@ -217,7 +214,7 @@ impl<E: End> Session<E> {
         ensures { IsWaitTime self.now result }
     {
         let due = self.panel.next_due();
-        time_beside(self.socket, due, self.panel.end().now())
+        time_beside(self.socket, due, present(&self.panel))
     }
 
     /// Takes a turn, and returns whether the link was found lost, or late.
@@ -256,12 +253,13 @@ fn since(at_hand: Option<u64>, now: u64) -> u64
     at_hand.unwrap_or(now)
 }
 
-/// Whether a line was at hand for longer than it may be.
+/// Whether a line was at hand for longer than a command may take to leave: while the program is awake no answer is
+/// awaited for so long.
 fn comes_late(at_hand: Option<u64>, now: u64) -> bool
     ensures late { result ≡ true → since at_hand now + longest_at_hand < now }
     ensures in_time { result ≡ false → now ≤ since at_hand now + longest_at_hand }
 {
-    now.saturating_sub(since(at_hand, now)) > LONGEST_AT_HAND_MS
+    now.saturating_sub(since(at_hand, now)) > LONGEST_LIFE_MS
 }
 
 /// How long input may be awaited beside a descriptor, where there is one, until this moment.

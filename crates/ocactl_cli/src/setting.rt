@@ -8,7 +8,7 @@ ghost use Rattle.ocactl_cli.specs.PrivateObjects.{assignment_of, reported_set, s
 ghost use Rattle.ocactl_cli.specs.PrivateObjects.{EndsRefused, MakesPlace};
 ghost use Rattle.ocactl_cli.specs.PrivateObjects.{ReportsNext, SetsEachTo, SetsOn, WaitsForFirst, WaitsOn};
 
-use super::in_time::is_in_time;
+use super::in_time::{is_in_time, present};
 use super::object_line::{ObjectLine, max_severity, report_object};
 use oca_control::{ControlFault, Outcome};
 use oca_model::Value;
@@ -53,7 +53,7 @@ pub fn set_assignments<E: End, W: Sink>(
 {
     let mut waiting = InFlight::new();
     let mut status = 0;
-    let mut since = panel.end().now();
+    let mut since = present(panel);
     for assignment in assignments {
         status = set_next(
             panel,

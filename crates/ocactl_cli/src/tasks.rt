@@ -52,7 +52,7 @@ pub fn is_task(name: &str) -> bool
     name == "tree" || name == "get" || name == "set" || name == "lock" || name == "unlock"
 }
 
-/// How many turns a command waits for its answer: 200 unless given.
+/// How many times 50 ms a command waits for its answer: 200 unless given.
 pub fn turns_of(words: &ArgMatches<'_>) -> Option<u32>
     ensures { result ≡ given_turns words.now }
 {

@@ -110,7 +110,7 @@ pub enum Asked {
     Send(Reach, Sending),
     /// To send the commands of the input to a device, so many of them at once.
     Run(Reach, Span),
-    /// To do something with objects of a device, where each command waits so many turns for its answer.
+    /// To do something with objects of a device, where each command waits so many times 50 ms for its answer.
     Do(Reach, u32, Task),
 }
 
@@ -322,8 +322,8 @@ fn task_by(
     }
 }
 
-/// How objects are handled: where the device is, how many turns a command waits, and how many set commands are under
-/// way at once.
+/// How objects are handled: where the device is, how many times 50 ms a command waits for its answer, and how many set
+/// commands are in flight at once.
 #[derive(Clone, Copy)]
 pub struct Handling {
     pub reach: Reach,

@@ -1,3 +1,4 @@
+pub mod StoringLemmas
 pub mod TotalLemmas
 pub mod CommandLineLemmas
 pub mod HeldLemmas

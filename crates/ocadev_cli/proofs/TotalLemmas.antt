@@ -1,5 +1,5 @@
 -- Reports of rounds, one after another.
-use Rattle.std.proofs.Common.{◌≡◌, Bool, sym, ℕ, ◌+◌, ◌≤◌, min, false, true, [], refl, ap, ◌∙◌, arith}
+use Rattle.std.proofs.Common.{◌≡◌, Bool, ℕ, ◌+◌, ◌≤◌, min, false, true, [], refl, ap, ◌∙◌, arith}
 use Rattle.oca_net.specs.Ends.{last_u64}
 use Rattle.oca_net.specs.EndStates.{EndState}
 use Rattle.oca_device.specs.declared.report.Report.{Report}
@@ -8,7 +8,7 @@ use Rattle.oca_device.specs.Reports.{added, capped, no_turns}
 use Rattle.oca_device.specs.Replies.{ServesEnd}
 use Rattle.oca_device.specs.Following.{ElectronicsState, ServesEndWith}
 use Rattle.oca_device.proofs.Turns.{with_none, with_more}
-use Rattle.oca_device.specs.Keeping.{StoreState, all_deliveries}
+use Rattle.oca_device.specs.Keeping.{StoreState}
 use Rattle.oca_device.proofs.Keepings.{keeps_none, keeps_more}
 use Rattle.ocadev_cli.specs.Totals.{StoresOn, ServesOn}
 
@@ -48,21 +48,6 @@ cap-fits a b t n is more fits = omega arith
 -- after so many turns, and so many more
 pub turns-more : (t n : ℕ) (p r s : Report) → s ≡ capped (added p r) → p.turns ≡ t → r.turns ≡ n → t + n ≤ last_u64 → s.turns ≡ t + n
 turns-more t n p r s is had more fits = ap (λ (q : Report). q.turns) is ∙ cap-fits p.turns r.turns t n had more fits
-
--- what was kept was served, at an end that does not tell
-pub kept_serves : (b c : Bool) (d n : DeviceState) (e f : EndState) (had has : StoreState) (r : Report) → e.tells ≡ false → StoresOn b c d n e f had has r → ServesOn d n e f r
-kept_serves b c d n e f had has r silent_end k = record {
-  report = k.report;
-  serves = record {
-    deliveries = all_deliveries k.groups;
-    serves = k.serves;
-    telling = k.telling;
-    delivered = k.delivered;
-    sent = λ told w tree events rep. absurd (not-true (sym silent_end ∙ told));
-    failures = k.failures;
-  };
-  prints = k.returns;
-}
 
 -- no round, and one round more
 pub kept-none : (b : Bool) (d : DeviceState) (e : EndState) (s : StoreState) (r : Report) → r ≡ no_turns → StoresOn b b d d e e s s r

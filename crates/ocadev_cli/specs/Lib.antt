@@ -4,6 +4,8 @@ pub mod CommandLine
 pub mod Totals
 pub mod Makings
 pub mod Keeping
+pub mod Storing
+pub mod PrivateStoring
 pub mod Effects
 pub mod Traces
 pub mod Runs

@@ -1,5 +1,5 @@
 -- What a run of the program does, by its words (*profile*).
-use Rattle.std.specs.Prelude.{◌≡◌, ◌⊎◌, ℕ, Bool, true, List, [], Option, Some, None, Result, Ok, Err}
+use Rattle.std.specs.Prelude.{◌≡◌, ◌⊎◌, ℕ, Bool, true, List, [], Option, Some, None, Result, Ok, Err, is_some}
 use Rattle.clap.specs.declared.error.Error.{Error}
 use Rattle.clap.specs.declared.error.kind.ErrorKind.{ErrorKind}
 use Rattle.clap.specs.declared.parser.matches.ArgMatches.{ArgMatches}
@@ -28,7 +28,7 @@ use Rattle.ocadev_cli.specs.Makings.{MakesObjects}
 use Rattle.ocadev_cli.specs.Keeping.{starting_objects}
 use Rattle.ocadev_cli.specs.Printing.{report_text, tree_text}
 use Rattle.ocadev_replay.specs.Replaying.{ReplayOutcome}
-use Rattle.ocadev_cli.specs.Totals.{ServesOn}
+use Rattle.ocadev_cli.specs.Totals.{KeepsServing}
 
 -- ---- how a run ends
 
@@ -85,7 +85,7 @@ turns_until None = last_u64
 turns_until (Some turns) = turns
 
 -- A DEVICE of these objects and sizes served a socket, which was bound at the address and the port that were given, for
--- as many turns as were given; and this is printed of it.
+-- as many turns as were given, and kept its state if a file is named for that; and this is printed of it.
 pub record ServesAt (serving : ServingFields) (tree : List Object) (printed : Report) : Type 0 where
   pub local : Peer
   pub device : DeviceState
@@ -93,7 +93,7 @@ pub record ServesAt (serving : ServingFields) (tree : List Object) (printed : Re
   pub end_state : EndState
   pub bound : IsBoundAt serving.ip serving.port local
   pub represents : Represents serving.making.sizes device tree []
-  pub serves : ServesOn device after (state_of_socket (new_socket local)) end_state printed
+  pub serves : KeepsServing (is_some serving.keep) device after (state_of_socket (new_socket local)) end_state printed
   pub turns : printed.turns ≡ turns_until serving.turns
 
 -- it was served, or there was no socket, or no memory

@@ -1,5 +1,5 @@
 -- What is printed of a report, whatever its numbers are (*profile*).
-use Rattle.std.specs.Prelude.{◌≡◌, Bool, false, [], ℕ, ◌-◌, ◌*◌, ◌^◌, Option, None, Some}
+use Rattle.std.specs.Prelude.{◌≡◌, Bool, true, false, [], ℕ, ◌-◌, ◌*◌, ◌^◌, Option, None, Some}
 use Rattle.oca_net.specs.EndStates.{EndState}
 use Rattle.oca_device.specs.declared.report.Report.{Report}
 use Rattle.oca_device.specs.Devices.{DeviceState}
@@ -26,6 +26,12 @@ abbrev pub StoresOn : (behind is_behind : Bool) (old new : DeviceState) (before 
     (printed : Report) → Type 0
 StoresOn behind is_behind old new before after had has printed =
     ServesKeeping behind is_behind old new before after no_electronics no_electronics had has printed
+
+-- A device served an end, from where nothing waits to be stored, and kept its objects in a file if that is asked for.
+abbrev pub KeepsServing : Bool → (old new : DeviceState) → (before after : EndState) → (printed : Report) → Type 0
+KeepsServing false old new before after printed = ServesOn old new before after printed
+KeepsServing true old new before after printed = (is_behind : Bool) × (has : StoreState)
+    × StoresOn false is_behind old new before after silent_store has printed
 
 -- ---- how often the report so far is printed
 

@@ -1,28 +1,29 @@
 //! The state of a device, kept in a file: it is read when the device starts, and written before what wrote something is
 //! answered. Reply windows and sessions are not kept.
-ghost use Rattle.std.specs.Prelude.{◌≡◌, false, IfErr, IfOk, IfSome, is_some};
+ghost use Rattle.std.specs.Prelude.{◌≡◌, ◌≤◌, ◌<◌, false, IfErr, IfOk, IfSome, IsTrue, is_some};
 ghost use Rattle.std.specs.Option.{option_copied};
 ghost use Rattle.oca_program.specs.declared.fault.RunFault.TheVariants.{NoMemory as no_memory, Read as read_failed};
 ghost use Rattle.ocadev_cli.specs.Words.{object_source};
 ghost use Rattle.oca_program.specs.Faults.{fault_in};
 ghost use Rattle.ocadev_cli.specs.Keeping.{starting_objects};
 ghost use Rattle.ocadev_cli.specs.Makings.{MakesObjects};
+ghost use Rattle.ocadev_cli.specs.Runs.{turns_until};
+ghost use Rattle.ocadev_cli.specs.Storing.{store_of};
+ghost use Rattle.ocadev_cli.specs.Totals.{StoresOn};
 
+use super::disk::{Attributes, Disk, end_line, plain_attributes, write_over};
 use super::making::objects;
-use super::serving::{Tracing, print_progress_report, sum};
-use super::show::show_text;
+use super::serving::{Tracing, print_progress_report, serve_kept, sum};
 use super::trace::{print_heard, statuses_of};
 use super::words::Objects;
 use oca_device::{Device, Keeping as Waiting, Outbox, Report, Store};
-use oca_net::Heard;
+use oca_net::{End, Heard};
 use oca_program::{Failure, RunFault, print_note};
-use oca_script::{Printer, Sink, ToWriter};
+use oca_script::{Printer, Sink};
 use oca_tree::Tree;
 use std::alloc::Global;
-use std::fs::{File, Metadata, OpenFile, OpenOptions};
+use std::fs::{File, Metadata, OpenFile, OpenOptions, TryLockError};
 use std::io::{ErrorKind, Read, Seek, SeekFrom};
-use std::os::unix::fs::{MetadataExt, lchown};
-use std::path::Path;
 use std::rt::Files;
 use std::{fs, io};
 
@@ -89,11 +90,6 @@ fn kept_objects<F: Files>(alloc: Global, files: &F, path: &str) -> Result<Tree, 
     }
 }
 
-/// The last line of a file with so many objects, where there is memory for it.
-fn end_line(alloc: Global, count: usize) -> Option<String> {
-    format!(in alloc; "# end of {count} objects\n").ok()
-}
-
 /// Refuses a file whose last line does not say that it has so many objects.
 fn check_end<F: Files>(alloc: Global, files: &F, path: &str, count: usize) -> Result<(), Failure>
     ensures { IfErr result (λ failure. failure.fault ≡ read_failed) }
@@ -148,8 +144,8 @@ fn unreadable(alloc: Global, path: &str, reason: io::Error) -> Failure
 
 /// Takes the file in which the state is to be kept, where one is named, for this device alone, until what is returned is
 /// let go: a lock on the file FILE.lock beside it. Refusal: `Read` where FILE, FILE.new or FILE.lock is there and no plain
-/// file, as a folder, a FIFO or a symbolic link; where FILE.lock can't be made; where another device has it; and where
-/// memory was refused.
+/// file, as a folder, a FIFO or a symbolic link; where FILE.lock can't be made or locked; where another device has it; and
+/// where memory was refused.
 pub fn claimed<F: Files<File = File>>(
     alloc: Global,
     files: &F,
@@ -233,23 +229,26 @@ fn locked<F: Files<File = File>>(alloc: Global, files: &F, path: &str) -> Result
     match how.open(files, path) {
         Ok(file) => match file.try_lock() {
             Ok(()) => Ok(file),
-            Err(_) => Err(refused(alloc, path, "another device has it")),
+            Err(TryLockError::WouldBlock) => Err(refused(alloc, path, "another device has it")),
+            Err(TryLockError::Error(reason)) => Err(unreadable(alloc, path, reason)),
         },
         Err(reason) => Err(unreadable(alloc, path, reason)),
     }
 }
 
-/// The file in which a state is kept, the new one beside it that takes its place, and what waits until it has.
+/// The file in which a state is kept, the new one beside it that takes its place, what waits until it has, and the mode and
+/// the owner of the file, where it is there.
 #[derive(Drop)]
 pub struct Kept<'a> {
     pub path: &'a str,
     pub fresh: String,
     pub waiting: Waiting,
+    pub attributes: Option<Attributes>,
 }
 
 impl<'a> Kept<'a> {
     /// The file at this path. Refusal: `NoMemory`.
-    fn new(alloc: Global, path: &'a str) -> Result<Kept<'a>, RunFault>
+    fn new<F: Files>(alloc: Global, files: &F, path: &'a str) -> Result<Kept<'a>, RunFault>
         ensures path { IfOk result (λ kept. kept.path ≡ path.entry) }
         ensures behind { IfOk result (λ kept. kept.waiting.is_behind ≡ false) }
         ensures refused { IfErr result (λ why. why ≡ no_memory) }
@@ -262,6 +261,7 @@ impl<'a> Kept<'a> {
                 path,
                 fresh,
                 waiting,
+                attributes: plain_attributes(files, path),
             }),
             Err(_) => Err(RunFault::NoMemory),
         }
@@ -276,14 +276,19 @@ pub struct Keeping<'a> {
 
 impl<'a> Keeping<'a> {
     /// In the file at this path, where one is named. Refusal: `NoMemory`.
-    pub fn new(alloc: Global, keep: Option<&'a str>) -> Result<Keeping<'a>, RunFault>
-        ensures kept { IfOk result (λ keeping. is_some keeping.kept ≡ is_some keep.entry) }
+    pub fn new<F: Files>(
+        alloc: Global,
+        files: &F,
+        keep: Option<&'a str>,
+    ) -> Result<Keeping<'a>, RunFault>
+        ensures kept { IfOk result (λ keeping. is_some keeping.kept ≡ is_some (option_copied keep.entry)) }
+        ensures behind { IfOk result (λ keeping. IfSome keeping.kept (λ kept. kept.waiting.is_behind ≡ false)) }
         ensures refused { IfErr result (λ why. why ≡ no_memory) }
     {
         let Some(path) = keep else {
             return Ok(Keeping { kept: None });
         };
-        match Kept::new(alloc, path) {
+        match Kept::new(alloc, files, path) {
             Ok(kept) => Ok(Keeping { kept: Some(kept) }),
             Err(fault) => Err(fault),
         }
@@ -297,28 +302,26 @@ impl<'a> Keeping<'a> {
     }
 }
 
-/// A file as a store, which does not tell; and what is printed while an end is served: a line for each datagram and the
-/// report so far, as far as they are asked for, and that the file can't be written.
-pub struct FileStore<'l, 'p, 'n, 'f, L, F: Sink> {
+/// A file on a disk as a store; and what is printed while an end is served: a line for each datagram and the report so far,
+/// as far as they are asked for, that the file can't be written, and that it is again.
+pub struct FileStore<'d, 'p, 'f, D, F: Sink> {
     alloc: Global,
-    files: &'l L,
     path: &'p str,
-    fresh: &'n str,
+    pub disk: &'d mut D,
     /// Whether the last store failed, which was printed then.
-    failed: bool,
+    pub failed: bool,
     tracing: Tracing,
     report: Report,
-    faults: &'f mut Printer<F>,
+    pub faults: &'f mut Printer<F>,
 }
 
-impl<'l, 'p, 'n, 'f, L, F: Sink> Drop for FileStore<'l, 'p, 'n, 'f, L, F> {
-    /// Lets the printer go.
+impl<'d, 'p, 'f, D, F: Sink> Drop for FileStore<'d, 'p, 'f, D, F> {
+    /// Lets the disk and the printer go.
     fn drop(self) {
         let FileStore {
             alloc: _,
-            files: _,
             path: _,
-            fresh: _,
+            disk: _,
             failed: _,
             tracing: _,
             report: _,
@@ -327,21 +330,22 @@ impl<'l, 'p, 'n, 'f, L, F: Sink> Drop for FileStore<'l, 'p, 'n, 'f, L, F> {
     }
 }
 
-impl<'l, 'p, 'n, 'f, L: Files, F: Sink> FileStore<'l, 'p, 'n, 'f, L, F> {
-    /// The file at a path, written by one at another path that takes its place.
+impl<'d, 'p, 'f, D: Disk, F: Sink> FileStore<'d, 'p, 'f, D, F> {
+    /// The file at a path, on this disk.
     pub fn new(
         alloc: Global,
-        files: &'l L,
         path: &'p str,
-        fresh: &'n str,
+        disk: &'d mut D,
         tracing: Tracing,
         faults: &'f mut Printer<F>,
-    ) -> FileStore<'l, 'p, 'n, 'f, L, F> {
+    ) -> FileStore<'d, 'p, 'f, D, F>
+        ensures disk { result.disk.now ≡ disk.entry.now }
+        ensures failed { result.failed ≡ false }
+    {
         FileStore {
             alloc,
-            files,
             path,
-            fresh,
+            disk,
             failed: false,
             tracing,
             report: Report::default(),
@@ -350,7 +354,11 @@ impl<'l, 'p, 'n, 'f, L: Files, F: Sink> FileStore<'l, 'p, 'n, 'f, L, F> {
     }
 
     /// Prints that the file can't be written, where the store before did not fail.
-    fn note(&mut self, reason: io::Error) {
+    fn note_failure(&mut self, reason: io::Error)
+        ensures failed { IsTrue self.new.failed }
+        ensures disk { self.new.disk.now ≡ self.old.disk.now }
+        ensures once { IsTrue self.old.failed → self.new.faults.now ≡ self.old.faults.now }
+    {
         if self.failed {
             return;
         }
@@ -360,23 +368,47 @@ impl<'l, 'p, 'n, 'f, L: Files, F: Sink> FileStore<'l, 'p, 'n, 'f, L, F> {
             print_note(note.as_str(), self.faults);
         }
     }
+
+    /// Prints that the file is written again, where the store before failed.
+    fn note_success(&mut self)
+        ensures failed { self.new.failed ≡ false }
+        ensures disk { self.new.disk.now ≡ self.old.disk.now }
+        ensures once { self.old.failed ≡ false → self.new.faults.now ≡ self.old.faults.now }
+    {
+        if !self.failed {
+            return;
+        }
+        self.failed = false;
+        let path = self.path;
+        if let Ok(note) = format!(in self.alloc; "the state is kept again: {path}") {
+            print_note(note.as_str(), self.faults);
+        }
+    }
 }
 
-impl<'l, 'p, 'n, 'f, L: Files, F: Sink> Store for FileStore<'l, 'p, 'n, 'f, L, F> {
-    ghost use Rattle.std.specs.Prelude.{[], false};
+impl<'d, 'p, 'f, D: Disk, F: Sink> Store for FileStore<'d, 'p, 'f, D, F> {
+    ghost use Rattle.std.specs.Prelude.{◌≡◌, not};
+    ghost use Rattle.oca_device.specs.Keeping.{Stores};
+    ghost use Rattle.ocadev_cli.specs.Storing.{StoresBy, store_of};
 
-    ghost state = { λ _. record { tells = false; storings = [] } };
+    ghost state = { λ s. store_of (D.state s.disk.now) };
 
-    /// Writes the objects to a new file, which takes the place of the one before. Where that fails, that is printed the
-    /// first time, and again after a success.
-    fn store(&mut self, tree: &Tree) -> bool {
-        match write_over(self.alloc, self.files, tree, self.fresh, self.path) {
+    /// Writes the objects over the file. Where that fails, that is printed the first time, and again after a success; and
+    /// so is the first success after a failure.
+    #[tactic(auto, using(crate::proofs::StoringLemmas::stored_says))]
+    fn store(&mut self, tree: &Tree) -> bool
+        ensures stores { Stores result tree.now (store_of (D.state self.old.disk.now)) (store_of (D.state self.new.disk.now)) }
+        ensures steps { StoresBy result tree.now (D.state self.old.disk.now) (D.state self.new.disk.now) }
+        ensures failed { self.new.failed ≡ not result }
+        ensures once { self.old.failed ≡ not result → self.new.faults.now ≡ self.old.faults.now }
+    {
+        match write_over(self.disk, tree) {
             Ok(()) => {
-                self.failed = false;
+                self.note_success();
                 true
             }
             Err(reason) => {
-                self.note(reason);
+                self.note_failure(reason);
                 false
             }
         }
@@ -412,81 +444,28 @@ impl<'l, 'p, 'n, 'f, L: Files, F: Sink> Store for FileStore<'l, 'p, 'n, 'f, L, F
     }
 }
 
+/// Serves an end as `serve_kept` does, with a store in a file on a disk: an answer to a datagram that wrote leaves only
+/// once all steps were done by which the objects are written over the file.
+pub fn serve_stored<E: End, D: Disk, F: Sink>(
+    device: &mut Device,
+    end: &mut E,
+    outbox: &mut Outbox,
+    waiting: &mut Waiting,
+    store: &mut FileStore<'_, '_, '_, D, F>,
+    turns: Option<u32>,
+) -> Report
+    ensures served { StoresOn waiting.old.is_behind waiting.new.is_behind device.old device.new (E.state end.old)
+        (E.state end.new) (store_of (D.state store.old.disk.now)) (store_of (D.state store.new.disk.now)) result }
+    ensures turns { result.turns ≤ turns_until turns }
+    ensures closed { result.turns < turns_until turns → IsTrue (E.state end.new).closed }
+{
+    serve_kept(device, end, outbox, waiting, store, turns)
+}
+
 /// The moment of what was heard, where it has one.
 fn moment_of(heard: Heard) -> Option<u64> {
     match heard {
         Heard::Datagram { now, .. } | Heard::Quiet { now } | Heard::Oversize { now } => Some(now),
         Heard::Failed | Heard::Closed => None,
     }
-}
-
-/// Writes the objects to a new file, which is then on the disk, puts it in the place of the old one, and brings the
-/// folder to the disk.
-fn write_over<F: Files>(
-    alloc: Global,
-    files: &F,
-    tree: &Tree,
-    fresh: &str,
-    path: &str,
-) -> io::Result<()> {
-    write_new(alloc, files, tree, fresh, path)?;
-    fs::rename(files, fresh, path)?;
-    fs::open(files, folder_of(path))?.sync_all()
-}
-
-/// The folder in which a file stands.
-fn folder_of(path: &str) -> &str {
-    match Path::new(path).parent() {
-        Some(folder) if !folder.as_str().is_empty() => folder.as_str(),
-        _ => ".",
-    }
-}
-
-/// Writes the objects to a new file with the mode and the owner of the old one, where that is there, and waits until it
-/// is on the disk. One that was left is taken away first; a symbolic link in its place is not followed.
-fn write_new<F: Files>(
-    alloc: Global,
-    files: &F,
-    tree: &Tree,
-    fresh: &str,
-    path: &str,
-) -> io::Result<()> {
-    let _ = fs::remove_file(files, fresh);
-    let mut how = OpenOptions::new();
-    how.write(true).create_new(true);
-    let file = how.open(files, fresh)?;
-    if let Ok(old) = fs::symlink_metadata(files, path) {
-        make_alike(files, &file, fresh, &old)?;
-    }
-    let written = file.try_clone()?;
-    print_state(alloc, tree, &mut Printer::new(ToWriter::new(file)))?;
-    written.sync_all()
-}
-
-/// Gives a file the owner and the mode of another.
-fn make_alike<F: Files, O: OpenFile>(
-    files: &F,
-    file: &O,
-    path: &str,
-    old: &Metadata,
-) -> io::Result<()> {
-    let new = file.metadata()?;
-    if new.uid() != old.uid() || new.gid() != old.gid() {
-        lchown(files, path, Some(old.uid()), Some(old.gid()))?;
-    }
-    file.set_permissions(old.permissions())
-}
-
-/// Prints the objects, and a last line that says how many they are.
-fn print_state<W: Sink>(alloc: Global, tree: &Tree, printer: &mut Printer<W>) -> io::Result<()> {
-    let Some(line) = end_line(alloc, tree.len()) else {
-        return Err(io::Error::new(ErrorKind::OutOfMemory, "memory was refused"));
-    };
-    if show_text(tree, printer).is_err()
-        || printer.print(line.as_bytes()).is_err()
-        || printer.flush().is_err()
-    {
-        return Err(io::Error::new(ErrorKind::Other, "a write failed"));
-    }
-    Ok(())
 }

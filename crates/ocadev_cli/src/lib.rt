@@ -4,6 +4,7 @@
 //! a device at an end of a link; `ocadev_replay` runs one over a script.
 #![tactic(auto)]
 
+pub mod disk;
 pub mod effects;
 mod file;
 pub mod keep;

@@ -1,5 +1,6 @@
 //! A run of the program.
-ghost use Rattle.std.specs.Prelude.{◌≡◌, ◌<◌, ◌≤◌, List, [], IsTrue, Ok as ok, map, IfErr, IfSome};
+ghost use Rattle.std.specs.Prelude.{◌≡◌, ◌<◌, ◌≤◌, List, [], IsTrue, Ok as ok, map, IfErr, IfSome, false, is_some};
+ghost use Rattle.std.specs.Option.{option_copied};
 ghost use Rattle.clap.specs.Words.{kind_of};
 ghost use Rattle.oca_types.specs.Sizes.{DeviceSizes, sizes_of};
 ghost use Rattle.oca_tree.specs.declared.object.Object.{Object};
@@ -16,12 +17,14 @@ ghost use Rattle.ocadev_cli.specs.Printing.{report_text, tree_text};
 ghost use Rattle.ocadev_cli.specs.Runs.{exit_status, RunsOn, Obeys, DoesAsked, Does, DoesMatched, DoesReplay};
 ghost use Rattle.ocadev_cli.specs.Runs.{DoesServe, DoesShow, Helps, PrintsText, ReplaysMade, ReplaysOn, ServesFrom};
 ghost use Rattle.ocadev_cli.specs.Runs.{ServesMade, ServesOrFails, turns_until};
-ghost use Rattle.ocadev_cli.specs.Totals.{StoresOn, ServesOn, silent_store};
+ghost use Rattle.ocadev_cli.specs.Totals.{KeepsServing, StoresOn, ServesOn, silent_store};
+ghost use Rattle.oca_device.specs.Keeping.{StoreState};
 
-use super::keep::{FileStore, Keeping, Kept, claimed, is_there, start_objects};
+use super::disk::FileDisk;
+use super::keep::{FileStore, Keeping, Kept, claimed, is_there, serve_stored, start_objects};
 use super::making::{made, objects};
 use super::report::{print_listening, print_report};
-use super::serving::{Tracing, serve_kept, serve_on, serve_traced, serve_turns};
+use super::serving::{Tracing, serve_on, serve_traced, serve_turns};
 use super::show::{show, show_text};
 use super::trace::Watched;
 use super::words::{Asked, Making, Objects, Serving, asked_for, matches_of};
@@ -408,7 +411,7 @@ fn served_at<N: Net + Clock + Files<File = File>, F: Sink>(
     ensures { (tree : List Object) → Represents (sizes_of serving.entry.making.sizes) device.old tree []
         → ServesOrFails (serving_fields serving.entry) tree (fault_in result) }
 {
-    match Keeping::new(alloc, serving.keep) {
+    match Keeping::new(alloc, system, serving.keep) {
         Ok(mut keeping) => {
             served_keeping(
                 alloc,
@@ -425,7 +428,7 @@ fn served_at<N: Net + Clock + Files<File = File>, F: Sink>(
     }
 }
 
-/// Serves a device at a socket, and keeps its state so.
+/// Serves a device at a socket, and keeps its state so: nothing waits to be stored yet.
 fn served_keeping<N: Net + Clock, L: Files, F: Sink>(
     alloc: Global,
     system: &N,
@@ -436,6 +439,8 @@ fn served_keeping<N: Net + Clock, L: Files, F: Sink>(
     keeping: &mut Keeping<'_>,
     faults: &mut Printer<F>,
 ) -> Result<Report, Failure>
+    requires kept { is_some keeping.old.kept ≡ is_some (option_copied serving.keep) }
+    requires behind { IfSome keeping.old.kept (λ kept. kept.waiting.is_behind ≡ false) }
     ensures { (tree : List Object) → Represents (sizes_of serving.entry.making.sizes) device.old tree []
         → ServesOrFails (serving_fields serving.entry) tree (fault_in result) }
 {
@@ -456,7 +461,9 @@ fn served_over<N: Clock, L: Files, F: Sink>(
     keeping: &mut Keeping<'_>,
     faults: &mut Printer<F>,
 ) -> Report
-    ensures served { (after : EndState) × ServesOn device.old device.new (state_of_socket end.entry) after result }
+    requires behind { IfSome keeping.old.kept (λ kept. kept.waiting.is_behind ≡ false) }
+    ensures served { (after : EndState)
+        × KeepsServing (is_some keeping.old.kept) device.old device.new (state_of_socket end.entry) after result }
     ensures turns { result.turns ≡ turns_until serving.entry.turns }
 {
     print_bound(alloc, &end, faults);
@@ -516,20 +523,21 @@ fn kept_over<N: Clock, L: Files, F: Sink>(
     kept: &mut Kept<'_>,
     faults: &mut Printer<F>,
 ) -> Report
-    ensures served { (after : EndState) × ServesOn device.old device.new (state_of_socket end.entry) after result }
+    ensures served { (after : EndState) × (has : StoreState) × StoresOn kept.old.waiting.is_behind
+        kept.new.waiting.is_behind device.old device.new (state_of_socket end.entry) after silent_store has result }
     ensures turns { result.turns ≡ turns_until turns }
 {
-    let report = stored_over(
+    let report = filed_over(
         alloc, &mut end, files, turns, tracing, device, outbox, kept, faults,
     );
     note_failed_sends(alloc, report.failed_sends, end.last_failed_send(), faults);
     report
 }
 
-/// Serves a device over this end, with a store in the file.
-fn stored_over<N: Clock, L: Files, F: Sink>(
+/// Serves a device over an end, with a store in the file.
+fn filed_over<E: End, L: Files, F: Sink>(
     alloc: Global,
-    end: &mut UdpEnd<'_, N>,
+    end: &mut E,
     files: &L,
     turns: Option<u32>,
     tracing: Tracing,
@@ -538,14 +546,15 @@ fn stored_over<N: Clock, L: Files, F: Sink>(
     kept: &mut Kept<'_>,
     faults: &mut Printer<F>,
 ) -> Report
-    ensures served { StoresOn kept.old.waiting.is_behind kept.new.waiting.is_behind device.old device.new
-        (state_of_socket end.old) (state_of_socket end.new) silent_store silent_store result }
-    ensures turns { result.turns ≡ turns_until turns }
+    ensures served { (has : StoreState) × StoresOn kept.old.waiting.is_behind kept.new.waiting.is_behind device.old
+        device.new (E.state end.old) (E.state end.new) silent_store has result }
+    ensures turns { result.turns ≤ turns_until turns }
+    ensures closed { result.turns < turns_until turns → IsTrue (E.state end.new).closed }
 {
     let path = kept.path;
-    let fresh = kept.fresh.as_str();
-    let mut store = FileStore::new(alloc, files, path, fresh, tracing, faults);
-    serve_kept(device, end, outbox, &mut kept.waiting, &mut store, turns)
+    let mut disk = FileDisk::new(alloc, files, path, kept.fresh.as_str(), kept.attributes);
+    let mut store = FileStore::new(alloc, path, &mut disk, tracing, faults);
+    serve_stored(device, end, outbox, &mut kept.waiting, &mut store, turns)
 }
 
 /// Serves a device over this end, and prints what it does.

@@ -62,9 +62,9 @@ impl<E: End> Ready<E> {
 }
 
 impl<E: End> End for Ready<E> {
-    ghost use Rattle.std.specs.Prelude.{◌≤◌, ◌<◌, IfSome, length};
+    ghost use Rattle.std.specs.Prelude.{◌≤◌, length};
     ghost use Rattle.oca_net.specs.Ends.{largest_datagram};
-    ghost use Rattle.oca_net.specs.EndStates.{EndState, Receives, Sends};
+    ghost use Rattle.oca_net.specs.EndStates.{EndState, IsPresent, Receives, Sends};
 
     ghost state = { λ (s : EndState). s };
 
@@ -86,7 +86,7 @@ impl<E: End> End for Ready<E> {
 
     /// The end's present moment.
     fn now(&self) -> u64
-        ensures { 0 < result → IfSome self.now.moment (λ m. m ≤ result) }
+        ensures { IsPresent result self.now }
     {
         self.end.now()
     }

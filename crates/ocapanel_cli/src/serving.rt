@@ -60,13 +60,13 @@ type DeviceEnd<'a, C> = Watched<UdpEnd<'a, C>>;
 
 /// Serves over this socket for the device; where that is at a port that was given, and the device is heard there and
 /// answers no command, over another one.
-fn serve_over<'a, R: Net + RandomSource, N: Net + Clock, C: Clock, F: Sink>(
+fn serve_over<'a, R: Net + RandomSource, N: Net + Clock, F: Sink>(
     alloc: Global,
     rt: &R,
-    system: &N,
+    system: &'a N,
     serving: Serving,
     first: Handle,
-    mut end: DeviceEnd<'a, C>,
+    mut end: DeviceEnd<'a, N>,
     faults: &mut Printer<F>,
 ) -> Result<(), Failure> {
     if serving.port == 0 {
@@ -102,13 +102,13 @@ fn serve_elsewhere<R: Net + RandomSource, N: Net + Clock, F: Sink>(
 }
 
 /// Serves, first over this socket for the device.
-fn serve_first<'a, R: Net + RandomSource, N: Net + Clock, C: Clock, F: Sink>(
+fn serve_first<'a, R: Net + RandomSource, N: Net + Clock, F: Sink>(
     alloc: Global,
     rt: &R,
-    system: &N,
+    system: &'a N,
     serving: Serving,
     first: Handle,
-    end: DeviceEnd<'a, C>,
+    end: DeviceEnd<'a, N>,
     faults: &mut Printer<F>,
 ) -> Result<(), Failure> {
     let own = Own {
@@ -124,14 +124,14 @@ fn serve_first<'a, R: Net + RandomSource, N: Net + Clock, C: Clock, F: Sink>(
 }
 
 /// Serves the browsers that are listened to, first over this socket for the device.
-fn serve_site<'a, R: Net + RandomSource, N: Net + Clock, C: Clock, F: Sink>(
+fn serve_site<'a, R: Net + RandomSource, N: Net + Clock, F: Sink>(
     alloc: Global,
     rt: &R,
-    system: &N,
+    system: &'a N,
     serving: Serving,
     own: Own,
     rounds: &mut Rounds,
-    end: DeviceEnd<'a, C>,
+    end: DeviceEnd<'a, N>,
     faults: &mut Printer<F>,
 ) -> Result<(), Failure> {
     match site_of(alloc, serving, own, rounds.local) {
@@ -146,56 +146,81 @@ fn serve_site<'a, R: Net + RandomSource, N: Net + Clock, C: Clock, F: Sink>(
 }
 
 /// Serves a site over this socket for the device, and then over others.
-fn serve_ends<'a, R: Net + RandomSource, N: Net + Clock, C: Clock, F: Sink>(
+fn serve_ends<'a, R: Net + RandomSource, N: Net + Clock, F: Sink>(
     alloc: Global,
     rt: &R,
-    system: &N,
+    system: &'a N,
     serving: Serving,
     first: Handle,
     rounds: &mut Rounds,
     site: &mut Site,
-    end: DeviceEnd<'a, C>,
+    end: DeviceEnd<'a, N>,
     faults: &mut Printer<F>,
 ) -> Result<(), Failure> {
     match serve_end(alloc, rt, serving, first, rounds, site, end, faults) {
-        Ok(()) => serve_others(alloc, rt, system, serving, rounds, site, faults),
+        Ok(spent) => serve_others(alloc, rt, system, serving, rounds, site, spent, faults),
         Err(failure) => Err(failure),
     }
 }
 
-/// Serves over one socket for the device after another, each at a port of the system's choice.
-fn serve_others<R: Net + RandomSource, N: Net + Clock, F: Sink>(
+/// Serves over one socket for the device after another, each at a port of the system's choice, behind this one.
+fn serve_others<'a, R: Net + RandomSource, N: Net + Clock, F: Sink>(
     alloc: Global,
     rt: &R,
-    system: &N,
+    system: &'a N,
     serving: Serving,
     rounds: &mut Rounds,
     site: &mut Site,
+    spent: Ready<DeviceEnd<'a, N>>,
     faults: &mut Printer<F>,
 ) -> Result<(), Failure> {
+    let mut last = spent;
     for _ in 0..u64::MAX {
-        serve_another(alloc, rt, system, serving, rounds, site, faults)?;
+        match serve_another(alloc, rt, system, serving, rounds, site, last, faults) {
+            Ok(next) => last = next,
+            Err(failure) => return Err(failure),
+        }
     }
     Ok(())
 }
 
-/// Serves over another socket for the device, at a port of the system's choice: so the handles begin anew.
-fn serve_another<R: Net + RandomSource, N: Net + Clock, F: Sink>(
+/// Serves over another socket for the device, at a port of the system's choice: so the handles begin anew. Returns it
+/// where another one is to be taken.
+fn serve_another<'a, R: Net + RandomSource, N: Net + Clock, F: Sink>(
     alloc: Global,
     rt: &R,
-    system: &N,
+    system: &'a N,
     serving: Serving,
     rounds: &mut Rounds,
     site: &mut Site,
+    spent: Ready<DeviceEnd<'a, N>>,
     faults: &mut Printer<F>,
-) -> Result<(), Failure> {
+) -> Result<Ready<DeviceEnd<'a, N>>, Failure> {
     let first = OwnPort::now(system).first_handle;
     match bind_towards(alloc, system, serving.ip, serving.device, 0) {
         Ok(end) => {
             let end = Watched::new(end, serving.device);
+            change_ends(rounds, site.view(), first, &spent, &end);
+            drop(spent);
             serve_next(alloc, rt, serving, first, rounds, site, end, faults)
         }
         Err(failure) => Err(failure),
+    }
+}
+
+/// The panel goes on over another socket for the device. The time until now is counted by the clock of the one before.
+/// The new one's moment is taken first: so a stop between the two is counted, if need be twice.
+fn change_ends<C: Clock>(
+    rounds: &mut Rounds,
+    view: &mut View,
+    first: Handle,
+    spent: &Ready<DeviceEnd<'_, C>>,
+    end: &DeviceEnd<'_, C>,
+) {
+    let moment = end.now();
+    rounds.ip = end.end().local().ip;
+    if view.take_end(first, moment, spent.end().now(), spent.sent()) {
+        rounds.doubts = true;
     }
 }
 
@@ -209,18 +234,14 @@ fn serve_next<'a, R: Net + RandomSource, C: Clock, F: Sink>(
     site: &mut Site,
     end: DeviceEnd<'a, C>,
     faults: &mut Printer<F>,
-) -> Result<(), Failure> {
+) -> Result<Ready<DeviceEnd<'a, C>>, Failure> {
     match watch(&rounds.poll, end.end().as_raw_fd()) {
-        Ok(()) => {
-            rounds.ip = end.end().local().ip;
-            site.view().take_end(first, end.now());
-            serve_end(alloc, rt, serving, first, rounds, site, end, faults)
-        }
+        Ok(()) => serve_end(alloc, rt, serving, first, rounds, site, end, faults),
         Err(reason) => Err(failed(alloc, reason)),
     }
 }
 
-/// Serves over a socket for the device, until another one is to be taken.
+/// Serves over a socket for the device, until another one is to be taken. Returns it then.
 fn serve_end<'a, R: Net + RandomSource, C: Clock, F: Sink>(
     alloc: Global,
     rt: &R,
@@ -230,9 +251,12 @@ fn serve_end<'a, R: Net + RandomSource, C: Clock, F: Sink>(
     site: &mut Site,
     end: DeviceEnd<'a, C>,
     faults: &mut Printer<F>,
-) -> Result<(), Failure> {
+) -> Result<Ready<DeviceEnd<'a, C>>, Failure> {
     let mut panel = Panel::open(serving.device, Ready::new(end), first, serving.span, 0);
-    go_round(alloc, rt, rounds, &mut panel, site, faults)
+    match go_round(alloc, rt, rounds, &mut panel, site, faults) {
+        Ok(()) => Ok(panel.into_end()),
+        Err(failure) => Err(failure),
+    }
 }
 
 /// What is known of the socket for the device.

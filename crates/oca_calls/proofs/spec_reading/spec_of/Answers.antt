@@ -17,12 +17,15 @@ pub returns-clause-writes : goal.returns-clause-writes
 returns-clause-writes c = record {
   sized = record { version = record { size = refl; zeros = refl }; positions = omega (arith, c.if-names-gt-MOST_POSITIONS.false) };
   role = search rules;
+  role_size = search rules;
   lockable = sym c.is_lockable.ensures ∙ c.in_ok-lockable.was ∙ ap Some (sym (ap is_yes c.from.ensures ∙ yes_from c.in_ok-lockable.lockable));
   reading = search rules;
   names = search rules;
+  sizes = search rules;
   stored = (
     option_copied c.in_ok-start.start.position_enableds,
     (rw (c.of-2.ensures.text, ap is_yes c.from-2.ensures ∙ yes_from c.in_ok-start.start.enabled) (sym c.start_of.ensures ∙ ap (option_map stored_in) c.in_ok-start.was)),
     flags_there _ _ _ c.in_ok-enableds.ensures.bytes,
   );
+  label_size = search rules;
 }

@@ -1,4 +1,5 @@
 use Rattle.oca_control.proofs.Asked.{run_asked, begun_in_time, begun_time}
+use Rattle.oca_control.proofs.Lifetimes.{time_soon}
 use Rattle.oca_control.proofs.Runs.{every_call, runs_on, end_serves, every_script}
 use Rattle.oca_control.proofs.law.law_of_running.Goals as goal
 
@@ -22,3 +23,6 @@ returns-clause-goes_on c = runs_on
 
 pub returns-clause-others : goal.returns-clause-others
 returns-clause-others c = begun_time
+
+pub returns-clause-soon : goal.returns-clause-soon
+returns-clause-soon c = time_soon

@@ -4,13 +4,14 @@ ghost use Rattle.std.specs.Prelude.{[], false, None};
 use super::ends::Step::*;
 use super::ends::{Fared, OverEnd, Step, is_outcome};
 use super::links::link;
-use super::{ANSWER, KEEP_ALIVE};
+use super::{ANSWER, DEVICE, KEEP_ALIVE};
 use crate::tests::ending::{Ending, Entry};
 use crate::tests::{Row, first_wrong, none_wrong, play};
 use arrayvec::ArrayVec;
 use oca_control::{Link, ask};
 use oca_net::{End, Heard};
-use oca_types::{MethodId, Ono, Packet, Peer, Request};
+use oca_panel::{Probed, Watched, probe};
+use oca_types::{Handle, MethodId, Ono, Packet, Peer, Request};
 use std::alloc::Global;
 
 // Copies follow 9 and 15 seconds after the submit, and none after 18: the age counts, not the gap.
@@ -83,6 +84,7 @@ struct Timed {
     /// The number of the receive, counted from 1, in which it stands still, and for how many milliseconds.
     still: (u64, u64),
     sends: ArrayVec<u64, 32>,
+    sent: u64,
     receives: u64,
 }
 
@@ -94,7 +96,10 @@ impl End for Timed {
       closed = false;
       failures = 0;
       receives = e.receives;
+      sends = e.sent;
       moment = None;
+      earliest = e.now;
+      latest = e.now;
     } };
 
     /// Waits 50 ms.
@@ -122,6 +127,7 @@ impl End for Timed {
     /// Notes the moment.
     fn send(&mut self, to: Peer, _bytes: &[u8]) -> bool {
         let _ = self.sends.try_push(self.now);
+        self.sent = self.sent.saturating_add(1);
         true
     }
 }
@@ -160,14 +166,20 @@ fn all_fare(link: &mut Link, end: &mut Timed, asks: &[Asked]) -> bool {
     true
 }
 
+/// An end that begins at this moment, and stands still so.
+fn quiet_until(now: u64, still: (u64, u64)) -> Timed {
+    Timed {
+        now,
+        still,
+        sends: ArrayVec::new(),
+        sent: 0,
+        receives: 0,
+    }
+}
+
 /// Whether the row is so over a link and a new end: the commands fare so, and the end sends at these moments.
 fn is_so_over(link: &mut Link, row: &Standstill) -> bool {
-    let mut end = Timed {
-        now: row.begun,
-        still: row.still,
-        sends: ArrayVec::new(),
-        receives: 0,
-    };
+    let mut end = quiet_until(row.begun, row.still);
     all_fare(link, &mut end, row.asks) && end.sends.as_slice() == row.moments
 }
 
@@ -180,6 +192,29 @@ impl Row for Standstill {
         }
     }
 }
+
+/// At which moment the end begins over which a device is asked that is silent, and when the end sends.
+struct Silence(u64, &'static [u64]);
+
+impl Row for Silence {
+    /// Whether the device is not heard, and the end sends then.
+    fn agrees(&self, _alloc: Global) -> bool {
+        let mut end = Watched::new(quiet_until(self.0, (0, 0)), DEVICE);
+        let found = probe(&mut end, DEVICE, Handle(7));
+        found == Probed::NotHeard && end.end().sends.as_slice() == self.1
+    }
+}
+
+/// A device is asked for a second, however old the end is.
+const SILENCES: &[Silence] = &[
+    Silence(0, &[0, 0, 250, 250, 500, 500, 750, 750, 1000]),
+    Silence(
+        20_000,
+        &[
+            20_000, 20_000, 20_250, 20_250, 20_500, 20_500, 20_750, 20_750, 21_000,
+        ],
+    ),
+];
 
 /// Standstills, and what follows them.
 const ROWS: &[Standstill] = &[
@@ -260,4 +295,5 @@ fn scripts(rt: HostRuntime) {
 #[test]
 fn rows(rt: HostRuntime) {
     none_wrong(&rt, "standstills", &[first_wrong(rt.alloc(), ROWS)]);
+    none_wrong(&rt, "silences", &[first_wrong(rt.alloc(), SILENCES)]);
 }

@@ -237,6 +237,15 @@ pub const ANSWERS: &[Answers] = &[
         1,
         &[0, 1, 0, 0, 16, 1, 0, 4, 0, 1, 0, 1, 0, 1, 0, 2, 0, 2],
     ),
+    Answers(
+        Class::Block,
+        Method::GetMembersRecursive,
+        Shape::Descendants,
+        1,
+        &[
+            0, 1, 0, 0, 16, 1, 0, 4, 0, 1, 0, 1, 0, 1, 0, 2, 0, 2, 0, 0, 16, 0,
+        ],
+    ),
 ];
 
 pub const NO_ANSWERS: &[AnswersNothing] = &[
@@ -244,4 +253,10 @@ pub const NO_ANSWERS: &[AnswersNothing] = &[
     AnswersNothing(Class::Mute, Method::GetState, 2, &[2]),
     AnswersNothing(Class::Mute, Method::SetState, 0, &[1]),
     AnswersNothing(Class::Switch, Method::GetPosition, 3, &[0, 1, 0, 0, 0]),
+    AnswersNothing(
+        Class::Block,
+        Method::GetMembersRecursive,
+        1,
+        &[0, 1, 0, 0, 16, 1, 0, 4, 0, 1, 0, 1, 0, 1, 0, 2, 0, 2],
+    ),
 ];

@@ -6,16 +6,28 @@ use super::{A, B, DEVICE, GET};
 use crate::tests::play;
 use oca_control::{ControlFault, Reception};
 use oca_pair::{
-    PairFault, law_answers, law_getting_through, law_never_old, law_once_in_time, law_round_trip,
+    PairFault, law_answers, law_getting_through, law_never_old, law_of_what_is_said,
+    law_once_in_time, law_round_trip,
 };
+use oca_promise::law_of_calls;
 
-/// The laws, whose functions run nothing.
+/// The laws of commands, whose functions run nothing.
 fn laws() {
     law_answers();
     law_never_old();
     law_round_trip();
     law_getting_through();
     law_once_in_time();
+}
+
+/// The laws of what is said, likewise.
+fn laws_of_saying() {
+    law_of_what_is_said();
+}
+
+/// The law of a panel's calls, likewise.
+fn laws_of_calls() {
+    law_of_calls();
 }
 
 /// A command is given out twice, and the two datagrams overtake one another.
@@ -182,5 +194,7 @@ const CASES: &[Case] = &[
 #[test]
 fn cases(rt: HostRuntime) {
     laws();
+    laws_of_saying();
+    laws_of_calls();
     play(&rt, &rt, CASES);
 }

@@ -1,9 +1,11 @@
 use Rattle.std.proofs.Common.{sym, ap, ◌∙◌, set}
+use Rattle.std.specs.Prelude.{slice_index_or}
 use Rattle.std.proofs.lemmas.Result.{err_from_is_err_and}
 use Rattle.oca_tree.specs.declared.object.Object.{Object}
-use Rattle.oca_tree.specs.Execution.{changed}
+use Rattle.oca_tree.specs.PrivateExecution.{changed}
+use Rattle.oca_tree.specs.PrivateRequests.{is_out_of_range}
 use Rattle.oca_tree.specs.Settings.{front}
-use Rattle.oca_tree.proofs.Fronts.{fault_none, unset, fault_there, set_there, tree_there}
+use Rattle.oca_tree.proofs.Fronts.{fault_none, unset, fault_there, range_there, set_there, tree_there}
 use Rattle.oca_tree.proofs.setting.set.Goals as goal
 
 pub returns-in_default-clause-objects : goal.returns-in_default-clause-objects
@@ -23,6 +25,11 @@ returns-in_err-request-clause-fault c =
     let p = err_from_is_err_and c.from_residual.result c.from_residual.ensures.1 in
     let there = fault_there c.args.objects.now.list c.args.ono.0 c.in-Some.at c.object_at.result.now c.in-Some.ensures.index c.object_at.ensures c.args.value in
     rw (p.1, p.2) (sym (there ∙ c.in_err-request.ensures))
+
+pub change_at-requires-clause-range : goal.change_at-requires-clause-range
+change_at-requires-clause-range c = λ d.
+    ap (is_out_of_range (slice_index_or c.args.objects.now.list c.in-Some.at d).value) c.in_ok-request.ensures.1
+    ∙ range_there c.args.objects.now.list c.args.ono.0 c.in-Some.at c.object_at.result.now c.in-Some.ensures.index c.object_at.ensures c.args.value c.in_ok-request.ensures.0 d
 
 pub returns-clause-objects : goal.returns-clause-objects
 returns-clause-objects c =

@@ -2,7 +2,6 @@ use Rattle.std.proofs.Common.{inl, refl, true}
 use Rattle.std.proofs.lemmas.Result.{err_from_is_err_and}
 use Rattle.oca_script.proofs.PrintLemmas.{front}
 use Rattle.ocactl_cli.specs.Objects.{NoneLocked}
-use Rattle.ocactl_cli.proofs.ExchangeLemmas.{present-of}
 use Rattle.ocactl_cli.proofs.ObjectLemmas.{locked-in-time, all-in-time}
 use Rattle.ocactl_cli.proofs.HoldLemmas.{locked-none, locked-next, locking-stopped}
 use Rattle.ocactl_cli.proofs.holding.lock_each.Goals as goal
@@ -10,7 +9,7 @@ use Rattle.ocactl_cli.proofs.holding.lock_each.Goals as goal
 pub loop-ono-init : goal.loop-ono-init
 loop-ono-init g c = record {
   locks = locked-none _ _ _ _ c.requires c.in_ok-flush.ensures.prints c.in_ok-flush.ensures.empty;
-  in_time = NoneLocked c.now-since.result (present-of _ _ _ c.end.ensures c.now-since.ensures);
+  in_time = NoneLocked c.present-since.result c.present-since.ensures;
 }
 
 pub loop-ono-preserved : goal.loop-ono-preserved

@@ -1,12 +1,11 @@
 use Rattle.ocactl_cli.specs.Objects.{Locks, NoneLocked}
-use Rattle.ocactl_cli.proofs.ExchangeLemmas.{present-of}
 use Rattle.ocactl_cli.proofs.ObjectLemmas.{asked-none, asked-next, asked-nothing, asked-until, locked-in-time, all-in-time}
 use Rattle.ocactl_cli.proofs.objects.lock_all.Goals as goal
 
 pub loop-ono-init : goal.loop-ono-init
 loop-ono-init g c = record {
   asks = asked-none (Locks c.args.locks) _ _ _ c.in_ok-flush.ensures.prints c.in_ok-flush.ensures.empty;
-  in_time = NoneLocked c.now-since.result (present-of _ _ _ c.end.ensures c.now-since.ensures);
+  in_time = NoneLocked c.present-since.result c.present-since.ensures;
 }
 
 pub loop-ono-preserved : goal.loop-ono-preserved

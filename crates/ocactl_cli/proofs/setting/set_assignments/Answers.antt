@@ -1,5 +1,4 @@
 use Rattle.std.proofs.Common.{◌≡◌, ap, arith, length}
-use Rattle.ocactl_cli.proofs.ExchangeLemmas.{present-of}
 use Rattle.ocactl_cli.proofs.ObjectLemmas.{few-commands, set-none, set-so-far, set-done}
 use Rattle.ocactl_cli.proofs.setting.set_assignments.Goals as goal
 
@@ -7,7 +6,7 @@ pub loop-assignment-init : goal.loop-assignment-init
 loop-assignment-init g c =
     let none : length c.new-waiting.result ≡ 0 = ap length c.new-waiting.ensures in
     record {
-      so_far = set-none _ _ _ _ _ c.now-since.result c.requires c.new-waiting.ensures (present-of _ _ _ c.end.ensures c.now-since.ensures);
+      so_far = set-none _ _ _ _ _ c.present-since.result c.requires c.new-waiting.ensures c.present-since.ensures;
       few = omega (arith, none);
     }
 

@@ -14,6 +14,7 @@ receive-tells g c = record {
   closed = search sym;
   failures = ap (λ (e : SocketState). e.failures) c.ensures.end;
   receives = ap (λ (e : SocketState). e.receives) c.ensures.end;
+  sends = ap (λ (e : SocketState). e.sends) c.ensures.end;
   moment = (_, refl, c.ensures.later, heard_by _ _ c.ensures.said);
 }
 
@@ -26,6 +27,7 @@ receive_by-tells g c = record {
   closed = search sym;
   failures = ap (λ (e : SocketState). e.failures) c.ensures.end;
   receives = ap (λ (e : SocketState). e.receives) c.ensures.end;
+  sends = ap (λ (e : SocketState). e.sends) c.ensures.end;
   moment = (_, refl, c.ensures.later, heard_by _ _ c.ensures.said);
 }
 
@@ -37,5 +39,9 @@ send-tells g c = record {
   closed = refl;
   failures = ap (λ (e : SocketState). e.failures) c.ensures.end;
   receives = ap (λ (e : SocketState). e.receives) c.ensures.end;
+  sends = ap (λ (e : SocketState). e.sends) c.ensures.end;
   moment = ap (λ (e : SocketState). Some e.moment) c.ensures.end;
 }
+
+pub now-tells : goal.now-tells
+now-tells g c = record { from = c.ensures.later; to = c.ensures.fits; later = λ _. c.ensures.later }

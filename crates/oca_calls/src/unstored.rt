@@ -1,0 +1,51 @@
+//! What a device of C notes of the objects that are not stored.
+ghost use Rattle.std.specs.Prelude.{◌≡◌, ◌==◌, not, length};
+ghost use Rattle.oca_calls.specs.Storings.{all_stored, duplicates_of, unstored_after};
+
+use oca_device::{Device, Verdict};
+
+/// Whether something that datagrams wrote is not stored, and whether the answers to the last datagram wait until it is.
+#[derive(Clone, Copy)]
+pub struct Unstored {
+    pub is_behind: bool,
+    pub waits: bool,
+}
+
+impl Unstored {
+    /// All that was written is stored, and no answers wait.
+    pub fn none() -> Unstored
+        ensures { result ≡ all_stored }
+    {
+        Unstored {
+            is_behind: false,
+            waits: false,
+        }
+    }
+
+    /// The same behind a datagram that wrote to an object or not, and that held so many duplicates.
+    pub fn after(self, wrote: bool, duplicates: u32) -> Unstored
+        ensures { result ≡ unstored_after self wrote duplicates }
+    {
+        Unstored {
+            is_behind: wrote || self.is_behind,
+            waits: wrote || (duplicates != 0 && self.is_behind),
+        }
+    }
+}
+
+/// Whether the last datagram wrote to an object.
+pub fn has_written(device: &Device) -> bool
+    ensures { result ≡ not (length device.now.written == 0) }
+{
+    !device.written().is_empty()
+}
+
+/// How many duplicates a datagram with this verdict held.
+pub fn duplicates_in(verdict: Verdict) -> u32
+    ensures { result ≡ duplicates_of verdict }
+{
+    match verdict {
+        Verdict::Served { kept, .. } => kept,
+        Verdict::Malformed(_) | Verdict::NoRoom => 0,
+    }
+}

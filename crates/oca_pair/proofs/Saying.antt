@@ -1,0 +1,550 @@
+-- Each answer that is in time is that of an execution after the call.
+use Rattle.std.proofs.Common.{◌≡◌, ℕ, ◌<◌, ◌≢◌, Bool, true, false, cond, List, [], ◌∷◌, ◌++◌, Option, Some, None, refl, sym, ap, ◌∙◌, subst, arith, zero, suc, ◌⊎◌, inl, inr}
+use Rattle.std.specs.Prelude.{nat_eq, map, Ok}
+use Rattle.std.specs.List.{AllByRecursion, slice_get, slice_set}
+use Rattle.std.specs.Option.{option_map}
+use Rattle.std.proofs.lemmas.Option.{slice_get-map}
+use Rattle.oca_types.specs.declared.words.Peer.{Peer}
+use Rattle.oca_types.specs.declared.words.Handle.{Handle}
+use Rattle.oca_types.specs.Status.{status_number}
+use Rattle.oca_types.specs.Peers.{same_peer, CommandFields}
+use Rattle.oca_types.specs.Sizes.{DeviceSizes}
+use Rattle.oca_pdu.specs.declared.message.Form.TheVariants.{Seconds}
+use Rattle.oca_pdu.specs.Messages.{Msg, Command, KeepAlive}
+use Rattle.oca_pdu.specs.Reading.{read_datagram}
+use Rattle.oca_pdu.specs.Laws.{WrittenIsReadBack}
+use Rattle.oca_tree.specs.declared.object.Object.{Object}
+use Rattle.oca_tree.specs.Objects.{object_of}
+use Rattle.oca_tree.specs.Execution.{status_of}
+use Rattle.oca_tree.specs.Readers.{class_of_ono}
+use Rattle.oca_session.specs.Accepted.{Judgement, Fresh, Duplicate, Reused, Old}
+use Rattle.oca_device.specs.declared.verdict.Verdict.TheVariants as verdicts
+use Rattle.oca_device.specs.Events.{Event, Datagram, Tick, Local}
+use Rattle.oca_device.specs.Notes.{Noted, Admitted, Heartbeat, Executed, Note}
+use Rattle.oca_device.specs.LawByEvents.{changes}
+use Rattle.oca_device.specs.States.{State, noted, admits, judged_in, reply_of, after_command, time_of}
+use Rattle.oca_device.specs.Answers.{count_of_command, counts, plus, served, verdict_of_reading, verdict}
+use Rattle.oca_control.specs.Answers.{AnswerFields}
+use Rattle.oca_control.specs.Untaken.{Untaken, answer_under}
+use Rattle.oca_control.specs.Links.{Request, command_under, submission}
+use Rattle.oca_pair.specs.declared.outcome.Outcome.TheVariants as outcomes
+use Rattle.oca_pair.specs.declared.start.Start.{Start}
+use Rattle.oca_pair.specs.Networks.{Network, PeerLink, SentDatagram, SubmittedCommand, opening}
+use Rattle.oca_pair.specs.Steps.{Step, Submit, Due, ToDevice, ToLink, Other, Take, has_link, submitted_by, submit_outcome, after_submit, after_due_step, after_delivery, hears_datagram, after_reception, after_take, after_step, after_steps, on_link, delivery_outcome, outcome_of}
+use Rattle.oca_pair.specs.Steps as steps
+use Rattle.oca_pair.specs.Happenings.{happenings}
+use Rattle.oca_pair.specs.Premises.{are_apart, StepFits, Fit}
+use Rattle.oca_pair.specs.Laws.{Execution, executions_for, executions_under, WasTaken}
+use Rattle.oca_pair.specs.GettingThrough.{copy_of}
+use Rattle.oca_pair.specs.InTime.{AreInTime, IsAnswerOfOneExecution}
+use Rattle.oca_pair.specs.Saying.{objects_held, HappensWith, HappensIn, IsOfOneExecutionSince, RefusalsChangeNothing, ClassesStay, OfEachAnswer}
+use Rattle.oca_pair.proofs.Core.{none_passes}
+use Rattle.oca_pair.proofs.Lists.{IsIn, contains_in, in_more, in_last, in_parts, each_at, each_in, same_is, same_turned, equal_is}
+use Rattle.oca_pair.proofs.Wire.{IsSendable, read_command, read_keep_alive}
+use Rattle.oca_pair.proofs.Clocks.{Grows, grows_reading}
+use Rattle.oca_pair.proofs.ByEvents.{stands_by}
+use Rattle.oca_pair.proofs.Executions.{executed_in, executed_for, executions_are}
+use Rattle.oca_pair.proofs.Truths.{Past, past, and_then, state_of, IsSubmitted, IsHonest, IsOwn}
+use Rattle.oca_pair.proofs.Fair.{end_of, IsOut, AreOwn, Fair}
+use Rattle.oca_pair.proofs.Arrivals.{looked_at}
+use Rattle.oca_pair.proofs.Delivering.{let_in, after_read, granted}
+use Rattle.oca_pair.proofs.Keeping.{executed_noted}
+use Rattle.oca_pair.proofs.Networks.{LinkSound, Sound, hears_peer, sound_step, sound_steps, sound_opening}
+use Rattle.oca_pair.proofs.RoundTrip.{grown_steps}
+use Rattle.oca_pair.proofs.GettingThrough.{after_more, took}
+use Rattle.oca_pair.proofs.InTime.{mapped_at, same_some, answers_in_time}
+use Rattle.oca_pair.proofs.ObjectsKept.{execution_status, execution_refuses, class_stays}
+
+-- ---- the peers of links stay
+
+abbrev peers_of : List PeerLink → List Peer
+peers_of links = map (λ (z : PeerLink). z.peer) links
+
+peers_put : (xs : List PeerLink) (k : ℕ) (l y : PeerLink) → slice_get xs k ≡ Some l → y.peer ≡ l.peer → peers_of (slice_set xs k y) ≡ peers_of xs
+peers_put [] k l y e s = refl
+peers_put (x ∷ xs) zero l y e s = let same : x ≡ l = same_some x l e in ap (λ (p : Peer). p ∷ peers_of xs) (s ∙ ap (λ (z : PeerLink). z.peer) (sym same))
+peers_put (x ∷ xs) (suc k) l y e s = ap (λ (ps : List Peer). x.peer ∷ ps) (peers_put xs k l y e s)
+
+peers_hear : (d : SentDatagram) (now : ℕ) (xs : List PeerLink) → peers_of (map (hears_datagram d now) xs) ≡ peers_of xs
+peers_hear d now [] = refl
+peers_hear d now (x ∷ xs) =
+    ap (λ (p : Peer). p ∷ peers_of (map (hears_datagram d now) xs)) (hears_peer d now x) ∙ ap (λ (ps : List Peer). x.peer ∷ ps) (peers_hear d now xs)
+
+peers_step : (step : Step) (n : Network) → peers_of (after_step step n).links ≡ peers_of n.links
+peers_step step n = one step
+  where
+    by_submit : (k : ℕ) (r : Request) (now : ℕ) (o : Option PeerLink) → slice_get n.links k ≡ o → peers_of (after_submit k r now o n).links ≡ peers_of n.links
+    by_submit k r now None e = refl
+    by_submit k r now (Some l) e = peers_put n.links k l _ e refl
+
+    by_due : (k now : ℕ) (o : Option PeerLink) → slice_get n.links k ≡ o → peers_of (after_due_step k now o n).links ≡ peers_of n.links
+    by_due k now None e = refl
+    by_due k now (Some l) e = peers_put n.links k l _ e refl
+
+    by_delivery : (now : ℕ) (o : Option SentDatagram) → peers_of (after_delivery now o n).links ≡ peers_of n.links
+    by_delivery now None = refl
+    by_delivery now (Some d) = refl
+
+    by_reception : (now : ℕ) (o : Option SentDatagram) → peers_of (after_reception now o n).links ≡ peers_of n.links
+    by_reception now None = refl
+    by_reception now (Some d) = peers_hear d now n.links
+
+    by_other : (from : Peer) (bytes : List ℕ) (now : ℕ) (b : Bool) → peers_of (let m : Network = cond b n (record n { events = Datagram from bytes now ∷ n.events }) in m).links ≡ peers_of n.links
+    by_other from bytes now true = refl
+    by_other from bytes now false = refl
+
+    by_take : (k h : ℕ) (o : Option PeerLink) → slice_get n.links k ≡ o → peers_of (after_take k h o n).links ≡ peers_of n.links
+    by_take k h None e = refl
+    by_take k h (Some l) e = peers_put n.links k l _ e refl
+
+    one : (step : Step) → peers_of (after_step step n).links ≡ peers_of n.links
+    one (Submit k r now) = by_submit k r now (slice_get n.links k) refl
+    one (Due k now) = by_due k now (slice_get n.links k) refl
+    one (ToDevice k now) = by_delivery now (slice_get n.to_device k)
+    one (ToLink k now) = by_reception now (slice_get n.to_links k)
+    one (Other from bytes now) = by_other from bytes now (has_link from n.links)
+    one (steps.Tick now) = refl
+    one (steps.Local ono value) = refl
+    one (Take k h) = by_take k h (slice_get n.links k) refl
+
+peers_steps : (es : List Step) (n : Network) → peers_of (after_steps es n).links ≡ peers_of n.links
+peers_steps [] n = refl
+peers_steps (e ∷ es) n = peers_steps es (after_step e n) ∙ peers_step e n
+
+-- the link of a number after some steps is that of a peer before them
+link_before : (i : ℕ) (n m : Network) (l : PeerLink) → peers_of m.links ≡ peers_of n.links → slice_get m.links i ≡ Some l → (z : PeerLink) × (slice_get n.links i ≡ Some z) × (z.peer ≡ l.peer)
+link_before i n m l same own =
+    mapped_at (λ (z : PeerLink). z.peer) n.links i l.peer
+    (ap (λ (ps : List Peer). slice_get ps i) (sym same) ∙ slice_get-map (λ (z : PeerLink). z.peer) m.links i ∙ ap (λ (o : Option PeerLink). option_map (λ (z : PeerLink). z.peer) o) own)
+
+-- ---- what a step executes for a peer
+
+executed_elsewhere : (p q : Peer) (t : ℕ) (ns ms : List Note) → same_peer q p ≡ false → Grows q t ns ms → executed_for p ms ≡ executed_for p ns
+executed_elsewhere p q t ns ms other g = ap (λ (xs : List Note). executed_for p xs) g.is ∙ skipped g.more g.own
+  where
+    skipped : (more : List Note) → AllByRecursion (λ (n : Note). (n.peer ≡ q) × (n.at ≡ t)) more → executed_for p (more ++ ns) ≡ executed_for p ns
+    skipped [] own = refl
+    skipped (n ∷ more) own =
+        ap (λ b. cond b (executed_in n.what) [] ++ executed_for p (more ++ ns)) (ap (λ x. same_peer x p) own.0.0 ∙ other) ∙ skipped more own.1
+
+copy_is : (d : SentDatagram) (b : List ℕ) → d.bytes ≡ b → Some d ≡ (let y : SentDatagram = record { peer = d.peer; bytes = b } in Some y)
+copy_is d b e = ap (λ (x : List ℕ). let y : SentDatagram = record { peer = d.peer; bytes = x } in Some y) e
+
+-- of a delivery: nothing is executed for the peer, or one command
+abbrev Delivers : ℕ → ℕ → Peer → Network → Network → Type 0
+Delivers k now p n m = (executions_for p m ≡ executions_for p n) ⊎ ((x : Execution) × HappensWith k now p x n)
+
+delivers_own : WrittenIsReadBack → (n : Network) (k now : ℕ) (d : SentDatagram) (next : Option ℕ) (us : List Untaken) → slice_get n.to_device k ≡ Some d →
+    Fair d.peer next us (past n) n.to_device n.to_links n.taken → Delivers k now d.peer n (after_delivery now (Some d) n)
+delivers_own law n k now d next us there fair = by_kind (each_at (λ (x : SentDatagram). x.peer ≡ d.peer → IsOut d.peer n.submitted x.bytes) n.to_device k d fair.outgoing there refl)
+  where
+    p : Peer
+    p = d.peer
+
+    g : Past
+    g = past n
+
+    e : Event
+    e = Datagram d.peer d.bytes now
+
+    s1 : State
+    s1 = looked_at now g
+
+    was : executions_for p n ≡ executed_for p (state_of g).notes
+    was = executions_are n.sizes p n.tree n.events
+
+    after : executions_for p (after_delivery now (Some d) n) ≡ executed_for p (state_of (and_then e g)).notes
+    after = executions_are n.sizes p n.tree (e ∷ n.events)
+
+    let_in_none : (m : Msg) → executed_for p (let_in p m now g).notes ≡ executed_for p (state_of g).notes
+    let_in_none m = executed_noted p (Admitted (m ∷ [])) s1
+
+    stays : (s' : State) → state_of (and_then e g) ≡ s' → executed_for p s'.notes ≡ executed_for p (state_of g).notes → Delivers k now p n (after_delivery now (Some d) n)
+    stays s' is same = inl (after ∙ ap (λ (s : State). executed_for p s.notes) is ∙ same ∙ sym was)
+
+    keep_alive : read_datagram d.bytes ≡ Ok (KeepAlive (Seconds 5) ∷ []) → (b : Bool) → admits n.sizes s1 p ≡ b → Delivers k now p n (after_delivery now (Some d) n)
+    keep_alive read true room =
+        stays (noted p (Heartbeat (time_of (Seconds 5))) (let_in p (KeepAlive (Seconds 5)) now g)) (after_read n.sizes p (KeepAlive (Seconds 5)) d.bytes now g true read room)
+        (executed_noted p (Heartbeat (time_of (Seconds 5))) (let_in p (KeepAlive (Seconds 5)) now g) ∙ let_in_none (KeepAlive (Seconds 5)))
+    keep_alive read false room = stays s1 (after_read n.sizes p (KeepAlive (Seconds 5)) d.bytes now g false read room) refl
+
+    by_judgement : (c : CommandFields) → d.bytes ≡ (copy_of p c).bytes → read_datagram d.bytes ≡ Ok (Command true c ∷ []) → admits n.sizes s1 p ≡ true → (j : Judgement) →
+        judged_in n.sizes (let_in p (Command true c) now g) p c ≡ j → Delivers k now p n (after_delivery now (Some d) n)
+    by_judgement c is read room Fresh q =
+        let s2 : State = let_in p (Command true c) now g in
+        let x : Execution = record { objects = s2.tree; command = c; reply = reply_of s2.tree p c } in
+        let state_is : state_of (and_then e g) ≡ after_command Fresh p c s2 = after_read n.sizes p (Command true c) d.bytes now g true read room ∙ ap (λ j. after_command j p c s2) q in
+        let verdict_is : verdict n.sizes n.tree n.events d.peer d.bytes now ≡ verdicts.Served 1 0 0 0 =
+        ap (λ r. verdict_of_reading n.sizes p r s1) read
+        ∙ ap (λ b. cond b (served (plus (count_of_command (judged_in n.sizes s2 p c)) (counts 0 0 0 0))) verdicts.NoRoom) room
+        ∙ ap (λ j. served (plus (count_of_command j) (counts 0 0 0 0))) q in
+        inr (
+          x,
+          record {
+            copy = there ∙ copy_is d (copy_of p c).bytes is;
+            met = (stands_by n.sizes n.tree (Tick now ∷ n.events)).tree_is;
+            executed = (
+              ap (λ (o : Option SentDatagram). delivery_outcome now o n) there ∙ ap (λ y. outcomes.Device y ∷ []) verdict_is,
+              ap (λ (o : Option SentDatagram). executions_for p (after_delivery now o n)) there ∙ after ∙ ap (λ (s : State). executed_for p s.notes) state_is
+                  ∙ executed_noted p (Executed s2.tree c x.reply) s2 ∙ ap (λ (xs : List Execution). x ∷ xs) (let_in_none (Command true c)) ∙ ap (λ (xs : List Execution). x ∷ xs) (sym was),
+            );
+            reply = refl;
+            left = sym (ap (λ (s : State). s.tree) state_is) ∙ (stands_by n.sizes n.tree (e ∷ n.events)).tree_is
+                ∙ sym (ap (λ (o : Option SentDatagram). objects_held (after_delivery now o n)) there);
+          },
+        )
+    by_judgement c is read room (Duplicate r) q =
+        stays (let_in p (Command true c) now g) (after_read n.sizes p (Command true c) d.bytes now g true read room ∙ ap (λ j. after_command j p c (let_in p (Command true c) now g)) q) (let_in_none (Command true c))
+    by_judgement c is read room Reused q =
+        stays (let_in p (Command true c) now g) (after_read n.sizes p (Command true c) d.bytes now g true read room ∙ ap (λ j. after_command j p c (let_in p (Command true c) now g)) q) (let_in_none (Command true c))
+    by_judgement c is read room Old q =
+        stays (let_in p (Command true c) now g) (after_read n.sizes p (Command true c) d.bytes now g true read room ∙ ap (λ j. after_command j p c (let_in p (Command true c) now g)) q) (let_in_none (Command true c))
+
+    by_room : (c : CommandFields) → d.bytes ≡ (copy_of p c).bytes → read_datagram d.bytes ≡ Ok (Command true c ∷ []) → (b : Bool) → admits n.sizes s1 p ≡ b → Delivers k now p n (after_delivery now (Some d) n)
+    by_room c is read true room = by_judgement c is read room (judged_in n.sizes (let_in p (Command true c) now g) p c) refl
+    by_room c is read false room = stays s1 (after_read n.sizes p (Command true c) d.bytes now g false read room) refl
+
+    by_kind : IsOut p n.submitted d.bytes → Delivers k now p n (after_delivery now (Some d) n)
+    by_kind (inl (c, sub, is)) =
+        let sendable : IsSendable c = (each_in (λ (x : SubmittedCommand). x.peer ≡ p → IsSendable x.command × (x.command.handle < end_of next)) _ n.submitted fair.sendable sub refl).0 in
+        by_room c is (ap read_datagram is ∙ read_command law c sendable) (admits n.sizes s1 p) refl
+    by_kind (inr is) = keep_alive (ap read_datagram is ∙ read_keep_alive law) (admits n.sizes s1 p) refl
+
+-- what comes from another peer executes nothing for this one
+elsewhere : (p q : Peer) (bytes : List ℕ) (now : ℕ) (n : Network) → same_peer q p ≡ false → executions_for p (record n { events = Datagram q bytes now ∷ n.events }) ≡ executions_for p n
+elsewhere p q bytes now n other =
+    executions_are n.sizes p n.tree (Datagram q bytes now ∷ n.events)
+    ∙ executed_elsewhere p q (looked_at now (past n)).moment (state_of (past n)).notes (state_of (and_then (Datagram q bytes now) (past n))).notes other (grows_reading n.sizes q (read_datagram bytes) (looked_at now (past n)))
+    ∙ sym (executions_are n.sizes p n.tree n.events)
+
+-- a step
+record Happens (p : Peer) (step : Step) (n : Network) : Type 0 where
+  pub k : ℕ
+  pub now : ℕ
+  pub execution : Execution
+  pub step_is : step ≡ ToDevice k now
+  pub happens : HappensWith k now p execution n
+
+abbrev Does : Peer → Step → Network → Network → Type 0
+Does p step n m = (executions_for p m ≡ executions_for p n) ⊎ Happens p step n
+
+does_step : WrittenIsReadBack → (s i : ℕ) (l : PeerLink) (step : Step) (n : Network) → Sound s n → slice_get n.links i ≡ Some l → Does l.peer step n (after_step step n)
+does_step law s i l step n sound own = one step
+  where
+    p : Peer
+    p = l.peer
+
+    of : LinkSound s n l
+    of = each_at (LinkSound s n) n.links i l sound.each own
+
+    by_submit : (k : ℕ) (r : Request) (now : ℕ) (o : Option PeerLink) → Does p (Submit k r now) n (after_submit k r now o n)
+    by_submit k r now None = inl refl
+    by_submit k r now (Some z) = inl refl
+
+    by_due : (k now : ℕ) (o : Option PeerLink) → Does p (Due k now) n (after_due_step k now o n)
+    by_due k now None = inl refl
+    by_due k now (Some z) = inl refl
+
+    by_reception : (k now : ℕ) (o : Option SentDatagram) → Does p (ToLink k now) n (after_reception now o n)
+    by_reception k now None = inl refl
+    by_reception k now (Some d) = inl refl
+
+    by_take : (k h : ℕ) (o : Option PeerLink) → Does p (Take k h) n (after_take k h o n)
+    by_take k h None = inl refl
+    by_take k h (Some z) = inl refl
+
+    by_other : (from : Peer) (bytes : List ℕ) (now : ℕ) (b : Bool) → has_link from n.links ≡ b →
+        Does p (Other from bytes now) n (let m : Network = cond b n (record n { events = Datagram from bytes now ∷ n.events }) in m)
+    by_other from bytes now true q = inl refl
+    by_other from bytes now false q =
+        inl (elsewhere p from bytes now n (same_turned from p ∙ each_at (λ (z : PeerLink). same_peer z.peer from ≡ false) n.links i l (none_passes (λ (z : PeerLink). same_peer z.peer from) n.links q) own))
+
+    delivered : (k now : ℕ) (m : Network) → Delivers k now p n m → Does p (ToDevice k now) n m
+    delivered k now m (inl same) = inl same
+    delivered k now m (inr (x, happens)) = inr (record { k = k; now = now; execution = x; step_is = refl; happens = happens })
+
+    by_peer : (k now : ℕ) (d : SentDatagram) → slice_get n.to_device k ≡ Some d → (b : Bool) → same_peer d.peer p ≡ b → Does p (ToDevice k now) n (after_delivery now (Some d) n)
+    by_peer k now d there true q =
+        let same : d.peer ≡ p = same_is d.peer p q in
+        let FairAs : Peer → Type 0 = λ x. Fair x l.link.next l.link.untaken (past n) n.to_device n.to_links n.taken in
+        delivered k now (after_delivery now (Some d) n)
+        (subst (λ (x : Peer). Delivers k now x n (after_delivery now (Some d) n)) same (delivers_own law n k now d l.link.next l.link.untaken there (subst FairAs (sym same) of.fair)))
+    by_peer k now d there false q = inl (elsewhere p d.peer d.bytes now n q)
+
+    by_sent : (k now : ℕ) (o : Option SentDatagram) → slice_get n.to_device k ≡ o → Does p (ToDevice k now) n (after_delivery now o n)
+    by_sent k now None there = inl refl
+    by_sent k now (Some d) there = by_peer k now d there (same_peer d.peer p) refl
+
+    one : (step : Step) → Does p step n (after_step step n)
+    one (Submit k r now) = by_submit k r now (slice_get n.links k)
+    one (Due k now) = by_due k now (slice_get n.links k)
+    one (ToDevice k now) = by_sent k now (slice_get n.to_device k) refl
+    one (ToLink k now) = by_reception k now (slice_get n.to_links k)
+    one (Other from bytes now) = by_other from bytes now (has_link from n.links) refl
+    one (steps.Tick now) = inl (executions_are n.sizes p n.tree (Tick now ∷ n.events) ∙ sym (executions_are n.sizes p n.tree n.events))
+    one (steps.Local ono value) = inl (executions_are n.sizes p n.tree (Local ono value ∷ n.events) ∙ sym (executions_are n.sizes p n.tree n.events))
+    one (Take k h) = by_take k h (slice_get n.links k)
+
+-- what is among the executions after steps was before them, or happens in one of them
+executed_in_steps : WrittenIsReadBack → (s i : ℕ) (p : Peer) (es : List Step) (n : Network) → AllByRecursion StepFits es → Sound s n →
+    slice_get (peers_of n.links) i ≡ Some p → (x : Execution) → IsIn x (executions_for p (after_steps es n)) → IsIn x (executions_for p n) ⊎ HappensIn p x es n
+executed_in_steps law s i p [] n fits sound own x is = inl is
+executed_in_steps law s i p (e ∷ es) n fits sound own x is =
+    by_rest (executed_in_steps law s i p es (after_step e n) fits.1 (sound_step law s e n fits.0 sound) (ap (λ (ps : List Peer). slice_get ps i) (peers_step e n) ∙ own) x is)
+  where
+    at : (z : PeerLink) × (slice_get n.links i ≡ Some z) × (z.peer ≡ p)
+    at = mapped_at (λ (z : PeerLink). z.peer) n.links i p own
+
+    does : Does p e n (after_step e n)
+    does = subst (λ (q : Peer). Does q e n (after_step e n)) at.2 (does_step law s i at.0 e n sound at.1)
+
+    by_first : Does p e n (after_step e n) → IsIn x (executions_for p (after_step e n)) → IsIn x (executions_for p n) ⊎ HappensIn p x (e ∷ es) n
+    by_first (inl same) here = inl (subst (λ (xs : List Execution). IsIn x xs) same here)
+    by_first (inr h) here = by_which (subst (λ (xs : List Execution). IsIn x xs) grown here)
+      where
+        grown : executions_for p (after_step e n) ≡ h.execution ∷ executions_for p n
+        grown = ap (λ (step : Step). executions_for p (after_step step n)) h.step_is ∙ h.happens.executed.1
+
+        by_which : IsIn x (h.execution ∷ executions_for p n) → IsIn x (executions_for p n) ⊎ HappensIn p x (e ∷ es) n
+        by_which (inl same) = inr (record {
+          first = [];
+          k = h.k;
+          now = h.now;
+          last = es;
+          steps_are = ap (λ (step : Step). step ∷ es) h.step_is;
+          happens = subst (λ (y : Execution). HappensWith h.k h.now p y n) same h.happens;
+        })
+        by_which (inr i) = inl i
+
+    by_rest : IsIn x (executions_for p (after_step e n)) ⊎ HappensIn p x es (after_step e n) → IsIn x (executions_for p n) ⊎ HappensIn p x (e ∷ es) n
+    by_rest (inl here) = by_first does here
+    by_rest (inr h) = inr (record { first = e ∷ h.first; k = h.k; now = h.now; last = h.last; steps_are = ap (λ (xs : List Step). e ∷ xs) h.steps_are; happens = h.happens })
+
+-- ---- executions under a handle
+
+in_under : (h : ℕ) (x : Execution) (xs : List Execution) → IsIn x (executions_under h xs) → IsIn x xs × (x.command.handle ≡ h)
+in_under h x [] i = absurd i
+in_under h x (y ∷ ys) i = by_test (nat_eq y.command.handle h) refl i (in_under h x ys)
+  where
+    by_test : (b : Bool) → nat_eq y.command.handle h ≡ b → IsIn x (cond b (y ∷ executions_under h ys) (executions_under h ys)) → (IsIn x (executions_under h ys) → IsIn x ys × (x.command.handle ≡ h)) →
+        IsIn x (y ∷ ys) × (x.command.handle ≡ h)
+    by_test true q (inl same) rest = (inl same, ap (λ (z : Execution). z.command.handle) (sym same) ∙ equal_is y.command.handle h q)
+    by_test true q (inr i) rest = let r = rest i in (inr r.0, r.1)
+    by_test false q i rest = let r = rest i in (inr r.0, r.1)
+
+none_is_under : (h : ℕ) (xs : List Execution) → ((x : Execution) → IsIn x xs → x.command.handle ≢ h) → executions_under h xs ≡ []
+none_is_under h [] none = refl
+none_is_under h (y ∷ ys) none = by_test (nat_eq y.command.handle h) refl (none_is_under h ys (λ x i. none x (inr i)))
+  where
+    by_test : (b : Bool) → nat_eq y.command.handle h ≡ b → executions_under h ys ≡ [] → cond b (y ∷ executions_under h ys) (executions_under h ys) ≡ []
+    by_test true q rest = absurd (none y (inl refl) (equal_is y.command.handle h q))
+    by_test false q rest = rest
+
+-- what is executed for a peer is honest
+honest_of : (p : Peer) (g : Past) (x : Execution) (ns : List Note) → AreOwn p g ns → IsIn x (executed_for p ns) → IsHonest p x g
+honest_of p g x [] own i = absurd i
+honest_of p g x (n ∷ ns) own i = by_test (same_peer n.peer p) refl i (honest_of p g x ns own.1)
+  where
+    by_what : (what : Noted) → IsOwn p g what → IsIn x (executed_in what) → IsHonest p x g
+    by_what (Admitted ms) its i = absurd i
+    by_what (Heartbeat ms) its i = absurd i
+    by_what (Executed objects c r) its (inl same) = subst (λ (y : Execution). IsHonest p y g) same its
+    by_what (Executed objects c r) its (inr i) = absurd i
+
+    by_test : (b : Bool) → same_peer n.peer p ≡ b → IsIn x (cond b (executed_in n.what) [] ++ executed_for p ns) → (IsIn x (executed_for p ns) → IsHonest p x g) → IsHonest p x g
+    by_test true q i rest = elim (in_parts x (executed_in n.what) (executed_for p ns) i) [ inl a ↦ by_what n.what (own.0 (same_is n.peer p q)) a | inr b ↦ rest b ]
+    by_test false q i rest = rest i
+
+each_parts : {X : Type 0} (P : X → Type 0) (xs ys : List X) → AllByRecursion P (xs ++ ys) → AllByRecursion P xs × AllByRecursion P ys
+each_parts P [] ys a = (tt, a)
+each_parts P (x ∷ xs) ys a = let rest = each_parts P xs ys a.1 in ((a.0, rest.0), rest.1)
+
+-- what was executed before a submit has another handle
+older : (s : ℕ) (n : Network) (z : PeerLink) (h : ℕ) (x : Execution) → LinkSound s n z → z.link.next ≡ Some h → IsIn x (executions_for z.peer n) → x.command.handle ≢ h
+older s n z h x of next i e =
+    let its = honest_of z.peer (past n) x (state_of (past n)).notes of.fair.own (subst (λ (xs : List Execution). IsIn x xs) (executions_are n.sizes z.peer n.tree n.events) i) in
+    let sendable = each_in (λ (y : SubmittedCommand). y.peer ≡ z.peer → IsSendable y.command × (y.command.handle < end_of z.link.next)) _ n.submitted of.fair.sendable its.submitted refl in
+    not_less x.command.handle (end_of z.link.next) sendable.1 (ap end_of next) e
+  where
+    not_less : (a b : ℕ) → a < b → b ≡ h → a ≡ h → ⊥
+    not_less a b q is same = omega arith
+
+-- ---- between
+
+-- the link of the number took the request under the handle
+record Took (i : ℕ) (r : Request) (h : Handle) (n : Network) : Type 0 where
+  pub link : PeerLink
+  pub there : slice_get n.links i ≡ Some link
+  pub answer : submission r link.link ≡ Ok h
+
+took_by : (i : ℕ) (r : Request) (now : ℕ) (h : Handle) (n : Network) → outcome_of (Submit i r now) n ≡ outcomes.Submitted h ∷ [] → Took i r h n
+took_by i r now h n e = by (slice_get n.links i) refl e
+  where
+    by : (o : Option PeerLink) → slice_get n.links i ≡ o → on_link (λ l. submit_outcome (submission r l.link)) o ≡ outcomes.Submitted h ∷ [] → Took i r h n
+    by None there q = cc
+    by (Some l) there q = record { link = l; there = there; answer = took r h l.link q }
+
+module _ (law : WrittenIsReadBack) (w : DeviceSizes) (s : ℕ) (tree : List Object) (starts : List Start) (before later : List Step) (i : ℕ)
+    (l : PeerLink) (request : Request) (now : ℕ) (h : Handle) (answer : AnswerFields) where
+  abbrev start : Network
+  start = opening w s tree starts
+
+  abbrev old : Network
+  old = after_steps before start
+
+  abbrev call : Step
+  call = Submit i request now
+
+  abbrev called : Network
+  called = after_step call old
+
+  abbrev end : Network
+  end = after_steps later called
+
+  abbrev c : CommandFields
+  c = command_under h.0 request
+
+  module _ (apart : are_apart starts ≡ true) (fit : Fit starts (before ++ call ∷ later)) (in_time : AreInTime i [] (before ++ call ∷ later) start)
+      (accepted : outcome_of call old ≡ outcomes.Submitted h ∷ []) (own : slice_get end.links i ≡ Some l)
+      (which : (answer_under h.0 l.link.untaken ≡ Some answer) ⊎ WasTaken l.peer h.0 answer end.taken) where
+    whole : after_steps (before ++ call ∷ later) start ≡ end
+    whole = after_more before (call ∷ later) start
+
+    abbrev OneAt : Network → Type 0
+    OneAt n = slice_get n.links i ≡ Some l → (answer_under h.0 l.link.untaken ≡ Some answer) ⊎ WasTaken l.peer h.0 answer n.taken → IsAnswerOfOneExecution l.peer h.0 answer n
+
+    one : IsAnswerOfOneExecution l.peer h.0 answer end
+    one = subst OneAt whole (answers_in_time law w s tree starts (before ++ call ∷ later) i l h.0 answer apart fit in_time) own which
+
+    fits : AllByRecursion StepFits before × AllByRecursion StepFits (call ∷ later)
+    fits = each_parts StepFits before (call ∷ later) fit.1
+
+    sound_old : Sound s old
+    sound_old = sound_steps law s before start fits.0 (sound_opening w s tree starts apart fit.0)
+
+    sound_called : Sound s called
+    sound_called = sound_step law s call old fits.1.0 sound_old
+
+    sound_end : Sound s end
+    sound_end = sound_steps law s later called fits.1.1 sound_called
+
+    its : Took i request h old
+    its = took_by i request now h old accepted
+
+    at_called : (z : PeerLink) × (slice_get called.links i ≡ Some z) × (z.peer ≡ l.peer)
+    at_called = link_before i called end l (peers_steps later called) own
+
+    at_old : (z : PeerLink) × (slice_get old.links i ≡ Some z) × (z.peer ≡ l.peer)
+    at_old = link_before i old end l (peers_steps later called ∙ peers_step call old) own
+
+    its_peer : its.link.peer ≡ l.peer
+    its_peer = ap (λ (z : PeerLink). z.peer) (same_some its.link at_old.0 (sym its.there ∙ at_old.1)) ∙ at_old.2
+
+    -- the call executes nothing
+    quiet : executions_for l.peer called ≡ executions_for l.peer old
+    quiet = ap (λ (o : Option PeerLink). executions_for l.peer (after_submit i request now o old)) its.there
+
+    new_handle : (x : Execution) → IsIn x (executions_for l.peer called) → x.command.handle ≢ h.0
+    new_handle x i' =
+        older s old its.link h.0 x (each_at (LinkSound s old) old.links i its.link sound_old.each its.there) (granted request its.link.link h its.answer).0
+        (subst (λ (q : Peer). IsIn x (executions_for q old)) (sym its_peer) (subst (λ (xs : List Execution). IsIn x xs) quiet i'))
+
+    found : IsIn one.execution (executions_for l.peer end) × (one.execution.command.handle ≡ h.0)
+    found = in_under h.0 one.execution (executions_for l.peer end) (subst (λ (xs : List Execution). IsIn one.execution xs) (sym one.only) (inl refl))
+
+    happens : HappensIn l.peer one.execution later called
+    happens =
+        elim (executed_in_steps law s i l.peer later called fits.1.1 sound_called
+        (ap (λ (ps : List Peer). slice_get ps i) (sym (peers_steps later called)) ∙ slice_get-map (λ (z : PeerLink). z.peer) end.links i ∙ ap (λ (o : Option PeerLink). option_map (λ (z : PeerLink). z.peer) o) own)
+        one.execution found.0) [
+          | inl early ↦ absurd (new_handle one.execution early found.1)
+          | inr later' ↦ later'
+        ]
+
+    -- the command that was submitted
+    submitted_then : IsSubmitted l.peer c end.submitted
+    submitted_then =
+        let grown = grown_steps later called in
+        let added : called.submitted ≡ old.submitted ++ submitted_by its.link.peer request (submission request its.link.link) =
+        ap (λ (o : Option PeerLink). (after_submit i request now o old).submitted) its.there in
+        let taken_under : called.submitted ≡ old.submitted ++ submitted_by l.peer request (Ok h) =
+        added ∙ ap (λ (q : Peer). old.submitted ++ submitted_by q request (submission request its.link.link)) its_peer
+        ∙ ap (λ a. old.submitted ++ submitted_by l.peer request a) its.answer in
+        subst (λ (xs : List SubmittedCommand). IsSubmitted l.peer c xs) (sym grown.submitted)
+        (in_more _ called.submitted grown.more (subst (λ (xs : List SubmittedCommand). IsSubmitted l.peer c xs) (sym taken_under) (in_last _ old.submitted)))
+
+    command_is : one.execution.command ≡ c
+    command_is =
+        (each_at (LinkSound s end) end.links i l sound_end.each own).fair.unique one.execution.command c (contains_in _ end.submitted one.submitted) submitted_then found.1
+
+    pub said_so : IsOfOneExecutionSince l.peer c answer later called
+    said_so = record {
+      execution = one.execution;
+      command = command_is;
+      none_before = none_is_under h.0 (executions_for l.peer called) new_handle;
+      only = one.only;
+      between = happens;
+      answer_is = one.answer_is;
+    }
+
+pub between_law : WrittenIsReadBack → OfEachAnswer IsOfOneExecutionSince
+between_law law w s tree starts before later i l request now h answer apart fit in_time accepted own which =
+    said_so law w s tree starts before later i l request now h answer apart fit in_time accepted own which
+
+-- ---- refused
+
+pub refused_law : WrittenIsReadBack → OfEachAnswer RefusalsChangeNothing
+refused_law law w s tree starts before later i l request now h answer apart fit in_time accepted own which bad said =
+    let x : Execution = said.execution in
+    let number : answer.status ≡ status_number (status_of x.objects l.peer (object_of x.objects x.command.target) x.command) =
+    ap (λ (a : AnswerFields). a.status) said.answer_is
+    ∙ ap (λ r. status_number r.status) said.between.happens.reply ∙ ap status_number (execution_status x.objects l.peer x.command) in
+    record {
+      same = sym said.between.happens.left ∙ execution_refuses x.objects l.peer x.command (λ ok. bad (number ∙ ap status_number ok));
+      status = number;
+    }
+
+-- ---- class
+
+pub tree_kept : (es : List Step) (n : Network) → (after_steps es n).tree ≡ n.tree
+tree_kept [] n = refl
+tree_kept (step ∷ es) n = tree_kept es (after_step step n) ∙ one step
+  where
+    by_submit : (i : ℕ) (r : Request) (now : ℕ) (o : Option PeerLink) → (after_submit i r now o n).tree ≡ n.tree
+    by_submit i r now None = refl
+    by_submit i r now (Some l) = refl
+
+    by_due : (i now : ℕ) (o : Option PeerLink) → (after_due_step i now o n).tree ≡ n.tree
+    by_due i now None = refl
+    by_due i now (Some l) = refl
+
+    by_delivery : (now : ℕ) (o : Option SentDatagram) → (after_delivery now o n).tree ≡ n.tree
+    by_delivery now None = refl
+    by_delivery now (Some d) = refl
+
+    by_reception : (now : ℕ) (o : Option SentDatagram) → (after_reception now o n).tree ≡ n.tree
+    by_reception now None = refl
+    by_reception now (Some d) = refl
+
+    by_other : (from : Peer) (bytes : List ℕ) (now : ℕ) (b : Bool) → (let m : Network = cond b n (record n { events = Datagram from bytes now ∷ n.events }) in m).tree ≡ n.tree
+    by_other from bytes now true = refl
+    by_other from bytes now false = refl
+
+    by_take : (i h : ℕ) (o : Option PeerLink) → (after_take i h o n).tree ≡ n.tree
+    by_take i h None = refl
+    by_take i h (Some l) = refl
+
+    one : (step : Step) → (after_step step n).tree ≡ n.tree
+    one (Submit i r now) = by_submit i r now (slice_get n.links i)
+    one (Due i now) = by_due i now (slice_get n.links i)
+    one (ToDevice k now) = by_delivery now (slice_get n.to_device k)
+    one (ToLink k now) = by_reception now (slice_get n.to_links k)
+    one (Other from bytes now) = by_other from bytes now (has_link from n.links)
+    one (steps.Tick now) = refl
+    one (steps.Local ono value) = refl
+    one (Take i h) = by_take i h (slice_get n.links i)
+
+pub class_law : ClassesStay
+class_law w s tree starts es number =
+    let n : Network = after_steps es (opening w s tree starts) in
+    class_stays n.tree (changes n.sizes (happenings n.events)) number ∙ ap (λ (t : List Object). class_of_ono t number) (tree_kept es (opening w s tree starts))

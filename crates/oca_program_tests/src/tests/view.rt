@@ -1,0 +1,221 @@
+//! A view of a device goes on over another end once half of the handles are used, in memory.
+use super::coming::Coming::{self, Datagram};
+use super::coming::end;
+use super::{Row, first_wrong, none_wrong};
+use oca_net::MemoryEnd;
+use oca_panel::Panel;
+use oca_types::{Handle, Ono, Packet, Peer, Span};
+use oca_web::{Action, OrderResult, View};
+use std::alloc::Global;
+
+const DEVICE: Peer = Peer {
+    ip: 0x7f00_0001,
+    port: 65000,
+};
+
+/// The first handle: behind three commands half of those above it are used.
+const FIRST: u32 = 4_294_967_289;
+
+/// What is ordered. The fourth order waits for the first one, which is of the same object, and the fifth behind it.
+const ORDERS: &[(u32, Action)] = &[
+    (4097, Action::Lock),
+    (4098, Action::Lock),
+    (4099, Action::Lock),
+    (4097, Action::Unlock),
+    (4100, Action::Lock),
+];
+
+/// The answers to the first three commands, and to those over the end after it.
+const ANSWERS: &[Coming] = &[
+    Datagram(
+        DEVICE,
+        b"\x3b\x00\x01\x00\x00\x00\x13\x03\x00\x01\x00\x00\x00\x0a\xff\xff\xff\xf9\x00\x00",
+        10,
+    ),
+    Datagram(
+        DEVICE,
+        b"\x3b\x00\x01\x00\x00\x00\x13\x03\x00\x01\x00\x00\x00\x0a\xff\xff\xff\xfa\x00\x00",
+        10,
+    ),
+    Datagram(
+        DEVICE,
+        b"\x3b\x00\x01\x00\x00\x00\x13\x03\x00\x01\x00\x00\x00\x0a\xff\xff\xff\xfb\x00\x00",
+        10,
+    ),
+];
+
+const ANSWERS_BEHIND: &[Coming] = &[
+    Datagram(
+        DEVICE,
+        b"\x3b\x00\x01\x00\x00\x00\x13\x03\x00\x01\x00\x00\x00\x0a\x00\x00\x00\x01\x00\x00",
+        10,
+    ),
+    Datagram(
+        DEVICE,
+        b"\x3b\x00\x01\x00\x00\x00\x13\x03\x00\x01\x00\x00\x00\x0a\x00\x00\x00\x02\x00\x00",
+        10,
+    ),
+];
+
+/// The commands of orders that an end took: the handle and the object of each.
+const TAKEN: &[(u32, u32)] = &[(FIRST, 4097), (FIRST + 1, 4098), (FIRST + 2, 4099)];
+
+/// The last moment of the first end, whether the program stood still until then, the commands of orders that the second
+/// end took, and how many orders were carried out in the end.
+pub struct Changes {
+    last: u64,
+    stood_still: bool,
+    taken: &'static [(u32, u32)],
+    done: usize,
+}
+
+pub const CHANGES: &[Changes] = &[
+    Changes {
+        last: 2000,
+        stood_still: false,
+        taken: &[(1, 4097), (2, 4100)],
+        done: 5,
+    },
+    Changes {
+        last: 2001,
+        stood_still: true,
+        taken: &[],
+        done: 3,
+    },
+];
+
+/// The number of four bytes at this place of a datagram.
+fn number_at(packet: &Packet, place: usize) -> Option<u32> {
+    match packet.as_slice().get(place..place.saturating_add(4)) {
+        Some([a, b, c, d]) => Some(u32::from_be_bytes([*a, *b, *c, *d])),
+        _ => None,
+    }
+}
+
+/// Whether a datagram has the command of this handle for this object.
+fn is_command(packet: &Packet, wanted: (u32, u32)) -> bool {
+    number_at(packet, 14) == Some(wanted.0) && number_at(packet, 18) == Some(wanted.1)
+}
+
+/// Whether a datagram has no command for an object that is ordered about.
+fn is_of_no_order(packet: &Packet) -> bool {
+    match number_at(packet, 18) {
+        Some(ono) => ono < 4097,
+        None => true,
+    }
+}
+
+/// Whether the commands of orders that an end took are these, each once.
+fn took(end: &MemoryEnd, wanted: &[(u32, u32)]) -> bool {
+    for (at, (_, packet)) in end.taken().iter().enumerate() {
+        let is_right = match wanted.get(at) {
+            Some(command) => is_command(packet, *command),
+            None => is_of_no_order(packet),
+        };
+        if !is_right {
+            return false;
+        }
+    }
+    wanted.len() <= end.taken().len()
+}
+
+/// Whether these are the results of the first orders, in their order: so many were carried out.
+fn are_first(results: &[OrderResult], done: usize) -> bool {
+    let mut ticket = 0u64;
+    let mut carried_out = 0usize;
+    for one in results {
+        ticket = ticket.saturating_add(1);
+        if one.ticket != ticket {
+            return false;
+        }
+        if one.done == Ok(()) {
+            carried_out = carried_out.saturating_add(1);
+        }
+    }
+    carried_out == done
+}
+
+/// Takes all orders.
+fn takes_orders(view: &mut View) -> bool {
+    for (ono, action) in ORDERS {
+        if view.order(Ono(*ono), *action, u64::MAX).is_none() {
+            return false;
+        }
+    }
+    view.next_ticket() == 6
+}
+
+/// Goes on, and takes so many turns. Whether there was memory.
+fn goes_on(view: &mut View, panel: &mut Panel<MemoryEnd>, turns: usize) -> bool {
+    if view.go_on(panel).is_err() {
+        return false;
+    }
+    for _ in 0..turns {
+        if view.take_turn(panel).is_err() {
+            return false;
+        }
+    }
+    view.go_on(panel).is_ok()
+}
+
+/// Whether these orders are submitted over an end that delivers this, by a link with this first handle.
+fn runs(
+    alloc: Global,
+    view: &mut View,
+    first: Handle,
+    coming: &[Coming],
+    wanted: &[(u32, u32)],
+) -> bool {
+    match end(alloc, coming, 64, None) {
+        Some(end) => {
+            let mut panel = Panel::open(DEVICE, end, first, Span::default(), 0);
+            goes_on(view, &mut panel, coming.len()) && took(panel.end(), wanted)
+        }
+        None => false,
+    }
+}
+
+impl Changes {
+    /// Whether the view goes on as it must over both ends.
+    fn goes_on(&self, alloc: Global, view: &mut View) -> bool {
+        takes_orders(view)
+            && !view.wants_end()
+            && runs(alloc, view, Handle(FIRST), ANSWERS, TAKEN)
+            && view.wants_end()
+            && are_first(view.orders().results(), 3)
+            && self.changes(view)
+            && runs(alloc, view, Handle(1), ANSWERS_BEHIND, self.taken)
+            && are_first(view.orders().results(), self.done)
+    }
+
+    /// Whether the view keeps what it is to keep when it takes another end: the objects and the tickets, and the orders
+    /// that wait where the program did not stand still.
+    fn changes(&self, view: &mut View) -> bool {
+        let objects = view.inventory().objects().as_slice().len();
+        let stood_still = view.take_end(Handle(1), 500, self.last, 3);
+        stood_still == self.stood_still
+            && view.orders().waits() == !stood_still
+            && !view.wants_end()
+            && view.next_ticket() == 6
+            && view.moment() == self.last
+            && view.ahead() == self.last.saturating_sub(500)
+            && view.inventory().objects().as_slice().len() == objects
+            && view.submitted() == 3
+    }
+}
+
+impl Row for Changes {
+    /// Whether it does.
+    fn agrees(&self, alloc: Global) -> bool {
+        match View::new(alloc, DEVICE, Span::default(), Handle(FIRST), 0) {
+            Ok(mut view) => self.goes_on(alloc, &mut view),
+            Err(_) => false,
+        }
+    }
+}
+
+#[test]
+fn other_ends(rt: HostRuntime) {
+    let alloc = rt.alloc();
+    none_wrong(&rt, "other ends", &[first_wrong(alloc, CHANGES)]);
+}

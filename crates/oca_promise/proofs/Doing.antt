@@ -1,0 +1,385 @@
+-- What the calls of a panel do with its link.
+use Rattle.std.proofs.Common.{◌≡◌, ℕ, ◌+◌, Bool, true, false, List, [], ◌∷◌, ◌++◌, length, Option, Some, None, Result, Ok, Err, refl, sym, ap, ◌∙◌, subst, arith, zero, suc, inl, inr, append_assoc, append-nil}
+use Rattle.std.specs.Prelude.{IsTrue, nat_le, if◌then◌else◌}
+use Rattle.std.specs.List.{flat_map}
+use Rattle.std.proofs.lemmas.Grind.{flat_map-append}
+use Rattle.oca_types.specs.declared.words.Peer.{Peer}
+use Rattle.oca_types.specs.declared.words.Handle.{Handle}
+use Rattle.oca_types.specs.Peers.{RequestFields}
+use Rattle.oca_net.specs.Deliveries.{Delivery, Datagram, Quiet, Failed, Sent}
+use Rattle.oca_net.specs.Ends.{TakesAllBut}
+use Rattle.oca_net.specs.EndStates.{EndState}
+use Rattle.oca_net.proofs.Sending.{takes_none, takes_more}
+use Rattle.oca_pdu.specs.Laws.{AreBytes, ReadingIsExact}
+use Rattle.oca_pdu.specs.Messages.{Msg}
+use Rattle.oca_pdu.specs.Reading.{read_datagram}
+use Rattle.oca_pdu.specs.declared.fault.PduFault.{PduFault}
+use Rattle.oca_control.specs.declared.fault.ControlFault.{ControlFault}
+use Rattle.oca_control.specs.declared.fault.ControlFault.TheVariants as faults
+use Rattle.oca_control.specs.declared.answer.Answer.{Answer}
+use Rattle.oca_control.specs.declared.outcome.Outcome.TheVariants as outcomes
+use Rattle.oca_control.specs.declared.report.DriveReport.{DriveReport}
+use Rattle.oca_control.specs.Answers.{answer_fields}
+use Rattle.oca_control.specs.Contents.{IsContent}
+use Rattle.oca_control.specs.Untaken.{answer_under}
+use Rattle.oca_control.specs.Links.{LinkState, Decision, GivesCommand, GivesKeepAlive, GivesNothing, IsLost, after_due, present_moment, decision, gone_on, late_at, received, submission, submitted, taken}
+use Rattle.oca_control.specs.Driving.{HearsDelivery, HearsDatagram, all_given_to, decisions_from, given_to, goes_on, link_from}
+use Rattle.oca_control.specs.Turning.{Turns, GivesAfter, decisions_in_time, link_in_time}
+use Rattle.oca_control.specs.Asking.{Begins, beginning}
+use Rattle.oca_control.specs.Waiting.{TakesTurnsBefore, WaitsUntil}
+use Rattle.oca_control.specs.Waiting as waiting
+use Rattle.oca_pair.specs.Networks.{device_address}
+use Rattle.oca_pair.specs.Steps.{content_read, messages_read}
+use Rattle.oca_panel.specs.Panels.{PanelState, AsksIn, EndsIn}
+use Rattle.oca_promise.specs.Doings.{Doing, Submits, Sends, Hears, Takes, done, all_done, hearing_of, is_hearing, hearings, IsOfDevice, AreOfDevice, WasDone, sent_by}
+use Rattle.oca_promise.specs.Calls.{IsDoneByCall}
+
+-- ---- lists of doings
+
+pub all_after : (xs ys : List Doing) (l : LinkState) → all_done (xs ++ ys) l ≡ all_done ys (all_done xs l)
+unfolding all_done
+all_after [] ys l = refl
+all_after (x ∷ xs) ys l = all_after xs ys (done x l)
+
+hearings_both : (xs ys : List Doing) → hearings (xs ++ ys) ≡ hearings xs ++ hearings ys
+hearings_both [] ys = refl
+hearings_both (x ∷ xs) ys = by_test (is_hearing x) (hearings_both xs ys)
+  where
+    by_test : (b : Bool) → hearings (xs ++ ys) ≡ hearings xs ++ hearings ys → (if b then x ∷ hearings (xs ++ ys) else hearings (xs ++ ys)) ≡ (if b then x ∷ hearings xs else hearings xs) ++ hearings ys
+    by_test true e = ap (λ zs. x ∷ zs) e
+    by_test false e = e
+
+first_of_both : (ds es : List Delivery) → AreOfDevice (ds ++ es) → AreOfDevice ds
+first_of_both [] es a = tt
+first_of_both (d ∷ ds) es a = (a.0, first_of_both ds es a.1)
+
+last_of_both : (ds es : List Delivery) → AreOfDevice (ds ++ es) → AreOfDevice es
+last_of_both [] es a = a
+last_of_both (d ∷ ds) es a = last_of_both ds es a.1
+
+sent_both : (xs ys : List Doing) (l : LinkState) → sent_by (xs ++ ys) l ≡ sent_by xs l ++ sent_by ys (all_done xs l)
+unfolding sent_by all_done
+sent_both [] ys l = refl
+sent_both (Sends now ∷ xs) ys l = ap (λ zs. given_to l.device (decision now l) ++ zs) (sent_both xs ys (gone_on now l)) ∙ sym (append_assoc (given_to l.device (decision now l)) (sent_by xs (gone_on now l)) (sent_by ys (all_done xs (gone_on now l))))
+sent_both (Submits request now ∷ xs) ys l = sent_both xs ys (submitted request now l)
+sent_both (Hears bytes now ∷ xs) ys l = sent_both xs ys (received device_address (content_read bytes) now l)
+sent_both (Takes h ∷ xs) ys l = sent_both xs ys (taken h l)
+
+-- nothing was done
+nothing : (l : LinkState) (e : EndState) → WasDone [] l l e e
+unfolding all_done sent_by
+nothing l e = record {
+  deliveries = [];
+  telling = refl;
+  delivered = λ tells. sym (append-nil e.delivered);
+  heard = refl;
+  link = λ of_device. refl;
+  failed = 0;
+  sent = λ of_device tells. takes_none e.taken e.taken refl;
+}
+
+-- one thing and then the other
+pub both : {xs ys : List Doing} {a b c : LinkState} {d e f : EndState} → WasDone xs a b d e → WasDone ys b c e f → WasDone (xs ++ ys) a c d f
+both {xs} {ys} {a} {b} {c} {d} {e} {f} x y = record {
+  deliveries = x.deliveries ++ y.deliveries;
+  telling = y.telling ∙ x.telling;
+  delivered = λ tells. y.delivered (subst IsTrue (sym x.telling) tells) ∙ ap (λ zs. zs ++ y.deliveries) (x.delivered tells) ∙ append_assoc d.delivered x.deliveries y.deliveries;
+  heard = hearings_both xs ys ∙ ap (λ zs. zs ++ hearings ys) x.heard ∙ ap (λ zs. flat_map hearing_of x.deliveries ++ zs) y.heard ∙ sym (flat_map-append hearing_of x.deliveries y.deliveries);
+  link = λ of_device. y.link (last_of_both x.deliveries y.deliveries of_device) ∙ ap (all_done ys) (x.link (first_of_both x.deliveries y.deliveries of_device)) ∙ sym (all_after xs ys a);
+  failed = x.failed + y.failed;
+  sent = λ of_device tells.
+      let before = first_of_both x.deliveries y.deliveries of_device in
+      subst (λ (zs : List Sent). TakesAllBut (x.failed + y.failed) d.taken f.taken zs)
+      (ap (λ (l : LinkState). sent_by xs a ++ sent_by ys l) (x.link before) ∙ sym (sent_both xs ys a))
+      (takes_more (x.sent before tells) (y.sent (last_of_both x.deliveries y.deliveries of_device) (subst IsTrue (sym x.telling) tells)));
+}
+
+-- ---- what is due is sent
+
+abbrev pub sends : ℕ → ℕ → LinkState → List Doing
+sends now zero l = []
+sends now (suc n) l = Sends now ∷ (if goes_on (decision now l) then sends now n (gone_on now l) else [])
+
+pub all_sent : (now n : ℕ) (l : LinkState) → link_from now n l ≡ all_done (sends now n l) l
+unfolding all_done link_from
+all_sent now zero l = refl
+all_sent now (suc n) l = by_test (goes_on (decision now l)) (all_sent now n (gone_on now l))
+  where
+    by_test : (b : Bool) → link_from now n (gone_on now l) ≡ all_done (sends now n (gone_on now l)) (gone_on now l) → (if b then link_from now n (gone_on now l) else gone_on now l) ≡ all_done (if b then sends now n (gone_on now l) else []) (gone_on now l)
+    by_test true e = e
+    by_test false e = refl
+
+pub none_heard : (now n : ℕ) (l : LinkState) → hearings (sends now n l) ≡ []
+none_heard now zero l = refl
+none_heard now (suc n) l = by_test (goes_on (decision now l)) (none_heard now n (gone_on now l))
+  where
+    by_test : (b : Bool) → hearings (sends now n (gone_on now l)) ≡ [] → hearings (if b then sends now n (gone_on now l) else []) ≡ []
+    by_test true e = e
+    by_test false e = refl
+
+same_device : (d : Decision) (now : ℕ) (l : LinkState) → (after_due d now l).device ≡ l.device
+same_device (GivesCommand c) now l = refl
+same_device GivesKeepAlive now l = refl
+same_device GivesNothing now l = refl
+same_device IsLost now l = refl
+
+-- what is sent is what was decided
+all_given : (now n : ℕ) (l : LinkState) → sent_by (sends now n l) l ≡ all_given_to l.device (decisions_from now n l)
+unfolding sent_by decisions_from
+all_given now zero l = refl
+all_given now (suc n) l = ap (λ zs. given_to l.device (decision now l) ++ zs) (by_test (goes_on (decision now l)) (all_given now n (gone_on now l) ∙ ap (λ (p : Peer). all_given_to p (decisions_from now n (gone_on now l))) (same_device (decision now l) (present_moment now l) l)))
+  where
+    by_test : (b : Bool) → sent_by (sends now n (gone_on now l)) (gone_on now l) ≡ all_given_to l.device (decisions_from now n (gone_on now l)) →
+        sent_by (if b then sends now n (gone_on now l) else []) (gone_on now l) ≡ all_given_to l.device (if b then decisions_from now n (gone_on now l) else [])
+    by_test true e = e
+    by_test false e = refl
+
+abbrev sends_in_time : ℕ → LinkState → List Doing
+sends_in_time now l = if late_at now l then [] else sends now (l.span + 1) l
+
+sent_in_time : (now : ℕ) (l : LinkState) → link_in_time now l ≡ all_done (sends_in_time now l) l
+unfolding all_done
+sent_in_time now l = by_test (late_at now l)
+  where
+    by_test : (b : Bool) → (if b then l else link_from now (l.span + 1) l) ≡ all_done (if b then [] else sends now (l.span + 1) l) l
+    by_test true = refl
+    by_test false = all_sent now (l.span + 1) l
+
+none_in_time : (now : ℕ) (l : LinkState) → hearings (sends_in_time now l) ≡ []
+none_in_time now l = by_test (late_at now l)
+  where
+    by_test : (b : Bool) → hearings (if b then [] else sends now (l.span + 1) l) ≡ []
+    by_test true = refl
+    by_test false = none_heard now (l.span + 1) l
+
+given_in_time : (now : ℕ) (l : LinkState) → sent_by (sends_in_time now l) l ≡ all_given_to l.device (decisions_in_time now l)
+unfolding sent_by
+given_in_time now l = by_test (late_at now l)
+  where
+    by_test : (b : Bool) → sent_by (if b then [] else sends now (l.span + 1) l) l ≡ all_given_to l.device (if b then IsLost ∷ [] else decisions_from now (l.span + 1) l)
+    by_test true = refl
+    by_test false = all_given now (l.span + 1) l
+
+-- what is sent after a delivery
+abbrev sends_after : Delivery → LinkState → List Doing
+sends_after (Datagram from bytes now) l = sends_in_time now l
+sends_after (Quiet now) l = sends_in_time now l
+sends_after Failed l = []
+
+sent_after : (d : Delivery) (old new : LinkState) (decisions : List Decision) → GivesAfter d old new decisions → new ≡ all_done (sends_after d old) old
+unfolding all_done
+sent_after (Datagram from bytes now) old new decisions g = g.1 ∙ sent_in_time now old
+sent_after (Quiet now) old new decisions g = g.1 ∙ sent_in_time now old
+sent_after Failed old new decisions g = g.1
+
+given_after : (d : Delivery) (old new : LinkState) (decisions : List Decision) → GivesAfter d old new decisions → sent_by (sends_after d old) old ≡ all_given_to old.device decisions
+unfolding sent_by
+given_after (Datagram from bytes now) old new decisions g = given_in_time now old ∙ ap (all_given_to old.device) (sym g.0)
+given_after (Quiet now) old new decisions g = given_in_time now old ∙ ap (all_given_to old.device) (sym g.0)
+given_after Failed old new decisions g = ap (all_given_to old.device) (sym g.0)
+
+none_after : (d : Delivery) (l : LinkState) → hearings (sends_after d l) ≡ []
+none_after (Datagram from bytes now) l = none_in_time now l
+none_after (Quiet now) l = none_in_time now l
+none_after Failed l = refl
+
+-- ---- what is heard
+
+-- bytes have one content
+read_is : ReadingIsExact → (bytes : List ℕ) (content : Option (List Msg)) → AreBytes bytes → IsContent content bytes → content ≡ content_read bytes
+read_is law bytes (Some messages) are c = ap messages_read (sym (((law bytes are).messages messages).1 c))
+read_is law bytes None are c = by (read_datagram bytes) refl
+  where
+    by : (r : Result (List Msg) PduFault) → read_datagram bytes ≡ r → None ≡ messages_read r
+    by (Ok ms) e = let x = ((law bytes are).messages ms).0 e in absurd (c x.0 x.1)
+    by (Err f) e = refl
+
+-- the test of a length decides
+hears_by_length : ReadingIsExact → (b : Bool) (from : Peer) (bytes : List ℕ) (now : ℕ) (old new : LinkState) (answered : ℕ) → nat_le (length bytes) 1472 ≡ b → HearsDatagram from bytes now old new answered → IsOfDevice (Datagram from bytes now) → new ≡ all_done (if b then Hears bytes now ∷ [] else []) old
+unfolding all_done
+hears_by_length law true from bytes now old new answered fits h is =
+    let x = h.short (grind (arith)) in
+    x.1.link_is ∙ ap (λ (c : Option (List Msg)). received from c now old) (read_is law bytes x.1.content is.1 x.1.holds) ∙ ap (λ (q : Peer). received q (content_read bytes) now old) is.0
+hears_by_length law false from bytes now old new answered long h is = (h.long (grind (arith))).0
+
+hears : ReadingIsExact → (d : Delivery) (old new : LinkState) (answered : ℕ) → HearsDelivery d old new answered → IsOfDevice d → new ≡ all_done (hearing_of d) old
+unfolding all_done
+hears law (Datagram from bytes now) old new answered h is = hears_by_length law (nat_le (length bytes) 1472) from bytes now old new answered refl h is
+hears law (Quiet now) old new answered h is = h.0
+hears law Failed old new answered h is = h.0
+
+all_heard : (d : Delivery) → hearings (hearing_of d) ≡ hearing_of d
+all_heard (Datagram from bytes now) = by_test (nat_le (length bytes) 1472)
+  where
+    by_test : (b : Bool) → hearings (if b then Hears bytes now ∷ [] else []) ≡ (if b then Hears bytes now ∷ [] else [])
+    by_test true = refl
+    by_test false = refl
+all_heard (Quiet now) = refl
+all_heard Failed = refl
+
+-- ---- turns
+
+abbrev turn_doings : Delivery → LinkState → LinkState → List Doing
+turn_doings d old between = hearing_of d ++ sends_after d between
+
+one_delivery : (d : Delivery) (old between new : LinkState) (decisions : List Decision) (answered : ℕ) → ReadingIsExact → HearsDelivery d old between answered → GivesAfter d between new decisions → AreOfDevice (d ∷ []) → new ≡ all_done (turn_doings d old between) old
+one_delivery d old between new decisions answered law heard gives are =
+    sent_after d between new decisions gives ∙ ap (all_done (sends_after d between)) (hears law d old between answered heard are.0) ∙ sym (all_after (hearing_of d) (sends_after d between) old)
+
+-- hearing sends nothing, and leaves the device's address
+none_sent : (d : Delivery) (l : LinkState) → sent_by (hearing_of d) l ≡ []
+unfolding sent_by
+none_sent (Datagram from bytes now) l = by_test (nat_le (length bytes) 1472)
+  where
+    by_test : (b : Bool) → sent_by (if b then Hears bytes now ∷ [] else []) l ≡ []
+    by_test true = refl
+    by_test false = refl
+none_sent (Quiet now) l = refl
+none_sent Failed l = refl
+
+device_stays : (d : Delivery) (l : LinkState) → (all_done (hearing_of d) l).device ≡ l.device
+unfolding all_done
+device_stays (Datagram from bytes now) l = by_test (nat_le (length bytes) 1472)
+  where
+    by_test : (b : Bool) → (all_done (if b then Hears bytes now ∷ [] else []) l).device ≡ l.device
+    by_test true = refl
+    by_test false = refl
+device_stays (Quiet now) l = refl
+device_stays Failed l = refl
+
+sent_in_turn : (d : Delivery) (old between new : LinkState) (decisions : List Decision) (answered : ℕ) → ReadingIsExact → HearsDelivery d old between answered → GivesAfter d between new decisions → AreOfDevice (d ∷ []) → all_given_to old.device decisions ≡ sent_by (turn_doings d old between) old
+sent_in_turn d old between new decisions answered law heard gives are =
+    let between_is : between ≡ all_done (hearing_of d) old = hears law d old between answered heard are.0 in
+    let same : between.device ≡ old.device = ap (λ (l : LinkState). l.device) between_is ∙ device_stays d old in
+    ap (λ (p : Peer). all_given_to p decisions) (sym same)
+    ∙ sym (given_after d between new decisions gives)
+    ∙ ap (λ (l : LinkState). sent_by (sends_after d between) l) between_is
+    ∙ ap (λ zs. zs ++ sent_by (sends_after d between) (all_done (hearing_of d) old)) (sym (none_sent d old))
+    ∙ sym (sent_both (hearing_of d) (sends_after d between) old)
+
+heard_in_turn : (d : Delivery) (old between : LinkState) → hearings (turn_doings d old between) ≡ flat_map hearing_of (d ∷ [])
+heard_in_turn d old between =
+    hearings_both (hearing_of d) (sends_after d between) ∙ ap (λ zs. zs ++ hearings (sends_after d between)) (all_heard d) ∙ ap (λ zs. hearing_of d ++ zs) (none_after d between)
+
+-- Some doings make a link another, over an end.
+abbrev Does : LinkState → LinkState → EndState → EndState → Type 0
+Does old new before after = (doings : List Doing) × WasDone doings old new before after
+
+sent_none : (l : LinkState) → [] ≡ sent_by [] l
+unfolding sent_by
+sent_none l = refl
+
+done_none : (l : LinkState) → l ≡ all_done [] l
+unfolding all_done
+done_none l = refl
+
+turn_does : ReadingIsExact → (old new : LinkState) (e f : EndState) (r : DriveReport) → Turns old new e f r → Does old new e f
+turn_does law old new e f r (inl x) = (
+  turn_doings x.delivery old x.turns.between,
+  record {
+    deliveries = x.delivery ∷ [];
+    telling = x.runs.telling;
+    delivered = x.runs.delivered;
+    heard = heard_in_turn x.delivery old x.turns.between;
+    link = λ are. one_delivery x.delivery old x.turns.between new x.decisions x.answered law x.turns.hears x.turns.gives are;
+    failed = r.failed_sends;
+    sent = λ are tells.
+        subst (λ (zs : List Sent). TakesAllBut r.failed_sends e.taken f.taken zs)
+        (sent_in_turn x.delivery old x.turns.between new x.decisions x.answered law x.turns.hears x.turns.gives are) (x.runs.taken tells);
+  },
+)
+turn_does law old new e f r (inr x) = (
+  [],
+  record {
+    deliveries = [];
+    telling = x.received.telling;
+    delivered = λ tells. x.received.delivered tells ∙ sym (append-nil e.delivered);
+    heard = refl;
+    link = λ are. x.link ∙ done_none old;
+    failed = 0;
+    sent = λ are tells. subst (λ (zs : List Sent). TakesAllBut 0 e.taken f.taken zs) (sent_none old) (takes_none e.taken f.taken (x.received.taken tells));
+  },
+)
+
+does_both : {a b c : LinkState} {d e f : EndState} → Does a b d e → Does b c e f → Does a c d f
+does_both x y = (x.0 ++ y.0, both x.1 y.1)
+
+turns_do : ReadingIsExact → {h until n : ℕ} {lost closed : Bool} {old new : LinkState} {e f : EndState} → TakesTurnsBefore h until n lost closed old new e f → Does old new e f
+turns_do law (waiting.NoTurn {l = l} {e = e}) = ([], nothing l e)
+turns_do law (waiting.OneTurn {l = l} {new = new} {e = e} {f = f} before none going time turn) = does_both (turns_do law before) (turn_does law l new e f turn.report turn.turns)
+
+-- ---- a command is begun
+
+submission_of : (request : RequestFields) (now : ℕ) (l : LinkState) (h : Handle) → Ok h ≡ beginning request now l → submission request l ≡ Ok h
+submission_of request now l h e = by_test (late_at now l) e
+  where
+    by_test : (b : Bool) → Ok h ≡ (if b then Err faults.Lost else submission request l) → submission request l ≡ Ok h
+    by_test true e = cc
+    by_test false e = sym e
+
+abbrev begin_doings : RequestFields → ℕ → LinkState → List Doing
+begin_doings request now l = sends now ((submitted request now l).span + 1) (submitted request now l)
+
+begin_does : (request : RequestFields) (h : Handle) (old new : LinkState) (e f : EndState) (b : Begins request (Ok h) old new e f) → WasDone (Submits request b.now ∷ begin_doings request b.now old) old new e f
+unfolding all_done sent_by
+begin_does request h old new e f b =
+    let l = submitted request b.now old in
+    record {
+      deliveries = [];
+      telling = b.gives.1.sends.telling;
+      delivered = λ tells. b.gives.1.sends.delivered tells ∙ sym (append-nil e.delivered);
+      heard = none_heard b.now (l.span + 1) l;
+      link = λ are. b.gives.1.link ∙ all_sent b.now (l.span + 1) l;
+      failed = b.gives.0.failed_sends;
+      sent = λ are tells.
+          subst (λ (zs : List Sent). TakesAllBut b.gives.0.failed_sends e.taken f.taken zs)
+          (sym (all_given b.now (l.span + 1) l)) (b.gives.1.sends.taken tells);
+    }
+
+-- ---- an answer is taken
+
+take_done : (h : ℕ) (xs : List Doing) (old l new : LinkState) (e f : EndState) → WasDone xs old l e f → new ≡ taken h l → WasDone (xs ++ Takes h ∷ []) old new e f
+unfolding all_done sent_by
+take_done h xs old l new e f d is = record {
+  deliveries = d.deliveries;
+  telling = d.telling;
+  delivered = d.delivered;
+  heard = hearings_both xs (Takes h ∷ []) ∙ append-nil (hearings xs) ∙ d.heard;
+  link = λ are. is ∙ ap (taken h) (d.link are) ∙ sym (all_after xs (Takes h ∷ []) old);
+  failed = d.failed;
+  sent = λ are tells.
+      subst (λ (zs : List Sent). TakesAllBut d.failed e.taken f.taken zs)
+      (sym (sent_both xs (Takes h ∷ []) old ∙ append-nil (sent_by xs old))) (d.sent are tells);
+}
+
+-- ---- a call
+
+call_waits : ReadingIsExact → (request : RequestFields) (h : Handle) (old between new : PanelState) (a : Answer)
+    (b : Begins request (Ok h) old.link between.link old.end_state between.end_state) (until : ℕ) →
+    WaitsUntil h.0 until between.link (outcomes.Answered a) new.link between.end_state new.end_state →
+    (doings : List Doing) × IsDoneByCall request h.0 (answer_fields a) doings old new
+unfolding both take_done
+call_waits law request h old between new a b until w =
+    let turns = turns_do law w.5 in
+    let begun = begin_does request h old.link between.link old.end_state between.end_state b in
+    let xs = begin_doings request b.now old.link ++ turns.0 in
+    let before : WasDone (Submits request b.now ∷ xs) old.link w.0 old.end_state new.end_state = both begun turns.1 in (
+      Submits request b.now ∷ xs ++ Takes h.0 ∷ [],
+      record {
+        now = b.now;
+        between = xs;
+        doings_are = refl;
+        accepted = submission_of request b.now old.link h b.answer;
+        done = take_done h.0 (Submits request b.now ∷ xs) old.link w.0 new.link old.end_state new.end_state before w.7;
+        held = λ are. ap (λ (l : LinkState). answer_under h.0 l.untaken) (sym (before.link are)) ∙ w.6;
+      },
+    )
+
+pub call_does : ReadingIsExact → (request : RequestFields) (old new : PanelState) (a : Answer) → AsksIn request old new (outcomes.Answered a) →
+    (h : ℕ) × (doings : List Doing) × IsDoneByCall request h (answer_fields a) doings old new
+call_does law request old new a asks = by asks.returned asks.begins.begins asks.ends
+  where
+    by : (returned : Result Handle ControlFault) → Begins request returned old.link asks.between.link old.end_state asks.between.end_state → EndsIn returned asks.between new (outcomes.Answered a) →
+        (h : ℕ) × (doings : List Doing) × IsDoneByCall request h (answer_fields a) doings old new
+    by (Ok h) begins ends = let x = call_waits law request h old asks.between new a begins _ ends.waits.waits in (h.0, x.0, x.1)
+    by (Err fault) begins ends = cc

@@ -1,0 +1,64 @@
+-- A call that was answered keeps what holds of each answer.
+use Rattle.std.proofs.Common.{◌≡◌, ℕ, List, [], ◌∷◌, ◌++◌, refl, sym, ap, ◌∙◌, subst, inr, append_assoc}
+use Rattle.std.specs.List.{slice_get}
+use Rattle.oca_types.specs.declared.words.Handle.{Handle}
+use Rattle.oca_types.specs.Peers.{RequestFields}
+use Rattle.oca_pdu.specs.Laws.{ReadingIsExact}
+use Rattle.oca_control.specs.Answers.{AnswerFields, answer_fields}
+use Rattle.oca_control.specs.Links.{LinkState, submitted, command_under}
+use Rattle.oca_pair.specs.Networks.{Network, PeerLink, opening}
+use Rattle.oca_pair.specs.Steps.{Step, Submit, after_step, after_steps}
+use Rattle.oca_pair.specs.Premises.{Fit}
+use Rattle.oca_pair.specs.InTime.{AreInTime}
+use Rattle.oca_pair.specs.Saying.{OfEachAnswer}
+use Rattle.oca_pair.proofs.Lists.{in_contains}
+use Rattle.oca_panel.specs.Panels.{PanelState}
+use Rattle.oca_promise.specs.Doings.{Doing, Takes, all_done, AreOfDevice, Plays}
+use Rattle.oca_promise.specs.Calls.{OfAnAnswer, IsDoneByCall, HoldsInEachNetwork, EveryAnsweredCallKeeps}
+use Rattle.oca_promise.proofs.Doing.{call_does}
+use Rattle.oca_promise.proofs.Playing.{played_link, played_submit, played_take, after_both, HasTaken, submit_outcome_is, submit_there}
+
+parts : (before first : List Step) (step : Step) (later steps : List Step) → steps ≡ first ++ step ∷ later → before ++ steps ≡ (before ++ first) ++ step ∷ later
+parts before first step later steps e = ap (λ zs. before ++ zs) e ∙ sym (append_assoc before first (step ∷ later))
+
+in_each_network : (Holds : OfAnAnswer) → OfEachAnswer Holds → (request : RequestFields) (h : ℕ) (a : AnswerFields) (doings : List Doing) (old new : PanelState) (d : IsDoneByCall request h a doings old new) →
+    AreOfDevice d.done.deliveries → HoldsInEachNetwork Holds request h a doings old
+unfolding all_done
+in_each_network Holds of_each request h a doings old new d are w s tree starts before steps i p apart fit in_time is plays =
+    let start : Network = opening w s tree starts in
+    let n : Network = after_steps before start in
+    let rest : List Doing = d.between ++ Takes h ∷ [] in
+    let x = played_submit i p request d.now rest steps old.link n is (subst (λ (zs : List Doing). Plays i p n zs steps) d.doings_are plays) in
+    let handle : Handle = record { 0 = h } in
+    let step : Step = Submit i request d.now in
+    let at : Network = after_steps x.first n in
+    let all : before ++ steps ≡ (before ++ x.first) ++ step ∷ x.later = parts before x.first step x.later steps x.steps_are in
+    let same : after_steps (before ++ x.first) start ≡ at = after_both before x.first start in
+    let there = submit_there i p old.link request d.now at x.link in
+    let last : LinkState = all_done rest (submitted request d.now old.link) in
+    let l : PeerLink = record { peer = p; link = last } in
+    let at_end = played_link i p x.later (submitted request d.now old.link) (after_step step at) rest there x.plays in
+    let got = played_take i p h a x.later d.between (submitted request d.now old.link) (after_step step at) rest refl there (d.held are) x.plays in
+    record {
+      first = x.first;
+      now = d.now;
+      later = x.later;
+      steps_are = x.steps_are;
+      holds = subst (λ (z : Network). Holds p (command_under h request) a x.later (after_step step z)) same
+          (of_each w s tree starts (before ++ x.first) x.later i l request d.now handle a apart
+          (subst (λ (zs : List Step). Fit starts zs) all fit)
+          (subst (λ (zs : List Step). AreInTime i [] zs start) all in_time)
+          (submit_outcome_is i p old.link request d.now handle (after_steps (before ++ x.first) start) (ap (λ (z : Network). slice_get z.links i) same ∙ x.link) d.accepted)
+          (ap (λ (z : Network). slice_get (after_steps x.later (after_step step z)).links i) same ∙ at_end)
+          (inr (in_contains _ _ (subst (λ (z : Network). HasTaken p h a (after_steps x.later (after_step step z))) (sym same) got))));
+    }
+
+pub calls_keep : (Holds : OfAnAnswer) → OfEachAnswer Holds → ReadingIsExact → EveryAnsweredCallKeeps Holds
+calls_keep Holds of_each law request old new a asks =
+    let x = call_does law request old new a asks in
+    record {
+      handle = x.0;
+      doings = x.1;
+      by_call = x.2;
+      holds = in_each_network Holds of_each request x.0 (answer_fields a) x.1 old new x.2;
+    }

@@ -1,0 +1,4 @@
+pub mod Doing
+pub mod Playing
+pub mod Keeping
+pub mod Promises

@@ -1,0 +1,197 @@
+-- What holds where a schedule plays what was done with a link.
+use Rattle.std.proofs.Common.{◌≡◌, ℕ, Bool, true, false, List, [], ◌∷◌, ◌++◌, Option, Some, None, Result, Ok, refl, sym, ap, ◌∙◌, subst, zero, suc, inl, inr}
+use Rattle.std.specs.Prelude.{map, if◌then◌else◌}
+use Rattle.std.specs.List.{slice_get, slice_set}
+use Rattle.oca_types.specs.declared.words.Peer.{Peer}
+use Rattle.oca_types.specs.declared.words.Handle.{Handle}
+use Rattle.oca_types.specs.Peers.{same_peer}
+use Rattle.oca_control.specs.declared.fault.ControlFault.{ControlFault}
+use Rattle.oca_control.specs.Answers.{AnswerFields}
+use Rattle.oca_control.specs.Untaken.{answer_under}
+use Rattle.oca_control.specs.Links.{LinkState, Request, submission, submitted, gone_on, received, taken}
+use Rattle.oca_pair.specs.Networks.{Network, PeerLink, SentDatagram, TakenAnswer, device_address}
+use Rattle.oca_pair.specs.declared.outcome.Outcome.TheVariants as outcomes
+use Rattle.oca_pair.specs.Steps.{Step, Submit, Due, ToDevice, ToLink, Other, Take, has_link, content_read, with_link, hears_datagram, after_submit, after_due_step, after_delivery, after_reception, taken_by, after_take, after_step, after_steps, on_link, submit_outcome, outcome_of}
+use Rattle.oca_pair.specs.Steps as steps
+use Rattle.oca_pair.proofs.Lists.{same_self, IsIn, in_more, in_last}
+use Rattle.oca_device.specs.Events.{Datagram}
+use Rattle.oca_promise.specs.Doings.{Doing, Submits, Sends, Hears, Takes, done, all_done, IsStepFor, GoesOnWith, Plays}
+
+-- the link of this number is the peer's, and in this state
+abbrev pub IsLinkOf : ℕ → Peer → LinkState → Network → Type 0
+IsLinkOf i p l n = slice_get n.links i ≡ Some (record { peer = p; link = l })
+
+-- ---- one step
+
+pub set_there : {X : Type 0} (xs : List X) (i : ℕ) (x y : X) → slice_get xs i ≡ Some x → slice_get (slice_set xs i y) i ≡ Some y
+set_there [] i x y e = cc
+set_there (z ∷ zs) zero x y e = refl
+set_there (z ∷ zs) (suc i) x y e = set_there zs i x y e
+
+map_there : {X : Type 0} (f : X → X) (xs : List X) (i : ℕ) (x : X) → slice_get xs i ≡ Some x → slice_get (map f xs) i ≡ Some (f x)
+map_there f [] i x e = cc
+map_there f (z ∷ zs) zero x e = let same : z ≡ x = cc in ap (λ y. Some (f y)) same
+map_there f (z ∷ zs) (suc i) x e = map_there f zs i x e
+
+-- after a submit, a due and a take at the link, and a datagram for it
+pub submit_there : (i : ℕ) (p : Peer) (l : LinkState) (request : Request) (now : ℕ) (n : Network) → IsLinkOf i p l n → IsLinkOf i p (submitted request now l) (after_step (Submit i request now) n)
+submit_there i p l request now n e =
+    let x : PeerLink = record { peer = p; link = l } in
+    ap (λ (o : Option PeerLink). slice_get (after_submit i request now o n).links i) e ∙ set_there n.links i x (record { peer = p; link = submitted request now l }) e
+
+send_there : (i : ℕ) (p : Peer) (l : LinkState) (now : ℕ) (n : Network) → IsLinkOf i p l n → IsLinkOf i p (gone_on now l) (after_step (Due i now) n)
+send_there i p l now n e =
+    let x : PeerLink = record { peer = p; link = l } in
+    ap (λ (o : Option PeerLink). slice_get (after_due_step i now o n).links i) e ∙ set_there n.links i x (record { peer = p; link = gone_on now l }) e
+
+take_there : (i : ℕ) (p : Peer) (l : LinkState) (h : ℕ) (n : Network) → IsLinkOf i p l n → IsLinkOf i p (taken h l) (after_step (Take i h) n)
+take_there i p l h n e =
+    let x : PeerLink = record { peer = p; link = l } in
+    ap (λ (o : Option PeerLink). slice_get (after_take i h o n).links i) e ∙ set_there n.links i x (record { peer = p; link = taken h l }) e
+
+heard_there : (p : Peer) (bytes : List ℕ) (now : ℕ) (l : LinkState) → hears_datagram (record { peer = p; bytes = bytes }) now (record { peer = p; link = l }) ≡ record { peer = p; link = received device_address (content_read bytes) now l }
+heard_there p bytes now l = by_test (same_peer p p) (same_self p)
+  where
+    by_test : (b : Bool) → b ≡ true →
+        (let y : PeerLink = if b then record { peer = p; link = received device_address (content_read bytes) now l } else record { peer = p; link = l } in y) ≡ record { peer = p; link = received device_address (content_read bytes) now l }
+    by_test true e = refl
+    by_test false e = cc
+
+hear_there : (i k : ℕ) (p : Peer) (l : LinkState) (bytes : List ℕ) (now : ℕ) (n : Network) → slice_get n.to_links k ≡ Some (record { peer = p; bytes = bytes }) → IsLinkOf i p l n →
+    IsLinkOf i p (received device_address (content_read bytes) now l) (after_step (ToLink k now) n)
+hear_there i k p l bytes now n sent e =
+    let d : SentDatagram = record { peer = p; bytes = bytes } in
+    let x : PeerLink = record { peer = p; link = l } in
+    ap (λ (o : Option SentDatagram). slice_get (after_reception now o n).links i) sent
+    ∙ map_there (hears_datagram d now) n.links i x e
+    ∙ ap (λ (y : PeerLink). Some y) (heard_there p bytes now l)
+
+-- ---- the link after a schedule
+
+step_there : (i : ℕ) (p : Peer) (l : LinkState) (n : Network) (x : Doing) (step : Step) → IsLinkOf i p l n → IsStepFor i p n x step → IsLinkOf i p (done x l) (after_step step n)
+step_there i p l n (Submits request now) step is e = rw e (submit_there i p l request now n is)
+step_there i p l n (Sends now) step is e = rw e (send_there i p l now n is)
+step_there i p l n (Hears bytes now) step is (k, e, sent) = rw e (hear_there i k p l bytes now n sent is)
+step_there i p l n (Takes h) step is e = rw e (take_there i p l h n is)
+
+-- the link after a step that goes on, and what is still to be done
+went_on : (i : ℕ) (p : Peer) (l : LinkState) (n : Network) (step : Step) (doings rest : List Doing) → IsLinkOf i p l n → GoesOnWith i p n step doings rest →
+    (m : LinkState) × IsLinkOf i p m (after_step step n) × (all_done doings l ≡ all_done rest m)
+unfolding all_done
+went_on i p l n step doings rest is (inl (e, same)) = (l, same ∙ is, ap (λ (zs : List Doing). all_done zs l) (sym e))
+went_on i p l n step doings rest is (inr (x, e, by_step)) = (done x l, step_there i p l n x step is by_step, ap (λ (zs : List Doing). all_done zs l) e)
+
+pub played_link : (i : ℕ) (p : Peer) (steps : List Step) (l : LinkState) (n : Network) (doings : List Doing) → IsLinkOf i p l n → Plays i p n doings steps → IsLinkOf i p (all_done doings l) (after_steps steps n)
+unfolding all_done Plays
+played_link i p [] l n doings is plays = is ∙ ap (λ (zs : List Doing). let y : PeerLink = record { peer = p; link = all_done zs l } in Some y) (sym plays)
+played_link i p (step ∷ steps) l n doings is (rest, goes, plays) =
+    let x = went_on i p l n step doings rest is goes in
+    played_link i p steps x.0 (after_step step n) rest x.1 plays ∙ ap (λ (z : LinkState). let y : PeerLink = record { peer = p; link = z } in Some y) (sym x.2)
+
+-- ---- a command is submitted in a schedule
+
+-- The steps up to a submit leave the link, and what is done behind it is played behind it.
+pub record SubmitsAfter (i : ℕ) (p : Peer) (l : LinkState) (request : Request) (now : ℕ) (rest : List Doing) (steps : List Step) (n : Network) : Type 0 where
+  pub first : List Step
+  pub later : List Step
+  pub steps_are : steps ≡ first ++ Submit i request now ∷ later
+  pub link : IsLinkOf i p l (after_steps first n)
+  pub plays : Plays i p (after_step (Submit i request now) (after_steps first n)) rest later
+
+first_is : (x y : Doing) (xs ys : List Doing) → x ∷ xs ≡ y ∷ ys → (x ≡ y) × (xs ≡ ys)
+first_is x y xs ys e = (cc, cc)
+
+pub played_submit : (i : ℕ) (p : Peer) (request : Request) (now : ℕ) (rest : List Doing) (steps : List Step) (l : LinkState) (n : Network) → IsLinkOf i p l n → Plays i p n (Submits request now ∷ rest) steps → SubmitsAfter i p l request now rest steps n
+unfolding Plays
+played_submit i p request now rest [] l n is plays = cc
+played_submit i p request now rest (step ∷ steps) l n is (left, inl (e, same), plays) =
+    let x = played_submit i p request now rest steps l (after_step step n) (same ∙ is) (subst (λ (zs : List Doing). Plays i p (after_step step n) zs steps) e plays) in
+    record { first = step ∷ x.first; later = x.later; steps_are = ap (λ zs. step ∷ zs) x.steps_are; link = x.link; plays = x.plays }
+played_submit i p request now rest (step ∷ steps) l n is (left, inr (x, e, by_step), plays) =
+    let same = first_is (Submits request now) x rest left e in
+    let step_is : step ≡ Submit i request now = subst (λ (z : Doing). IsStepFor i p n z step) (sym same.0) by_step in
+    record {
+      first = [];
+      later = steps;
+      steps_are = ap (λ z. z ∷ steps) step_is;
+      link = is;
+      plays = subst (λ (z : Step). Plays i p (after_step z n) rest steps) step_is (subst (λ (zs : List Doing). Plays i p (after_step step n) zs steps) (sym same.1) plays);
+    }
+
+-- ---- an answer is taken in a schedule
+
+abbrev pub HasTaken : Peer → ℕ → AnswerFields → Network → Type 0
+HasTaken p h a n = let it : TakenAnswer = record { peer = p; handle = h; answer = a } in IsIn it n.taken
+
+-- what was taken stays so
+taken_stays : (p : Peer) (h : ℕ) (a : AnswerFields) (step : Step) (n : Network) → HasTaken p h a n → HasTaken p h a (after_step step n)
+taken_stays p h a step n is = one step
+  where
+    by_submit : (i : ℕ) (r : Request) (now : ℕ) (o : Option PeerLink) → HasTaken p h a (after_submit i r now o n)
+    by_submit i r now None = is
+    by_submit i r now (Some l) = is
+
+    by_due : (i now : ℕ) (o : Option PeerLink) → HasTaken p h a (after_due_step i now o n)
+    by_due i now None = is
+    by_due i now (Some l) = is
+
+    by_delivery : (now : ℕ) (o : Option SentDatagram) → HasTaken p h a (after_delivery now o n)
+    by_delivery now None = is
+    by_delivery now (Some d) = is
+
+    by_reception : (now : ℕ) (o : Option SentDatagram) → HasTaken p h a (after_reception now o n)
+    by_reception now None = is
+    by_reception now (Some d) = is
+
+    by_other : (from : Peer) (bytes : List ℕ) (now : ℕ) (b : Bool) → HasTaken p h a (let m : Network = if b then n else record n { events = Datagram from bytes now ∷ n.events } in m)
+    by_other from bytes now true = is
+    by_other from bytes now false = is
+
+    by_take : (i k : ℕ) (o : Option PeerLink) → HasTaken p h a (after_take i k o n)
+    by_take i k None = is
+    by_take i k (Some l) = in_more _ n.taken (taken_by l.peer k (answer_under k l.link.untaken)) is
+
+    one : (step : Step) → HasTaken p h a (after_step step n)
+    one (Submit i r now) = by_submit i r now (slice_get n.links i)
+    one (Due i now) = by_due i now (slice_get n.links i)
+    one (ToDevice k now) = by_delivery now (slice_get n.to_device k)
+    one (ToLink k now) = by_reception now (slice_get n.to_links k)
+    one (Other from bytes now) = by_other from bytes now (has_link from n.links)
+    one (steps.Tick now) = is
+    one (steps.Local ono value) = is
+    one (Take i k) = by_take i k (slice_get n.links i)
+
+taken_stays_on : (p : Peer) (h : ℕ) (a : AnswerFields) (steps : List Step) (n : Network) → HasTaken p h a n → HasTaken p h a (after_steps steps n)
+taken_stays_on p h a [] n is = is
+taken_stays_on p h a (step ∷ steps) n is = taken_stays_on p h a steps (after_step step n) (taken_stays p h a step n is)
+
+taken_now : (i : ℕ) (p : Peer) (l : LinkState) (h : ℕ) (a : AnswerFields) (n : Network) → IsLinkOf i p l n → answer_under h l.untaken ≡ Some a → HasTaken p h a (after_step (Take i h) n)
+taken_now i p l h a n is held =
+    let it : TakenAnswer = record { peer = p; handle = h; answer = a } in
+    let with_it : (after_step (Take i h) n).taken ≡ n.taken ++ it ∷ [] = ap (λ (o : Option PeerLink). (after_take i h o n).taken) is ∙ ap (λ (o : Option AnswerFields). n.taken ++ taken_by p h o) held in
+    subst (λ (zs : List TakenAnswer). IsIn it zs) (sym with_it) (in_last it n.taken)
+
+pub played_take : (i : ℕ) (p : Peer) (h : ℕ) (a : AnswerFields) (steps : List Step) (xs : List Doing) (l : LinkState) (n : Network) (doings : List Doing) → doings ≡ xs ++ Takes h ∷ [] → IsLinkOf i p l n →
+    answer_under h (all_done xs l).untaken ≡ Some a → Plays i p n doings steps → HasTaken p h a (after_steps steps n)
+unfolding Plays all_done
+played_take i p h a [] [] l n doings e is held plays = cc
+played_take i p h a [] (x ∷ xs) l n doings e is held plays = cc
+played_take i p h a (step ∷ steps) xs l n doings e is held (rest, inl (same, kept), plays) = played_take i p h a steps xs l (after_step step n) rest (same ∙ e) (kept ∙ is) held plays
+played_take i p h a (step ∷ steps) [] l n doings e is held (rest, inr (x, first, by_step), plays) =
+    let same = first_is x (Takes h) rest [] (sym first ∙ e) in
+    let step_is : step ≡ Take i h = subst (λ (z : Doing). IsStepFor i p n z step) same.0 by_step in
+    taken_stays_on p h a steps (after_step step n) (subst (λ (z : Step). HasTaken p h a (after_step z n)) (sym step_is) (taken_now i p l h a n is held))
+played_take i p h a (step ∷ steps) (y ∷ ys) l n doings e is held (rest, inr (x, first, by_step), plays) =
+    let same = first_is x y rest (ys ++ Takes h ∷ []) (sym first ∙ e) in
+    played_take i p h a steps ys (done y l) (after_step step n) rest same.1 (step_there i p l n y step is (subst (λ (z : Doing). IsStepFor i p n z step) same.0 by_step)) held plays
+
+-- ---- the whole
+
+pub after_both : (xs ys : List Step) (n : Network) → after_steps (xs ++ ys) n ≡ after_steps ys (after_steps xs n)
+after_both [] ys n = refl
+after_both (x ∷ xs) ys n = after_both xs ys (after_step x n)
+
+pub submit_outcome_is : (i : ℕ) (p : Peer) (l : LinkState) (request : Request) (now : ℕ) (h : Handle) (n : Network) → IsLinkOf i p l n → submission request l ≡ Ok h → outcome_of (Submit i request now) n ≡ outcomes.Submitted h ∷ []
+submit_outcome_is i p l request now h n is ok =
+    ap (λ (o : Option PeerLink). on_link (λ (y : PeerLink). submit_outcome (submission request y.link)) o) is
+    ∙ ap (λ (r : Result Handle ControlFault). submit_outcome r ∷ []) ok

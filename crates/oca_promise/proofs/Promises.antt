@@ -1,0 +1,422 @@
+-- What a panel says is so.
+use Rattle.std.proofs.Common.{◌≡◌, ℕ, ◌==◌, Bool, true, false, List, [], ◌∷◌, ◌++◌, Option, Some, None, Result, Ok, Err, refl, sym, ap, ◌∙◌, subst, inl, inr, eqb-true, append_assoc, ◌≢◌}
+use Rattle.std.specs.Prelude.{if◌then◌else◌}
+use Rattle.std.specs.List.{slice_get, AllByRecursion}
+use Rattle.std.specs.Option.{option_map, option_and_then}
+use Rattle.oca_types.specs.declared.class.Class.{Class}
+use Rattle.oca_types.specs.declared.class.Class.TheVariants as class
+use Rattle.oca_types.specs.declared.class.Method.{Method}
+use Rattle.oca_types.specs.declared.class.Method.TheVariants as method
+use Rattle.oca_types.specs.declared.words.Peer.{Peer}
+use Rattle.oca_types.specs.Peers.{RequestFields}
+use Rattle.oca_pdu.specs.Laws.{ReadingIsExact}
+use Rattle.oca_model.specs.declared.answer.Answer.{Answer as Typed}
+use Rattle.oca_model.specs.declared.answer.Answer.TheVariants as answers
+use Rattle.oca_model.specs.declared.answer.Shape.{Shape}
+use Rattle.oca_model.specs.declared.answer.Shape.TheVariants as shape
+use Rattle.oca_model.specs.declared.reading.Reading.{Reading}
+use Rattle.oca_model.specs.declared.request.Request.{Request as Asked}
+use Rattle.oca_model.specs.declared.request.Request.TheVariants as asked
+use Rattle.oca_model.specs.declared.value.Value.{Value}
+use Rattle.oca_model.specs.Answers.{answer_in, answer_count, shaped_in, shape_of}
+use Rattle.oca_model.specs.Members.{class_at, class_id_at, class_id_in, class_in, class_with}
+use Rattle.oca_model.specs.Parameters.{whole}
+use Rattle.oca_model.specs.Readings.{reading_in, value_without_limits}
+use Rattle.oca_model.specs.Requests.{IsRequest}
+use Rattle.oca_model.specs.Values.{class_of_value, get_method}
+use Rattle.oca_tree.specs.declared.object.LockKind.TheVariants.{Total}
+use Rattle.oca_tree.specs.declared.object.Object.{Object}
+use Rattle.oca_tree.specs.Objects.{class_of, object_of, with_object}
+use Rattle.oca_tree.specs.Readers.{class_of_ono}
+use Rattle.oca_tree.specs.Typed.{answer_given, changed_by}
+use Rattle.oca_control.specs.declared.answer.Answer.{Answer}
+use Rattle.oca_control.specs.declared.outcome.Outcome.{Outcome}
+use Rattle.oca_control.specs.declared.outcome.Outcome.TheVariants as outcomes
+use Rattle.oca_control.specs.Answers.{AnswerFields, answer_fields}
+use Rattle.oca_control.specs.Links.{LinkState, command_under}
+use Rattle.oca_pair.specs.declared.start.Start.{Start}
+use Rattle.oca_pair.specs.Networks.{Network, PeerLink, opening}
+use Rattle.oca_pair.specs.Steps.{Step, Submit, ToDevice, after_step, after_steps}
+use Rattle.oca_pair.specs.Premises.{StepFits, Fit}
+use Rattle.oca_pair.specs.InTime.{Departure, departures_in, AreInTime}
+use Rattle.oca_pair.specs.Saying.{OfEachAnswer, IsOfOneExecutionSince, RefusalsChangeNothing, OksSayWhatIsHeld, ReadingsWereHeld, SettingsWereMade, ClassesMetAreThoseAtFirst, CommandAsks, SetsObject, ReadSo, objects_left, objects_met}
+use Rattle.oca_pair.proofs.Saying.{tree_kept}
+use Rattle.oca_panel.specs.declared.trouble.Trouble.{Trouble}
+use Rattle.oca_panel.specs.declared.trouble.Trouble.TheVariants as trouble
+use Rattle.oca_panel.specs.Panels.{PanelState, AsksIn}
+use Rattle.oca_panel.specs.Objects.{IsRequestTo, AsksFor, AsksClass, ReadsBy, ReadsFor, ReadsObject}
+use Rattle.oca_panel.specs.Outcomes.{on_ok, parameters_answered, readable, read_from, done_or_trouble, done_answered, known_class, class_of_fields, class_answered}
+use Rattle.oca_promise.specs.Doings.{Plays}
+use Rattle.oca_promise.specs.Calls.{OfAnAnswer, KeepsInNetworks}
+use Rattle.oca_promise.specs.Promises.{IsRightAtFirst, CallKeeps, WasSetTo, EverySetKeeps, HadReading, EveryReadingKeeps, WasLocked, WasUnlocked, EveryLockKeeps, EveryUnlockKeeps, WasRefused, EveryRefusedSetKeeps, HadClass, GetKeeps, EveryGetKeeps}
+use Rattle.oca_promise.proofs.Keeping.{calls_keep}
+use Rattle.oca_promise.proofs.Playing.{played_link, after_both}
+
+object_class : (tree : List Object) (number : ℕ) (o : Object) (of : Class) → object_of tree number ≡ Some o → class_of_ono tree number ≡ Some of → class_of o.value ≡ of
+object_class tree number o of there e = same_some (class_of o.value) of (sym (ap (λ (x : Option Object). option_map (λ (y : Object). class_of y.value) x) there) ∙ e)
+  where
+    same_some : (a b : Class) → Some a ≡ Some b → a ≡ b
+    same_some a b q = cc
+
+-- ---- what holds of an answer
+
+abbrev Both : OfAnAnswer → OfAnAnswer → OfAnAnswer
+Both A B p c answer later called = A p c answer later called × B p c answer later called
+
+also : (A B : OfAnAnswer) → OfEachAnswer A → OfEachAnswer B → OfEachAnswer (Both A B)
+also A B a b w s tree starts before later i l request now h answer apart fit time accepted own which =
+    (a w s tree starts before later i l request now h answer apart fit time accepted own which, b w s tree starts before later i l request now h answer apart fit time accepted own which)
+
+-- what follows from one for each network follows for the call
+follows : (A B : OfAnAnswer) (request : RequestFields) (answer : AnswerFields) (old new : PanelState) →
+    ((h : ℕ) (p : Peer) (later : List Step) (called : Network) → A p (command_under h request) answer later called → B p (command_under h request) answer later called) →
+    KeepsInNetworks A request answer old new → KeepsInNetworks B request answer old new
+follows A B request answer old new f k = record {
+  handle = k.handle;
+  doings = k.doings;
+  by_call = k.by_call;
+  holds = λ are w s tree starts before steps i p apart fit time is plays.
+      let x = k.holds are w s tree starts before steps i p apart fit time is plays in
+      record { first = x.first; now = x.now; later = x.later; steps_are = x.steps_are; holds = f k.handle p x.later _ x.holds };
+}
+
+-- ---- what an outcome says
+
+-- an answer with status OK, and its parameters
+pub record IsOk (o : Outcome) (params : List ℕ) : Type 0 where
+  pub answer : Answer
+  pub is : o ≡ outcomes.Answered answer
+  pub ok : answer.status ≡ 0
+  pub params_are : answer.params.items ≡ params
+
+ok_parameters : (o : Outcome) (params : List ℕ) → parameters_answered o ≡ Ok params → IsOk o params
+ok_parameters (outcomes.Answered a) params e = by (a.status == 0) refl e
+  where
+    by : (b : Bool) → (a.status == 0) ≡ b → (let x : Result (List ℕ) Trouble = if b then Ok a.params.items else Err (trouble.Refused a.status) in x) ≡ Ok params → IsOk (outcomes.Answered a) params
+    by true t q = record { answer = a; is = refl; ok = eqb-true a.status 0 t; params_are = let same : a.params.items ≡ params = cc in same }
+    by false t q = absurd (cc)
+ok_parameters (outcomes.Refused fault) params e = absurd (cc)
+ok_parameters outcomes.Lost params e = absurd (cc)
+ok_parameters outcomes.Unanswered params e = absurd (cc)
+
+done_parameters : (r : Result (List ℕ) Trouble) → Ok tt ≡ done_or_trouble r → (params : List ℕ) × (r ≡ Ok params)
+done_parameters (Ok params) e = (params, refl)
+done_parameters (Err t) e = absurd (cc)
+
+read_parameters : {A : Type 0} (read : List ℕ → Option A) (r : Result (List ℕ) Trouble) (x : A) → Ok x ≡ read_from read r → (params : List ℕ) × (r ≡ Ok params) × (read params ≡ Some x)
+read_parameters {A} read (Ok params) x e = (params, refl, by (read params) e)
+  where
+    by : (o : Option A) → Ok x ≡ readable o → o ≡ Some x
+    by None q = absurd (cc)
+    by (Some y) q = let same : x ≡ y = cc in ap Some (sym same)
+read_parameters read (Err t) x e = absurd (cc)
+
+refused_status : (o : Outcome) (status : ℕ) → Err (trouble.Refused status) ≡ done_answered o → (a : Answer) × (o ≡ outcomes.Answered a) × (a.status ≡ status) × ((a.status == 0) ≡ false)
+refused_status (outcomes.Answered a) status e = (a, refl, (by (a.status == 0) refl e).0, (by (a.status == 0) refl e).1)
+  where
+    by : (b : Bool) → (a.status == 0) ≡ b → Err (trouble.Refused status) ≡ done_or_trouble (if b then Ok a.params.items else Err (trouble.Refused a.status)) → (a.status ≡ status) × ((a.status == 0) ≡ false)
+    by true t q = absurd (cc)
+    by false t q = (let same : status ≡ a.status = cc in sym same, t)
+refused_status (outcomes.Refused fault) status e = absurd (cc)
+refused_status outcomes.Lost status e = absurd (cc)
+refused_status outcomes.Unanswered status e = absurd (cc)
+
+-- ---- a command of a call asks what the request asks
+
+asks_of : (of : Class) (r : Asked) (target h : ℕ) (request : RequestFields) → IsRequest r → IsRequestTo target of r request → CommandAsks of r (command_under h request)
+asks_of of r target h request is_request to = (is_request, to.call)
+
+-- an answered call of a panel, and what is known of its answer in every network
+answered_call : (A : OfAnAnswer) → OfEachAnswer A → ReadingIsExact → (target : ℕ) (of : Class) (r : Asked) (old new : PanelState) (o : Outcome) (a : Answer) (f : AsksFor target of r old new o) → o ≡ outcomes.Answered a →
+    KeepsInNetworks A f.request (answer_fields a) old new
+answered_call A of_each law target of r old new o a f is = calls_keep A of_each law f.request old new a (subst (λ (x : Outcome). AsksIn f.request old new x) is f.asks)
+
+-- ---- set
+
+pub sets_keep : OfEachAnswer IsOfOneExecutionSince → OfEachAnswer SettingsWereMade → ReadingIsExact → EverySetKeeps
+sets_keep between sets law target value old new fits (o, f, e) =
+    let params = done_parameters (parameters_answered o) e in
+    let ok = ok_parameters o params.0 params.1 in
+    let to : f.request.target ≡ target = f.calls.object in
+    record {
+      request = f.request;
+      asks = f.calls;
+      answer = answer_fields ok.answer;
+      keeps = follows (Both IsOfOneExecutionSince SettingsWereMade) (WasSetTo target value) f.request (answer_fields ok.answer) old new
+          (λ h p later called (said, made) right class_is. (
+            said,
+            subst (λ (t : ℕ). SetsObject t value said.execution.objects (objects_left said.between)) to
+                (made value right.0 right.1 (ap (λ (t : ℕ). class_of_ono called.tree t) to ∙ class_is) (asks_of (class_of_value value) (asked.Set value) target h f.request fits f.calls) ok.ok said),
+          ))
+          (answered_call (Both IsOfOneExecutionSince SettingsWereMade) (also IsOfOneExecutionSince SettingsWereMade between sets) law target (class_of_value value) (asked.Set value) old new o ok.answer f ok.is);
+    }
+
+-- ---- refused
+
+pub refused_sets_keep : OfEachAnswer IsOfOneExecutionSince → OfEachAnswer RefusalsChangeNothing → ReadingIsExact → EveryRefusedSetKeeps
+refused_sets_keep between refused law target value status old new (o, f, e) =
+    let r = refused_status o status e in
+    record {
+      request = f.request;
+      asks = f.calls;
+      answer = answer_fields r.0;
+      keeps = follows (Both IsOfOneExecutionSince RefusalsChangeNothing) (WasRefused status) f.request (answer_fields r.0) old new
+          (λ h p later called (said, changed). (r.2, (said, changed (not_zero r.0.status r.3) said)))
+          (answered_call (Both IsOfOneExecutionSince RefusalsChangeNothing) (also IsOfOneExecutionSince RefusalsChangeNothing between refused) law target (class_of_value value) (asked.Set value) old new o r.0 f r.1);
+    }
+  where
+    not_zero : (n : ℕ) → (n == 0) ≡ false → n ≢ 0
+    not_zero n t z = let same : (0 == 0) ≡ false = subst (λ (m : ℕ). (m == 0) ≡ false) z t in absurd (cc)
+
+-- ---- reading
+
+shape_is : (of : Class) (m : Method) → get_method of ≡ Some m → shape_of m ≡ shape.Reading
+shape_is class.Block m e = absurd (cc)
+shape_is class.Mute m e = let same : method.GetState ≡ m = cc in sym (ap shape_of same)
+shape_is class.Polarity m e = let same : method.GetState ≡ m = cc in sym (ap shape_of same)
+shape_is class.Switch m e = let same : method.GetPosition ≡ m = cc in sym (ap shape_of same)
+shape_is class.Boolean m e = let same : method.GetSetting ≡ m = cc in sym (ap shape_of same)
+shape_is class.Int8 m e = let same : method.GetSetting ≡ m = cc in sym (ap shape_of same)
+shape_is class.Int16 m e = let same : method.GetSetting ≡ m = cc in sym (ap shape_of same)
+shape_is class.Int32 m e = let same : method.GetSetting ≡ m = cc in sym (ap shape_of same)
+shape_is class.Int64 m e = let same : method.GetSetting ≡ m = cc in sym (ap shape_of same)
+shape_is class.Uint8 m e = let same : method.GetSetting ≡ m = cc in sym (ap shape_of same)
+shape_is class.Uint16 m e = let same : method.GetSetting ≡ m = cc in sym (ap shape_of same)
+shape_is class.Uint32 m e = let same : method.GetSetting ≡ m = cc in sym (ap shape_of same)
+shape_is class.Uint64 m e = let same : method.GetSetting ≡ m = cc in sym (ap shape_of same)
+
+-- an answer that is one is the one that was shaped
+answer_is_shaped : (of : Class) (m : Method) (count : ℕ) (params : List ℕ) (a x : Typed) → answer_in of m count params ≡ Some x → shaped_in (shape_of m) of params ≡ Some a → answer_in of m count params ≡ Some a
+unfolding answer_in
+answer_is_shaped of m count params a x whole_is e = shaped ∙ by (count == answer_count a) (sym shaped ∙ whole_is)
+  where
+    shaped : option_and_then (λ (b : Typed). let r : Option Typed = if count == answer_count b then Some b else None in r) (shaped_in (shape_of m) of params) ≡ (if count == answer_count a then Some a else None)
+    shaped = ap (λ (o : Option Typed). option_and_then (λ (b : Typed). let r : Option Typed = if count == answer_count b then Some b else None in r) o) e
+
+    by : (b : Bool) → (let r : Option Typed = if b then Some a else None in r) ≡ Some x → (let r : Option Typed = if b then Some a else None in r) ≡ Some a
+    by true q = refl
+    by false q = absurd (cc)
+
+reading_shaped : (of : Class) (m : Method) (params : List ℕ) (reading : Reading) → get_method of ≡ Some m → reading_in of params ≡ Some reading → shaped_in (shape_of m) of params ≡ Some (answers.Reading reading)
+reading_shaped of m params reading get e = ap (λ (s : Shape). shaped_in s of params) (shape_is of m get) ∙ ap (λ (o : Option Reading). option_map answers.Reading o) e
+
+abbrev ReadsAll : OfAnAnswer
+ReadsAll = Both (Both IsOfOneExecutionSince ClassesMetAreThoseAtFirst) (Both OksSayWhatIsHeld ReadingsWereHeld)
+
+read_so : (target : ℕ) (of : Class) (m : Method) (reading : Reading) (request : RequestFields) (a : Answer) → get_method of ≡ Some m → IsRequestTo target of asked.Get request → a.status ≡ 0 →
+    reading_in of a.params.items ≡ Some reading → (h : ℕ) (p : Peer) (later : List Step) (called : Network) → ReadsAll p (command_under h request) (answer_fields a) later called → HadReading target of reading p (command_under h request) (answer_fields a) later called
+read_so target of m reading request a get to ok in_is h p later called ((said, met), (oks, reads)) right class_is =
+    let asks = asks_of of asked.Get target h request tt to in
+    let class_here = ap (λ (t : ℕ). class_of_ono called.tree t) to.object ∙ class_is in
+    let by = oks of asked.Get right.0 right.1 asks ok said in
+    let same = object_class said.execution.objects request.target by.object of by.there (met said request.target ∙ class_here) in
+    let its = (by.answers (inl same)).said m get in
+    subst (λ (t : ℕ). ReadSo t reading later called) to.object
+    (reads of m reading right.0 right.1 class_here asks get ok (answer_is_shaped of m a.count a.params.items (answers.Reading reading) _ its (reading_shaped of m a.params.items reading get in_is)))
+
+pub readings_keep : OfEachAnswer IsOfOneExecutionSince → OfEachAnswer OksSayWhatIsHeld → OfEachAnswer ReadingsWereHeld → OfEachAnswer ClassesMetAreThoseAtFirst → ReadingIsExact → EveryReadingKeeps
+readings_keep between oks reads met law target of reading old new r = by (get_method of) refl r
+  where
+    by : (o : Option Method) → get_method of ≡ o → ReadsBy target of o old new (Ok reading) → CallKeeps target of asked.Get (HadReading target of reading) old new
+    by None get (same, e) = absurd (cc)
+    by (Some m) get (o, f, e) =
+        let params = read_parameters (reading_in of) (parameters_answered o) reading e in
+        let ok = ok_parameters o params.0 params.1 in
+        record {
+          request = f.request;
+          asks = f.calls;
+          answer = answer_fields ok.answer;
+          keeps = follows ReadsAll (HadReading target of reading) f.request (answer_fields ok.answer) old new
+              (read_so target of m reading f.request ok.answer get f.calls ok.ok (ap (reading_in of) ok.params_are ∙ params.2))
+              (answered_call ReadsAll
+              (also (Both IsOfOneExecutionSince ClassesMetAreThoseAtFirst) (Both OksSayWhatIsHeld ReadingsWereHeld) (also IsOfOneExecutionSince ClassesMetAreThoseAtFirst between met) (also OksSayWhatIsHeld ReadingsWereHeld oks reads)) law target of asked.Get old new o ok.answer f ok.is);
+        }
+
+-- ---- lock and unlock
+
+locked_object : (o : Object) (p : Peer) → changed_by o p asked.LockTotal ≡ record o { lock = Some (record { kind = Total; holder = p }) }
+unfolding changed_by
+locked_object o p = refl
+
+unlocked_object : (o : Object) (p : Peer) → changed_by o p asked.Unlock ≡ record o { lock = None }
+unfolding changed_by
+unlocked_object o p = refl
+
+pub locks_keep : OfEachAnswer IsOfOneExecutionSince → OfEachAnswer OksSayWhatIsHeld → ReadingIsExact → EveryLockKeeps
+locks_keep between oks law target old new (o, f, e) =
+    let params = done_parameters (parameters_answered o) e in
+    let ok = ok_parameters o params.0 params.1 in
+    record {
+      request = f.request;
+      asks = f.calls;
+      answer = answer_fields ok.answer;
+      keeps = follows (Both IsOfOneExecutionSince OksSayWhatIsHeld) (WasLocked target) f.request (answer_fields ok.answer) old new
+          (λ h p later called (said, held) right.
+          let by = held class.Block asked.LockTotal right.0 right.1 (asks_of class.Block asked.LockTotal target h f.request tt f.calls) ok.ok said in (
+            said,
+            record {
+              object = by.object;
+              there = ap (λ (t : ℕ). object_of said.execution.objects t) (sym f.calls.object) ∙ by.there;
+              left_is = (by.answers (inr refl)).left_is ∙ ap (with_object said.execution.objects) (locked_object by.object p);
+            },
+          ))
+          (answered_call (Both IsOfOneExecutionSince OksSayWhatIsHeld) (also IsOfOneExecutionSince OksSayWhatIsHeld between oks) law target class.Block asked.LockTotal old new o ok.answer f ok.is);
+    }
+
+pub unlocks_keep : OfEachAnswer IsOfOneExecutionSince → OfEachAnswer OksSayWhatIsHeld → ReadingIsExact → EveryUnlockKeeps
+unlocks_keep between oks law target old new (o, f, e) =
+    let params = done_parameters (parameters_answered o) e in
+    let ok = ok_parameters o params.0 params.1 in
+    record {
+      request = f.request;
+      asks = f.calls;
+      answer = answer_fields ok.answer;
+      keeps = follows (Both IsOfOneExecutionSince OksSayWhatIsHeld) (WasUnlocked target) f.request (answer_fields ok.answer) old new
+          (λ h p later called (said, held) right.
+          let by = held class.Block asked.Unlock right.0 right.1 (asks_of class.Block asked.Unlock target h f.request tt f.calls) ok.ok said in (
+            said,
+            record {
+              object = by.object;
+              there = ap (λ (t : ℕ). object_of said.execution.objects t) (sym f.calls.object) ∙ by.there;
+              left_is = (by.answers (inr refl)).left_is ∙ ap (with_object said.execution.objects) (unlocked_object by.object p);
+            },
+          ))
+          (answered_call (Both IsOfOneExecutionSince OksSayWhatIsHeld) (also IsOfOneExecutionSince OksSayWhatIsHeld between oks) law target class.Block asked.Unlock old new o ok.answer f ok.is);
+    }
+
+-- ---- get: the class first
+
+class_with_fields : (fields : List ℕ) (of : Class) → Ok of ≡ known_class (class_with fields) → class_with fields ≡ Some of
+class_with_fields fields of e = by (class_with fields) e
+  where
+    by : (o : Option Class) → Ok of ≡ known_class o → o ≡ Some of
+    by None q = absurd (cc)
+    by (Some k) q = let same : of ≡ k = cc in ap Some (sym same)
+
+class_by_fields : (params fields : List ℕ) → class_id_in params ≡ Some fields → class_in params ≡ class_with fields
+unfolding class_at
+class_by_fields params fields e = by (class_id_at params) e
+  where
+    by : (o : Option (List ℕ × List ℕ)) → whole o ≡ Some fields → option_and_then (λ (k : Option Class). k) (whole (option_map (λ (x : List ℕ × List ℕ). (class_with x.0, x.1)) o)) ≡ class_with fields
+    by None q = absurd (cc)
+    by (Some (fs, [])) q = let same : fs ≡ fields = cc in ap class_with same
+    by (Some (fs, b ∷ bs)) q = absurd (cc)
+
+class_said : (o : Outcome) (of : Class) → Ok of ≡ class_answered o → (params : List ℕ) × (parameters_answered o ≡ Ok params) × (class_in params ≡ Some of)
+class_said o of e = by (parameters_answered o) e
+  where
+    by : (r : Result (List ℕ) Trouble) → Ok of ≡ class_of_fields (read_from class_id_in r) → (params : List ℕ) × (r ≡ Ok params) × (class_in params ≡ Some of)
+    by (Err t) q = absurd (cc)
+    by (Ok params) q = (params, refl, fields (class_id_in params) refl q)
+      where
+        fields : (x : Option (List ℕ)) → class_id_in params ≡ x → Ok of ≡ class_of_fields (readable x) → class_in params ≡ Some of
+        fields None is h = absurd (cc)
+        fields (Some fs) is h = class_by_fields params fs is ∙ class_with_fields fs of h
+
+class_answer : (tree : List Object) (o : Object) → answer_given tree o asked.GetClassIdentification ≡ answers.Class (class_of o.value)
+unfolding answer_given
+class_answer tree o = refl
+
+same_class : (a b : Class) → Some (answers.Class a) ≡ Some (answers.Class b) → a ≡ b
+same_class a b e = cc
+
+abbrev ClassAll : OfAnAnswer
+ClassAll = Both (Both IsOfOneExecutionSince ClassesMetAreThoseAtFirst) OksSayWhatIsHeld
+
+had_class : (target : ℕ) (of : Class) (request : RequestFields) (a : Answer) → IsRequestTo target class.Block asked.GetClassIdentification request → a.status ≡ 0 → class_in a.params.items ≡ Some of →
+    (h : ℕ) (p : Peer) (later : List Step) (called : Network) → ClassAll p (command_under h request) (answer_fields a) later called → HadClass target of p (command_under h request) (answer_fields a) later called
+had_class target of request a to ok in_is h p later called ((said, met), oks) right =
+    let by = oks class.Block asked.GetClassIdentification right.0 right.1 (asks_of class.Block asked.GetClassIdentification target h request tt to) ok said in
+    let its = (by.answers (inr refl)).said method.GetClassIdentification refl in
+    let read = answer_is_shaped class.Block method.GetClassIdentification a.count a.params.items (answers.Class of) _ its (ap (λ (o : Option Class). option_map answers.Class o) in_is) in
+    let same : of ≡ class_of by.object.value = same_class of (class_of by.object.value) (sym read ∙ its ∙ ap Some (class_answer said.execution.objects by.object)) in
+    ap (λ (t : ℕ). class_of_ono called.tree t) (sym to.object) ∙ sym (met said request.target) ∙ ap (λ (x : Option Object). option_map (λ (y : Object). class_of y.value) x) by.there ∙ ap Some (sym same)
+
+classes_keep : OfEachAnswer IsOfOneExecutionSince → OfEachAnswer OksSayWhatIsHeld → OfEachAnswer ClassesMetAreThoseAtFirst → ReadingIsExact → (target : ℕ) (of : Class) (old new : PanelState) → AsksClass target old new (Ok of) →
+    CallKeeps target class.Block asked.GetClassIdentification (HadClass target of) old new
+classes_keep between oks met law target of old new (o, f, e) =
+    let params = class_said o of e in
+    let ok = ok_parameters o params.0 params.1 in
+    record {
+      request = f.request;
+      asks = f.calls;
+      answer = answer_fields ok.answer;
+      keeps = follows ClassAll (HadClass target of) f.request (answer_fields ok.answer) old new
+          (had_class target of f.request ok.answer f.calls ok.ok (ap class_in ok.params_are ∙ params.2))
+          (answered_call ClassAll (also (Both IsOfOneExecutionSince ClassesMetAreThoseAtFirst) OksSayWhatIsHeld (also IsOfOneExecutionSince ClassesMetAreThoseAtFirst between met) oks) law target class.Block asked.GetClassIdentification old new o ok.answer f ok.is);
+    }
+
+-- ---- get: the whole
+
+fit_first : (starts : List Start) (xs ys : List Step) → Fit starts (xs ++ ys) → Fit starts xs
+fit_first starts xs ys fit = (fit.0, each xs fit.1)
+  where
+    each : (zs : List Step) → AllByRecursion StepFits (zs ++ ys) → AllByRecursion StepFits zs
+    each [] a = tt
+    each (z ∷ zs) a = (a.0, each zs a.1)
+
+in_time_first : (i : ℕ) (left : List Departure) (xs ys : List Step) (n : Network) → AreInTime i left (xs ++ ys) n → AreInTime i left xs n
+in_time_first i left [] ys n time = tt
+in_time_first i left (x ∷ xs) ys n time = (time.0, in_time_first i (left ++ departures_in x n) xs ys (after_step x n) time.1)
+
+-- what was read in the steps behind a submit was read in all of the steps
+read_in_all : (target : ℕ) (reading : Reading) (i now : ℕ) (request : RequestFields) (first later steps : List Step) (n : Network) → steps ≡ first ++ Submit i request now ∷ later →
+    ReadSo target reading later (after_step (Submit i request now) (after_steps first n)) → ReadSo target reading steps n
+read_in_all target reading i now request first later steps n steps_are r = record {
+  first = first ++ Submit i request now ∷ r.first;
+  k = r.k;
+  now = r.now;
+  last = r.last;
+  steps_are = steps_are ∙ ap (λ zs. first ++ Submit i request now ∷ zs) r.steps_are
+      ∙ sym (append_assoc first (Submit i request now ∷ r.first) (ToDevice r.k r.now ∷ r.last));
+  object = r.object;
+  there = ap (λ (z : Network). object_of (objects_met r.now z) target) (after_both first (Submit i request now ∷ r.first) n) ∙ r.there;
+  reads = r.reads;
+}
+
+get_keeps : OfEachAnswer IsOfOneExecutionSince → OfEachAnswer OksSayWhatIsHeld → OfEachAnswer ReadingsWereHeld → OfEachAnswer ClassesMetAreThoseAtFirst → ReadingIsExact →
+    (target : ℕ) (value : Value) (of : Class) (reading : Reading) (old between_calls new : PanelState) → value_without_limits reading ≡ value →
+    AsksClass target old between_calls (Ok of) → ReadsBy target of (get_method of) between_calls new (Ok reading) → GetKeeps target value old new
+get_keeps between oks reads met law target value of reading old mid new value_is class_asked value_asked =
+    let one = classes_keep between oks met law target of old mid class_asked in
+    let two = readings_keep between oks reads met law target of reading mid new value_asked in
+    record {
+      of = of;
+      reading = reading;
+      value_is = value_is;
+      between = mid;
+      class_call = one;
+      value_call = two;
+      read = λ are_one are_two w s tree starts before steps_one steps_two i p apart fit time right is plays_one plays_two.
+          let start : Network = opening w s tree starts in
+          let n : Network = after_steps before start in
+          let class_there = one.keeps.holds are_one w s tree starts before steps_one i p apart (fit_first starts (before ++ steps_one) steps_two fit) (in_time_first i [] (before ++ steps_one) steps_two start time) is plays_one in
+          let at_one : Network = after_steps class_there.first n in
+          let called_one : Network = after_step (Submit i one.request class_there.now) at_one in
+          let tree_one : called_one.tree ≡ tree = tree_kept (Submit i one.request class_there.now ∷ []) at_one ∙ tree_kept class_there.first n ∙ tree_kept before start in
+          let class_is : class_of_ono tree target ≡ Some of = ap (λ (t : List Object). class_of_ono t target) (sym tree_one) ∙ class_there.holds (subst IsRightAtFirst (sym tree_one) right) in
+          let same : after_steps (before ++ steps_one) start ≡ after_steps steps_one n = after_both before steps_one start in
+          let link_mid : slice_get (after_steps steps_one n).links i ≡ Some (record { peer = p; link = mid.link }) =
+          played_link i p steps_one old.link n one.keeps.doings is plays_one
+          ∙ ap (λ (z : LinkState). let y : PeerLink = record { peer = p; link = z } in Some y) (sym (one.keeps.by_call.done.link are_one)) in
+          let value_there = two.keeps.holds are_two w s tree starts (before ++ steps_one) steps_two i p apart fit time
+          (ap (λ (z : Network). slice_get z.links i) same ∙ link_mid) (subst (λ (z : Network). Plays i p z two.keeps.doings steps_two) (sym same) plays_two) in
+          let n_two : Network = after_steps (before ++ steps_one) start in
+          let at_two : Network = after_steps value_there.first n_two in
+          let called_two : Network = after_step (Submit i two.request value_there.now) at_two in
+          let tree_two : called_two.tree ≡ tree = tree_kept (Submit i two.request value_there.now ∷ []) at_two ∙ tree_kept value_there.first n_two ∙ tree_kept (before ++ steps_one) start in
+          subst (λ (z : Network). ReadSo target reading steps_two z) same
+          (read_in_all target reading i value_there.now two.request value_there.first value_there.later steps_two n_two value_there.steps_are
+          (value_there.holds (subst IsRightAtFirst (sym tree_two) right) (ap (λ (t : List Object). class_of_ono t target) tree_two ∙ class_is)));
+    }
+
+pub gets_keep : OfEachAnswer IsOfOneExecutionSince → OfEachAnswer OksSayWhatIsHeld → OfEachAnswer ReadingsWereHeld → OfEachAnswer ClassesMetAreThoseAtFirst → ReadingIsExact → EveryGetKeeps
+gets_keep between oks reads met law target value old new (read, asks, e) = by_reading read asks e
+  where
+    by_class : (mid : PanelState) (reading : Reading) (r : Result Class Trouble) → value_without_limits reading ≡ value → AsksClass target old mid r → ReadsFor target r mid new (Ok reading) → GetKeeps target value old new
+    by_class mid reading (Ok of) value_is class_asked value_asked = get_keeps between oks reads met law target value of reading old mid new value_is class_asked value_asked
+    by_class mid reading (Err t) value_is class_asked (same, q) = absurd (cc)
+
+    by_reading : (r : Result Reading Trouble) → ReadsObject target old new r → Ok value ≡ on_ok value_without_limits r → GetKeeps target value old new
+    by_reading (Ok reading) (mid, of, class_asked, value_asked) q = by_class mid reading of (let same : value ≡ value_without_limits reading = cc in sym same) class_asked value_asked
+    by_reading (Err t) a q = absurd (cc)

@@ -1,0 +1,72 @@
+-- WHAT A CALL OF A PANEL IS IN A NETWORK (profile): what was done with its link, and what then holds where a schedule
+-- plays that.
+use Rattle.std.specs.Prelude.{◌≡◌, ℕ, true, List, [], ◌∷◌, ◌++◌, Some, Ok}
+use Rattle.std.specs.List.{slice_get}
+use Rattle.oca_types.specs.declared.words.Peer.{Peer}
+use Rattle.oca_types.specs.Peers.{CommandFields, RequestFields}
+use Rattle.oca_types.specs.Sizes.{DeviceSizes}
+use Rattle.oca_tree.specs.declared.object.Object.{Object}
+use Rattle.oca_control.specs.declared.answer.Answer.{Answer}
+use Rattle.oca_control.specs.declared.outcome.Outcome.TheVariants as outcomes
+use Rattle.oca_control.specs.Answers.{AnswerFields, answer_fields}
+use Rattle.oca_control.specs.Links.{submission, command_under}
+use Rattle.oca_control.specs.Untaken.{answer_under}
+use Rattle.oca_pair.specs.declared.start.Start.{Start}
+use Rattle.oca_pair.specs.Networks.{Network, opening}
+use Rattle.oca_pair.specs.Steps.{Step, Submit, after_step, after_steps}
+use Rattle.oca_pair.specs.Premises.{are_apart, Fit}
+use Rattle.oca_pair.specs.InTime.{AreInTime}
+use Rattle.oca_panel.specs.Panels.{PanelState, AsksIn}
+use Rattle.oca_promise.specs.Doings.{Doing, Submits, Takes, all_done, AreOfDevice, WasDone, Plays}
+
+-- THIS WAS DONE BY A CALL that asked the request and got the answer: the command was given to the link under this
+-- handle, and at the end its answer, which the link then held, was taken.
+pub record IsDoneByCall (request : RequestFields) (handle : ℕ) (answer : AnswerFields) (doings : List Doing)
+    (old new : PanelState) : Type 0 where
+  pub now : ℕ
+  pub between : List Doing
+  pub doings_are : doings ≡ Submits request now ∷ between ++ Takes handle ∷ []
+  pub accepted : submission request old.link ≡ Ok (record { 0 = handle })
+  pub done : WasDone doings old.link new.link old.end_state new.end_state
+  pub held : AreOfDevice done.deliveries →
+      answer_under handle (all_done (Submits request now ∷ between) old.link).untaken ≡ Some answer
+
+-- What holds of a command of a peer and its answer, by the network just after the command was submitted and the steps
+-- from there on.
+abbrev pub OfAnAnswer : Type 1
+OfAnAnswer = Peer → CommandFields → AnswerFields → List Step → Network → Type 0
+
+-- These steps have a submit of the request to the link of this number, and so it holds from there on.
+pub record HoldsFromSubmit (Holds : OfAnAnswer) (i : ℕ) (p : Peer) (request : RequestFields) (handle : ℕ)
+    (answer : AnswerFields) (steps : List Step) (n : Network) : Type 0 where
+  pub first : List Step
+  pub now : ℕ
+  pub later : List Step
+  pub steps_are : steps ≡ first ++ Submit i request now ∷ later
+  pub holds : Holds p (command_under handle request) answer later
+      (after_step (Submit i request now) (after_steps first n))
+
+-- Of what was done in a call it holds in every network, for all sizes: where the panel's link is the one of this number,
+-- and the steps play what was done, and are in time.
+abbrev pub HoldsInEachNetwork : OfAnAnswer → RequestFields → ℕ → AnswerFields → List Doing → PanelState → Type 0
+HoldsInEachNetwork Holds request handle answer doings old =
+    (w : DeviceSizes) (s : ℕ) (tree : List Object) (starts : List Start) (before steps : List Step) (i : ℕ) (p : Peer) →
+    let start : Network = opening w s tree starts in
+    let n : Network = after_steps before start in
+    are_apart starts ≡ true → Fit starts (before ++ steps) → AreInTime i [] (before ++ steps) start →
+    slice_get n.links i ≡ Some (record { peer = p; link = old.link }) → Plays i p n doings steps →
+    HoldsFromSubmit Holds i p request handle answer steps n
+
+-- THE CALL KEEPS IT: what was done by it is such that it holds in each network whose datagrams are all that came.
+pub record KeepsInNetworks (Holds : OfAnAnswer) (request : RequestFields) (answer : AnswerFields)
+    (old new : PanelState) : Type 0 where
+  pub handle : ℕ
+  pub doings : List Doing
+  pub by_call : IsDoneByCall request handle answer doings old new
+  pub holds : AreOfDevice by_call.done.deliveries → HoldsInEachNetwork Holds request handle answer doings old
+
+-- Each call that asked a request, and to which an answer came, keeps it.
+abbrev pub EveryAnsweredCallKeeps : OfAnAnswer → Type 0
+EveryAnsweredCallKeeps Holds =
+    (request : RequestFields) (old new : PanelState) (a : Answer) → AsksIn request old new (outcomes.Answered a) →
+    KeepsInNetworks Holds request (answer_fields a) old new

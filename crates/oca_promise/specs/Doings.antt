@@ -1,0 +1,109 @@
+-- WHAT IS DONE WITH A LINK (profile), and a schedule of a network in which that is done. Of doings the first stands first;
+-- moments are in milliseconds.
+use Rattle.std.specs.Prelude.{◌≡◌, ◌⊎◌, ℕ, Bool, true, false, IsTrue, if◌then◌else◌, nat_le, List, [], ◌∷◌, ◌++◌, length, Some}
+use Rattle.std.specs.List.{filter, flat_map, slice_get, AllByRecursion}
+use Rattle.oca_types.specs.declared.words.Peer.{Peer}
+use Rattle.oca_net.specs.Deliveries.{Delivery, Datagram, Quiet, Failed, Sent}
+use Rattle.oca_net.specs.Ends.{largest_datagram, TakesAllBut}
+use Rattle.oca_net.specs.EndStates.{EndState}
+use Rattle.oca_pdu.specs.Laws.{AreBytes}
+use Rattle.oca_control.specs.Driving.{given_to}
+use Rattle.oca_control.specs.Links.{LinkState, Request, submitted, decision, gone_on, received, taken}
+use Rattle.oca_pair.specs.Networks.{Network, device_address}
+use Rattle.oca_pair.specs.Steps.{Step, Submit, Due, ToLink, Take, content_read, after_step}
+
+-- ---- what is done
+
+pub data Doing : Type 0 where
+  -- a command is given to the link
+  Submits : (request : Request) (now : ℕ) → Doing
+  -- the link is asked what is due, and that is sent
+  Sends : (now : ℕ) → Doing
+  -- a datagram of the device comes to the link
+  Hears : (bytes : List ℕ) (now : ℕ) → Doing
+  -- the answer under a handle is taken from the link
+  Takes : (handle : ℕ) → Doing
+
+-- the link after it
+abbrev pub done : Doing → LinkState → LinkState
+done (Submits request now) l = submitted request now l
+done (Sends now) l = gone_on now l
+done (Hears bytes now) l = received device_address (content_read bytes) now l
+done (Takes h) l = taken h l
+
+unfoldable pub all_done : List Doing → LinkState → LinkState
+all_done [] l = l
+all_done (x ∷ xs) l = all_done xs (done x l)
+
+-- ---- over an end
+
+-- what a delivery has a link hear: a datagram of at most 1,472 bytes
+abbrev pub hearing_of : Delivery → List Doing
+hearing_of (Datagram from bytes now) = if nat_le (length bytes) largest_datagram then Hears bytes now ∷ [] else []
+hearing_of (Quiet now) = []
+hearing_of Failed = []
+
+abbrev pub is_hearing : Doing → Bool
+is_hearing (Hears bytes now) = true
+is_hearing (Submits request now) = false
+is_hearing (Sends now) = false
+is_hearing (Takes h) = false
+
+-- the datagrams that were heard
+abbrev pub hearings : List Doing → List Doing
+hearings xs = filter is_hearing xs
+
+-- the datagrams that are sent to the device where this is done with the link
+unfoldable pub sent_by : List Doing → LinkState → List Sent
+sent_by [] l = []
+sent_by (Sends now ∷ xs) l = given_to l.device (decision now l) ++ sent_by xs (gone_on now l)
+sent_by (Submits request now ∷ xs) l = sent_by xs (submitted request now l)
+sent_by (Hears bytes now ∷ xs) l = sent_by xs (received device_address (content_read bytes) now l)
+sent_by (Takes h ∷ xs) l = sent_by xs (taken h l)
+
+-- a datagram that was delivered is the device's
+abbrev pub IsOfDevice : Delivery → Type 0
+IsOfDevice (Datagram from bytes now) = (from ≡ device_address) × AreBytes bytes
+IsOfDevice (Quiet now) = Unit {0}
+IsOfDevice Failed = Unit {0}
+
+-- so is each
+abbrev pub AreOfDevice : List Delivery → Type 0
+AreOfDevice deliveries = AllByRecursion IsOfDevice deliveries
+
+-- THIS WAS DONE with a link over an end, which became another by it. Where the end tells, what was heard is what it
+-- delivered; and where each of these datagrams is the device's, the link is what is said, and the end took what is sent
+-- but for so many sends that failed.
+pub record WasDone (doings : List Doing) (old new : LinkState) (before after : EndState) : Type 0 where
+  pub deliveries : List Delivery
+  pub telling : after.tells ≡ before.tells
+  pub delivered : IsTrue before.tells → after.delivered ≡ before.delivered ++ deliveries
+  pub heard : hearings doings ≡ flat_map hearing_of deliveries
+  pub link : AreOfDevice deliveries → new ≡ all_done doings old
+  pub failed : ℕ
+  pub sent : AreOfDevice deliveries → IsTrue before.tells →
+      TakesAllBut failed before.taken after.taken (sent_by doings old)
+
+-- ---- in a network
+
+-- The step does this with the link of this number, which is the peer's; what the link hears is a datagram that the
+-- device sent to it.
+abbrev pub IsStepFor : ℕ → Peer → Network → Doing → Step → Type 0
+IsStepFor i p n (Submits request now) step = step ≡ Submit i request now
+IsStepFor i p n (Sends now) step = step ≡ Due i now
+IsStepFor i p n (Hears bytes now) step =
+    (k : ℕ) × (step ≡ ToLink k now) × (slice_get n.to_links k ≡ Some (record { peer = p; bytes = bytes }))
+IsStepFor i p n (Takes h) step = step ≡ Take i h
+
+-- The step leaves the link as it is, and all is still to be done; or it does the first.
+abbrev pub GoesOnWith : ℕ → Peer → Network → Step → (doings rest : List Doing) → Type 0
+GoesOnWith i p n step doings rest =
+    ((rest ≡ doings) × (slice_get (after_step step n).links i ≡ slice_get n.links i))
+    ⊎ ((x : Doing) × (doings ≡ x ∷ rest) × IsStepFor i p n x step)
+
+-- A SCHEDULE PLAYS WHAT WAS DONE with the link of this number, which is the peer's: each doing is a step of that link,
+-- in order, and all other steps leave the link as it is.
+unfoldable pub Plays : ℕ → Peer → Network → List Doing → List Step → Type 0
+Plays i p n doings [] = doings ≡ []
+Plays i p n doings (step ∷ steps) =
+    (rest : List Doing) × GoesOnWith i p n step doings rest × Plays i p (after_step step n) rest steps

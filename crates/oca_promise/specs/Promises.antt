@@ -1,0 +1,141 @@
+-- WHAT A PANEL SAYS, in its own words (profile): what `set`, `get`, `reading_of`, `lock` and `unlock` tell is so of the
+-- device's objects, in each network in which the call is made.
+use Rattle.std.specs.Prelude.{◌≡◌, ℕ, true, List, [], ◌++◌, Some, None, Ok, Err}
+use Rattle.std.specs.List.{All, slice_get}
+use Rattle.oca_types.specs.declared.class.Class.{Class}
+use Rattle.oca_types.specs.declared.class.Class.TheVariants as class
+use Rattle.oca_types.specs.declared.words.Peer.{Peer}
+use Rattle.oca_types.specs.Peers.{RequestFields}
+use Rattle.oca_types.specs.Sizes.{DeviceSizes}
+use Rattle.oca_model.specs.declared.reading.Reading.{Reading}
+use Rattle.oca_model.specs.declared.request.Request.{Request as Asked}
+use Rattle.oca_model.specs.declared.request.Request.TheVariants as asked
+use Rattle.oca_model.specs.declared.value.Value.{Value}
+use Rattle.oca_model.specs.Readings.{value_without_limits}
+use Rattle.oca_model.specs.Values.{class_of_value, get_method, IsOfItsType}
+use Rattle.oca_tree.specs.declared.object.LockKind.TheVariants.{Total}
+use Rattle.oca_tree.specs.declared.object.Object.{Object}
+use Rattle.oca_tree.specs.Objects.{object_of, with_object}
+use Rattle.oca_tree.specs.Readers.{class_of_ono}
+use Rattle.oca_tree.specs.Trees.{IsTree}
+use Rattle.oca_tree.specs.TypedLaws.{IsOfItsTypes}
+use Rattle.oca_control.specs.Answers.{AnswerFields}
+use Rattle.oca_pair.specs.declared.start.Start.{Start}
+use Rattle.oca_pair.specs.Networks.{Network, opening}
+use Rattle.oca_pair.specs.Steps.{Step, after_steps}
+use Rattle.oca_pair.specs.Premises.{are_apart, Fit}
+use Rattle.oca_pair.specs.InTime.{AreInTime}
+use Rattle.oca_pair.specs.Saying.{IsOfOneExecutionSince, ChangedNothing, SetsObject, ReadSo, objects_left}
+use Rattle.oca_panel.specs.declared.trouble.Trouble.TheVariants as trouble
+use Rattle.oca_panel.specs.Panels.{PanelState}
+use Rattle.oca_panel.specs.Objects.{IsRequestTo, Reads, ReadsBy, SetsValue, GetsValue}
+use Rattle.oca_panel.specs.Outcomes.{done_answered}
+use Rattle.oca_promise.specs.Doings.{AreOfDevice, Plays}
+use Rattle.oca_promise.specs.Calls.{OfAnAnswer, KeepsInNetworks}
+
+-- the device's objects at first are a tree, and their texts and numbers are of their types
+abbrev pub IsRightAtFirst : List Object → Type 0
+IsRightAtFirst tree = IsTree tree × All IsOfItsTypes tree
+
+-- A call that asked this of the object with this number, as of an object of the class, was answered, and keeps it.
+pub record CallKeeps (target : ℕ) (of : Class) (r : Asked) (Holds : OfAnAnswer) (old new : PanelState) : Type 0 where
+  pub request : RequestFields
+  pub asks : IsRequestTo target of r request
+  pub answer : AnswerFields
+  pub keeps : KeepsInNetworks Holds request answer old new
+
+-- ---- SET: the object, where it is of the value's class, was set to the value by the only execution of the command, which
+-- lies between the call and its return.
+abbrev pub WasSetTo : ℕ → Value → OfAnAnswer
+WasSetTo target value p c answer later called =
+    IsRightAtFirst called.tree → class_of_ono called.tree target ≡ Some (class_of_value value) →
+    (said : IsOfOneExecutionSince p c answer later called)
+    × SetsObject target value said.execution.objects (objects_left said.between)
+
+abbrev pub EverySetKeeps : Type 0
+EverySetKeeps =
+    (target : ℕ) (value : Value) (old new : PanelState) → IsOfItsType value → SetsValue target value old new (Ok tt) →
+    CallKeeps target (class_of_value value) (asked.Set value) (WasSetTo target value) old new
+
+-- ---- READING OF A CLASS: the object, where it is of that class, read so at a moment between the call and its return.
+abbrev pub HadReading : ℕ → Class → Reading → OfAnAnswer
+HadReading target of reading p c answer later called =
+    IsRightAtFirst called.tree → class_of_ono called.tree target ≡ Some of → ReadSo target reading later called
+
+abbrev pub EveryReadingKeeps : Type 0
+EveryReadingKeeps =
+    (target : ℕ) (of : Class) (reading : Reading) (old new : PanelState) →
+    ReadsBy target of (get_method of) old new (Ok reading) →
+    CallKeeps target of asked.Get (HadReading target of reading) old new
+
+-- ---- LOCK AND UNLOCK: the object is locked for the peer, or its lock is taken off, and nothing else differs.
+pub record LocksObject (p : Peer) (target : ℕ) (met left : List Object) : Type 0 where
+  pub object : Object
+  pub there : object_of met target ≡ Some object
+  pub left_is : left ≡ with_object met (record object { lock = Some (record { kind = Total; holder = p }) })
+
+pub record UnlocksObject (target : ℕ) (met left : List Object) : Type 0 where
+  pub object : Object
+  pub there : object_of met target ≡ Some object
+  pub left_is : left ≡ with_object met (record object { lock = None })
+
+abbrev pub WasLocked : ℕ → OfAnAnswer
+WasLocked target p c answer later called = IsRightAtFirst called.tree →
+    (said : IsOfOneExecutionSince p c answer later called)
+    × LocksObject p target said.execution.objects (objects_left said.between)
+
+abbrev pub WasUnlocked : ℕ → OfAnAnswer
+WasUnlocked target p c answer later called = IsRightAtFirst called.tree →
+    (said : IsOfOneExecutionSince p c answer later called)
+    × UnlocksObject target said.execution.objects (objects_left said.between)
+
+abbrev pub EveryLockKeeps : Type 0
+EveryLockKeeps =
+    (target : ℕ) (old new : PanelState) → Reads target class.Block asked.LockTotal done_answered old new (Ok tt) →
+    CallKeeps target class.Block asked.LockTotal (WasLocked target) old new
+
+abbrev pub EveryUnlockKeeps : Type 0
+EveryUnlockKeeps =
+    (target : ℕ) (old new : PanelState) → Reads target class.Block asked.Unlock done_answered old new (Ok tt) →
+    CallKeeps target class.Block asked.Unlock (WasUnlocked target) old new
+
+-- ---- REFUSED: nothing was changed by the call.
+abbrev pub WasRefused : ℕ → OfAnAnswer
+WasRefused status p c answer later called =
+    (answer.status ≡ status)
+    × ((said : IsOfOneExecutionSince p c answer later called)
+    × ChangedNothing answer p said.execution (objects_left said.between))
+
+abbrev pub EveryRefusedSetKeeps : Type 0
+EveryRefusedSetKeeps =
+    (target : ℕ) (value : Value) (status : ℕ) (old new : PanelState) →
+    SetsValue target value old new (Err (trouble.Refused status)) →
+    CallKeeps target (class_of_value value) (asked.Set value) (WasRefused status) old new
+
+-- ---- GET: the first of its two calls asks the class, and that is the object's; in a network that plays the one and then
+-- the other, the object read so, but for the limits, at a moment in the second.
+abbrev pub HadClass : ℕ → Class → OfAnAnswer
+HadClass target of p c answer later called = IsRightAtFirst called.tree → class_of_ono called.tree target ≡ Some of
+
+pub record GetKeeps (target : ℕ) (value : Value) (old new : PanelState) : Type 0 where
+  pub of : Class
+  pub reading : Reading
+  pub value_is : value_without_limits reading ≡ value
+  pub between : PanelState
+  pub class_call : CallKeeps target class.Block asked.GetClassIdentification (HadClass target of) old between
+  pub value_call : CallKeeps target of asked.Get (HadReading target of reading) between new
+  pub read : AreOfDevice class_call.keeps.by_call.done.deliveries →
+      AreOfDevice value_call.keeps.by_call.done.deliveries →
+      (w : DeviceSizes) (s : ℕ) (tree : List Object) (starts : List Start) (before one two : List Step) (i : ℕ)
+      (p : Peer) →
+      let start : Network = opening w s tree starts in
+      let n : Network = after_steps before start in
+      are_apart starts ≡ true → Fit starts ((before ++ one) ++ two) → AreInTime i [] ((before ++ one) ++ two) start →
+      IsRightAtFirst tree → slice_get n.links i ≡ Some (record { peer = p; link = old.link }) →
+      Plays i p n class_call.keeps.doings one → Plays i p (after_steps one n) value_call.keeps.doings two →
+      ReadSo target reading two (after_steps one n)
+
+abbrev pub EveryGetKeeps : Type 0
+EveryGetKeeps =
+    (target : ℕ) (value : Value) (old new : PanelState) → GetsValue target old new (Ok value) →
+    GetKeeps target value old new

@@ -1,0 +1,120 @@
+-- What a command did whose status is OK; any other status leaves the tree.
+use Rattle.std.proofs.Common.{◌≡◌, ℕ, ◌≤◌, Bool, true, false, cond, List, length, refl, sym, ap, ◌∙◌, arith}
+use Rattle.std.specs.Prelude.{Option, Some, None, Result, Ok, Err, not, nat_lt, ◌||◌}
+use Rattle.std.proofs.lemmas.Bool.Decides.{nat_tests}
+use Rattle.oca_types.specs.declared.words.Peer.{Peer}
+use Rattle.oca_types.specs.declared.status.Status.{Status}
+use Rattle.oca_types.specs.declared.status.Status.TheVariants as statuses
+use Rattle.oca_types.specs.declared.class.Access.{Access}
+use Rattle.oca_types.specs.declared.class.Method.{Method}
+use Rattle.oca_types.specs.declared.class.MethodKind.{MethodKind}
+use Rattle.oca_types.specs.declared.class.MethodKind.TheVariants.{Known, LeftOut, Unknown}
+use Rattle.oca_types.specs.Methods.{access}
+use Rattle.oca_types.specs.Peers.{CommandFields}
+use Rattle.oca_model.specs.declared.request.Request.{Request}
+use Rattle.oca_model.specs.declared.value.ValueFault.{ValueFault}
+use Rattle.oca_model.specs.declared.value.ValueFault.TheVariants.{Malformed, Unlisted}
+use Rattle.oca_model.specs.Answers.{answer_encoding}
+use Rattle.oca_model.specs.Requests.{request_in}
+use Rattle.oca_tree.specs.declared.object.Object.{Object}
+use Rattle.oca_tree.specs.Objects.{class_of, object_of}
+use Rattle.oca_tree.specs.Locks.{lock_refuses}
+use Rattle.oca_tree.specs.Requests.{fits_positions, asks_out_of_range, asks_invalid}
+use Rattle.oca_tree.specs.Execution.{TreeAndReply, kind_at, asked_at, is_malformed, sets_unlisted, status_of, by_status, execution}
+use Rattle.oca_tree.specs.Typed.{answer_given}
+use Rattle.oca_tree.specs.Written.{is_ok}
+use Rattle.oca_tree.specs.TypedLaws.{CommandDid, CommandsAreTyped, RefusedKeepsTree}
+use Rattle.oca_tree.proofs.Executing.{known_access}
+
+not_fits : (b : Bool) → not b ≡ false → b ≡ true
+not_fits true e = refl
+not_fits false e = cc
+
+not_above : (n : ℕ) → nat_lt 1452 n ≡ false → n ≤ 1452
+not_above n e = grind (arith, nat_tests)
+
+module _ (tree : List Object) (peer : Peer) (c : CommandFields) where
+  module _ (o : Object) (found : object_of tree c.target ≡ Some o) (method : Method) (reached : Access) (kind : kind_at (Some o) c ≡ Known method reached)
+      (q : Request) (asked : request_in (class_of o.value) method c.count c.params ≡ Ok q) where
+    abbrev its_end : Bool → Bool → Bool → Bool → Bool → TreeAndReply
+    its_end a b d e f = by_status tree peer (Some o) (Ok q) (cond a statuses.Locked (cond b statuses.ParameterError (cond d statuses.ParameterOutOfRange (cond e statuses.InvalidRequest (cond f statuses.BufferOverflow statuses.Ok)))))
+
+    at_end : execution tree peer c ≡ its_end (lock_refuses o.lock peer reached) (not (fits_positions o.value q)) (asks_out_of_range o.value q) (asks_invalid o q) (nat_lt 1452 (length (answer_encoding (answer_given tree o q))))
+    unfolding execution
+    at_end = rw (found, kind, asked) refl
+
+    by_lines : (a b d e f : Bool) → lock_refuses o.lock peer reached ≡ a → not (fits_positions o.value q) ≡ b → asks_out_of_range o.value q ≡ d → asks_invalid o q ≡ e → nat_lt 1452 (length (answer_encoding (answer_given tree o q))) ≡ f
+        → execution tree peer c ≡ its_end a b d e f → is_ok (its_end a b d e f).status ≡ true → CommandDid tree peer c
+    by_lines true b d e f la lb ld le lf ends ok = let no : ⊥ = cc in absurd no
+    by_lines false true d e f la lb ld le lf ends ok = let no : ⊥ = cc in absurd no
+    by_lines false false true e f la lb ld le lf ends ok = let no : ⊥ = cc in absurd no
+    by_lines false false false true f la lb ld le lf ends ok = let no : ⊥ = cc in absurd no
+    by_lines false false false false true la lb ld le lf ends ok = let no : ⊥ = cc in absurd no
+    by_lines false false false false false la lb ld le lf ends ok =
+        let reached_is : reached ≡ access method = known_access (class_of o.value) (record { level = c.level; index = c.index }) method reached kind in
+        record {
+          object = o;
+          method = method;
+          request = q;
+          found = found;
+          known = kind ∙ ap (Known method) reached_is;
+          asked = asked;
+          fits = not_fits (fits_positions o.value q) lb;
+          within = ld;
+          valid = le;
+          short = not_above (length (answer_encoding (answer_given tree o q))) lf;
+          did = ends;
+        }
+
+    pub of_request : is_ok (execution tree peer c).status ≡ true → CommandDid tree peer c
+    of_request ok = by_lines (lock_refuses o.lock peer reached) (not (fits_positions o.value q)) (asks_out_of_range o.value q) (asks_invalid o q) (nat_lt 1452 (length (answer_encoding (answer_given tree o q)))) refl refl refl refl refl at_end
+        (sym (ap (λ (x : TreeAndReply). is_ok x.status) at_end) ∙ ok)
+
+  -- what was not understood is refused
+  fault_refused : (o : Object) (fault : ValueFault) (locked : Bool)
+      → is_ok (by_status tree peer (Some o) (Err fault) (cond locked statuses.Locked (cond (is_malformed (Err fault) || false) statuses.ParameterError (cond (sets_unlisted (Err fault) || false) statuses.ParameterOutOfRange statuses.Ok)))).status ≡ true → ⊥
+  fault_refused o fault true e = cc
+  fault_refused o Malformed false e = cc
+  fault_refused o Unlisted false e = cc
+
+  by_asked : (o : Object) → object_of tree c.target ≡ Some o → (method : Method) (reached : Access) → kind_at (Some o) c ≡ Known method reached
+      → (asked : Result Request ValueFault) → request_in (class_of o.value) method c.count c.params ≡ asked → is_ok (execution tree peer c).status ≡ true → CommandDid tree peer c
+  unfolding execution
+  by_asked o found method reached kind (Ok q) is ok = of_request o found method reached kind q is ok
+  by_asked o found method reached kind (Err fault) is ok = absurd (fault_refused o fault (lock_refuses o.lock peer reached) (rw (found, kind, is) at ok))
+
+  by_kind : (o : Object) → object_of tree c.target ≡ Some o → (kind : MethodKind) → kind_at (Some o) c ≡ kind → is_ok (execution tree peer c).status ≡ true → CommandDid tree peer c
+  unfolding execution
+  by_kind o found (Known method reached) kind ok = by_asked o found method reached kind (request_in (class_of o.value) method c.count c.params) refl ok
+  by_kind o found LeftOut kind ok = let no : false ≡ true = rw (found, kind) at ok in let never : ⊥ = cc in absurd never
+  by_kind o found Unknown kind ok = let no : false ≡ true = rw (found, kind) at ok in let never : ⊥ = cc in absurd never
+
+  by_object : (found : Option Object) → object_of tree c.target ≡ found → is_ok (execution tree peer c).status ≡ true → CommandDid tree peer c
+  unfolding execution
+  by_object None is ok = let no : false ≡ true = rw is at ok in let never : ⊥ = cc in absurd never
+  by_object (Some o) is ok = by_kind o is (kind_at (Some o) c) refl ok
+
+  -- ---- refusals
+
+  by_end : (o : Option Object) (asked : Result Request ValueFault) (s : Status) → is_ok s ≡ false → (by_status tree peer o asked s).tree ≡ tree
+  by_end None asked s e = refl
+  by_end (Some o) (Err fault) s e = refl
+  by_end (Some o) (Ok q) statuses.Ok e = cc
+  by_end (Some o) (Ok q) _ e = refl
+
+  same_end : (o : Option Object) (asked : Result Request ValueFault) (s : Status) → (by_status tree peer o asked s).status ≡ s
+  same_end None asked s = refl
+  same_end (Some o) (Err fault) s = refl
+  same_end (Some o) (Ok q) statuses.Ok = refl
+  same_end (Some o) (Ok q) _ = refl
+
+pub commands_typed : CommandsAreTyped
+commands_typed tree peer c ok = by_object tree peer c (object_of tree c.target) refl ok
+
+pub refusals_change : RefusedKeepsTree
+unfolding execution
+refusals_change tree peer c e =
+    let o = object_of tree c.target in
+    let asked = asked_at o (kind_at o c) c in
+    let s = status_of tree peer o c in
+    by_end tree peer c o asked s (sym (ap is_ok (same_end tree peer c o asked s)) ∙ e)

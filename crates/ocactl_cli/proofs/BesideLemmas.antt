@@ -1,0 +1,72 @@
+-- What is sent beside a task.
+use Rattle.std.proofs.Common.{◌≡◌, ◌∙◌, ap, ℕ, ◌+◌, ◌<◌, ◌≤◌, Bool, true, false, List, [], ◌∷◌, ◌++◌, append_assoc, arith, sym, subst}
+use Rattle.std.specs.Prelude.{IsTrue, replicate}
+use Rattle.std.proofs.lemmas.List.{append-nil, replicate-append-replicate}
+use Rattle.oca_types.specs.declared.words.Peer.{Peer}
+use Rattle.oca_net.specs.Deliveries.{Sent}
+use Rattle.oca_net.specs.Ends.{taken_after}
+use Rattle.oca_net.specs.EndStates.{EndState}
+use Rattle.ocactl_cli.specs.Beside.{AsksIfThere, CallsSoOften, NotCalled, CalledAgain, CallsDevice, TakesKeepAlives, keep_alive_for}
+
+-- nothing was sent
+pub not_asked : (device : Peer) (before after : EndState) → after ≡ before → AsksIfThere device before after
+not_asked device before after same =
+    record { rounds = 0; most = omega arith; calls = subst (λ (e : EndState). CallsSoOften device 0 before e) (sym same) NotCalled }
+
+-- so many rounds, and one more in which the device was heard
+pub asked_once_more : (device : Peer) (n : ℕ) (before between after : EndState) → n < 4 → CallsSoOften device n before between → CallsDevice device between after
+    → AsksIfThere device before after
+asked_once_more device n before between after few h one = record { rounds = n + 1; most = omega (arith, few); calls = CalledAgain h one }
+
+pub asked_often : (device : Peer) (before after : EndState) → CallsSoOften device 4 before after → AsksIfThere device before after
+asked_often device before after h = record { rounds = 4; most = omega arith; calls = h }
+
+-- the end that it began with, by another name
+pub asked_from : (device : Peer) (d e f : EndState) → d ≡ e → AsksIfThere device d f → AsksIfThere device e f
+asked_from device d e f same h = subst (λ (x : EndState). AsksIfThere device x f) same h
+
+-- ---- by an end that tells
+
+-- so many keep-alives at most were taken, and nothing else
+Taken : Peer → ℕ → (was now : List Sent) → Type 0
+Taken device n was now = (k : ℕ) × (k ≤ n) × (now ≡ was ++ replicate k (keep_alive_for device))
+
+taken-none : (device : Peer) (was : List Sent) → Taken device 0 was was
+unfolding Taken
+taken-none device was = (0, omega arith, sym (append-nil was))
+
+taken-more : (device : Peer) (n : ℕ) (was now all : List Sent) (sent : Bool) → all ≡ taken_after sent device (keep_alive_for device).bytes now → Taken device n was now
+    → Taken device (n + 1) was all
+unfolding Taken
+taken-more device n was now all true e (k, few, t) =
+    let x = keep_alive_for device in (
+      k + 1,
+      omega (arith, few),
+      e ∙ (ap (λ (l : List Sent). l ++ x ∷ []) t ∙ (append_assoc was (replicate k x) (x ∷ []) ∙ ap (λ (l : List Sent). was ++ l) (replicate-append-replicate k 1 x))),
+    )
+taken-more device n was now all false e (k, few, t) = (k, omega (arith, few), e ∙ t)
+
+record SoFar (device : Peer) (n : ℕ) (before after : EndState) : Type 0 where
+  tells : IsTrue after.tells
+  taken : Taken device n before.taken after.taken
+
+once-more : (device : Peer) (n : ℕ) (d e f : EndState) → SoFar device n d e → CallsDevice device e f → SoFar device (n + 1) d f
+once-more device n d e f s one =
+    let kept = one.keeps.1 in
+    let told : IsTrue one.between.tells = subst IsTrue (sym kept.telling) s.tells in
+    record {
+      tells = subst IsTrue (sym one.receives.telling) told;
+      taken = taken-more device n d.taken e.taken f.taken one.keeps.0 (one.receives.taken told ∙ kept.taken s.tells) s.taken;
+    }
+
+so-far : {device : Peer} {n : ℕ} {before after : EndState} → CallsSoOften device n before after → IsTrue before.tells → SoFar device n before after
+so-far {device} (NotCalled {e = e}) told = record { tells = told; taken = taken-none device e.taken }
+so-far {device} (CalledAgain {n = n} {d = d} {e = e} {f = f} more one) told = once-more device n d e f (so-far more told) one
+
+at-most : (device : Peer) (n : ℕ) (before after : EndState) → n ≤ 4 → SoFar device n before after
+    → (k : ℕ) × (k ≤ 4) × (after.taken ≡ before.taken ++ replicate k (keep_alive_for device))
+unfolding Taken
+at-most device n before after few s = (s.taken.0, omega (arith, few, s.taken.1), s.taken.2)
+
+pub takes_keep_alives : (device : Peer) (before after : EndState) → AsksIfThere device before after → TakesKeepAlives device before after
+takes_keep_alives device before after asks told = at-most device asks.rounds before after asks.most (so-far asks.calls told)

@@ -1,0 +1,26 @@
+//! An end that says where it is bound.
+use oca_net::{End, UdpEnd};
+use oca_types::Peer;
+use std::io;
+use std::rt::Clock;
+
+/// An end that says where it is bound, and why a send of it failed.
+pub trait BoundEnd: End {
+    /// Where it is bound.
+    fn local(&self) -> Peer;
+
+    /// Why the last send that failed did so, where one has.
+    fn last_failed_send(&self) -> Option<io::Error>;
+}
+
+impl<'a, C: Clock> BoundEnd for UdpEnd<'a, C> {
+    /// The socket's address and port.
+    fn local(&self) -> Peer {
+        UdpEnd::local(self)
+    }
+
+    /// The system's reason.
+    fn last_failed_send(&self) -> Option<io::Error> {
+        UdpEnd::last_failed_send(self)
+    }
+}

@@ -1,0 +1,229 @@
+//! How the objects of a device are written over a file: a new file takes the place of the old one.
+ghost use Rattle.std.specs.Prelude.{◌≡◌, is_ok};
+ghost use Rattle.ocadev_cli.specs.PrivateStoring.{Reaches};
+ghost use Rattle.ocadev_cli.specs.Storing.{DiskState, Replaces, StoresBy, SyncsFolder, SyncsNew, Tries, WritesNew};
+
+use super::show::show_text;
+use oca_script::{Printer, Sink, ToWriter};
+use oca_tree::Tree;
+use std::alloc::Global;
+use std::fs::{Metadata, OpenFile, OpenOptions, Permissions};
+use std::io::ErrorKind;
+use std::os::unix::fs::{MetadataExt, PermissionsExt, lchown};
+use std::path::Path;
+use std::rt::Files;
+use std::{fs, io};
+
+/// A file that a new one takes the place of, by steps, each of which the system may refuse.
+///
+/// Where it tells, `tried` of its state are all steps that were tried, and whether they were done.
+pub trait Disk {
+    /// What the disk says of itself.
+    ghost state: { Self → DiskState };
+
+    /// Writes the objects to a new file.
+    fn write_new(&mut self, tree: &Tree) -> io::Result<()>
+        ensures { Tries WritesNew (is_ok result) tree.now (state self.old) (state self.new) };
+
+    /// Waits until the new file is on the disk.
+    fn sync_new(&mut self) -> io::Result<()>
+        ensures { Tries SyncsNew (is_ok result) (state self.old).tree (state self.old) (state self.new) };
+
+    /// Puts the new file in the place of the file.
+    fn replace(&mut self) -> io::Result<()>
+        ensures { Tries Replaces (is_ok result) (state self.old).tree (state self.old) (state self.new) };
+
+    /// Waits until the folder of the file is on the disk.
+    fn sync_folder(&mut self) -> io::Result<()>
+        ensures { Tries SyncsFolder (is_ok result) (state self.old).tree (state self.old) (state self.new) };
+}
+
+/// Writes the objects to a new file, which is then on the disk, puts it in the place of the old one, and brings the
+/// folder to the disk. Refusal: that of the first step that the system refuses; none behind it is tried.
+#[tactic(auto, using(crate::proofs::StoringLemmas::all_tried))]
+pub fn write_over<D: Disk>(disk: &mut D, tree: &Tree) -> io::Result<()>
+    ensures { StoresBy (is_ok result) tree.now (D.state disk.old) (D.state disk.new) }
+{
+    match write_and_replace(disk, tree) {
+        Ok(()) => disk.sync_folder(),
+        Err(reason) => Err(reason),
+    }
+}
+
+/// Writes the objects to a new file, which is then on the disk, and puts it in the place of the old one.
+#[tactic(auto, using(crate::proofs::StoringLemmas::third_tried))]
+fn write_and_replace<D: Disk>(disk: &mut D, tree: &Tree) -> io::Result<()>
+    ensures { Reaches SyncsFolder (is_ok result) tree.now (D.state disk.old) (D.state disk.new) }
+{
+    match write_and_sync(disk, tree) {
+        Ok(()) => disk.replace(),
+        Err(reason) => Err(reason),
+    }
+}
+
+/// Writes the objects to a new file, which is then on the disk.
+#[tactic(auto, using(crate::proofs::StoringLemmas::second_tried))]
+fn write_and_sync<D: Disk>(disk: &mut D, tree: &Tree) -> io::Result<()>
+    ensures { Reaches Replaces (is_ok result) tree.now (D.state disk.old) (D.state disk.new) }
+{
+    match write_first(disk, tree) {
+        Ok(()) => disk.sync_new(),
+        Err(reason) => Err(reason),
+    }
+}
+
+/// Writes the objects to a new file.
+#[tactic(auto, using(crate::proofs::StoringLemmas::first_tried))]
+fn write_first<D: Disk>(disk: &mut D, tree: &Tree) -> io::Result<()>
+    ensures { Reaches SyncsNew (is_ok result) tree.now (D.state disk.old) (D.state disk.new) }
+{
+    disk.write_new(tree)
+}
+
+/// The mode and the owner of a file.
+#[derive(Clone, Copy)]
+pub struct Attributes {
+    mode: u32,
+    uid: u32,
+    gid: u32,
+}
+
+impl Attributes {
+    /// Those of a file of which this is known.
+    fn of(found: &Metadata) -> Attributes {
+        Attributes {
+            mode: found.mode(),
+            uid: found.uid(),
+            gid: found.gid(),
+        }
+    }
+}
+
+/// A file of the system, which does not tell, and the new file beside it.
+#[derive(Drop)]
+pub struct FileDisk<'l, 'p, 'n, L: Files> {
+    alloc: Global,
+    files: &'l L,
+    path: &'p str,
+    fresh: &'n str,
+    /// The new file, until it is on the disk.
+    made: Option<L::File>,
+    /// What a new file gets: those of the plain file that was there last, at the start or when one was made, or of the
+    /// new file that was made last.
+    attributes: Option<Attributes>,
+}
+
+impl<'l, 'p, 'n, L: Files> FileDisk<'l, 'p, 'n, L> {
+    /// The file at a path, and at another path the new one that takes its place, with this mode and this owner where no plain
+    /// file is there then.
+    pub fn new(
+        alloc: Global,
+        files: &'l L,
+        path: &'p str,
+        fresh: &'n str,
+        attributes: Option<Attributes>,
+    ) -> FileDisk<'l, 'p, 'n, L> {
+        FileDisk {
+            alloc,
+            files,
+            path,
+            fresh,
+            made: None,
+            attributes,
+        }
+    }
+
+    /// Makes the new file, with the mode and the owner of the one that was there last. One that was left is taken away
+    /// first; a symbolic link in its place is not followed.
+    fn make_new(&mut self) -> io::Result<L::File> {
+        if let Some(found) = plain_attributes(self.files, self.path) {
+            self.attributes = Some(found);
+        }
+        let _ = fs::remove_file(self.files, self.fresh);
+        let mut how = OpenOptions::new();
+        how.write(true).create_new(true);
+        let file = how.open(self.files, self.fresh)?;
+        match self.attributes {
+            Some(attributes) => make_alike(self.files, &file, self.fresh, attributes)?,
+            None => self.attributes = Some(Attributes::of(&file.metadata()?)),
+        }
+        Ok(file)
+    }
+}
+
+impl<'l, 'p, 'n, L: Files> Disk for FileDisk<'l, 'p, 'n, L> {
+    ghost use Rattle.ocadev_cli.specs.Storing.{silent_disk};
+
+    ghost state = { λ _. silent_disk };
+
+    fn write_new(&mut self, tree: &Tree) -> io::Result<()> {
+        let file = self.make_new()?;
+        let written = file.try_clone()?;
+        self.made = Some(written);
+        print_state(self.alloc, tree, &mut Printer::new(ToWriter::new(file)))
+    }
+
+    fn sync_new(&mut self) -> io::Result<()> {
+        match self.made.take() {
+            Some(file) => file.sync_all(),
+            None => Err(io::Error::new(ErrorKind::Other, "no new file")),
+        }
+    }
+
+    fn replace(&mut self) -> io::Result<()> {
+        fs::rename(self.files, self.fresh, self.path)
+    }
+
+    fn sync_folder(&mut self) -> io::Result<()> {
+        fs::open(self.files, folder_of(self.path))?.sync_all()
+    }
+}
+
+/// The mode and the owner of the plain file at this path, where one is there.
+pub fn plain_attributes<F: Files>(files: &F, path: &str) -> Option<Attributes> {
+    match fs::symlink_metadata(files, path) {
+        Ok(found) if found.is_file() => Some(Attributes::of(&found)),
+        _ => None,
+    }
+}
+
+/// The folder in which a file stands.
+fn folder_of(path: &str) -> &str {
+    match Path::new(path).parent() {
+        Some(folder) if !folder.as_str().is_empty() => folder.as_str(),
+        _ => ".",
+    }
+}
+
+/// Gives a file at a path this owner and this mode.
+fn make_alike<F: Files, O: OpenFile>(
+    files: &F,
+    file: &O,
+    path: &str,
+    attributes: Attributes,
+) -> io::Result<()> {
+    let new = file.metadata()?;
+    if new.uid() != attributes.uid || new.gid() != attributes.gid {
+        lchown(files, path, Some(attributes.uid), Some(attributes.gid))?;
+    }
+    file.set_permissions(Permissions::from_mode(attributes.mode))
+}
+
+/// The last line of a file with so many objects, where there is memory for it.
+pub fn end_line(alloc: Global, count: usize) -> Option<String> {
+    format!(in alloc; "# end of {count} objects\n").ok()
+}
+
+/// Prints the objects, and a last line that says how many they are.
+fn print_state<W: Sink>(alloc: Global, tree: &Tree, printer: &mut Printer<W>) -> io::Result<()> {
+    let Some(line) = end_line(alloc, tree.len()) else {
+        return Err(io::Error::new(ErrorKind::OutOfMemory, "memory was refused"));
+    };
+    if show_text(tree, printer).is_err()
+        || printer.print(line.as_bytes()).is_err()
+        || printer.flush().is_err()
+    {
+        return Err(io::Error::new(ErrorKind::Other, "a write failed"));
+    }
+    Ok(())
+}

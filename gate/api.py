@@ -1,0 +1,119 @@
+#!/usr/bin/env python3
+"""The list of docs/API.md: each public call and type of the libraries that embedders use, and each call of
+include/oca.h, with the first sentence of what its comment says.
+
+Usage: api.py     writes docs/API.md anew from the line MARK on; what stands above is written by hand
+
+What a library exports is what its lib.rt names: what it uses with `pub`, and all of its public modules. The sources are
+formatted, so that what begins a line, or stands behind four spaces in an `impl` or a trait, is an item of it."""
+import itertools
+import re
+import textwrap
+from pathlib import Path
+
+import reference
+
+TOP = Path(__file__).resolve().parent.parent
+PAGE, MARK = TOP / "docs/API.md", "<!-- What follows is made by gate/api.py. -->\n"
+LIBRARIES = ("oca_types oca_pdu oca_model oca_tree oca_session oca_net oca_device oca_control oca_panel oca_pair oca_promise "
+             "oca_wait oca_script oca_textree").split()
+OWNER = r"(?:impl(?:<[^{]*?>)? (\w+)(?:<[^{]*>)?|pub trait (\w+).*) \{"
+TRAIT = r"(?m)^impl(?:<[^{]*?>)? (?:fmt::)?(Default|Iterator|Display|FromStr|Add|From<[^{]*?>) for (\w+)"
+ITEM = r"(pub )?(?:const )?(fn|struct|enum|trait|const|type) (\w+)"
+MEMBER = r"    (pub )?(?:const )?(fn|const) (\w+)"
+
+
+def first_sentence(lines):
+    """The first sentence of a comment."""
+    text = " ".join(line.strip() for line in itertools.takewhile(str.strip, lines))
+    text = re.sub(r"\[(`[^`]*`)\](?:\([^)]*\))?", r"\1", text)
+    return re.match(r".*?\.(?= [A-Z`(]|$)|.*", text)[0]
+
+
+def shown(text):
+    """An item as it is declared, in one line: neither its contract nor its body, of a type what is public of it."""
+    text = re.sub(r"(?m)^\s*(?:///?.*|#\[.*|(?:pub )?ghost .*)\n", "", text)
+    kind = re.match(ITEM, text.strip())[2]
+    if kind in ("fn", "const", "type"):
+        end = r"\n\s*(?:ensures|requires|decreases|where)\b|\n?\s*\{|;"
+    elif kind == "trait":
+        end = r"[:{]"
+    else:
+        end = r"\n\}|;"
+    text = re.split(end, text, maxsplit=1)[0]
+    if kind == "struct":
+        text = re.sub(r"(?m)^    (?!pub )\w+: .*\n?|(?<=\()[a-z]\w*(?=\))", "", text)
+    text = re.sub(r"\(\s+", "(", re.sub(r",?\s+\)", ")", " ".join(text.split())))
+    text = re.sub(r",? \}", " }", re.sub(r"(\{ .*?),?$", r"\1 }", text)) if kind in ("struct", "enum") else text
+    return re.sub(r" \{ *\}?$", "", re.sub(r"\bpub ", "", text))
+
+
+def items(text):
+    """The items of a source: the owner of each, none of one that stands alone, its name, whether it is public, and the
+    row that lists it."""
+    doc, owner, is_trait, at = [], None, False, 0
+    for line in text.splitlines(keepends=True):
+        opened, member = re.match(OWNER, line), owner and re.match(MEMBER, line)
+        found = member or re.match(ITEM, line)
+        if found:
+            row = shown(text[at:]), first_sentence(doc)
+            yield owner if member else None, found[3], bool(found[1]) or bool(member and is_trait), row
+        if opened:
+            owner, is_trait = opened[1] or opened[2], bool(opened[2])
+        elif line.startswith("}"):
+            owner = None
+        comment = re.match(r"\s*///(.*)", line)
+        doc = doc + [comment[1]] if comment else doc if line.strip().startswith("#[") else []
+        at += len(line)
+
+
+def listed(crate):
+    """The rows of a library, in the order of its files: each type with its own calls behind it."""
+    source = TOP / "crates" / crate / "src"
+    top = (source / "lib.rt").read_text()
+    used = {name for names in re.findall(r"pub use (?!oca_)\w+::([^;]*);", top) for name in re.findall(r"\w+", names)}
+    modules, found, has = re.findall(r"pub mod (\w+);", top), [], {}
+    for file in sorted(source.rglob("*.rt")):
+        for of, name in re.findall(TRAIT, file.read_text()):
+            has.setdefault(name, []).append(f"`{of}`")
+        module = str(file.relative_to(source)).removesuffix(".rt").split("/")[0]
+        path = f"{module}::" if module in modules else ""
+        found += [(owner, name, path, row) for owner, name, is_public, row in items(file.read_text())
+                  if is_public and (owner or path or name in used or file.name == "lib.rt")]
+    types = {name for owner, name, _, _ in found if not owner}
+    rows = []
+    for _, name, path, (declared, said) in (it for it in found if not it[0]):
+        said += f" Has {', '.join(has[name])}." if name in has else ""
+        rows.append((declared if name in used or not path else declared.replace(name, path + name, 1), said))
+        rows += [(re.sub(rf"(fn|const) {its}", f"{name}::{its}", row[0], count=1), row[1])
+                 for owner, its, _, row in found if owner == name and name in types]
+    return rows
+
+
+def table(head, rows):
+    """A table of two columns."""
+    cells = "".join("| `{}` | {} |\n".format(*(it.replace("|", "\\|") for it in row)) for row in rows)
+    return f"## {head}\n\n| Item | |\n|---|---|\n{cells}"
+
+
+def about(crate):
+    """What a library is, by the first sentence of its lib.rt."""
+    lines = re.findall(r"(?m)^//!(.*)$", (TOP / "crates" / crate / "src/lib.rt").read_text())
+    return first_sentence(lines)
+
+
+def of_header():
+    """The calls of the header."""
+    read = reference.paragraphs(reference.HEADER.read_text())
+    return [(" ".join(declared.rstrip(";").split()).removeprefix("static inline "), first_sentence([said]))
+            for said, calls, _ in read for declared in calls.values()]
+
+
+def made():
+    """The list."""
+    parts = [table(f"`{crate}`\n\n{textwrap.fill(about(crate), 120)}", listed(crate)) for crate in LIBRARIES]
+    return "\n".join([MARK, *parts, table("`oca.h`", of_header())])
+
+
+if __name__ == "__main__":
+    PAGE.write_text(PAGE.read_text().split(MARK)[0] + made())

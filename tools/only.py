@@ -1,0 +1,29 @@
+#!/usr/bin/env python3
+"""Checks functions of a crate over the sources of the crates below it. No step of the gate.
+
+Usage: only.py CRATE PATH..     as `rt check --only PATH` in the crate's folder
+
+`rt check` proves and builds each library below the crate first, which takes half an hour where nothing is kept. This
+proves the named functions and what they call alone, and keeps nothing."""
+import os
+import subprocess
+import sys
+from pathlib import Path
+
+TOP = Path(__file__).resolve().parent.parent
+sys.path.insert(0, str(TOP / "gate"))
+
+import build
+
+
+def main(name, paths):
+    """Checks the functions with these paths of a crate, and gives the exit status of the check."""
+    rt = build.toolchain()
+    crate = {it.name: it for it in rt.rtlib.crates_below(str(TOP))}[name]
+    words = crate.words(["--jobs", "1"] + [word for path in paths for word in ("--only", path)], as_source=True)
+    os.chdir(crate.folder)
+    return subprocess.call([rt.rtlib.RATTLE, "check", *words])
+
+
+if __name__ == "__main__":
+    sys.exit(main(sys.argv[1], sys.argv[2:]))

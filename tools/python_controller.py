@@ -1,0 +1,348 @@
+#!/usr/bin/env python3
+"""The controller in Python that stands in examples/python, and the worked bytes of docs/PROTOCOL.md, from which it is
+written.
+
+Usage: python_controller.py BIN     BIN is the folder with `ocadev` and `ocactl`
+
+Its link is asked at moments that are handed in, and must send and take what the rules of PROTOCOL say; links that are
+wrong must be found. Then it runs
+against `ocadev serve` with examples/stagebox.tree, first alone, then over the network of lossy.py, which loses a fifth
+of the datagrams each way, and doubles and reorders others. `ocactl` must read and be refused what it set and locked;
+each command must be executed once, and what leaves its socket keep to the rules: one address and port, one command a
+datagram, handles that rise by one, unchanged copies, at most 20 of them, at most 16 commands in flight.
+
+Each row of the table of worked bytes is a command to `ocadev replay`, which must answer what stands there. The last
+line is 'N passed, M failed'."""
+import contextlib
+import io
+import re
+import struct
+import subprocess
+import sys
+import threading
+import time
+from pathlib import Path
+from types import ModuleType
+
+import oca_profile as oca
+from lossy import Network
+from own_ports import free_port
+
+TOP = Path(__file__).resolve().parent.parent
+EXAMPLE, TREE = TOP / "examples/python/controller.py", "examples/stagebox.tree"
+SPAN, TRIES = 16, 20
+MUTES, TRIMS = range(4098, 4138, 5), range(4100, 4138, 5)
+# Examples that are wrong: what stands there, and what is put in its place.
+WRONG = [
+    ("SPAN, TRIES, RESEND, IDLE, LATE = 16,", "SPAN, TRIES, RESEND, IDLE, LATE = 17,"), ("= 16, 20, 0.25,", "= 16, 21, 0.25,"),
+    ("20, 0.25, 2.5,", "20, 0.5, 2.5,"), ("0.25, 2.5, 15.0", "0.25, 5.0, 15.0"), ("0.25, 2.5, 15.0", "0.25, 2.5, 16.0"),
+    ("now - flight.sent >= RESEND", "now - flight.sent > RESEND"), ("now - flight.submitted > LATE", "now - flight.submitted >= LATE"),
+    ("now - flight.submitted > LATE", "now - flight.sent > LATE"), ("flight.tries == TRIES", "flight.tries > TRIES"),
+    ("now, flight.tries + 1, now", "now, flight.tries + 1, self.last_sent"), ("if now - self.last_sent < IDLE", "if now - self.last_sent <= IDLE"),
+    ('struct.pack(">H", 5)', 'struct.pack(">I", 5000)'), ("self.flights.pop(it.handle, None)", "self.flights.get(it.handle, None)"),
+    ("self.next_handle, self.next_handle + 1", "self.next_handle, self.next_handle + 2"),
+    ("self.next_handle < min(self.flights, default=self.next_handle) + SPAN", "len(self.flights) < SPAN"),
+    ("kind == RESPONSE and (count or body)", "kind == RESPONSE and body"), ("(count or body)", "count"),
+    ("size <= 9 + len(rest)", "size <= 999"), ("(sync, version) != (0x3B, 1)", "version != 1"),
+]
+ROW = r"\| [^|]+ \| `([0-9A-F ]+)` \| `([0-9A-F .]+)`[^|]* \|"
+
+
+class Checks:
+    """What was compared."""
+
+    def __init__(self):
+        self.passed, self.failed = 0, 0
+
+    def same(self, name, got, wanted):
+        if got == wanted:
+            self.passed += 1
+        else:
+            self.failed += 1
+            print(f"python_controller: {name}: FAILED: {got!r} where {wanted!r} is right")
+
+
+def example(old="", new=""):
+    """The example as a module, or with another text in the place of one that stands once."""
+    text = EXAMPLE.read_text()
+    if old and text.count(old) != 1:
+        sys.exit(f"python_controller: {old!r} does not stand once in the example")
+    module = sys.modules["controller"] = ModuleType("controller")    # where its dataclasses look for their types
+    exec(compile(text.replace(old, new) if old else text, EXAMPLE, "exec"), module.__dict__)
+    return module
+
+
+def answer(handle, status=0):
+    """A response without parameters."""
+    return oca.pdu(3, [oca.response_body(handle, status, 0, b"")])
+
+
+def what_is_due(its, link, now):
+    """What a link sends at a moment: handles, `alive` for a keep-alive, `lost`."""
+    sent = []
+    while True:
+        try:
+            datagram = link.due(now)
+        except its.Lost:
+            return [*sent, "lost"]
+        if datagram is None:
+            return sent
+        (kind, *message), = oca.check(datagram)
+        sent.append("alive" if kind == "keep-alive" else message[1].handle)
+
+
+def rules(checks, its):
+    """The link of the example, moment by moment; moments are sums of fractions of 2, so that none is rounded."""
+    get = its.Request(4097, 4, 1)
+    link = its.Link(1, last_sent=0.0)
+    link.submit(get, 0.0)
+    due = [(now, what_is_due(its, link, now)) for now in [0.0, 0.125, *(n / 4 for n in range(1, 21))]]
+    checks.same("20 transmissions, then lost", due, [(0.0, [1]), (0.125, []), *((n / 4, [1]) for n in range(1, 20)), (5.0, ["lost"])])
+    checks.same("an answer still comes in", [it.handle for it in link.heard(answer(1))], [1])
+
+    link = its.Link(1, last_sent=0.0)
+    checks.same("keep-alives", [what_is_due(its, link, now) for now in (2.25, 2.5, 2.5, 4.75, 5.0)],
+                [[], ["alive"], [], [], ["alive"]])
+    link.submit(get, 5.25)
+    checks.same("none beside a command", [what_is_due(its, link, now) for now in (5.25, 7.75)], [[1], [1]])
+    checks.same("its bytes", link.due(99.0) if link.heard(answer(1)) else None, bytes.fromhex("3B00010000000B0400010005"))
+
+    link = its.Link(1, last_sent=0.0)
+    for _ in range(SPAN):
+        checks.same("room", link.has_room(), True)
+        link.submit(get, 0.0)
+    checks.same("a full span", link.has_room(), False)
+    checks.same("the lowest first", what_is_due(its, link, 0.0), [*range(1, 17)])
+    checks.same("the second answer alone", [len(link.heard(answer(2))), link.has_room()], [1, False])
+    checks.same("no more at once", [len(link.heard(answer(2))), len(link.heard(answer(99)))], [0, 0])
+    both = oca.pdu(3, [oca.response_body(handle, 0, 0, b"") for handle in (3, 4)]) + oca.pdu(4, [b"\0\1"]) + answer(1)
+    checks.same("all answers of a datagram", [it.handle for it in link.heard(both)], [3, 4, 1])
+    checks.same("room behind them", [link.has_room(), min(link.flights)], [True, 5])
+    checks.same("copies of the others", what_is_due(its, link, 0.25), [*range(5, 17)])
+    two = oca.pdu(3, [oca.response_body(handle, 0, 0, b"") for handle in (5, 6)])
+    for bad in (both[:-1], both + b"\0", b"\x3c" + both[1:], two[:9] + b"\1" + two[10:], two[:9] + b"\3" + two[10:],
+                two + oca.pdu(4, [b"\0\1"])[:-1]):
+        checks.same("a malformed datagram", refuses(link, bad), True)
+    checks.same("it brings nothing", len(link.flights), 12)
+
+    link = its.Link(1, last_sent=0.0)
+    link.submit(get, 0.0)
+    checks.same("too late, though never sent", [what_is_due(its, link, now) for now in (15.125, 16.0)], [["lost"], ["lost"]])
+    link = its.Link(1, last_sent=0.0)
+    link.submit(get, 0.0)
+    checks.same("just in time", what_is_due(its, link, 15.0), [1])
+
+
+def wrong_ones(checks):
+    """A link that breaks a rule is found."""
+    for old, new in WRONG:
+        tried = Checks()
+        with contextlib.redirect_stdout(io.StringIO()):
+            try:
+                rules(tried, example(old, new))
+            except Exception:    # whatever a wrong one comes to
+                tried.failed += 1
+        checks.same(f"found: {new!r}", tried.failed > 0, True)
+
+
+def refuses(link, datagram):
+    """Whether a datagram is worth nothing to the link."""
+    try:
+        link.heard(datagram)
+    except struct.error:
+        return True
+    return False
+
+
+class Device:
+    """`ocadev serve` of the stage box, and what it says of each datagram."""
+
+    def __init__(self, folder):
+        words = ["serve", "--tree", TREE, "--port", "0", "--peers", "64", "--verbose"]
+        self.run = subprocess.Popen([f"{folder}/ocadev", *words], cwd=TOP, stdout=subprocess.DEVNULL, stderr=subprocess.PIPE, text=True)
+        found = None
+        while not found and (line := self.run.stderr.readline()):
+            found = re.fullmatch(r"listening ([0-9.]+):([0-9]+)\n", line)
+        self.address, self.lines = (found[1], int(found[2])), []
+        self.reader = threading.Thread(target=lambda: self.lines.extend(self.run.stderr), daemon=True)
+        self.reader.start()
+
+    def __enter__(self):
+        return self
+
+    def __exit__(self, *_):
+        self.run.terminate()
+        self.run.wait()
+        self.reader.join()
+
+    def executed(self, port):
+        """How many commands from this port were executed, and how many were too old or reused; once the device ended."""
+        counts = [re.match(rf"127\.0\.0\.1:{port} served (\d+) \d+ (\d+)(?: reused (\d+))?", line) for line in self.lines]
+        return [sum(int(it[n] or 0) for it in counts if it) for n in (1, 2, 3)]
+
+
+def ran(*words, **settings):
+    """What a program prints, with its exit status."""
+    done = subprocess.run(words, cwd=TOP, capture_output=True, text=True, timeout=120, **settings)
+    return done.stdout.splitlines(), done.returncode
+
+
+def runs(checks, folder, device):
+    """The example's commands beside `ocactl`'s, over 127.0.0.1."""
+    at = "{}:{}".format(*device.address)
+    python = lambda *words, **settings: ran(sys.executable, str(EXAMPLE), at, *words, **settings)
+    ocactl = lambda name, *words: ran(f"{folder}/ocactl", name, "--device", at, "--port", str(free_port()), *words)
+    listed, status = python("list")
+    wanted = [line.split(" ", 3) for line in ocactl("tree")[0]]
+    checks.same("list", [[ono, container, role] for ono, _, container, role in map(parts, listed)],
+                [[ono, container, role] for ono, _, container, role in wanted])
+    checks.same("its classes", {parts(line)[1] for line in listed}, {"block", "mute", "polarity", "int16", "switch", "boolean"})
+    checks.same("its labels", ({line.split(" ")[-1] for line in listed}, status), ({'""'}, 0))
+    checks.same("get", python("get", "4098", "4099", "4100", "4101", "4096"),
+                (["4098 muted", "4099 non-inverted", "4100 0 (-600 to 600)", "4101 0 (0 to 3)", "4096 off"], 0))
+    checks.same("set", python("set", "4098", "unmuted", "4100", "-60", "4101", "2"), (["4098 unmuted", "4100 -60", "4101 2"], 0))
+    checks.same("what was set", ocactl("get", "4098", "4100", "4101"), (["4098 unmuted", "4100 -60", "4101 2 Stage left"], 0))
+    checks.same("a value out of range", python("set", "4100", "601"), (["4100 ParameterOutOfRange"], 4))
+    for words in (["set", "4098", "loud"], ["set", "4100", "99999"], ["get", "4097"], ["get", "5000"], ["set", "4098"], ["gets", "4098"], []):
+        checks.same(f"nothing to do: {words}", python(*words), ([], 1))
+    lock(checks, at, python, ocactl)
+
+
+def parts(line):
+    """ONo, class, container and role of a line of the list."""
+    return re.fullmatch(r'(\d+) (\S+) (\d+) "(.*)" "[^"]*"', line).groups()
+
+
+def lock(checks, at, python, ocactl):
+    """Locks that the example holds while its input is open."""
+    words = [sys.executable, str(EXAMPLE), at, "lock", "4098", "4096", "4103"]
+    holder = subprocess.Popen(words, cwd=TOP, stdin=subprocess.PIPE, stdout=subprocess.PIPE, text=True)
+    checks.same("lock", [holder.stdout.readline() for _ in range(3)], ["4098 locked\n", "4096 InvalidRequest\n", "4103 locked\n"])
+    checks.same("a locked object", ocactl("set", "4103", "unmuted"), (["4103 Locked"], 4))
+    checks.same("a locked object, from Python", python("set", "4105", "1", "4103", "unmuted"), ([], 1))
+    checks.same("others", python("set", "4105", "1", "4104", "inverted"), (["4105 1", "4104 inverted"], 0))
+    checks.same("of a refusal", python("lock", "4098", stdin=subprocess.DEVNULL), (["4098 Locked"], 4))
+    rest, _ = holder.communicate("\n", timeout=120)
+    checks.same("unlock", (rest, holder.returncode), ("4098 unlocked\n4103 unlocked\n", 4))
+    checks.same("an unlocked object", ocactl("set", "4103", "unmuted"), (["4103 unmuted"], 0))
+
+
+class Watch:
+    """What a controller sends into a bad network, held against the rules, and how many of its commands were in flight."""
+
+    def __init__(self, network):
+        self.network, self.carries, self.accepts = network, network.carry, network.accept
+        network.carry, network.accept = self.carry, self.accept
+        self.senders, self.sent, self.copies, self.wrong, self.answered = set(), {}, {}, [], set()
+        self.most = self.alive = 0
+
+    def accept(self, inward, data):
+        if inward:
+            self.senders.add(self.network.controller)
+            self.note(data)
+        self.accepts(inward, data)
+
+    def carry(self, inward, data):
+        if not inward:
+            self.answered |= {message[0] for kind, *message in oca.check(data) if kind == "response"}
+        self.carries(inward, data)
+
+    def note(self, data):
+        """A datagram that the controller sent, held against the rules."""
+        (kind, *message), *more = oca.check(data)
+        if more or kind == "response" or data[7] == 0:
+            self.wrong.append("no command by itself that asks for a response, and no keep-alive")
+        elif kind == "keep-alive":
+            self.alive += 1
+        elif (handle := message[1].handle) in self.sent:
+            self.copies[handle] += 1
+            self.wrong += ["a copy that is changed"] if self.sent[handle] != data else []
+        else:
+            self.wrong += ["no next handle"] if self.sent and handle != max(self.sent) + 1 else []
+            self.sent[handle], self.copies[handle] = data, 1
+            in_flight = self.sent.keys() - self.answered
+            self.wrong += ["beyond the span"] if handle >= min(in_flight) + SPAN else []
+            self.most = max(self.most, len(in_flight))
+
+
+def over_the_network(checks, device, seed, least, *words, keep_alives=0):
+    """The example over a bad network: what it prints, with its status. It must have had so many commands in flight."""
+    network = Network(device.address, seed)
+    watch = Watch(network)
+    process = subprocess.Popen([sys.executable, str(EXAMPLE), "{}:{}".format(*network.front.getsockname()), *words], cwd=TOP,
+                               stdin=subprocess.PIPE, stdout=subprocess.PIPE, text=True)
+    end = time.monotonic() + 240
+    while process.poll() is None and time.monotonic() < end:
+        network.step()
+        if process.stdin and watch.alive >= keep_alives:
+            process.stdin.close()
+            process.stdin = None
+    process.kill()
+    for _ in range(60):    # what is still on its way
+        network.step()
+    name = words[0]
+    checks.same(f"{name}: one address and port", len(watch.senders), 1)
+    checks.same(f"{name}: the rules", watch.wrong, [])
+    checks.same(f"{name}: no command is sent more often than it may", max(watch.copies.values()) <= TRIES, True)
+    checks.same(f"{name}: in flight", watch.most, least)
+    print(f"{name}: {len(watch.sent)} commands, {watch.most} in flight; of {network.carried} datagrams {network.lost} were lost, "
+          f"{network.doubled} doubled and {network.overtaken} overtaken", flush=True)
+    return process.stdout.read().splitlines(), process.wait(), watch
+
+
+def at_a_loss(checks, device):
+    """The example over a bad network; what was executed of it is checked once the device has ended."""
+    sets = [(ono, "muted") for ono in MUTES] + [(ono, str(ono - 4100)) for ono in TRIMS]
+    asked = [word for ono, value in sets for word in (str(ono), value)]
+    printed, status, first = over_the_network(checks, device, 1, SPAN, "set", *asked)
+    checks.same("set at a loss", (printed, status), ([f"{ono} {value}" for ono, value in sets], 0))
+    printed, status, second = over_the_network(checks, device, 2, SPAN, "get", *map(str, [*MUTES, *TRIMS]))
+    wanted = [f"{ono} {value}{' (-600 to 600)' if ono in TRIMS else ''}" for ono, value in sets]
+    checks.same("get at a loss", (printed, status), (wanted, 0))
+    printed, status, third = over_the_network(checks, device, 3, SPAN, "list")
+    checks.same("list at a loss", (len(printed), status), (42, 0))
+    printed, status, fourth = over_the_network(checks, device, 4, 2, "lock", "4098", "4100", keep_alives=2)
+    checks.same("lock at a loss", (printed, status), (["4098 locked", "4100 locked", "4098 unlocked", "4100 unlocked"], 0))
+    checks.same("locks are held by keep-alives", fourth.alive >= 2, True)
+    watches = [first, second, third, fourth]
+    carried = [sum(counts) for counts in zip(*((it.network.lost, it.network.doubled, it.network.overtaken) for it in watches))]
+    checks.same("datagrams were lost, doubled and overtaken", min(carried) > 20, True)
+    return watches
+
+
+def executed_once(checks, device, watches):
+    """Each command that a network brought was executed once, and none was too old but behind its answer."""
+    for watch in watches:
+        executed, old, reused = device.executed(watch.network.back.getsockname()[1])
+        checks.same("executed once", (executed, reused), (len(watch.sent), 0))
+        checks.same("too old", old <= watch.network.behind.copies, True)
+
+
+def worked(checks, folder):
+    """The table of worked bytes, row by row."""
+    rows = re.findall(ROW, (TOP / "docs/PROTOCOL.md").read_text())
+    rows = [[it.replace(" ", "").lower() for it in row] for row in rows]
+    checks.same("rows", len(rows) > 30, True)
+    script = "".join(f"{at} 127.0.0.1:9001 {oca.pdu(1, [bytes.fromhex(asked)]).hex()}\n" for at, (asked, _) in enumerate(rows))
+    printed, status = ran(f"{folder}/ocadev", "replay", input=script)
+    checks.same("replayed", (printed[::2], status), (["served 1 0 0"] * len(rows), 0))
+    for (asked, wanted), line in zip(rows, printed[1::2]):
+        got, shown = line[2 + 20:], wanted.split("...")[0]
+        checks.same(f"what answers {asked}", got[:len(shown)] if "..." in wanted else got, shown)
+
+
+def main():
+    checks, folder = Checks(), str(Path(sys.argv[1]).resolve())
+    rules(checks, example())
+    wrong_ones(checks)
+    worked(checks, folder)
+    with Device(folder) as device:
+        runs(checks, folder, device)
+        watches = at_a_loss(checks, device)
+    executed_once(checks, device, watches)
+    print(f"{checks.passed} passed, {checks.failed} failed")
+    return 1 if checks.failed else 0
+
+
+if __name__ == "__main__":
+    sys.exit(main())
