@@ -283,6 +283,7 @@ def main(words):
         wrong += [f"no step runs tools/{name}" for name in left_out(steps, TOP / "tools")]
     for line in wrong:
         print(f"gate: FAILED: {line}", flush=True)
+    note_wrong(f"FAILED: {line}" for line in wrong)
     parts = [[step for step in part if step.is_read] for part in parts]
     with writes(), tempfile.TemporaryDirectory() as room, ThreadPoolExecutor() as others:
         early = {}

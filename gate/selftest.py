@@ -93,6 +93,14 @@ def finds_what_is_left_out(folder):
     return run.left_out(steps, tools) == ["left_out.py", "twice.py bin more"]
 
 
+def leaves_none_out():
+    """Each tool of this repository that is a program stands in a step of its gate."""
+    missing = run.left_out([step for part in run.paragraphs(HERE / "steps") for step in part], run.TOP / "tools")
+    for name in missing:
+        print(f"no step runs tools/{name}")
+    return not missing
+
+
 def goes_on_beside(folder):
     """A step that runs beside others goes on while later paragraphs run, and nothing that is no such step does."""
     file, there = folder / "steps", folder / "there"
@@ -868,7 +876,7 @@ def run_rows():
     tried += [(f"{name}.py sees differences", sees_differences(tool)) for name, tool in tools_with_checks()]
     tried += [("library.py builds as asked", builds_as_asked()), ("snippets.py compares", compares_documents()),
               ("edits.py lists each edit", lists_each_edit()), ("edits.py judges edits", judges_edits()),
-              ("the steps name enough", names_enough()),
+              ("the steps name enough", names_enough()), ("each tool stands in a step", leaves_none_out()),
               ("make library stands on its sources", stands_on_its_sources())]
     tried += [("all that is tried counts", counts_all()), ("the lanes of rt ci", knows_the_lanes()), ("edits.py counts all", counts_edits()),
               ("edits.py knows the lanes", edits_know_the_lanes()),

@@ -1,5 +1,7 @@
 #!/usr/bin/env python3
-"""Checks functions of a crate over the sources of the crates below it. No step of the gate.
+"""Checks functions of a crate over the sources of the crates below it.
+
+No step of the gate.
 
 Usage: only.py CRATE PATH..     as `rt check --only PATH` in the crate's folder
 
