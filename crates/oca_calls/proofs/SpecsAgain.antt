@@ -1,20 +1,18 @@
 -- An addition of what was written of an object makes it again.
-use Rattle.std.proofs.Common.{◌≡◌, ℕ, ◌<◌, ◌≤◌, ◌^◌, Bool, true, false, List, [], ◌∷◌, length, map, refl, sym, ap, ◌∙◌, subst, arith, ℤ, to_z, of_z, inl, inr}
+use Rattle.std.proofs.Common.{◌≡◌, ℕ, ◌<◌, ◌≤◌, ◌^◌, Bool, true, false, List, [], length, refl, sym, ap, ◌∙◌, subst, arith, ℤ, to_z, inl, inr}
 use Rattle.std.specs.Prelude.{Option, Some, None, IfSome, ◌==◌, if◌then◌else◌, pos, negsuc, ◌≤ℤ◌, FitsSigned}
-use Rattle.std.specs.Int.{Width, w8, w16, w32, w64, FitsUnsigned, cast_unsigned, from_bool}
+use Rattle.std.specs.Int.{w64, cast_unsigned, from_bool}
 use Rattle.std.specs.Option.{option_and_then, option_map}
 use Rattle.std.proofs.lemmas.Int.{to_z-of_z, to_z_pos}
 use Rattle.std.proofs.Math.Facts.{sfits_widen, to_z_inj, Fits-of_lt}
 use Rattle.oca_types.specs.declared.class.Class.{Class}
 use Rattle.oca_types.specs.declared.class.Class.TheVariants as class
-use Rattle.oca_model.specs.declared.value.MuteState.{MuteState}
-use Rattle.oca_model.specs.declared.value.PolarityState.{PolarityState}
 use Rattle.oca_model.specs.declared.value.Value.{Value}
 use Rattle.oca_model.specs.declared.value.Value.TheVariants as values
 use Rattle.oca_model.specs.declared.reading.Ranged.{Ranged}
 use Rattle.oca_model.specs.declared.reading.Reading.{Reading}
 use Rattle.oca_model.specs.declared.reading.Reading.TheVariants as readings
-use Rattle.oca_model.specs.Values.{IsOfItsType, class_of_value, mute_number, polarity_number}
+use Rattle.oca_model.specs.Values.{IsOfItsType, class_of_value}
 use Rattle.oca_tree.specs.declared.object.NumberKind.{NumberKind}
 use Rattle.oca_tree.specs.declared.object.NumberKind.TheVariants as number_kinds
 use Rattle.oca_tree.specs.declared.object.Object.{Object}
@@ -22,24 +20,19 @@ use Rattle.oca_tree.specs.declared.object.Value.{Value as Held}
 use Rattle.oca_tree.specs.declared.object.Value.TheVariants as held
 use Rattle.oca_tree.specs.declared.builder.Kind.{Kind}
 use Rattle.oca_tree.specs.declared.builder.Kind.TheVariants as kinds
-use Rattle.oca_tree.specs.declared.builder.Spec.{Spec}
-use Rattle.oca_tree.specs.declared.start.Start.{Start}
 use Rattle.oca_tree.specs.declared.tree.Setting.{Setting}
 use Rattle.oca_tree.specs.declared.tree.Setting.TheVariants as settings
 use Rattle.oca_tree.specs.Building.{value_of}
-use Rattle.oca_tree.specs.Copies.{Describe, DescriptionMakesAgain, Stored, stored_in, stored_of, stored_at, flags_in, names_in, names_of_ono, names_of_one, lockable_at}
+use Rattle.oca_tree.specs.Copies.{DescriptionMakesAgain, Stored, stored_of, flags_in, names_in, names_of_ono, names_of_one}
 use Rattle.oca_tree.specs.Kinds.{number_class, IsOfType}
-use Rattle.oca_tree.specs.Objects.{class_of, object_of}
-use Rattle.oca_tree.specs.Readers.{info_of, setting_at, value_setting}
+use Rattle.oca_tree.specs.Objects.{class_of}
+use Rattle.oca_tree.specs.Readers.{value_setting}
 use Rattle.oca_tree.specs.Starts.{flags_of}
 use Rattle.oca_tree.specs.Trees.{IsSoundValue}
-use Rattle.oca_calls.specs.declared.spec_words.SpecWords.{SpecWords}
 use Rattle.oca_calls.specs.declared.value_words.ReadingWords.{ReadingWords}
-use Rattle.oca_calls.specs.declared.value_words.ValueWords.{ValueWords}
 use Rattle.oca_calls.specs.Calls.{IsSwitch, name_bytes}
-use Rattle.oca_calls.specs.CSpecs.{AreReadingOf, AreSettingWords, GivesKind, GivesSpec, GivesStart, HasBits, IsKindOf, IsNumberWords, IsSpecOf, WrittenMakesAgain, alone, flags_for, is_yes, position_flags, position_words, ranged, reading_of_values, texts_of, int8_in, int16_in, int32_in, int64_in, uint8_in, uint16_in, uint32_in, uint64_in}
+use Rattle.oca_calls.specs.CSpecs.{AreSettingWords, GivesKind, HasBits, IsKindOf, WrittenMakesAgain, flags_for, is_yes, position_flags, ranged, reading_of_values, texts_of, int8_in, int16_in, int32_in, int64_in, uint8_in, uint16_in, uint32_in, uint64_in}
 use Rattle.oca_calls.specs.CValues.{AreWordsOf, IsWords, words_of}
-use Rattle.oca_calls.specs.FrontCalls.{has_integers}
 use Rattle.oca_calls.specs.Outputs.{class_number}
 
 -- ---- classes
@@ -63,35 +56,14 @@ class_at_number n =
 
 number_back : (c : Class) → class_at_number (class_number c) ≡ Some c
 number_back class.Block = refl
-number_back class.Mute = refl
-number_back class.Polarity = refl
-number_back class.Switch = refl
-number_back class.Boolean = refl
-number_back class.Int8 = refl
-number_back class.Int16 = refl
-number_back class.Int32 = refl
-number_back class.Int64 = refl
-number_back class.Uint8 = refl
-number_back class.Uint16 = refl
-number_back class.Uint32 = refl
-number_back class.Uint64 = refl
+number_back _ = refl
 
 same_class : (a b : Class) → class_number a ≡ class_number b → a ≡ b
 same_class a b e = let f : Some a ≡ Some b = sym (number_back a) ∙ ap class_at_number e ∙ number_back b in cc
 
 words_class : (v : Value) → (words_of v).class_number ≡ class_number (class_of_value v)
 words_class (values.Mute s) = refl
-words_class (values.Polarity s) = refl
-words_class (values.Switch n) = refl
-words_class (values.Boolean b) = refl
-words_class (values.Int8 n) = refl
-words_class (values.Int16 n) = refl
-words_class (values.Int32 n) = refl
-words_class (values.Int64 n) = refl
-words_class (values.Uint8 n) = refl
-words_class (values.Uint16 n) = refl
-words_class (values.Uint32 n) = refl
-words_class (values.Uint64 n) = refl
+words_class _ = refl
 
 abbrev kind_of_class : Class → Option NumberKind
 kind_of_class class.Int8 = Some number_kinds.Int8
@@ -106,13 +78,7 @@ kind_of_class _ = None
 
 kind_back : (k : NumberKind) → kind_of_class (number_class k) ≡ Some k
 kind_back number_kinds.Int8 = refl
-kind_back number_kinds.Int16 = refl
-kind_back number_kinds.Int32 = refl
-kind_back number_kinds.Int64 = refl
-kind_back number_kinds.Uint8 = refl
-kind_back number_kinds.Uint16 = refl
-kind_back number_kinds.Uint32 = refl
-kind_back number_kinds.Uint64 = refl
+kind_back _ = refl
 
 same_kind : (j k : NumberKind) → number_class j ≡ number_class k → j ≡ k
 same_kind j k e = let f : Some j ≡ Some k = sym (kind_back j) ∙ ap kind_of_class e ∙ kind_back k in cc
@@ -131,30 +97,21 @@ words_number c p (Some (settings.Number setting least greatest)) w is = is.0.cla
 
 mute_setting : (h : Held) (p : ℕ) (w : ReadingWords) → class_of h ≡ class.Mute → AreSettingWords (class_number (class_of h)) p (value_setting h) w → value_setting h ≡ Some (settings.State w.value.bits)
 unfolding class_of value_setting
-mute_setting held.Block p w e is = cc
 mute_setting (held.Mute s) p w e is = ap (λ (x : ReadingWords). Some (settings.State x.value.bits)) (sym is)
-mute_setting (held.Polarity s) p w e is = cc
-mute_setting (held.Switch s) p w e is = cc
-mute_setting (held.Boolean b) p w e is = cc
 mute_setting (held.Number range) p w e is = absurd (no_kind class.Mute range.kind refl (sym e))
+mute_setting _ p w e is = cc
 
 polarity_setting : (h : Held) (p : ℕ) (w : ReadingWords) → class_of h ≡ class.Polarity → AreSettingWords (class_number (class_of h)) p (value_setting h) w → value_setting h ≡ Some (settings.State w.value.bits)
 unfolding class_of value_setting
-polarity_setting held.Block p w e is = cc
-polarity_setting (held.Mute s) p w e is = cc
 polarity_setting (held.Polarity s) p w e is = ap (λ (x : ReadingWords). Some (settings.State x.value.bits)) (sym is)
-polarity_setting (held.Switch s) p w e is = cc
-polarity_setting (held.Boolean b) p w e is = cc
 polarity_setting (held.Number range) p w e is = absurd (no_kind class.Polarity range.kind refl (sym e))
+polarity_setting _ p w e is = cc
 
 switch_setting : (h : Held) (p : ℕ) (w : ReadingWords) → class_of h ≡ class.Switch → AreSettingWords (class_number (class_of h)) p (value_setting h) w → value_setting h ≡ Some (settings.Position w.value.bits)
 unfolding class_of value_setting
-switch_setting held.Block p w e is = cc
-switch_setting (held.Mute s) p w e is = cc
-switch_setting (held.Polarity s) p w e is = cc
 switch_setting (held.Switch s) p w e is = ap (λ (x : ReadingWords). Some (settings.Position x.value.bits)) (sym is)
-switch_setting (held.Boolean b) p w e is = cc
 switch_setting (held.Number range) p w e is = absurd (no_kind class.Switch range.kind refl (sym e))
+switch_setting _ p w e is = cc
 
 -- a truth, by its number
 same_truth : (a b : Bool) → from_bool a ≡ from_bool b → a ≡ b
@@ -165,12 +122,9 @@ same_truth false false e = refl
 
 truth_setting : (h : Held) (p : ℕ) (w : ReadingWords) (truth : Bool) → class_of h ≡ class.Boolean → AreSettingWords (class_number (class_of h)) p (value_setting h) w → w.value.bits ≡ from_bool truth → value_setting h ≡ Some (settings.Truth truth)
 unfolding class_of value_setting
-truth_setting held.Block p w truth e is f = cc
-truth_setting (held.Mute s) p w truth e is f = cc
-truth_setting (held.Polarity s) p w truth e is f = cc
-truth_setting (held.Switch s) p w truth e is f = cc
 truth_setting (held.Boolean b) p w truth e is f = ap (λ x. Some (settings.Truth x)) (same_truth b truth (sym (ap (λ (x : ReadingWords). x.value.bits) is) ∙ f))
 truth_setting (held.Number range) p w truth e is f = absurd (no_kind class.Boolean range.kind refl (sym e))
+truth_setting _ p w truth e is f = cc
 
 -- how a number is set: three numbers of the type, each by its bits
 record IsNumber (h : Held) (k : NumberKind) (w : ReadingWords) : Type 0 where
@@ -248,124 +202,36 @@ ranged_back f n (Some least) None r e = cc
 ranged_back f n (Some least) (Some greatest) r e = (least, greatest, refl, refl, cc)
 
 int8_back : (l : Option Value) (m : ℤ) → int8_in l ≡ Some m → l ≡ Some (values.Int8 m)
-int8_back None m e = cc
-int8_back (Some (values.Mute s)) m e = cc
-int8_back (Some (values.Polarity s)) m e = cc
-int8_back (Some (values.Switch n)) m e = cc
-int8_back (Some (values.Boolean b)) m e = cc
 int8_back (Some (values.Int8 n)) m e = cc
-int8_back (Some (values.Int16 n)) m e = cc
-int8_back (Some (values.Int32 n)) m e = cc
-int8_back (Some (values.Int64 n)) m e = cc
-int8_back (Some (values.Uint8 n)) m e = cc
-int8_back (Some (values.Uint16 n)) m e = cc
-int8_back (Some (values.Uint32 n)) m e = cc
-int8_back (Some (values.Uint64 n)) m e = cc
+int8_back _ m e = cc
 
 int16_back : (l : Option Value) (m : ℤ) → int16_in l ≡ Some m → l ≡ Some (values.Int16 m)
-int16_back None m e = cc
-int16_back (Some (values.Mute s)) m e = cc
-int16_back (Some (values.Polarity s)) m e = cc
-int16_back (Some (values.Switch n)) m e = cc
-int16_back (Some (values.Boolean b)) m e = cc
-int16_back (Some (values.Int8 n)) m e = cc
 int16_back (Some (values.Int16 n)) m e = cc
-int16_back (Some (values.Int32 n)) m e = cc
-int16_back (Some (values.Int64 n)) m e = cc
-int16_back (Some (values.Uint8 n)) m e = cc
-int16_back (Some (values.Uint16 n)) m e = cc
-int16_back (Some (values.Uint32 n)) m e = cc
-int16_back (Some (values.Uint64 n)) m e = cc
+int16_back _ m e = cc
 
 int32_back : (l : Option Value) (m : ℤ) → int32_in l ≡ Some m → l ≡ Some (values.Int32 m)
-int32_back None m e = cc
-int32_back (Some (values.Mute s)) m e = cc
-int32_back (Some (values.Polarity s)) m e = cc
-int32_back (Some (values.Switch n)) m e = cc
-int32_back (Some (values.Boolean b)) m e = cc
-int32_back (Some (values.Int8 n)) m e = cc
-int32_back (Some (values.Int16 n)) m e = cc
 int32_back (Some (values.Int32 n)) m e = cc
-int32_back (Some (values.Int64 n)) m e = cc
-int32_back (Some (values.Uint8 n)) m e = cc
-int32_back (Some (values.Uint16 n)) m e = cc
-int32_back (Some (values.Uint32 n)) m e = cc
-int32_back (Some (values.Uint64 n)) m e = cc
+int32_back _ m e = cc
 
 int64_back : (l : Option Value) (m : ℤ) → int64_in l ≡ Some m → l ≡ Some (values.Int64 m)
-int64_back None m e = cc
-int64_back (Some (values.Mute s)) m e = cc
-int64_back (Some (values.Polarity s)) m e = cc
-int64_back (Some (values.Switch n)) m e = cc
-int64_back (Some (values.Boolean b)) m e = cc
-int64_back (Some (values.Int8 n)) m e = cc
-int64_back (Some (values.Int16 n)) m e = cc
-int64_back (Some (values.Int32 n)) m e = cc
 int64_back (Some (values.Int64 n)) m e = cc
-int64_back (Some (values.Uint8 n)) m e = cc
-int64_back (Some (values.Uint16 n)) m e = cc
-int64_back (Some (values.Uint32 n)) m e = cc
-int64_back (Some (values.Uint64 n)) m e = cc
+int64_back _ m e = cc
 
 uint8_back : (l : Option Value) (m : ℕ) → uint8_in l ≡ Some m → l ≡ Some (values.Uint8 m)
-uint8_back None m e = cc
-uint8_back (Some (values.Mute s)) m e = cc
-uint8_back (Some (values.Polarity s)) m e = cc
-uint8_back (Some (values.Switch n)) m e = cc
-uint8_back (Some (values.Boolean b)) m e = cc
-uint8_back (Some (values.Int8 n)) m e = cc
-uint8_back (Some (values.Int16 n)) m e = cc
-uint8_back (Some (values.Int32 n)) m e = cc
-uint8_back (Some (values.Int64 n)) m e = cc
 uint8_back (Some (values.Uint8 n)) m e = cc
-uint8_back (Some (values.Uint16 n)) m e = cc
-uint8_back (Some (values.Uint32 n)) m e = cc
-uint8_back (Some (values.Uint64 n)) m e = cc
+uint8_back _ m e = cc
 
 uint16_back : (l : Option Value) (m : ℕ) → uint16_in l ≡ Some m → l ≡ Some (values.Uint16 m)
-uint16_back None m e = cc
-uint16_back (Some (values.Mute s)) m e = cc
-uint16_back (Some (values.Polarity s)) m e = cc
-uint16_back (Some (values.Switch n)) m e = cc
-uint16_back (Some (values.Boolean b)) m e = cc
-uint16_back (Some (values.Int8 n)) m e = cc
-uint16_back (Some (values.Int16 n)) m e = cc
-uint16_back (Some (values.Int32 n)) m e = cc
-uint16_back (Some (values.Int64 n)) m e = cc
-uint16_back (Some (values.Uint8 n)) m e = cc
 uint16_back (Some (values.Uint16 n)) m e = cc
-uint16_back (Some (values.Uint32 n)) m e = cc
-uint16_back (Some (values.Uint64 n)) m e = cc
+uint16_back _ m e = cc
 
 uint32_back : (l : Option Value) (m : ℕ) → uint32_in l ≡ Some m → l ≡ Some (values.Uint32 m)
-uint32_back None m e = cc
-uint32_back (Some (values.Mute s)) m e = cc
-uint32_back (Some (values.Polarity s)) m e = cc
-uint32_back (Some (values.Switch n)) m e = cc
-uint32_back (Some (values.Boolean b)) m e = cc
-uint32_back (Some (values.Int8 n)) m e = cc
-uint32_back (Some (values.Int16 n)) m e = cc
-uint32_back (Some (values.Int32 n)) m e = cc
-uint32_back (Some (values.Int64 n)) m e = cc
-uint32_back (Some (values.Uint8 n)) m e = cc
-uint32_back (Some (values.Uint16 n)) m e = cc
 uint32_back (Some (values.Uint32 n)) m e = cc
-uint32_back (Some (values.Uint64 n)) m e = cc
+uint32_back _ m e = cc
 
 uint64_back : (l : Option Value) (m : ℕ) → uint64_in l ≡ Some m → l ≡ Some (values.Uint64 m)
-uint64_back None m e = cc
-uint64_back (Some (values.Mute s)) m e = cc
-uint64_back (Some (values.Polarity s)) m e = cc
-uint64_back (Some (values.Switch n)) m e = cc
-uint64_back (Some (values.Boolean b)) m e = cc
-uint64_back (Some (values.Int8 n)) m e = cc
-uint64_back (Some (values.Int16 n)) m e = cc
-uint64_back (Some (values.Int32 n)) m e = cc
-uint64_back (Some (values.Int64 n)) m e = cc
-uint64_back (Some (values.Uint8 n)) m e = cc
-uint64_back (Some (values.Uint16 n)) m e = cc
-uint64_back (Some (values.Uint32 n)) m e = cc
 uint64_back (Some (values.Uint64 n)) m e = cc
+uint64_back _ m e = cc
 
 -- ---- the value that is made again
 
@@ -381,22 +247,12 @@ has_positions _ = false
 
 number_has_none : (k : NumberKind) → has_positions (number_class k) ≡ false
 number_has_none number_kinds.Int8 = refl
-number_has_none number_kinds.Int16 = refl
-number_has_none number_kinds.Int32 = refl
-number_has_none number_kinds.Int64 = refl
-number_has_none number_kinds.Uint8 = refl
-number_has_none number_kinds.Uint16 = refl
-number_has_none number_kinds.Uint32 = refl
-number_has_none number_kinds.Uint64 = refl
+number_has_none _ = refl
 
 nameless : (h : Held) → has_positions (class_of h) ≡ false → names_in h ≡ []
 unfolding class_of names_in
-nameless held.Block e = refl
-nameless (held.Mute s) e = refl
-nameless (held.Polarity s) e = refl
 nameless (held.Switch s) e = cc
-nameless (held.Boolean b) e = refl
-nameless (held.Number range) e = refl
+nameless _ e = refl
 
 plain_same : (u h : Held) (c : Class) → has_positions c ≡ false → class_of u ≡ c → class_of h ≡ c → value_setting u ≡ value_setting h → Same u h
 plain_same u h c none cu ch s = record {
@@ -408,28 +264,14 @@ plain_same u h c none cu ch s = record {
 block_setting : (h : Held) → class_of h ≡ class.Block → None ≡ value_setting h
 unfolding class_of value_setting
 block_setting held.Block e = refl
-block_setting (held.Mute s) e = cc
-block_setting (held.Polarity s) e = cc
-block_setting (held.Switch s) e = cc
-block_setting (held.Boolean b) e = cc
 block_setting (held.Number range) e = absurd (no_kind class.Block range.kind refl (sym e))
+block_setting _ e = cc
 
 switch_is : (kind : Kind) (texts : List (List ℕ)) (n : ℕ) → IsSwitch kind texts n
     → (class_of (value_of kind) ≡ class.Switch) × (value_setting (value_of kind) ≡ Some (settings.Position n)) × (names_in (value_of kind) ≡ texts)
 unfolding value_of class_of value_setting names_in
-switch_is kinds.Block texts n is = absurd is
-switch_is (kinds.Mute s) texts n is = absurd is
-switch_is (kinds.Polarity s) texts n is = absurd is
 switch_is (kinds.Switch names at) texts n is = (refl, ap (λ x. Some (settings.Position x)) is.1, is.0)
-switch_is (kinds.Boolean b) texts n is = absurd is
-switch_is (kinds.Int8 x a b) texts n is = absurd is
-switch_is (kinds.Int16 x a b) texts n is = absurd is
-switch_is (kinds.Int32 x a b) texts n is = absurd is
-switch_is (kinds.Int64 x a b) texts n is = absurd is
-switch_is (kinds.Uint8 x a b) texts n is = absurd is
-switch_is (kinds.Uint16 x a b) texts n is = absurd is
-switch_is (kinds.Uint32 x a b) texts n is = absurd is
-switch_is (kinds.Uint64 x a b) texts n is = absurd is
+switch_is _ texts n is = absurd is
 
 module _ (h : Held) (p : ℕ) (w : ReadingWords) (texts : List (List ℕ)) (kind : Kind) (sound : IsSoundValue h) (is : AreSettingWords (class_number (class_of h)) p (value_setting h) w) (named : texts ≡ names_in h) where
   class_is : (c : Class) → w.value.class_number ≡ class_number c → class_of h ≡ c
@@ -579,56 +421,27 @@ module _ (h : Held) (p : ℕ) (w : ReadingWords) (texts : List (List ℕ)) (kind
 
 flags_for_none : (kind : Kind) (flags : List Bool) → has_positions (class_of (value_of kind)) ≡ false → flags_for kind flags ≡ None
 unfolding value_of class_of
-flags_for_none kinds.Block flags e = refl
-flags_for_none (kinds.Mute s) flags e = refl
-flags_for_none (kinds.Polarity s) flags e = refl
 flags_for_none (kinds.Switch names at) flags e = cc
-flags_for_none (kinds.Boolean b) flags e = refl
-flags_for_none (kinds.Int8 n a b) flags e = refl
-flags_for_none (kinds.Int16 n a b) flags e = refl
-flags_for_none (kinds.Int32 n a b) flags e = refl
-flags_for_none (kinds.Int64 n a b) flags e = refl
-flags_for_none (kinds.Uint8 n a b) flags e = refl
-flags_for_none (kinds.Uint16 n a b) flags e = refl
-flags_for_none (kinds.Uint32 n a b) flags e = refl
-flags_for_none (kinds.Uint64 n a b) flags e = refl
+flags_for_none _ flags e = refl
 
 flags_for_some : (kind : Kind) (flags : List Bool) → has_positions (class_of (value_of kind)) ≡ true → flags_for kind flags ≡ Some flags
 unfolding value_of class_of
-flags_for_some kinds.Block flags e = cc
-flags_for_some (kinds.Mute s) flags e = cc
-flags_for_some (kinds.Polarity s) flags e = cc
 flags_for_some (kinds.Switch names at) flags e = refl
-flags_for_some (kinds.Boolean b) flags e = cc
-flags_for_some (kinds.Int8 n a b) flags e = cc
-flags_for_some (kinds.Int16 n a b) flags e = cc
-flags_for_some (kinds.Int32 n a b) flags e = cc
-flags_for_some (kinds.Int64 n a b) flags e = cc
-flags_for_some (kinds.Uint8 n a b) flags e = cc
-flags_for_some (kinds.Uint16 n a b) flags e = cc
-flags_for_some (kinds.Uint32 n a b) flags e = cc
-flags_for_some (kinds.Uint64 n a b) flags e = cc
+flags_for_some _ flags e = cc
 
 flags_in_none : (h : Held) → has_positions (class_of h) ≡ false → flags_in h ≡ None
 unfolding class_of flags_in
-flags_in_none held.Block e = refl
-flags_in_none (held.Mute s) e = refl
-flags_in_none (held.Polarity s) e = refl
 flags_in_none (held.Switch s) e = cc
-flags_in_none (held.Boolean b) e = refl
-flags_in_none (held.Number range) e = refl
+flags_in_none _ e = refl
 
 true_false : true ≡ false → ⊥
 true_false e = cc
 
 flags_in_some : (h : Held) → has_positions (class_of h) ≡ true → (xs : List Bool) × (flags_in h ≡ Some xs)
 unfolding class_of flags_in
-flags_in_some held.Block e = cc
-flags_in_some (held.Mute s) e = cc
-flags_in_some (held.Polarity s) e = cc
 flags_in_some (held.Switch s) e = (s.enableds.items, refl)
-flags_in_some (held.Boolean b) e = cc
 flags_in_some (held.Number range) e = absurd (true_false (sym e ∙ number_has_none range.kind))
+flags_in_some _ e = cc
 
 some_flags : (flags : Option (List Bool)) (xs mine : List Bool) → Some xs ≡ flags → IfSome flags (λ them. them ≡ mine) → Some mine ≡ flags
 some_flags None xs mine g f = cc

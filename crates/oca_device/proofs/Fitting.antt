@@ -50,20 +50,7 @@ answer_bytes tree o r = length (answer_encoding (answer_given tree o r))
 status_short : (tree : List Object) (peer : Peer) (o : Object) (r : Request) (s : Status) → (s ≡ status.Ok → answer_bytes tree o r ≤ 1452) →
     length (by_status tree peer (Some o) (Ok r) s).parameters ≤ 1452
 status_short tree peer o r status.Ok h = h refl
-status_short tree peer o r status.ProtocolVersionError h = none_long
-status_short tree peer o r status.DeviceError h = none_long
-status_short tree peer o r status.Locked h = none_long
-status_short tree peer o r status.BadFormat h = none_long
-status_short tree peer o r status.BadOno h = none_long
-status_short tree peer o r status.ParameterError h = none_long
-status_short tree peer o r status.ParameterOutOfRange h = none_long
-status_short tree peer o r status.NotImplemented h = none_long
-status_short tree peer o r status.InvalidRequest h = none_long
-status_short tree peer o r status.ProcessingFailed h = none_long
-status_short tree peer o r status.BadMethod h = none_long
-status_short tree peer o r status.PartiallySucceeded h = none_long
-status_short tree peer o r status.Timeout h = none_long
-status_short tree peer o r status.BufferOverflow h = none_long
+status_short tree peer o r _ h = none_long
 
 found_short : (tree : List Object) (peer : Peer) (c : CommandFields) (o : Option Object) (asked : Result Request ValueFault) → asked_at o (kind_at o c) c ≡ asked →
     length (by_status tree peer o asked (status_of tree peer o c)).parameters ≤ 1452

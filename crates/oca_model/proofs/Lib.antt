@@ -1,6 +1,7 @@
 pub mod Steps
 pub mod ReadBack
 pub mod Understood
-pub mod Asked
+pub mod AskedBy
 pub mod Answered
 pub mod Pairs
+pub mod Carried

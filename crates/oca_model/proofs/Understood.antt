@@ -1,5 +1,5 @@
 -- What a panel asks is what the device understands.
-use Rattle.std.proofs.Common.{◌≡◌, ℕ, ◌<◌, ◌^◌, ◌≤◌, Bool, List, [], ◌∷◌, ◌++◌, length, refl, sym, ap, ◌∙◌, append-nil, arith}
+use Rattle.std.proofs.Common.{◌≡◌, ℕ, ◌<◌, ◌^◌, ◌≤◌, Bool, List, [], ◌∷◌, ◌++◌, length, refl, sym, ap, ◌∙◌, arith}
 use Rattle.std.specs.Prelude.{Option, Some, Ok}
 use Rattle.std.specs.Int.{w16}
 use Rattle.oca_types.specs.declared.class.Class.{Class}
@@ -10,7 +10,7 @@ use Rattle.oca_types.specs.Numbers.{unsigned_encoding, bool_encoding}
 use Rattle.oca_types.specs.Reading.{unsigned_at, bool_at, text_at}
 use Rattle.oca_types.specs.Texts.{text_encoding}
 use Rattle.oca_model.specs.declared.request.Request.{Request}
-use Rattle.oca_model.specs.declared.request.Request.TheVariants.{GetClassIdentification, GetLockable, LockTotal, LockReadonly, Unlock, GetRole, GetEnabled, SetEnabled, GetLabel, SetLabel, GetOwner, GetMembers, GetMembersRecursive, Get, Set, GetPositionName, SetPositionName, GetPositionNames, GetPositionEnabled, SetPositionEnabled, GetPositionEnableds, SetPositionNames, SetPositionEnableds}
+use Rattle.oca_model.specs.declared.request.Request.TheVariants.{SetEnabled, SetLabel, Get, Set, GetPositionName, SetPositionName, GetPositionEnabled, SetPositionEnabled, SetPositionNames, SetPositionEnableds}
 use Rattle.oca_model.specs.declared.value.Value.{Value}
 use Rattle.oca_model.specs.declared.value.Value.TheVariants as value
 use Rattle.oca_model.specs.Lists.{IsText, Each, list_encoding, list_of_most}
@@ -105,29 +105,17 @@ get_understood class.Uint64 m e = setting_understood class.Uint64 m cc
 module _ (of : Class) (m : Method) where
   pub understood : (r : Request) → IsRequest r → AskedBy of r m → request_in of m (count_of r) (parameters_of r) ≡ Ok r
   unfolding request_in parameters_of
-  understood GetClassIdentification is e = rw e refl
-  understood GetLockable is e = rw e refl
-  understood LockTotal is e = rw e refl
-  understood LockReadonly is e = rw e refl
-  understood Unlock is e = rw e refl
-  understood GetRole is e = rw e refl
-  understood GetEnabled is e = rw e refl
   understood (SetEnabled truth) is e = rw (e, bool_whole truth) refl
-  understood GetLabel is e = rw e refl
   understood (SetLabel label) is e = rw (e, whole_of _ text_encoding text_at front_of_text label is) refl
-  understood GetOwner is e = rw e refl
-  understood GetMembers is e = rw e refl
-  understood GetMembersRecursive is e = rw e refl
   understood Get is e = get_understood of m e
   understood (Set v) is e = ap (λ x. request_in of x 1 (value_encoding v)) e.1 ∙ set_understood of v e.0 is
   understood (GetPositionName n) is e = rw (e, position_whole n is) refl
   understood (SetPositionName n name) is e = rw (e, behind text_at n (text_encoding name) name is.0 (text_end name is.1)) refl
-  understood GetPositionNames is e = rw e refl
   understood (GetPositionEnabled n) is e = rw (e, position_whole n is) refl
   understood (SetPositionEnabled n truth) is e = rw (e, behind bool_at n (bool_encoding truth) truth is (bool_end truth)) refl
-  understood GetPositionEnableds is e = rw e refl
   understood (SetPositionNames names) is e = rw (e, names_whole names.items is.0 is.1) refl
   understood (SetPositionEnableds flags) is e = rw (e, flags_whole flags.items is) refl
+  understood _ is e = rw e refl
 
 pub requests_understood : RequestsAreUnderstood
 requests_understood of r m is e = understood of m r is e

@@ -9,6 +9,7 @@ pub mod ValueNumbers
 pub mod Readings
 pub mod ValueRequests
 pub mod Requests
+pub mod HeldRequests
 pub mod Answers
 pub mod Words
 pub mod Statuses

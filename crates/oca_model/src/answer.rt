@@ -1,8 +1,11 @@
 //! What is answered to a request: for a device to put, for a panel to read.
 ghost use Rattle.std.specs.Prelude.{◌≡◌};
 ghost use Rattle.std.specs.Option.{option_map};
+ghost use Rattle.oca_types.specs.Numbers.{bool_encoding};
 ghost use Rattle.oca_types.specs.Putting.{Puts};
 ghost use Rattle.oca_types.specs.Reading.{text_at};
+ghost use Rattle.oca_types.specs.Texts.{text_encoding};
+ghost use Rattle.oca_model.specs.Lists.{list_encoding};
 ghost use Rattle.oca_model.specs.Parameters.{whole};
 ghost use Rattle.oca_model.specs.Answers.{shape_of, answer_count, answer_encoding, answer_in, switch_names_in};
 ghost use Rattle.oca_model.specs.Answers.{shaped_in};
@@ -106,6 +109,20 @@ pub fn read_names(params: &[u8]) -> Option<Names>
     read_list(params)
 }
 
+/// Appends the names of positions as an OcaList of texts (AES70-3). Refusal: `Full`.
+pub fn put_names(params: &mut Params, names: &Names) -> Result<(), PutFault>
+    ensures { Puts result params.old.items params.new.items (list_encoding text_encoding names.now.items) }
+{
+    put_list(params, names.as_slice())
+}
+
+/// Appends which positions are enabled, as an OcaList of Booleans (AES70-3). Refusal: `Full`.
+pub fn put_flags(params: &mut Params, flags: &Flags) -> Result<(), PutFault>
+    ensures { Puts result params.old.items params.new.items (list_encoding bool_encoding flags.now.items) }
+{
+    put_list(params, flags.as_slice())
+}
+
 /// The answer of this kind that the parameters are. Nothing where they are no such answer.
 fn shaped(shape: Shape, class: Class, params: &[u8]) -> Option<Answer>
     ensures { result ≡ shaped_in shape class params.now }
@@ -155,8 +172,8 @@ impl Answer {
             Answer::Text(text) => put_text(params, text),
             Answer::Owner(ono) => ono.0.put_item(params),
             Answer::Reading(reading) => reading.put(params),
-            Answer::Names(names) => put_list(params, names.as_slice()),
-            Answer::Flags(flags) => put_list(params, flags.as_slice()),
+            Answer::Names(names) => put_names(params, names),
+            Answer::Flags(flags) => put_flags(params, flags),
             Answer::Class(class) => put_class_identification(params, *class),
             Answer::Members(members) => put_list(params, members.as_slice()),
             Answer::Descendants(all) => put_list(params, all.as_slice()),

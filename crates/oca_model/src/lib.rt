@@ -8,6 +8,8 @@
 #![tactic(auto)]
 
 mod answer;
+mod asked;
+mod held;
 mod item;
 mod laws;
 mod list;
@@ -21,7 +23,11 @@ mod value_number;
 mod value_request;
 mod words;
 
-pub use answer::{Answer, Descendants, Members, Shape, read_names, read_text, shape_of};
+pub use answer::{
+    Answer, Descendants, Members, Shape, put_flags, put_names, read_names, read_text, shape_of,
+};
+pub use asked::Asked;
+pub use held::{HeldText, HeldTexts};
 pub use laws::{law_of_answers, law_of_readings, law_of_requests, law_of_values};
 pub use member::{
     ClassFields, Descendant, MOST_FIELDS, MOST_MEMBERS, Member, MemberNumbers, class_with,

@@ -1,25 +1,19 @@
 //! What is asked of an object: for a panel to put, for a device to read.
 ghost use Rattle.std.specs.Prelude.{◌≡◌, ◌<◌, length, IfOk, IfErr, IfSome, IfNone};
-ghost use Rattle.std.specs.Result.{result_map_both};
 ghost use Rattle.oca_types.specs.Methods.{method_kind, access};
 ghost use Rattle.oca_types.specs.Putting.{Puts};
 ghost use Rattle.oca_types.specs.Sizes.{most_parameter_bytes};
 ghost use Rattle.oca_types.specs.declared.class.Method.{Method};
 ghost use Rattle.oca_types.specs.declared.words.MethodId.{MethodId};
-ghost use Rattle.oca_model.specs.Lists.{list_of_most};
-ghost use Rattle.oca_model.specs.Parameters.{pair_at};
-ghost use Rattle.oca_model.specs.Values.{all};
 ghost use Rattle.oca_model.specs.Requests.{AskedBy, IsCallFor, IsRefusedCall, count_of, parameters_of, request_in};
-ghost use Rattle.oca_model.specs.Requests.{bare};
-ghost use Rattle.oca_model.specs.Requests.{set_in, counted};
 
+use crate::asked::Asked;
 use crate::item::Item;
-use crate::list::{put_list, read_list};
-use crate::parameters::whole;
+use crate::list::put_list;
 use crate::value::{Value, ValueFault};
 use crate::value_request::{get_method, set_method};
 use arrayvec::ArrayVec;
-use oca_types::{Class, Cursor, Method, MethodId, Params, PutFault, Text, method_id, put_text};
+use oca_types::{Class, Method, MethodId, Params, PutFault, Text, method_id, put_text};
 
 /// The names of a switch's positions, in their order.
 pub type Names = ArrayVec<Text, 16>;
@@ -94,69 +88,6 @@ pub enum RequestFault {
     OtherClass,
     /// The parameters are too long.
     Full,
-}
-
-/// The request, where there are no parameters.
-fn bare(request: Request, count: u8, params: &[u8]) -> Result<Request, ValueFault>
-    ensures { result ≡ bare request count params.now }
-{
-    if count == 0 && params.is_empty() {
-        Ok(request)
-    } else {
-        Err(ValueFault::Malformed)
-    }
-}
-
-/// The one field that is all of the parameters.
-fn one<F: Item>(count: u8, params: &[u8]) -> Result<F, ValueFault>
-    ensures { result ≡ counted 1 count (all F.read_at params.now) }
-{
-    if count != 1 {
-        return Err(ValueFault::Malformed);
-    }
-    whole(params).ok_or(ValueFault::Malformed)
-}
-
-/// The list of at most 16 items that is all of the parameters.
-fn one_list<I: Item>(count: u8, params: &[u8]) -> Result<ArrayVec<I, 16>, ValueFault>
-    ensures { result_map_both (λ v. v.items) (λ e. e) result
-        ≡ counted 1 count (all (list_of_most 16 I.read_at) params.now) }
-{
-    if count != 1 {
-        return Err(ValueFault::Malformed);
-    }
-    read_list(params).ok_or(ValueFault::Malformed)
-}
-
-/// The two fields that are all of the bytes.
-fn pair<F: Item, G: Item>(params: &[u8]) -> Option<(F, G)>
-    ensures { result ≡ Rattle.oca_model.specs.Parameters.whole (pair_at F.read_at G.read_at params.now) }
-{
-    let mut cursor = Cursor::new(params);
-    let first = F::take_item(&mut cursor).ok()?;
-    let second = G::take_item(&mut cursor).ok()?;
-    cursor.finish().ok()?;
-    Some((first, second))
-}
-
-/// The two fields that are all of the parameters.
-fn two<F: Item, G: Item>(count: u8, params: &[u8]) -> Result<(F, G), ValueFault>
-    ensures { result ≡ counted 2 count (all (pair_at F.read_at G.read_at) params.now) }
-{
-    if count != 2 {
-        return Err(ValueFault::Malformed);
-    }
-    pair(params).ok_or(ValueFault::Malformed)
-}
-
-/// What a set method asks of an object of the class.
-fn set_in(class: Class, count: u8, params: &[u8]) -> Result<Request, ValueFault>
-    ensures { result ≡ set_in class count params.now }
-{
-    if count != 1 {
-        return Err(ValueFault::Malformed);
-    }
-    Ok(Request::Set(Value::read(class, params)?))
 }
 
 impl Request {
@@ -255,9 +186,8 @@ impl Request {
         })
     }
 
-    /// What a method with these parameters asks of an object of the class. `Malformed` is the status ParameterError,
-    /// and `Unlisted` ParameterOutOfRange.
-    #[tactic(auto, unfolding(crate::specs::Requests::request_in))]
+    /// What a method with these parameters asks of an object of the class: as [`Asked::read`], with its texts copied.
+    /// `Malformed` is the status ParameterError, and `Unlisted` ParameterOutOfRange.
     pub fn read(
         class: Class,
         method: Method,
@@ -266,42 +196,9 @@ impl Request {
     ) -> Result<Request, ValueFault>
         ensures { result ≡ request_in class method count params.now }
     {
-        match method {
-            Method::GetClassIdentification => bare(Request::GetClassIdentification, count, params),
-            Method::GetLockable => bare(Request::GetLockable, count, params),
-            Method::LockTotal => bare(Request::LockTotal, count, params),
-            Method::LockReadonly => bare(Request::LockReadonly, count, params),
-            Method::Unlock => bare(Request::Unlock, count, params),
-            Method::GetRole => bare(Request::GetRole, count, params),
-            Method::GetEnabled => bare(Request::GetEnabled, count, params),
-            Method::SetEnabled => Ok(Request::SetEnabled(one(count, params)?)),
-            Method::GetLabel => bare(Request::GetLabel, count, params),
-            Method::SetLabel => Ok(Request::SetLabel(one(count, params)?)),
-            Method::GetOwner => bare(Request::GetOwner, count, params),
-            Method::GetMembers => bare(Request::GetMembers, count, params),
-            Method::GetMembersRecursive => bare(Request::GetMembersRecursive, count, params),
-            Method::GetState | Method::GetPosition | Method::GetSetting => {
-                bare(Request::Get, count, params)
-            }
-            Method::SetState | Method::SetPosition | Method::SetSetting => {
-                set_in(class, count, params)
-            }
-            Method::GetPositionName => Ok(Request::GetPositionName(one(count, params)?)),
-            Method::SetPositionName => {
-                let (position, name) = two(count, params)?;
-                Ok(Request::SetPositionName(position, name))
-            }
-            Method::GetPositionNames => bare(Request::GetPositionNames, count, params),
-            Method::GetPositionEnabled => Ok(Request::GetPositionEnabled(one(count, params)?)),
-            Method::SetPositionEnabled => {
-                let (position, truth) = two(count, params)?;
-                Ok(Request::SetPositionEnabled(position, truth))
-            }
-            Method::GetPositionEnableds => bare(Request::GetPositionEnableds, count, params),
-            Method::SetPositionNames => Ok(Request::SetPositionNames(one_list(count, params)?)),
-            Method::SetPositionEnableds => {
-                Ok(Request::SetPositionEnableds(one_list(count, params)?))
-            }
+        match Asked::read(class, method, count, params) {
+            Ok(asked) => Ok(asked.request()),
+            Err(fault) => Err(fault),
         }
     }
 }

@@ -1,5 +1,5 @@
 -- The laws of networks.
-use Rattle.std.proofs.Common.{◌≡◌, ℕ, ◌+◌, ◌*◌, ◌<◌, ◌≤◌, Bool, true, false, cond, List, [], ◌∷◌, ◌++◌, Option, Some, None, refl, sym, ap, ◌∙◌, subst, arith, ◌⊎◌, inl, inr}
+use Rattle.std.proofs.Common.{◌≡◌, ℕ, ◌+◌, ◌*◌, ◌<◌, ◌≤◌, true, false, cond, List, [], ◌∷◌, ◌++◌, Option, Some, refl, sym, ap, ◌∙◌, subst, arith, ◌⊎◌, inl, inr}
 use Rattle.std.specs.Prelude.{map, Ok}
 use Rattle.std.specs.List.{AllByRecursion, slice_get, IsDistinct}
 use Rattle.std.proofs.Math.Dec.{eqb}
@@ -26,12 +26,11 @@ use Rattle.oca_control.specs.Untaken.{Untaken}
 use Rattle.oca_pair.specs.declared.outcome.Outcome.TheVariants as outcomes
 use Rattle.oca_pair.specs.declared.start.Start.{Start}
 use Rattle.oca_pair.specs.Networks.{Network, PeerLink, SentDatagram, SubmittedCommand, TakenAnswer, opening}
-use Rattle.oca_pair.specs.Steps as steps
-use Rattle.oca_control.specs.Links.{Request}
-use Rattle.oca_pair.specs.Steps.{Step, Submit, Due, ToDevice, ToLink, Other, Take, has_link, sendings_in, after_submit, after_due_step, after_delivery, after_reception, after_take, after_step, after_steps}
+use Rattle.oca_pair.specs.Steps.{Step, sendings_in, after_steps}
 use Rattle.oca_pair.specs.Happenings.{happenings}
 use Rattle.oca_pair.specs.Premises.{are_apart, Fit, KeepsItsSession, FindsRoom}
 use Rattle.oca_pair.specs.Laws.{Execution, executions_in, executions_for, executions_under, IsAnswerOfItsCommand, handles_of, AreConsecutive, AnswersItsCommands, CarriesUntaken, IsAnswered, AnswersUntaken, ExecutesOnce}
+use Rattle.oca_pair.proofs.Fixed.{sizes_kept}
 use Rattle.oca_pair.proofs.Core.{IsServed}
 use Rattle.oca_pair.proofs.Lists.{IsIn, contains_in, in_contains, each_at, each_in, equal_is}
 use Rattle.oca_pair.proofs.Arrivals.{Keeps, keeps_before, looked_at, found_room}
@@ -254,44 +253,6 @@ delivered law w s n k now d l c some wide there of of_untaken finds keeps =
     let GoodAs : Peer → Type 0 = λ x. Good s good.0 x l.link.next l.link.untaken n.submitted (accepted_by x (past n)) in
     answered_now law w s good.0 n k now d l.link.next l.link.untaken of_untaken.untaken c wide there
     (subst FairAs of_untaken.peer of.fair) (subst KeptAs of_untaken.peer (of.kept before)) (subst GoodAs of_untaken.peer good.1) (contains_in of_untaken.untaken l.link.untaken of_untaken.held) of_untaken.command of_untaken.bytes finds keeps
-
-sizes_kept : (es : List Step) (n : Network) → (after_steps es n).sizes ≡ n.sizes
-sizes_kept [] n = refl
-sizes_kept (step ∷ es) n = sizes_kept es (after_step step n) ∙ one step
-  where
-    by_submit : (i : ℕ) (r : Request) (now : ℕ) (o : Option PeerLink) → (after_submit i r now o n).sizes ≡ n.sizes
-    by_submit i r now None = refl
-    by_submit i r now (Some l) = refl
-
-    by_due : (i now : ℕ) (o : Option PeerLink) → (after_due_step i now o n).sizes ≡ n.sizes
-    by_due i now None = refl
-    by_due i now (Some l) = refl
-
-    by_delivery : (now : ℕ) (o : Option SentDatagram) → (after_delivery now o n).sizes ≡ n.sizes
-    by_delivery now None = refl
-    by_delivery now (Some d) = refl
-
-    by_reception : (now : ℕ) (o : Option SentDatagram) → (after_reception now o n).sizes ≡ n.sizes
-    by_reception now None = refl
-    by_reception now (Some d) = refl
-
-    by_other : (from : Peer) (bytes : List ℕ) (now : ℕ) (b : Bool) → (let m : Network = cond b n (record n { events = Datagram from bytes now ∷ n.events }) in m).sizes ≡ n.sizes
-    by_other from bytes now true = refl
-    by_other from bytes now false = refl
-
-    by_take : (i h : ℕ) (o : Option PeerLink) → (after_take i h o n).sizes ≡ n.sizes
-    by_take i h None = refl
-    by_take i h (Some l) = refl
-
-    one : (step : Step) → (after_step step n).sizes ≡ n.sizes
-    one (Submit i r now) = by_submit i r now (slice_get n.links i)
-    one (Due i now) = by_due i now (slice_get n.links i)
-    one (ToDevice k now) = by_delivery now (slice_get n.to_device k)
-    one (ToLink k now) = by_reception now (slice_get n.to_links k)
-    one (Other from bytes now) = by_other from bytes now (has_link from n.links)
-    one (steps.Tick now) = refl
-    one (steps.Local ono value) = refl
-    one (Take i h) = by_take i h (slice_get n.links i)
 
 pub never_old_law : WrittenIsReadBack → (w : DeviceSizes) (s : ℕ) (tree : List Object) (starts : List Start) (es : List Step) → 0 < s → 2 * s ≤ w.window + 1 → are_apart starts ≡ true → Fit starts es →
     AnswersUntaken (after_steps es (opening w s tree starts))

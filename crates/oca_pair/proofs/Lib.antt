@@ -14,6 +14,7 @@ pub mod Keeping
 pub mod Span
 pub mod Room
 pub mod Networks
+pub mod Fixed
 pub mod Lawful
 pub mod RoundTrip
 pub mod GettingThrough

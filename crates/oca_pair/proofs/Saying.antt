@@ -38,6 +38,7 @@ use Rattle.oca_pair.specs.Laws.{Execution, executions_for, executions_under, Was
 use Rattle.oca_pair.specs.GettingThrough.{copy_of}
 use Rattle.oca_pair.specs.InTime.{AreInTime, IsAnswerOfOneExecution}
 use Rattle.oca_pair.specs.Saying.{objects_held, HappensWith, HappensIn, IsOfOneExecutionSince, RefusalsChangeNothing, ClassesStay, OfEachAnswer}
+use Rattle.oca_pair.proofs.Fixed.{tree_kept}
 use Rattle.oca_pair.proofs.Core.{none_passes}
 use Rattle.oca_pair.proofs.Lists.{IsIn, contains_in, in_more, in_last, in_parts, each_at, each_in, same_is, same_turned, equal_is}
 use Rattle.oca_pair.proofs.Wire.{IsSendable, read_command, read_keep_alive}
@@ -505,44 +506,6 @@ refused_law law w s tree starts before later i l request now h answer apart fit 
     }
 
 -- ---- class
-
-pub tree_kept : (es : List Step) (n : Network) → (after_steps es n).tree ≡ n.tree
-tree_kept [] n = refl
-tree_kept (step ∷ es) n = tree_kept es (after_step step n) ∙ one step
-  where
-    by_submit : (i : ℕ) (r : Request) (now : ℕ) (o : Option PeerLink) → (after_submit i r now o n).tree ≡ n.tree
-    by_submit i r now None = refl
-    by_submit i r now (Some l) = refl
-
-    by_due : (i now : ℕ) (o : Option PeerLink) → (after_due_step i now o n).tree ≡ n.tree
-    by_due i now None = refl
-    by_due i now (Some l) = refl
-
-    by_delivery : (now : ℕ) (o : Option SentDatagram) → (after_delivery now o n).tree ≡ n.tree
-    by_delivery now None = refl
-    by_delivery now (Some d) = refl
-
-    by_reception : (now : ℕ) (o : Option SentDatagram) → (after_reception now o n).tree ≡ n.tree
-    by_reception now None = refl
-    by_reception now (Some d) = refl
-
-    by_other : (from : Peer) (bytes : List ℕ) (now : ℕ) (b : Bool) → (let m : Network = cond b n (record n { events = Datagram from bytes now ∷ n.events }) in m).tree ≡ n.tree
-    by_other from bytes now true = refl
-    by_other from bytes now false = refl
-
-    by_take : (i h : ℕ) (o : Option PeerLink) → (after_take i h o n).tree ≡ n.tree
-    by_take i h None = refl
-    by_take i h (Some l) = refl
-
-    one : (step : Step) → (after_step step n).tree ≡ n.tree
-    one (Submit i r now) = by_submit i r now (slice_get n.links i)
-    one (Due i now) = by_due i now (slice_get n.links i)
-    one (ToDevice k now) = by_delivery now (slice_get n.to_device k)
-    one (ToLink k now) = by_reception now (slice_get n.to_links k)
-    one (Other from bytes now) = by_other from bytes now (has_link from n.links)
-    one (steps.Tick now) = refl
-    one (steps.Local ono value) = refl
-    one (Take i h) = by_take i h (slice_get n.links i)
 
 pub class_law : ClassesStay
 class_law w s tree starts es number =

@@ -44,7 +44,8 @@ use Rattle.oca_pair.specs.Happenings.{happenings}
 use Rattle.oca_pair.specs.Laws.{Execution, answer_of}
 use Rattle.oca_pair.specs.Saying.{HappensIn, IsOfOneExecutionSince, objects_left, is_of_every_class, CommandAsks, AnswersTyped, IsAnsweredByItsObject, OksSayWhatIsHeld, ReadingsWereHeld, SettingsWereMade, ClassesMetAreThoseAtFirst, OfEachAnswer}
 use Rattle.oca_pair.proofs.ObjectsKept.{found_in, number_of, IsGood, ok_found, execution_status, objects_good, class_stays}
-use Rattle.oca_pair.proofs.Saying.{between_law, tree_kept}
+use Rattle.oca_pair.proofs.Fixed.{tree_kept}
+use Rattle.oca_pair.proofs.Saying.{between_law}
 use Rattle.oca_pair.proofs.InTime.{same_some}
 
 -- ---- what every class answers alike
@@ -75,19 +76,8 @@ row_of_its_class (row ∷ rows) index m each e = by (index == row.0) (row_of_its
     by false further h = further h
 
 rows_of_its_class : (of : Class) → Each IsOfItsClass (class_methods of).1
-rows_of_its_class class.Block = (refl, (refl, tt))
-rows_of_its_class class.Mute = (refl, (refl, tt))
-rows_of_its_class class.Polarity = (refl, (refl, tt))
 rows_of_its_class class.Switch = (refl, (refl, (refl, (refl, (refl, (refl, (refl, (refl, (refl, (refl, tt))))))))))
-rows_of_its_class class.Boolean = (refl, (refl, tt))
-rows_of_its_class class.Int8 = (refl, (refl, tt))
-rows_of_its_class class.Int16 = (refl, (refl, tt))
-rows_of_its_class class.Int32 = (refl, (refl, tt))
-rows_of_its_class class.Int64 = (refl, (refl, tt))
-rows_of_its_class class.Uint8 = (refl, (refl, tt))
-rows_of_its_class class.Uint16 = (refl, (refl, tt))
-rows_of_its_class class.Uint32 = (refl, (refl, tt))
-rows_of_its_class class.Uint64 = (refl, (refl, tt))
+rows_of_its_class _ = (refl, (refl, tt))
 
 -- a class has a method of every class where another one does
 common_kind : (of other : Class) (id : MethodId) (m : Method) → is_common m ≡ true → method_kind of id ≡ Known m (access m) → method_kind other id ≡ Known m (access m)
@@ -130,43 +120,12 @@ common_method of (asked.SetEnabled truth) m e a = ap is_common a
 common_method of asked.GetLabel m e a = ap is_common a
 common_method of (asked.SetLabel label) m e a = ap is_common a
 common_method of asked.GetOwner m e a = ap is_common a
-common_method of asked.GetMembers m e a = absurd (cc)
-common_method of asked.GetMembersRecursive m e a = absurd (cc)
-common_method of asked.Get m e a = absurd (cc)
-common_method of (asked.Set value) m e a = absurd (cc)
-common_method of (asked.GetPositionName n) m e a = absurd (cc)
-common_method of (asked.SetPositionName n name) m e a = absurd (cc)
-common_method of asked.GetPositionNames m e a = absurd (cc)
-common_method of (asked.SetPositionNames names) m e a = absurd (cc)
-common_method of (asked.GetPositionEnabled n) m e a = absurd (cc)
-common_method of (asked.SetPositionEnabled n truth) m e a = absurd (cc)
-common_method of asked.GetPositionEnableds m e a = absurd (cc)
-common_method of (asked.SetPositionEnableds flags) m e a = absurd (cc)
+common_method of _ m e a = absurd (cc)
 
 common_asked : (of other : Class) (r : Asked) (m : Method) → is_of_every_class r ≡ true → AskedBy of r m → AskedBy other r m
-common_asked of other asked.GetClassIdentification m e a = a
-common_asked of other asked.GetLockable m e a = a
-common_asked of other asked.LockTotal m e a = a
-common_asked of other asked.LockReadonly m e a = a
-common_asked of other asked.Unlock m e a = a
-common_asked of other asked.GetRole m e a = a
-common_asked of other asked.GetEnabled m e a = a
-common_asked of other (asked.SetEnabled truth) m e a = a
-common_asked of other asked.GetLabel m e a = a
-common_asked of other (asked.SetLabel label) m e a = a
-common_asked of other asked.GetOwner m e a = a
-common_asked of other asked.GetMembers m e a = a
-common_asked of other asked.GetMembersRecursive m e a = a
 common_asked of other asked.Get m e a = absurd (cc)
 common_asked of other (asked.Set value) m e a = absurd (cc)
-common_asked of other (asked.GetPositionName n) m e a = a
-common_asked of other (asked.SetPositionName n name) m e a = a
-common_asked of other asked.GetPositionNames m e a = a
-common_asked of other (asked.SetPositionNames names) m e a = a
-common_asked of other (asked.GetPositionEnabled n) m e a = a
-common_asked of other (asked.SetPositionEnabled n truth) m e a = a
-common_asked of other asked.GetPositionEnableds m e a = a
-common_asked of other (asked.SetPositionEnableds flags) m e a = a
+common_asked of other _ m e a = a
 
 common_answer : (of other : Class) (tree : List Object) (o : Object) (r : Asked) → is_of_every_class r ≡ true → IsAnswer of (answer_given tree o r) → IsAnswer other (answer_given tree o r)
 unfolding answer_given
@@ -181,61 +140,17 @@ common_answer of other tree o (asked.SetEnabled truth) e a = a
 common_answer of other tree o asked.GetLabel e a = a
 common_answer of other tree o (asked.SetLabel label) e a = a
 common_answer of other tree o asked.GetOwner e a = a
-common_answer of other tree o asked.GetMembers e a = absurd (cc)
-common_answer of other tree o asked.GetMembersRecursive e a = absurd (cc)
-common_answer of other tree o asked.Get e a = absurd (cc)
-common_answer of other tree o (asked.Set value) e a = absurd (cc)
-common_answer of other tree o (asked.GetPositionName n) e a = absurd (cc)
-common_answer of other tree o (asked.SetPositionName n name) e a = absurd (cc)
-common_answer of other tree o asked.GetPositionNames e a = absurd (cc)
-common_answer of other tree o (asked.SetPositionNames names) e a = absurd (cc)
-common_answer of other tree o (asked.GetPositionEnabled n) e a = absurd (cc)
-common_answer of other tree o (asked.SetPositionEnabled n truth) e a = absurd (cc)
-common_answer of other tree o asked.GetPositionEnableds e a = absurd (cc)
-common_answer of other tree o (asked.SetPositionEnableds flags) e a = absurd (cc)
+common_answer of other tree o _ e a = absurd (cc)
 
 -- a request is asked by one method
 one_method : (of : Class) (r : Asked) (m n : Method) → AskedBy of r m → AskedBy of r n → m ≡ n
-one_method of asked.GetClassIdentification m n a b = a ∙ sym b
-one_method of asked.GetLockable m n a b = a ∙ sym b
-one_method of asked.LockTotal m n a b = a ∙ sym b
-one_method of asked.LockReadonly m n a b = a ∙ sym b
-one_method of asked.Unlock m n a b = a ∙ sym b
-one_method of asked.GetRole m n a b = a ∙ sym b
-one_method of asked.GetEnabled m n a b = a ∙ sym b
-one_method of (asked.SetEnabled truth) m n a b = a ∙ sym b
-one_method of asked.GetLabel m n a b = a ∙ sym b
-one_method of (asked.SetLabel label) m n a b = a ∙ sym b
-one_method of asked.GetOwner m n a b = a ∙ sym b
-one_method of asked.GetMembers m n a b = a ∙ sym b
-one_method of asked.GetMembersRecursive m n a b = a ∙ sym b
 one_method of asked.Get m n a b = same_some m n (sym a ∙ b)
 one_method of (asked.Set value) m n a b = a.1 ∙ sym b.1
-one_method of (asked.GetPositionName k) m n a b = a ∙ sym b
-one_method of (asked.SetPositionName k name) m n a b = a ∙ sym b
-one_method of asked.GetPositionNames m n a b = a ∙ sym b
-one_method of (asked.SetPositionNames names) m n a b = a ∙ sym b
-one_method of (asked.GetPositionEnabled k) m n a b = a ∙ sym b
-one_method of (asked.SetPositionEnabled k truth) m n a b = a ∙ sym b
-one_method of asked.GetPositionEnableds m n a b = a ∙ sym b
-one_method of (asked.SetPositionEnableds flags) m n a b = a ∙ sym b
+one_method of _ m n a b = a ∙ sym b
 
 ok_status : (s : Status) → status_number s ≡ 0 → s ≡ statuses.Ok
 ok_status statuses.Ok e = refl
-ok_status statuses.ProtocolVersionError e = absurd (cc)
-ok_status statuses.DeviceError e = absurd (cc)
-ok_status statuses.Locked e = absurd (cc)
-ok_status statuses.BadFormat e = absurd (cc)
-ok_status statuses.BadOno e = absurd (cc)
-ok_status statuses.ParameterError e = absurd (cc)
-ok_status statuses.ParameterOutOfRange e = absurd (cc)
-ok_status statuses.NotImplemented e = absurd (cc)
-ok_status statuses.InvalidRequest e = absurd (cc)
-ok_status statuses.ProcessingFailed e = absurd (cc)
-ok_status statuses.BadMethod e = absurd (cc)
-ok_status statuses.PartiallySucceeded e = absurd (cc)
-ok_status statuses.Timeout e = absurd (cc)
-ok_status statuses.BufferOverflow e = absurd (cc)
+ok_status _ e = absurd (cc)
 
 -- the object that was put in another's place is found under its number
 there_with : (tree : List Object) (number : ℕ) (o new : Object) → object_of tree number ≡ Some o → new.ono.0 ≡ o.ono.0 → object_of (with_object tree new) number ≡ Some new

@@ -22,7 +22,7 @@ use Rattle.oca_control.specs.declared.report.DriveReport.{DriveReport}
 use Rattle.oca_control.specs.Answers.{answer_fields}
 use Rattle.oca_control.specs.Contents.{IsContent}
 use Rattle.oca_control.specs.Untaken.{answer_under}
-use Rattle.oca_control.specs.Links.{LinkState, Decision, GivesCommand, GivesKeepAlive, GivesNothing, IsLost, after_due, present_moment, decision, gone_on, late_at, received, submission, submitted, taken}
+use Rattle.oca_control.specs.Links.{LinkState, Decision, GivesCommand, IsLost, after_due, present_moment, decision, gone_on, late_at, received, submission, submitted, taken}
 use Rattle.oca_control.specs.Driving.{HearsDelivery, HearsDatagram, all_given_to, decisions_from, given_to, goes_on, link_from}
 use Rattle.oca_control.specs.Turning.{Turns, GivesAfter, decisions_in_time, link_in_time}
 use Rattle.oca_control.specs.Asking.{Begins, beginning}
@@ -119,9 +119,7 @@ none_heard now (suc n) l = by_test (goes_on (decision now l)) (none_heard now n 
 
 same_device : (d : Decision) (now : ℕ) (l : LinkState) → (after_due d now l).device ≡ l.device
 same_device (GivesCommand c) now l = refl
-same_device GivesKeepAlive now l = refl
-same_device GivesNothing now l = refl
-same_device IsLost now l = refl
+same_device _ now l = refl
 
 -- what is sent is what was decided
 all_given : (now n : ℕ) (l : LinkState) → sent_by (sends now n l) l ≡ all_given_to l.device (decisions_from now n l)

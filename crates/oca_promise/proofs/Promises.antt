@@ -175,15 +175,7 @@ shape_is class.Block m e = absurd (cc)
 shape_is class.Mute m e = let same : method.GetState ≡ m = cc in sym (ap shape_of same)
 shape_is class.Polarity m e = let same : method.GetState ≡ m = cc in sym (ap shape_of same)
 shape_is class.Switch m e = let same : method.GetPosition ≡ m = cc in sym (ap shape_of same)
-shape_is class.Boolean m e = let same : method.GetSetting ≡ m = cc in sym (ap shape_of same)
-shape_is class.Int8 m e = let same : method.GetSetting ≡ m = cc in sym (ap shape_of same)
-shape_is class.Int16 m e = let same : method.GetSetting ≡ m = cc in sym (ap shape_of same)
-shape_is class.Int32 m e = let same : method.GetSetting ≡ m = cc in sym (ap shape_of same)
-shape_is class.Int64 m e = let same : method.GetSetting ≡ m = cc in sym (ap shape_of same)
-shape_is class.Uint8 m e = let same : method.GetSetting ≡ m = cc in sym (ap shape_of same)
-shape_is class.Uint16 m e = let same : method.GetSetting ≡ m = cc in sym (ap shape_of same)
-shape_is class.Uint32 m e = let same : method.GetSetting ≡ m = cc in sym (ap shape_of same)
-shape_is class.Uint64 m e = let same : method.GetSetting ≡ m = cc in sym (ap shape_of same)
+shape_is _ m e = let same : method.GetSetting ≡ m = cc in sym (ap shape_of same)
 
 -- an answer that is one is the one that was shaped
 answer_is_shaped : (of : Class) (m : Method) (count : ℕ) (params : List ℕ) (a x : Typed) → answer_in of m count params ≡ Some x → shaped_in (shape_of m) of params ≡ Some a → answer_in of m count params ≡ Some a

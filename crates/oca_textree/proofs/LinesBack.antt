@@ -77,10 +77,6 @@ not-long t h = grind (arith, nat_tests)
 
 good-value : (v : Value) → IsSoundValue v → is_bad_value (plain_value v) ≡ false
 unfolding IsSoundValue is_bad_value plain_value
-good-value values.Block h = refl
-good-value (values.Mute state) h = refl
-good-value (values.Polarity state) h = refl
-good-value (values.Boolean truth) h = refl
 good-value (values.Number range) h =
     let above = h.above in
     let below = h.below in
@@ -95,18 +91,15 @@ good-value (values.Switch s) h =
     let b : nat_lt 16 (length s.names.items) ≡ false = grind (arith, nat_tests, few) in
     let c : nat_le (length s.names.items) s.position ≡ false = grind (arith, nat_tests, position) in
     rw (a, b, c) refl
+good-value _ h = refl
 
 good-flags : (v : Value) → IsSoundValue v → has_other_flags (flags_in v) (plain_value v) ≡ false
 unfolding IsSoundValue flags_in plain_value
-good-flags values.Block h = refl
-good-flags (values.Mute state) h = refl
-good-flags (values.Polarity state) h = refl
-good-flags (values.Boolean truth) h = refl
-good-flags (values.Number range) h = refl
 good-flags (values.Switch s) h =
     let both = h.both in
     let same : (length s.enableds.items == length s.names.items) ≡ true = grind (arith, nat_tests, both) in
     rw same refl
+good-flags _ h = refl
 
 pub record Fitting (tree : List Object) (o : Object) : Type 0 where
   few : length tree < 4096
@@ -354,11 +347,7 @@ built-root _ (trees.next ps p built free) = let h = built-root ps built in (h.0 
 
 block-value : (v : Value) → is_block_value v ≡ true → v ≡ values.Block
 block-value values.Block e = refl
-block-value (values.Mute state) e = absurd (cc)
-block-value (values.Polarity state) e = absurd (cc)
-block-value (values.Switch s) e = absurd (cc)
-block-value (values.Boolean truth) e = absurd (cc)
-block-value (values.Number range) e = absurd (cc)
+block-value _ e = absurd (cc)
 
 record StandsFirst (o : Object) : Type 0 where
   number : o.ono.0 ≡ 100

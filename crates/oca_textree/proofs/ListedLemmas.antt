@@ -299,14 +299,7 @@ value-texts class.Boolean rest v e =
     by-word (one_of (codes "on") (values.Boolean true) (codes "off") (values.Boolean false))
     (one-of-two (codes "on") (values.Boolean true) (codes "off") (values.Boolean false) refl refl) rest v e
 value-texts class.Switch rest v e = by-positions rest v e
-value-texts class.Int8 rest v e = by-limits _ _ _ rest v e
-value-texts class.Int16 rest v e = by-limits _ _ _ rest v e
-value-texts class.Int32 rest v e = by-limits _ _ _ rest v e
-value-texts class.Int64 rest v e = by-limits _ _ _ rest v e
-value-texts class.Uint8 rest v e = by-limits _ _ _ rest v e
-value-texts class.Uint16 rest v e = by-limits _ _ _ rest v e
-value-texts class.Uint32 rest v e = by-limits _ _ _ rest v e
-value-texts class.Uint64 rest v e = by-limits _ _ _ rest v e
+value-texts _ rest v e = by-limits _ _ _ rest v e
 
 -- ---- what the tree does not refuse
 

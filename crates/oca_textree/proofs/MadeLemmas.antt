@@ -37,19 +37,8 @@ use Rattle.oca_textree.proofs.LinesBack.{tree-back}
 -- the flag of a kind says whether a name of its value is long
 bad-name : (k : Kind) → has_bad_name k ≡ list_any is_long (names_in (value_of k))
 unfolding value_of names_in
-bad-name given.Block = refl
-bad-name (given.Mute state) = refl
-bad-name (given.Polarity state) = refl
 bad-name (given.Switch names position) = sym (any-map is_long names.now)
-bad-name (given.Boolean truth) = refl
-bad-name (given.Int8 a b c) = refl
-bad-name (given.Int16 a b c) = refl
-bad-name (given.Int32 a b c) = refl
-bad-name (given.Int64 a b c) = refl
-bad-name (given.Uint8 a b c) = refl
-bad-name (given.Uint16 a b c) = refl
-bad-name (given.Uint32 a b c) = refl
-bad-name (given.Uint64 a b c) = refl
+bad-name _ = refl
 
 not-refused : (room : ℕ) (tree : List Object) (block number : ℕ) (spec : Spec) → add_fault room tree block number spec ≡ None → HasShortTexts spec.role.now (has_bad_name spec.kind)
 unfolding add_fault

@@ -96,40 +96,22 @@ sound-found tree n o h found =
 -- an integer of a type fits a line
 pub integer-of : (k : NumberKind) (z : ℤ) → IsOfType k z → IsInteger z
 integer-of kinds.Int8 z h = record { above = omega (arith, ints); below = omega (arith, ints) }
-integer-of kinds.Int16 z h = record { above = omega (arith, ints); below = omega (arith, ints) }
-integer-of kinds.Int32 z h = record { above = omega (arith, ints); below = omega (arith, ints) }
-integer-of kinds.Int64 z h = record { above = omega (arith, ints); below = omega (arith, ints) }
-integer-of kinds.Uint8 z h = record { above = omega (arith, ints); below = omega (arith, ints) }
-integer-of kinds.Uint16 z h = record { above = omega (arith, ints); below = omega (arith, ints) }
-integer-of kinds.Uint32 z h = record { above = omega (arith, ints); below = omega (arith, ints) }
-integer-of kinds.Uint64 z h = record { above = omega (arith, ints); below = omega (arith, ints) }
+integer-of _ z h = record { above = omega (arith, ints); below = omega (arith, ints) }
 
 written-value : (v : Value) → IsSoundValue v → IsWritten (value_setting v)
 unfolding value_setting IsSoundValue
-written-value values.Block h = tt
-written-value (values.Mute state) h = tt
-written-value (values.Polarity state) h = tt
-written-value (values.Switch switch) h = tt
-written-value (values.Boolean truth) h = tt
 written-value (values.Number range) h = (integer-of range.kind range.setting h.setting, integer-of range.kind range.least h.least, integer-of range.kind range.greatest h.greatest)
+written-value _ h = tt
 
 few-names : (v : Value) → IsSoundValue v → length (names_in v) ≤ 16
 unfolding names_in IsSoundValue
-few-names values.Block h = omega arith
-few-names (values.Mute state) h = omega arith
-few-names (values.Polarity state) h = omega arith
 few-names (values.Switch switch) h = h.few
-few-names (values.Boolean truth) h = omega arith
-few-names (values.Number range) h = omega arith
+few-names _ h = omega arith
 
 few-flags : (v : Value) → IsSoundValue v → few_flags (flags_in v) ≤ 16
 unfolding flags_in IsSoundValue
-few-flags values.Block h = omega arith
-few-flags (values.Mute state) h = omega arith
-few-flags (values.Polarity state) h = omega arith
 few-flags (values.Switch switch) h = omega (arith, h.few, h.both)
-few-flags (values.Boolean truth) h = omega arith
-few-flags (values.Number range) h = omega arith
+few-flags _ h = omega arith
 
 -- what is printed of each object of a tree fits a line
 pub fits : (tree : List Object) → IsTree tree → (n : ℕ) → Fits tree n

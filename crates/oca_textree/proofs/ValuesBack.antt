@@ -171,11 +171,7 @@ value-back (values.Switch s) rest h names =
 pub flagged : (v : Value) → with_flags (flags_in v) (plain_value v) ≡ v
 unfolding plain_value flags_in
 flagged values.Block = refl
-flagged (values.Mute state) = refl
-flagged (values.Polarity state) = refl
-flagged (values.Switch s) = refl
-flagged (values.Boolean truth) = refl
-flagged (values.Number range) = refl
+flagged _ = refl
 
 -- ---- no control character stands in it
 
@@ -192,13 +188,7 @@ number-shown : (k : NumberKind) (s l g : ℤ) → has_control (range_fields l g 
     → has_control (class_before (number_class k) ++ set_fields (number_class k) (Some (Number s l g)) [] None) ≡ false
 unfolding class_before set_fields
 number-shown kinds.Int8 s l g h = h
-number-shown kinds.Int16 s l g h = h
-number-shown kinds.Int32 s l g h = h
-number-shown kinds.Int64 s l g h = h
-number-shown kinds.Uint8 s l g h = h
-number-shown kinds.Uint16 s l g h = h
-number-shown kinds.Uint32 s l g h = h
-number-shown kinds.Uint64 s l g h = h
+number-shown _ s l g h = h
 
 -- a value is written without a control character
 pub value-shown : (v : Value) → IsSoundValue v → All IsShortText (names_in v) → has_control (fields_of v) ≡ false

@@ -36,13 +36,7 @@ kind_for _ = kinds.Uint64
 
 kind_back : (k : NumberKind) → kind_for (number_class k) ≡ k
 kind_back kinds.Int8 = refl
-kind_back kinds.Int16 = refl
-kind_back kinds.Int32 = refl
-kind_back kinds.Int64 = refl
-kind_back kinds.Uint8 = refl
-kind_back kinds.Uint16 = refl
-kind_back kinds.Uint32 = refl
-kind_back kinds.Uint64 = refl
+kind_back _ = refl
 
 -- what a value is, by its class, its setting, the names and the flags of its positions
 abbrev again_number : Class → Option Setting → Value
@@ -79,13 +73,7 @@ again c s names flags = again_number c s
 
 again_of_number : (k : NumberKind) (s : Option Setting) (names : List (List ℕ)) (flags : Option (List Bool)) → again (number_class k) s names flags ≡ again_number (number_class k) s
 again_of_number kinds.Int8 s names flags = refl
-again_of_number kinds.Int16 s names flags = refl
-again_of_number kinds.Int32 s names flags = refl
-again_of_number kinds.Int64 s names flags = refl
-again_of_number kinds.Uint8 s names flags = refl
-again_of_number kinds.Uint16 s names flags = refl
-again_of_number kinds.Uint32 s names flags = refl
-again_of_number kinds.Uint64 s names flags = refl
+again_of_number _ s names flags = refl
 
 -- each value is that
 itself : (v : Value) → again (class_of v) (value_setting v) (names_in v) (flags_in v) ≡ v
@@ -121,19 +109,8 @@ flagged (values.Number range) fs =
 
 -- flags are those of a switch alone
 ignored : (c : Class) (s : Option Setting) (names : List (List ℕ)) (flags : Option (List Bool)) → (c ≡ class.Switch → ⊥) → again c s names flags ≡ again c s names None
-ignored class.Block s names flags other = refl
-ignored class.Mute s names flags other = refl
-ignored class.Polarity s names flags other = refl
 ignored class.Switch s names flags other = absurd (other refl)
-ignored class.Boolean s names flags other = refl
-ignored class.Int8 s names flags other = refl
-ignored class.Int16 s names flags other = refl
-ignored class.Int32 s names flags other = refl
-ignored class.Int64 s names flags other = refl
-ignored class.Uint8 s names flags other = refl
-ignored class.Uint16 s names flags other = refl
-ignored class.Uint32 s names flags other = refl
-ignored class.Uint64 s names flags other = refl
+ignored _ s names flags other = refl
 
 -- whether it is the class of switches
 abbrev is_switch : Class → Bool
@@ -142,13 +119,7 @@ is_switch _ = false
 
 not_number : (k : NumberKind) → is_switch (number_class k) ≡ false
 not_number kinds.Int8 = refl
-not_number kinds.Int16 = refl
-not_number kinds.Int32 = refl
-not_number kinds.Int64 = refl
-not_number kinds.Uint8 = refl
-not_number kinds.Uint16 = refl
-not_number kinds.Uint32 = refl
-not_number kinds.Uint64 = refl
+not_number _ = refl
 
 clash : true ≡ false → ⊥
 clash e = cc

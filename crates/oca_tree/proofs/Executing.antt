@@ -1,6 +1,6 @@
 -- What a command does, from what each of its steps found.
-use Rattle.std.proofs.Common.{◌≡◌, ℕ, ◌<◌, ◌≤◌, Bool, true, false, List, [], length, get_or, set, refl, sym, ap, ◌∙◌, arith, eqb-true}
-use Rattle.std.specs.Prelude.{Option, Some, None, Result, Ok, Err, nat_lt, ◌==◌}
+use Rattle.std.proofs.Common.{◌≡◌, ℕ, ◌<◌, ◌≤◌, Bool, true, false, cond, List, [], ◌∷◌, length, get_or, set, refl, sym, ap, ◌∙◌, arith, eqb-true}
+use Rattle.std.specs.Prelude.{Option, Some, None, Result, Ok, Err, not, nat_lt, ◌==◌}
 use Rattle.std.specs.List.{position}
 use Rattle.std.proofs.lemmas.List.{set-get_or}
 use Rattle.oca_types.specs.declared.words.Peer.{Peer}
@@ -13,18 +13,21 @@ use Rattle.oca_types.specs.declared.class.Class.{Class}
 use Rattle.oca_types.specs.declared.words.MethodId.{MethodId}
 use Rattle.oca_types.specs.Methods.{access, method_kind, kind_from, row_at, own_methods, is_left_out}
 use Rattle.oca_types.specs.Peers.{CommandFields}
+use Rattle.oca_model.specs.declared.request.Request.{Request}
+use Rattle.oca_model.specs.declared.value.ValueFault.{ValueFault}
+use Rattle.oca_model.specs.declared.value.ValueFault.TheVariants.{Malformed, Unlisted}
+use Rattle.oca_model.specs.Answers.{answer_encoding, answer_count}
+use Rattle.oca_model.specs.Requests.{request_in}
 use Rattle.oca_tree.specs.declared.object.Object.{Object}
-use Rattle.oca_tree.specs.declared.request.Request.{Request}
-use Rattle.oca_tree.specs.Objects.{object_of, has_number, with_object}
-use Rattle.oca_tree.specs.PrivateRequests.{request_carried, is_out_of_range, is_invalid}
-use Rattle.oca_tree.specs.PrivateExecution.{execution_in_bytes, own_carried_out, parameters, answer, parameter_count, changed, own_status, by_own_status, request_at}
-use Rattle.oca_tree.specs.Execution.{refused, kind_at}
+use Rattle.oca_tree.specs.Objects.{class_of, object_of, has_number, with_object}
+use Rattle.oca_tree.specs.Requests.{fits_positions, asks_out_of_range, asks_invalid}
+use Rattle.oca_tree.specs.Typed.{answer_given, changed_by}
+use Rattle.oca_tree.specs.Execution.{kind_at, asked_at, status_of, by_status, carried_out, refused, execution}
 use Rattle.oca_tree.specs.Trees.{IsTree, IsSound}
 use Rattle.oca_tree.specs.Written.{is_ok}
-use Rattle.oca_tree.specs.PrivateSteps.{plain_request, MayCall, IsRefusedAt, IsRequestFor, PutsAll, ExecutesInBytes}
-use Rattle.oca_tree.proofs.Plain.{plain_asks, plain_in_range, plain_valid, plain_unchanged}
+use Rattle.oca_tree.specs.PrivateSteps.{plain_request, status_of_fault, refusal_of, MayCall, IsRefusedAt, IsUnderstood, PutsAnswer, Executes}
+use Rattle.oca_tree.proofs.Plain.{plain}
 use Rattle.oca_tree.proofs.Positions.{find_some, find_passes, place_found, with_object_at, same_element}
-use Rattle.oca_tree.proofs.Asked.{request_fits}
 use Rattle.oca_tree.proofs.Sound.{changed_place, changed_ono, changed_sound, written_tree}
 
 -- the access of a method that a class knows is the method's
@@ -37,47 +40,85 @@ known_access class id method reached e = by (row_at (own_methods class id.level)
     by None false h = cc
     by (Some m) left h = cc
 
-pub request_ok : (o : Object) (peer : Peer) (c : CommandFields) (method : Method) (r : Request) → MayCall method o peer c
-    → request_carried o.value method c.count c.params ≡ Some r → is_out_of_range o.value r ≡ false → is_invalid o.lockable o.lock r ≡ false
-    → IsRequestFor (Ok r) o peer c
-request_ok o peer c method r (kind, free) asked within valid =
-    (rw kind asked, within, valid, λ tree. rw (kind, free, asked, within, valid) refl)
+-- ---- one object
 
--- a method that only reads and has no parameters, without any
-pub plain_ok : (o : Object) (peer : Peer) (c : CommandFields) (method : Method) (r : Request) → MayCall method o peer c → plain_request method ≡ Some r
-    → c.count ≡ 0 → length c.params ≡ 0 → IsRequestFor (Ok r) o peer c
-plain_ok o peer c method r may plain none empty =
-    let asked : request_carried o.value method c.count c.params ≡ Some r = plain_asks method r plain o.value c.count c.params ∙ rw (none, empty) refl in
-    request_ok o peer c method r may asked (plain_in_range method r plain o.value) (plain_valid method r plain o.lockable o.lock)
+module _ (o : Object) (peer : Peer) (c : CommandFields) (method : Method) (may : MayCall method o peer c) where
+  abbrev Refuses : Status → Type 0
+  Refuses s = IsRefusedAt s o peer c × (is_ok s ≡ false)
+
+  pub not_understood : (fault : ValueFault) → request_in (class_of o.value) method c.count c.params ≡ Err fault → Refuses (status_of_fault fault)
+  not_understood Malformed asked = (λ tree. rw (may.0, may.1, asked) refl, refl)
+  not_understood Unlisted asked = (λ tree. rw (may.0, may.1, asked) refl, refl)
+
+  module _ (r : Request) (asked : request_in (class_of o.value) method c.count c.params ≡ Ok r) where
+    pub request_ok : fits_positions o.value r ≡ true → asks_out_of_range o.value r ≡ false → asks_invalid o r ≡ false → IsUnderstood r o peer c
+    request_ok fits within valid = record {
+      asked = rw may.0 asked;
+      fits = fits;
+      within = within;
+      valid = valid;
+      ends = λ tree. rw (may.0, may.1, asked, fits, within, valid) refl;
+    }
+
+    abbrev first : Bool → Bool → Bool → Option Status
+    first fits out invalid = cond (not fits) (Some statuses.ParameterError) (cond out (Some statuses.ParameterOutOfRange) (cond invalid (Some statuses.InvalidRequest) None))
+
+    pub understood : refusal_of o r ≡ None → IsUnderstood r o peer c
+    understood e = by (fits_positions o.value r) (asks_out_of_range o.value r) (asks_invalid o r) refl refl refl e
+      where
+        by : (fits out invalid : Bool) → fits_positions o.value r ≡ fits → asks_out_of_range o.value r ≡ out → asks_invalid o r ≡ invalid → first fits out invalid ≡ None → IsUnderstood r o peer c
+        by true false false f w v h = request_ok f w v
+        by true false true f w v h = let no : ⊥ = cc in absurd no
+        by true true invalid f w v h = let no : ⊥ = cc in absurd no
+        by false out invalid f w v h = let no : ⊥ = cc in absurd no
+
+    pub refuses : (s : Status) → refusal_of o r ≡ Some s → Refuses s
+    refuses s e = by (fits_positions o.value r) (asks_out_of_range o.value r) (asks_invalid o r) refl refl refl e
+      where
+        by : (fits out invalid : Bool) → fits_positions o.value r ≡ fits → asks_out_of_range o.value r ≡ out → asks_invalid o r ≡ invalid → first fits out invalid ≡ Some s → Refuses s
+        by true false false f w v h = let no : ⊥ = cc in absurd no
+        by true false true f w v h = let is : statuses.InvalidRequest ≡ s = cc in rw (← is) (λ tree. rw (may.0, may.1, asked, f, w, v) refl, refl)
+        by true true invalid f w v h = let is : statuses.ParameterOutOfRange ≡ s = cc in rw (← is) (λ tree. rw (may.0, may.1, asked, f, w) refl, refl)
+        by false out invalid f w v h = let is : statuses.ParameterError ≡ s = cc in rw (← is) (λ tree. rw (may.0, may.1, asked, f) refl, refl)
+
+  no_bytes : (bytes : List ℕ) → length bytes ≡ 0 → bytes ≡ []
+  no_bytes [] e = refl
+  no_bytes (b ∷ bytes) e = absurd (omega arith)
+
+  -- a method that only reads and has no parameters, without any
+  pub plain_ok : (r : Request) → plain_request method ≡ Some r → c.count ≡ 0 → length c.params ≡ 0 → IsUnderstood r o peer c
+  plain_ok r is none empty =
+      let p = plain method r is in
+      let asked : request_in (class_of o.value) method c.count c.params ≡ Ok r = rw (none, no_bytes c.params empty) (p.asked (class_of o.value)) in
+      request_ok r asked (p.fits o) (p.within o) (p.valid o)
+
+-- ---- a tree
 
 module _ (tree : List Object) (peer : Peer) (c : CommandFields) where
-  pub exec_none : object_of tree c.target ≡ None → execution_in_bytes tree peer c ≡ refused tree statuses.BadOno
-  unfolding execution_in_bytes
+  pub exec_none : object_of tree c.target ≡ None → execution tree peer c ≡ refused tree statuses.BadOno
+  unfolding execution
   exec_none e = rw e refl
 
   module _ (o : Object) (found : object_of tree c.target ≡ Some o) where
-    at_object : execution_in_bytes tree peer c ≡ by_own_status tree peer (Some o) (request_at (Some o) (kind_at (Some o) c) c) (own_status tree peer (Some o) c)
-    unfolding execution_in_bytes
-    at_object = ap (λ x. by_own_status tree peer x (request_at x (kind_at x c) c) (own_status tree peer x c)) found
+    at_object : execution tree peer c ≡ by_status tree peer (Some o) (asked_at (Some o) (kind_at (Some o) c) c) (status_of tree peer (Some o) c)
+    unfolding execution
+    at_object = ap (λ x. by_status tree peer x (asked_at x (kind_at x c) c) (status_of tree peer x c)) found
 
-    pub exec_refused : (s : Status) → IsRefusedAt s o peer c → execution_in_bytes tree peer c ≡ refused tree s
+    pub exec_refused : (s : Status) → IsRefusedAt s o peer c → execution tree peer c ≡ refused tree s
     exec_refused s h = at_object ∙ h tree
 
-    module _ (r : Request) (asked : IsRequestFor (Ok r) o peer c) where
-      with_request : by_own_status tree peer (Some o) (request_at (Some o) (kind_at (Some o) c) c) (own_status tree peer (Some o) c) ≡ by_own_status tree peer (Some o) (Some r) (own_status tree peer (Some o) c)
-      with_request = ap (λ x. by_own_status tree peer (Some o) x (own_status tree peer (Some o) c)) asked.0
+    module _ (r : Request) (asked : IsUnderstood r o peer c) where
+      abbrev long : ℕ
+      long = length (answer_encoding (answer_given tree o r))
 
-      pub exec_full : 1452 < length (answer tree o r) → execution_in_bytes tree peer c ≡ refused tree statuses.BufferOverflow
-      exec_full h =
-          let long : nat_lt 1452 (length (answer tree o r)) ≡ true = grind arith in
-          let full : own_status tree peer (Some o) c ≡ statuses.BufferOverflow = asked.3 tree ∙ (rw long refl) in
-          at_object ∙ with_request ∙ ap (by_own_status tree peer (Some o) (Some r)) full
+      with_request : execution tree peer c ≡ by_status tree peer (Some o) (Ok r) (cond (nat_lt 1452 long) statuses.BufferOverflow statuses.Ok)
+      with_request = at_object ∙ ap (λ x. by_status tree peer (Some o) x (status_of tree peer (Some o) c)) asked.asked ∙ ap (by_status tree peer (Some o) (Ok r)) (asked.ends tree)
 
-      pub exec_ok : length (answer tree o r) ≤ 1452 → execution_in_bytes tree peer c ≡ own_carried_out tree peer o r
-      exec_ok h =
-          let short : nat_lt 1452 (length (answer tree o r)) ≡ false = grind arith in
-          let fine : own_status tree peer (Some o) c ≡ statuses.Ok = asked.3 tree ∙ (rw short refl) in
-          at_object ∙ with_request ∙ ap (by_own_status tree peer (Some o) (Some r)) fine
+      pub exec_full : 1452 < long → execution tree peer c ≡ refused tree statuses.BufferOverflow
+      exec_full h = let over : nat_lt 1452 long ≡ true = grind arith in with_request ∙ rw over refl
+
+      pub exec_ok : long ≤ 1452 → execution tree peer c ≡ carried_out tree peer o r
+      exec_ok h = let fits : nat_lt 1452 long ≡ false = grind arith in with_request ∙ rw fits refl
 
 -- what was found at an index
 module _ (tree : List Object) (peer : Peer) (c : CommandFields) (i : ℕ) (o : Object) (place : Some i ≡ position (has_number c.target) tree) (here : o ≡ get_or tree i o) where
@@ -98,29 +139,32 @@ module _ (tree : List Object) (peer : Peer) (c : CommandFields) (i : ℕ) (o : O
       let numbered : (o.ono.0 == c.target) ≡ true = find_passes (has_number c.target) tree o found_at in
       with_object_at tree i c.target new (same ∙ eqb-true o.ono.0 c.target numbered) place
 
-  module _ (r : Request) (asked : IsRequestFor (Ok r) o peer c) (out : List ℕ) where
-    pub full_at : (s : Status) → PutsAll (Err s) [] out (parameters tree o r) → execution_in_bytes tree peer c ≡ refused tree s
+  module _ (r : Request) (asked : IsUnderstood r o peer c) (out : List ℕ) where
+    pub full_at : (s : Status) → PutsAnswer (Err s) [] out (answer_given tree o r) → execution tree peer c ≡ refused tree s
     full_at s (is, long) = exec_full tree peer c o found_at r asked (omega (arith, long)) ∙ ap (refused tree) (sym is)
 
-    module _ (count : ℕ) (puts : PutsAll (Ok count) [] out (parameters tree o r)) (short : length out ≤ 1452) where
-      pub done_at : execution_in_bytes tree peer c ≡ record { tree = set tree i (changed o peer r); status = statuses.Ok; count = count; parameters = out }
+    abbrev new : Object
+    new = changed_by o peer r
+
+    module _ (count : ℕ) (puts : PutsAnswer (Ok count) [] out (answer_given tree o r)) (short : length out ≤ 1452) where
+      pub done_at : execution tree peer c ≡ record { tree = set tree i new; status = statuses.Ok; count = count; parameters = out }
       done_at =
           exec_ok tree peer c o found_at r asked (rw (← puts.0) short)
-          ∙ ap (λ t. record { tree = t; status = statuses.Ok; count = parameter_count tree o r; parameters = answer tree o r }) (placed (changed o peer r) (changed_ono o peer r))
-          ∙ ap (λ n. record { tree = set tree i (changed o peer r); status = statuses.Ok; count = n; parameters = answer tree o r }) (sym puts.1)
-          ∙ ap (λ xs. record { tree = set tree i (changed o peer r); status = statuses.Ok; count = count; parameters = xs }) (sym puts.0)
+          ∙ ap (λ t. record { tree = t; status = statuses.Ok; count = answer_count (answer_given tree o r); parameters = answer_encoding (answer_given tree o r) }) (placed new (changed_ono o peer r))
+          ∙ ap (λ n. record { tree = set tree i new; status = statuses.Ok; count = n; parameters = answer_encoding (answer_given tree o r) }) (sym puts.1)
+          ∙ ap (λ xs. record { tree = set tree i new; status = statuses.Ok; count = count; parameters = xs }) (sym puts.0)
 
-    pub tree_at : IsTree tree → IsTree (set tree i (changed o peer r))
+    pub tree_at : IsTree tree → IsTree (set tree i new)
     tree_at sound =
-        let changed_here = changed_sound o peer r (sound_at sound) asked.1 asked.2 (request_fits o (kind_at (Some o) c) c r asked.0) in
-        written_tree tree i o (changed o peer r) within_at here (changed_place o peer r) changed_here sound
+        let changed_here = changed_sound o peer r (sound_at sound) asked.within asked.valid asked.fits in
+        written_tree tree i o new within_at here (changed_place o peer r) changed_here sound
 
   -- what only reads leaves the tree
   pub read_at : (method : Method) (r : Request) → MayCall method o peer c → plain_request method ≡ Some r → c.count ≡ 0 → length c.params ≡ 0
-      → (result : Result ℕ Status) (out : List ℕ) → PutsAll result [] out (parameters tree o r) → length out ≤ 1452 → ExecutesInBytes result tree tree out peer c
-  read_at method r may plain none empty (Ok count) out puts short =
-      let same : set tree i (changed o peer r) ≡ tree =
-      ap (set tree i) (plain_unchanged method r plain o peer ∙ here) ∙ set-get_or tree i o in
-      done_at r (plain_ok o peer c method r may plain none empty) out count puts short
+      → (result : Result ℕ Status) (out : List ℕ) → PutsAnswer result [] out (answer_given tree o r) → length out ≤ 1452 → Executes result tree tree out peer c
+  read_at method r may is none empty (Ok count) out puts short =
+      let same : set tree i (changed_by o peer r) ≡ tree =
+      ap (set tree i) ((plain method r is).same o peer ∙ here) ∙ set-get_or tree i o in
+      done_at r (plain_ok o peer c method may r is none empty) out count puts short
       ∙ ap (λ t. record { tree = t; status = statuses.Ok; count = count; parameters = out }) same
-  read_at method r may plain none empty (Err s) out puts short = (full_at r (plain_ok o peer c method r may plain none empty) out s puts, refl, ap is_ok puts.0)
+  read_at method r may is none empty (Err s) out puts short = (full_at r (plain_ok o peer c method may r is none empty) out s puts, refl, ap is_ok puts.0)

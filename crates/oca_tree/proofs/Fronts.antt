@@ -1,6 +1,6 @@
 -- What setting an object does, from what each of its steps found.
 use Rattle.std.proofs.Common.{◌≡◌, ℕ, Bool, true, false, cond, List, [], get_or, set, refl, sym, ap, ◌∙◌}
-use Rattle.std.specs.Prelude.{Option, Some, None, Ok, not}
+use Rattle.std.specs.Prelude.{Some, None, Ok, not}
 use Rattle.std.specs.List.{position}
 use Rattle.oca_types.specs.Peers.{CommandFields}
 use Rattle.oca_types.specs.declared.class.Class.TheVariants as class
@@ -8,7 +8,6 @@ use Rattle.oca_types.specs.declared.class.Method.{Method}
 use Rattle.oca_types.specs.declared.class.MethodKind.{MethodKind}
 use Rattle.oca_types.specs.declared.class.MethodKind.TheVariants.{Known, LeftOut, Unknown}
 use Rattle.oca_types.specs.declared.status.Status.TheVariants as statuses
-use Rattle.oca_tree.specs.declared.object.Lock.{Lock}
 use Rattle.oca_tree.specs.declared.object.Object.{Object}
 use Rattle.oca_tree.specs.declared.object.Value.{Value as Held}
 use Rattle.oca_tree.specs.declared.object.Value.TheVariants as values
@@ -27,54 +26,19 @@ use Rattle.oca_model.specs.Answers.{answer_encoding}
 use Rattle.oca_model.specs.Requests.{request_in}
 use Rattle.oca_tree.specs.Requests.{cannot_be, asks_out_of_range, asks_invalid}
 use Rattle.oca_tree.specs.Execution.{TreeAndReply, kind_at, asked_at, is_locked, carried_out, refused, execution}
-use Rattle.oca_tree.specs.PrivateRequests.{is_out_of_range, is_invalid, request_for}
-use Rattle.oca_tree.specs.PrivateExecution.{changed}
 use Rattle.oca_tree.specs.Typed.{answer_given, changed_by}
 use Rattle.oca_tree.specs.Settings.{is_of_its_class, fault_at, set_fault_in, set_fault, front, set_where, after_set, AnyPeerSetsTheSame, status_for, SetsTheSame, FrontSetsAsPeersDo}
-use Rattle.oca_tree.specs.Trees.{IsTree}
-use Rattle.oca_tree.proofs.Asked.{FitsPositions}
+use Rattle.oca_tree.specs.Trees.{IsTree, IsSound}
 use Rattle.oca_tree.proofs.Executing.{found_at, within_at, sound_at, every_at, placed}
-use Rattle.oca_tree.proofs.TypedRefusals.{out_for}
-use Rattle.oca_tree.proofs.TypedSetting.{set_same}
 use Rattle.oca_tree.proofs.Sound.{changed_place, changed_ono, changed_sound, written_tree}
 
 pub any_peer : AnyPeerSetsTheSame
 unfolding changed_by
 any_peer o peer value = refl
 
-pub valid : (lockable : Bool) (lock : Option Lock) (value : Value) → is_invalid lockable lock (request_for value) ≡ false
-unfolding is_invalid
-valid lockable lock (to_set.Mute s) = refl
-valid lockable lock (to_set.Polarity s) = refl
-valid lockable lock (to_set.Switch n) = refl
-valid lockable lock (to_set.Boolean b) = refl
-valid lockable lock (to_set.Int8 n) = refl
-valid lockable lock (to_set.Int16 n) = refl
-valid lockable lock (to_set.Int32 n) = refl
-valid lockable lock (to_set.Int64 n) = refl
-valid lockable lock (to_set.Uint8 n) = refl
-valid lockable lock (to_set.Uint16 n) = refl
-valid lockable lock (to_set.Uint32 n) = refl
-valid lockable lock (to_set.Uint64 n) = refl
-
-pub fits : (held : Held) (value : Value) → FitsPositions held (request_for value)
-unfolding FitsPositions
-fits held (to_set.Mute s) = tt
-fits held (to_set.Polarity s) = tt
-fits held (to_set.Switch n) = tt
-fits held (to_set.Boolean b) = tt
-fits held (to_set.Int8 n) = tt
-fits held (to_set.Int16 n) = tt
-fits held (to_set.Int32 n) = tt
-fits held (to_set.Int64 n) = tt
-fits held (to_set.Uint8 n) = tt
-fits held (to_set.Uint16 n) = tt
-fits held (to_set.Uint32 n) = tt
-fits held (to_set.Uint64 n) = tt
-
--- what has no fault is in range, and of the class
-pub in_range : (held : Held) (value : Value) → fault_at held value ≡ None → is_out_of_range held (request_for value) ≡ false
-in_range held value e = out_for held value ∙ by (is_block_value held) (is_of_its_class (class_of held) value) (cannot_be held value) e
+-- what has no fault can be set so
+pub in_range : (held : Held) (value : Value) → fault_at held value ≡ None → cannot_be held value ≡ false
+in_range held value e = by (is_block_value held) (is_of_its_class (class_of held) value) (cannot_be held value) e
   where
     by : (a b out : Bool) → cond a (Some faults.NoSetting) (cond (not b) (Some faults.OtherKind) (cond out (Some faults.OutOfRange) None)) ≡ None → out ≡ false
     by a b false h = refl
@@ -82,13 +46,10 @@ in_range held value e = out_for held value ∙ by (is_block_value held) (is_of_i
     by false true true h = cc
     by false false true h = cc
 
-pub is_taken : (held : Held) (value : Value) → fault_at held value ≡ None → is_of_its_class (class_of held) value ≡ true
-is_taken held value e = by (is_block_value held) (is_of_its_class (class_of held) value) (cannot_be held value) e
-  where
-    by : (a b out : Bool) → cond a (Some faults.NoSetting) (cond (not b) (Some faults.OtherKind) (cond out (Some faults.OutOfRange) None)) ≡ None → b ≡ true
-    by true b out h = cc
-    by false true out h = refl
-    by false false out h = cc
+-- an object that can be set so is sound then
+pub set_sound : (o : Object) (value : Value) → IsSound o → fault_at o.value value ≡ None → IsSound (changed_by o front (asks.Set value))
+unfolding asks_out_of_range asks_invalid
+set_sound o value sound fine = changed_sound o front (asks.Set value) sound (in_range o.value value fine) refl refl
 
 -- a command to the object of this number, for what was found by the number
 abbrev to : ℕ → CommandFields
@@ -111,21 +72,21 @@ module _ (tree : List Object) (number i : ℕ) (o : Object) (place : Some i ≡ 
   fault_there = ap (λ x. set_fault_in x value) found
 
   module _ (fine : fault_at o.value value ≡ None) where
-    pub range_there : (d : Object) → is_out_of_range (get_or tree i d).value (request_for value) ≡ false
-    range_there d = ap (λ (x : Object). is_out_of_range x.value (request_for value)) (every_at tree front (to number) i o place here d) ∙ in_range o.value value fine
+    pub range_there : (d : Object) → asks_out_of_range (get_or tree i d).value (asks.Set value) ≡ false
+    unfolding asks_out_of_range
+    range_there d = ap (λ (x : Object). cannot_be x.value value) (every_at tree front (to number) i o place here d) ∙ in_range o.value value fine
 
-    pub set_there : after_set tree number value ≡ set tree i (changed o front (request_for value))
+    pub set_there : after_set tree number value ≡ set tree i (changed_by o front (asks.Set value))
     unfolding after_set
     set_there =
         ap (λ f. set_where f tree (object_of tree number) value) (fault_there ∙ fine)
         ∙ ap (λ x. set_where None tree x value) found
-        ∙ ap (with_object tree) (sym (set_same o value (is_taken o.value value fine)))
-        ∙ placed tree front (to number) i o place here (changed o front (request_for value)) (changed_ono o front (request_for value))
+        ∙ placed tree front (to number) i o place here (changed_by o front (asks.Set value)) (changed_ono o front (asks.Set value))
 
-    pub tree_there : IsTree tree → IsTree (set tree i (changed o front (request_for value)))
+    pub tree_there : IsTree tree → IsTree (set tree i (changed_by o front (asks.Set value)))
     tree_there sound =
-        let new = changed_sound o front (request_for value) (sound_at tree front (to number) i o place here sound) (in_range o.value value fine) (valid o.lockable o.lock value) (fits o.value value) in
-        written_tree tree i o (changed o front (request_for value)) (within_at tree front (to number) i o place here) here (changed_place o front (request_for value)) new sound
+        let new = set_sound o value (sound_at tree front (to number) i o place here sound) fine in
+        written_tree tree i o (changed_by o front (asks.Set value)) (within_at tree front (to number) i o place here) here (changed_place o front (asks.Set value)) new sound
 
 -- ---- a command that sets a value
 
@@ -146,17 +107,7 @@ module _ (tree : List Object) (peer : Peer) (c : CommandFields) (o : Object) (fo
 own_class : (value : Value) → is_of_its_class (class_of_value value) value ≡ true
 unfolding is_of_its_class
 own_class (to_set.Mute s) = refl
-own_class (to_set.Polarity s) = refl
-own_class (to_set.Switch n) = refl
-own_class (to_set.Boolean b) = refl
-own_class (to_set.Int8 n) = refl
-own_class (to_set.Int16 n) = refl
-own_class (to_set.Int32 n) = refl
-own_class (to_set.Int64 n) = refl
-own_class (to_set.Uint8 n) = refl
-own_class (to_set.Uint16 n) = refl
-own_class (to_set.Uint32 n) = refl
-own_class (to_set.Uint64 n) = refl
+own_class _ = refl
 
 no_block : (held : Held) (value : Value) → class_of held ≡ class_of_value value → is_block_value held ≡ false
 unfolding class_of
@@ -175,11 +126,7 @@ no_block values.Block value e = absurd (no_block_value value e)
     no_block_value (to_set.Uint16 n) h = cc
     no_block_value (to_set.Uint32 n) h = cc
     no_block_value (to_set.Uint64 n) h = cc
-no_block (values.Mute state) value e = refl
-no_block (values.Polarity state) value e = refl
-no_block (values.Switch switch) value e = refl
-no_block (values.Boolean truth) value e = refl
-no_block (values.Number range) value e = refl
+no_block _ value e = refl
 
 -- then the fault is whether the object cannot be it
 fault_taken : (held : Held) (value : Value) (out : Bool) → class_of held ≡ class_of_value value →

@@ -7,10 +7,10 @@ use Rattle.indexmap.specs.IndexMap.{set_value_at}
 use Rattle.oca_types.specs.declared.words.Ono.{Ono}
 use Rattle.oca_types.specs.declared.words.Peer.{Peer}
 use Rattle.oca_tree.specs.declared.object.Object.{Object}
-use Rattle.oca_tree.specs.declared.request.Request.{Request}
+use Rattle.oca_model.specs.declared.request.Request.{Request}
 use Rattle.std.proofs.lemmas.Option.{get_or_from_slice_get}
 use Rattle.std.proofs.Math.Seq.{map-set_same}
-use Rattle.oca_tree.specs.PrivateExecution.{changed}
+use Rattle.oca_tree.specs.Typed.{changed_by}
 use Rattle.oca_tree.specs.Locks.{without_lock_of, is_held_by}
 use Rattle.oca_tree.specs.PrivateObjects.{IsKeyed}
 use Rattle.oca_tree.proofs.Sound.{shape_of, shapes}
@@ -76,10 +76,10 @@ pub shapes_kept : (es : List (Ono × Object)) (i : ℕ) (old new : Object) → s
 shapes_kept es i old new at same =
     ap shapes (values-set_value_at es i new) ∙ map-set_same shape_of (values_of es) i new old (same ∙ ap shape_of (sym (get_or_from_slice_get (values_of es) i old old at)))
 
-pub change_there : (es : List (Ono × Object)) (i : ℕ) (old new : Object) (peer : Peer) (r : Request) (d : Object) → slice_get (values_of es) i ≡ Some old → new ≡ changed old peer r
-    → values_of (set_value_at es i new) ≡ set (values_of es) i (changed (get_or (values_of es) i d) peer r)
+pub change_there : (es : List (Ono × Object)) (i : ℕ) (old new : Object) (peer : Peer) (r : Request) (d : Object) → slice_get (values_of es) i ≡ Some old → new ≡ changed_by old peer r
+    → values_of (set_value_at es i new) ≡ set (values_of es) i (changed_by (get_or (values_of es) i d) peer r)
 change_there es i old new peer r d at is =
-    values-set_value_at es i new ∙ ap (set (values_of es) i) is ∙ ap (λ (o : Object). set (values_of es) i (changed o peer r)) (sym (get_or_from_slice_get (values_of es) i old d at))
+    values-set_value_at es i new ∙ ap (set (values_of es) i) is ∙ ap (λ (o : Object). set (values_of es) i (changed_by o peer r)) (sym (get_or_from_slice_get (values_of es) i old d at))
 
 pub released_ono : (peer : Peer) (o : Object) → (without_lock_of peer o).ono ≡ o.ono
 released_ono peer o = by (is_held_by peer o.lock)

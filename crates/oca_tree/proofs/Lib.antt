@@ -2,7 +2,6 @@ pub mod Positions
 pub mod Puts
 pub mod Chains
 pub mod Writes
-pub mod Asked
 pub mod Sound
 pub mod Adding
 pub mod Starting
@@ -18,13 +17,9 @@ pub mod Takes
 pub mod Totals
 pub mod Fronts
 pub mod SetRequests
-pub mod TypedAnswers
-pub mod TypedChanges
-pub mod TypedRequests
+pub mod Belonging
+pub mod SetReads
 pub mod TypedRight
-pub mod TypedRefusals
-pub mod TypedExecution
 pub mod TypedCommands
 pub mod NumberKinds
-pub mod TypedSetting
-pub mod TypedOwn
+pub mod Names

@@ -1,13 +1,19 @@
 -- Objects that are listed, and their number before them.
 use Rattle.std.proofs.Common.{◌≡◌, ℕ, zero, suc, ◌+◌, ◌<◌, ◌≤◌, Bool, true, false, List, [], ◌∷◌, ◌++◌, length, get_or, take, drop, refl, sym, ap, ◌∙◌, arith, append_assoc, length-append, eqb-true, eq-eqb}
-use Rattle.std.specs.Prelude.{Option, Some, None, ◌==◌, ◌||◌}
+use Rattle.std.specs.Prelude.{Option, Some, None, map, ◌==◌, ◌||◌}
 use Rattle.std.specs.List.{filter, position}
+use Rattle.std.proofs.lemmas.List.{length-map}
+use Rattle.std.proofs.lemmas.List.Folds.{flat_map-map}
+use Rattle.oca_model.specs.Answers.{answer_encoding, answer_count}
+use Rattle.oca_model.specs.Lists.{list_encoding}
+use Rattle.oca_model.specs.Members.{member_encoding, descendant_encoding}
 use Rattle.oca_tree.specs.declared.object.Object.{Object}
-use Rattle.oca_tree.specs.Objects.{has_number}
+use Rattle.oca_tree.specs.Objects.{has_number, members, descendants}
 use Rattle.oca_tree.specs.Places.{places, place_at}
 use Rattle.oca_tree.specs.Trees.{IsTree}
 use Rattle.oca_tree.specs.PrivateObjects.{containers}
-use Rattle.oca_tree.specs.PrivateSteps.{is_listed}
+use Rattle.oca_tree.specs.PrivateSteps.{is_listed, item_encoding, listed_answer}
+use Rattle.oca_tree.specs.Typed.{member_of, descendant_of}
 use Rattle.oca_tree.proofs.Positions.{same_element}
 use Rattle.oca_tree.proofs.Containers.{container_below, container_number, container_absent, own, index_itself, lies_above, lies_nowhere}
 
@@ -149,3 +155,17 @@ counted_over old front rest count mid new start s f k e n =
     let long : length new ≡ length mid =
     omega (arith, ap length is, ap length e, length-append old (count ++ rest), length-append count rest, length-append (old ++ front) rest, length-append old front, f, k) in
     refilled mid new long ∙ is
+
+-- ---- the answer that lists
+
+list_of_each : {X Y : Type 0} (item : Y → List ℕ) (f : X → Y) (xs : List X) → list_encoding (λ x. item (f x)) xs ≡ list_encoding item (map f xs)
+list_of_each item f xs = rw (length-map xs f, flat_map-map item f xs) refl
+
+pub listed_encoding : (deep : Bool) (tree : List Object) (block : ℕ) → list_encoding (item_encoding deep) (filter (is_listed tree block deep) tree) ≡ answer_encoding (listed_answer deep tree block)
+unfolding answer_encoding
+listed_encoding true tree block = list_of_each descendant_encoding descendant_of (descendants tree block)
+listed_encoding false tree block = list_of_each member_encoding member_of (members tree block)
+
+pub listed_count : (deep : Bool) (tree : List Object) (block : ℕ) → answer_count (listed_answer deep tree block) ≡ 1
+listed_count true tree block = refl
+listed_count false tree block = refl

@@ -1,57 +1,64 @@
 -- What is asked and in range keeps a tree one.
-use Rattle.std.proofs.Common.{◌≡◌, ℕ, zero, suc, ◌<◌, Bool, true, false, cond, List, [], ◌∷◌, map, length, get_or, set, refl, sym, ap, ◌∙◌, arith}
-use Rattle.std.specs.Prelude.{None, ℤ, ◌≤ℤ◌, ◌&&◌, not, IsTrue, nat_lt}
+use Rattle.std.proofs.Common.{◌≡◌, ℕ, zero, suc, ◌<◌, Bool, true, false, cond, List, [], ◌∷◌, map, length, get_or, set as put, refl, sym, ap, ◌∙◌, arith, eqb-true}
+use Rattle.std.specs.Prelude.{Option, Some, None, ℤ, ◌≤ℤ◌, ◌&&◌, not, IsTrue, nat_lt, ◌==◌}
 use Rattle.std.proofs.lemmas.Int.{ints}
 use Rattle.std.proofs.Math.ListN.{length-set}
 use Rattle.std.proofs.lemmas.List.{length-map}
 use Rattle.std.proofs.lemmas.List.Elements.{All-map, All-set, All-weaker}
 use Rattle.oca_types.specs.declared.class.Class.{Class}
 use Rattle.oca_types.specs.declared.words.Peer.{Peer}
+use Rattle.oca_model.specs.declared.request.Request.{Request}
+use Rattle.oca_model.specs.declared.request.Request.TheVariants as asked
+use Rattle.oca_model.specs.declared.value.Value.{Value as Setting}
+use Rattle.oca_model.specs.declared.value.Value.TheVariants as set
+use Rattle.oca_model.specs.ValueNumbers.{integer_in}
 use Rattle.oca_tree.specs.declared.object.NumberKind.{NumberKind}
-use Rattle.oca_tree.specs.declared.object.NumberKind.TheVariants.{Int8, Int16, Int32, Int64, Uint8, Uint16, Uint32, Uint64}
+use Rattle.oca_tree.specs.declared.object.NumberKind.TheVariants.{Uint8, Uint16, Uint32, Uint64}
 use Rattle.oca_tree.specs.declared.object.Object.{Object}
 use Rattle.oca_tree.specs.declared.object.Range.{Range}
 use Rattle.oca_tree.specs.declared.object.Switch.{Switch}
 use Rattle.oca_tree.specs.declared.object.Value.{Value}
 use Rattle.oca_tree.specs.declared.object.Value.TheVariants as values
-use Rattle.oca_tree.specs.declared.request.Request.{Request}
-use Rattle.oca_tree.specs.declared.request.Request.TheVariants as requests
-use Rattle.oca_tree.specs.declared.request.SwitchRequest.{SwitchRequest}
-use Rattle.oca_tree.specs.declared.request.SwitchRequest.TheVariants as switches
-use Rattle.oca_tree.specs.Kinds.{IsOfType, number_class}
+use Rattle.oca_tree.specs.Kinds.{IsOfType}
 use Rattle.oca_tree.specs.Objects.{class_of}
 use Rattle.oca_tree.specs.Places.{Place, place_of, places, is_block_value}
 use Rattle.oca_tree.specs.Locks.{without_lock_of, is_held_by}
-use Rattle.oca_tree.specs.Requests.{is_enabled}
-use Rattle.oca_tree.specs.PrivateRequests.{is_out_of_range, is_outside, is_bad_position, is_bad_switch_request, is_invalid}
-use Rattle.oca_tree.specs.PrivateExecution.{changed, changed_value, changed_switch, changed_positions, changed_range}
-use Rattle.oca_tree.proofs.Asked.{FitsPositions}
+use Rattle.oca_tree.specs.Requests.{positions, is_enabled, can_be_current, fits_positions, is_beyond, cannot_be, asks_out_of_range, asks_invalid}
+use Rattle.oca_tree.specs.Typed.{set_number, set_to, with_positions, with_name, enabled_at, value_changed_by, changed_by}
 use Rattle.oca_tree.specs.Trees.{IsTree, IsSound, IsSoundValue, IsSoundRange, IsSoundSwitch}
 
 -- ---- changing an object
 
-value_block : (v : Value) (r : Request) → is_block_value (changed_value v r) ≡ is_block_value v
-unfolding changed_value
-value_block values.Block r = refl
-value_block (values.Mute state) r = refl
-value_block (values.Polarity state) r = refl
-value_block (values.Switch switch) r = refl
-value_block (values.Boolean truth) r = refl
-value_block (values.Number range) r = refl
+abbrev Alike : Value → Value → Type 0
+Alike new old = (is_block_value new ≡ is_block_value old) × (class_of new ≡ class_of old)
 
--- the class of a number is that of its type
-range_class : (range : Range) (r : Request) → number_class (changed_range range r).kind ≡ number_class range.kind
-range_class range (requests.SetNumber n) = refl
-range_class range _ = refl
+positions_alike : (change : Switch → Switch) (v : Value) → Alike (with_positions change v) v
+unfolding class_of
+positions_alike change (values.Switch switch) = (refl, refl)
+positions_alike change _ = (refl, refl)
 
-value_class : (v : Value) (r : Request) → class_of (changed_value v r) ≡ class_of v
-unfolding changed_value class_of
-value_class values.Block r = refl
-value_class (values.Mute state) r = refl
-value_class (values.Polarity state) r = refl
-value_class (values.Switch switch) r = refl
-value_class (values.Boolean truth) r = refl
-value_class (values.Number range) r = range_class range r
+number_alike : (range : Range) (found : Option ℤ) → Alike (values.Number (set_number range found)) (values.Number range)
+unfolding class_of
+number_alike range None = (refl, refl)
+number_alike range (Some z) = (refl, refl)
+
+set_alike : (v : Value) (new : Setting) → Alike (set_to v new) v
+unfolding class_of
+set_alike values.Block new = (refl, refl)
+set_alike (values.Mute state) (set.Mute s) = (refl, refl)
+set_alike (values.Polarity state) (set.Polarity s) = (refl, refl)
+set_alike (values.Switch switch) (set.Switch n) = (refl, refl)
+set_alike (values.Boolean truth) (set.Boolean b) = (refl, refl)
+set_alike (values.Number range) new = number_alike range (integer_in new)
+set_alike _ _ = (refl, refl)
+
+value_alike : (v : Value) (r : Request) → Alike (value_changed_by v r) v
+value_alike v (asked.Set new) = set_alike v new
+value_alike v (asked.SetPositionName n name) = positions_alike (with_name n name) v
+value_alike v (asked.SetPositionNames names) = positions_alike (λ switch. record switch { names = names }) v
+value_alike v (asked.SetPositionEnabled n truth) = positions_alike (enabled_at n truth) v
+value_alike v (asked.SetPositionEnableds flags) = positions_alike (λ switch. record switch { enableds = flags }) v
+value_alike v _ = (refl, refl)
 
 -- of an object: its place and its class, which no command changes
 abbrev pub shape_of : Object → Place × Class
@@ -60,161 +67,113 @@ shape_of o = (place_of o, class_of o.value)
 abbrev pub shapes : List Object → List (Place × Class)
 shapes tree = map shape_of tree
 
-shaped : (o : Object) (r : Request) → shape_of (record o { value = changed_value o.value r }) ≡ shape_of o
+shaped : (o : Object) (r : Request) → shape_of (record o { value = value_changed_by o.value r }) ≡ shape_of o
 shaped o r =
-    ap (λ b. (record { number = o.ono.0; container = o.container.0; block = b }, class_of (changed_value o.value r))) (value_block o.value r)
-    ∙ ap (λ c. (place_of o, c)) (value_class o.value r)
+    let alike = value_alike o.value r in
+    ap (λ b. (record { number = o.ono.0; container = o.container.0; block = b }, class_of (value_changed_by o.value r))) alike.0
+    ∙ ap (λ c. (place_of o, c)) alike.1
 
-pub changed_shape : (o : Object) (peer : Peer) (r : Request) → shape_of (changed o peer r) ≡ shape_of o
-unfolding changed
-changed_shape o peer requests.GetClassIdentification = shaped o requests.GetClassIdentification
-changed_shape o peer requests.GetLockable = shaped o requests.GetLockable
-changed_shape o peer requests.LockTotal = refl
-changed_shape o peer requests.Unlock = refl
-changed_shape o peer requests.GetRole = shaped o requests.GetRole
-changed_shape o peer requests.LockReadonly = refl
-changed_shape o peer requests.GetEnabled = shaped o requests.GetEnabled
-changed_shape o peer (requests.SetEnabled truth) = refl
-changed_shape o peer requests.GetLabel = shaped o requests.GetLabel
-changed_shape o peer (requests.SetLabel text) = refl
-changed_shape o peer requests.GetOwner = shaped o requests.GetOwner
-changed_shape o peer requests.GetMembers = shaped o requests.GetMembers
-changed_shape o peer requests.GetMembersRecursive = shaped o requests.GetMembersRecursive
-changed_shape o peer requests.GetState = shaped o requests.GetState
-changed_shape o peer (requests.SetState n) = shaped o (requests.SetState n)
-changed_shape o peer (requests.Switch request) = shaped o (requests.Switch request)
-changed_shape o peer requests.GetSetting = shaped o requests.GetSetting
-changed_shape o peer (requests.SetBoolean truth) = shaped o (requests.SetBoolean truth)
-changed_shape o peer (requests.SetNumber n) = shaped o (requests.SetNumber n)
+pub changed_shape : (o : Object) (peer : Peer) (r : Request) → shape_of (changed_by o peer r) ≡ shape_of o
+unfolding changed_by
+changed_shape o peer (asked.Set new) = shaped o (asked.Set new)
+changed_shape o peer (asked.SetPositionName n name) = shaped o (asked.SetPositionName n name)
+changed_shape o peer (asked.SetPositionNames names) = shaped o (asked.SetPositionNames names)
+changed_shape o peer (asked.SetPositionEnabled n truth) = shaped o (asked.SetPositionEnabled n truth)
+changed_shape o peer (asked.SetPositionEnableds flags) = shaped o (asked.SetPositionEnableds flags)
+changed_shape o peer _ = refl
 
-pub changed_place : (o : Object) (peer : Peer) (r : Request) → place_of (changed o peer r) ≡ place_of o
+pub changed_place : (o : Object) (peer : Peer) (r : Request) → place_of (changed_by o peer r) ≡ place_of o
 changed_place o peer r = ap (λ (s : Place × Class). s.0) (changed_shape o peer r)
 
-pub changed_ono : (o : Object) (peer : Peer) (r : Request) → (changed o peer r).ono.0 ≡ o.ono.0
+pub changed_ono : (o : Object) (peer : Peer) (r : Request) → (changed_by o peer r).ono.0 ≡ o.ono.0
 changed_ono o peer r = ap (λ (p : Place). p.number) (changed_place o peer r)
 
 -- a number between two of a type is of the type
 pub between : (kind : NumberKind) (low z high : ℤ) → IsOfType kind low → IsOfType kind high → low ≤ℤ z → z ≤ℤ high → IsOfType kind z
-between Int8 low z high a b c d = omega (arith, ints)
-between Int16 low z high a b c d = omega (arith, ints)
-between Int32 low z high a b c d = omega (arith, ints)
-between Int64 low z high a b c d = omega (arith, ints)
 between Uint8 low z high a b c d = (omega (arith, ints), omega (arith, ints))
 between Uint16 low z high a b c d = (omega (arith, ints), omega (arith, ints))
 between Uint32 low z high a b c d = (omega (arith, ints), omega (arith, ints))
 between Uint64 low z high a b c d = (omega (arith, ints), omega (arith, ints))
+between _ low z high a b c d = omega (arith, ints)
 
-number_sound : (range : Range) (n : ℤ) → IsSoundRange range → is_outside range (requests.SetNumber n) ≡ false → IsSoundRange (record range { setting = n })
-number_sound range n s e =
+number_sound : (range : Range) (found : Option ℤ) → IsSoundRange range → is_beyond range found ≡ false → IsSoundRange (set_number range found)
+number_sound range None s e = s
+number_sound range (Some n) s e =
     let low : range.least ≤ℤ n = grind (arith, ints) in
     let high : n ≤ℤ range.greatest = grind (arith, ints) in
     record { setting = between range.kind range.least n range.greatest s.least s.greatest low high; least = s.least; greatest = s.greatest; above = low; below = high }
-
-range_sound : (range : Range) (r : Request) → IsSoundRange range → is_outside range r ≡ false → IsSoundRange (changed_range range r)
-range_sound range requests.GetClassIdentification s e = s
-range_sound range requests.GetLockable s e = s
-range_sound range requests.LockTotal s e = s
-range_sound range requests.Unlock s e = s
-range_sound range requests.GetRole s e = s
-range_sound range requests.LockReadonly s e = s
-range_sound range requests.GetEnabled s e = s
-range_sound range (requests.SetEnabled truth) s e = s
-range_sound range requests.GetLabel s e = s
-range_sound range (requests.SetLabel text) s e = s
-range_sound range requests.GetOwner s e = s
-range_sound range requests.GetMembers s e = s
-range_sound range requests.GetMembersRecursive s e = s
-range_sound range requests.GetState s e = s
-range_sound range (requests.SetState n) s e = s
-range_sound range (requests.Switch request) s e = s
-range_sound range requests.GetSetting s e = s
-range_sound range (requests.SetBoolean truth) s e = s
-range_sound range (requests.SetNumber n) s e = number_sound range n s e
 
 -- a position that can be the current one is there
 current_there : (a b : Bool) → not (a && b) ≡ false → a ≡ true
 current_there true b e = refl
 current_there false b e = cc
 
-position_there : (switch : Switch) (n : ℕ) → is_bad_position switch (switches.SetPosition n) ≡ false → n < length switch.names.items
+position_there : (switch : Switch) (n : ℕ) → not (can_be_current switch n) ≡ false → n < length switch.names.items
 position_there switch n e = let t = current_there (nat_lt n (length switch.names.items)) (is_enabled switch n) e in grind (arith, t)
 
-switch_sound : (switch : Switch) (r : SwitchRequest) → IsSoundSwitch switch → is_bad_position switch r ≡ false → FitsPositions (values.Switch switch) (requests.Switch r) → IsSoundSwitch (changed_switch switch r)
-unfolding FitsPositions
-switch_sound switch switches.GetPosition s e f = s
-switch_sound switch (switches.SetPosition n) s e f = record { few = s.few; both = s.both; position = position_there switch n e }
-switch_sound switch (switches.GetPositionName n) s e f = s
-switch_sound switch (switches.SetPositionName n text) s e f = record { few = rw length-set s.few; both = rw length-set s.both; position = rw length-set s.position }
-switch_sound switch switches.GetPositionNames s e f = s
-switch_sound switch (switches.SetPositionNames texts) s e f = record { few = rw f s.few; both = s.both ∙ sym f; position = rw f s.position }
-switch_sound switch (switches.GetPositionEnabled n) s e f = s
-switch_sound switch (switches.SetPositionEnabled n truth) s e f = record { few = s.few; both = rw length-set s.both; position = s.position }
-switch_sound switch switches.GetPositionEnableds s e f = s
-switch_sound switch (switches.SetPositionEnableds truths) s e f = record { few = s.few; both = f; position = s.position }
+set_sound : (v : Value) (new : Setting) → IsSoundValue v → cannot_be v new ≡ false → IsSoundValue (set_to v new)
+unfolding IsSoundValue
+set_sound values.Block new s e = tt
+set_sound (values.Mute state) (set.Mute x) s e = tt
+set_sound (values.Mute state) _ s e = tt
+set_sound (values.Polarity state) (set.Polarity x) s e = tt
+set_sound (values.Polarity state) _ s e = tt
+set_sound (values.Switch switch) (set.Switch n) s e = record { few = s.few; both = s.both; position = position_there switch n e }
+set_sound (values.Switch switch) _ s e = s
+set_sound (values.Boolean truth) (set.Boolean x) s e = tt
+set_sound (values.Boolean truth) _ s e = tt
+set_sound (values.Number range) new s e = number_sound range (integer_in new) s e
 
-positions_sound : (switch : Switch) (r : Request) → IsSoundSwitch switch → is_bad_switch_request switch r ≡ false → FitsPositions (values.Switch switch) r → IsSoundSwitch (changed_positions switch r)
-positions_sound switch requests.GetClassIdentification s e f = s
-positions_sound switch requests.GetLockable s e f = s
-positions_sound switch requests.LockTotal s e f = s
-positions_sound switch requests.Unlock s e f = s
-positions_sound switch requests.GetRole s e f = s
-positions_sound switch requests.LockReadonly s e f = s
-positions_sound switch requests.GetEnabled s e f = s
-positions_sound switch (requests.SetEnabled truth) s e f = s
-positions_sound switch requests.GetLabel s e f = s
-positions_sound switch (requests.SetLabel text) s e f = s
-positions_sound switch requests.GetOwner s e f = s
-positions_sound switch requests.GetMembers s e f = s
-positions_sound switch requests.GetMembersRecursive s e f = s
-positions_sound switch requests.GetState s e f = s
-positions_sound switch (requests.SetState n) s e f = s
-positions_sound switch (requests.Switch request) s e f = switch_sound switch request s e f
-positions_sound switch requests.GetSetting s e f = s
-positions_sound switch (requests.SetBoolean truth) s e f = s
-positions_sound switch (requests.SetNumber n) s e f = s
+-- a change of positions that keeps a switch sound
+positions_sound : (change : Switch → Switch) (v : Value) → ((switch : Switch) → v ≡ values.Switch switch → IsSoundSwitch switch → IsSoundSwitch (change switch)) → IsSoundValue v → IsSoundValue (with_positions change v)
+unfolding IsSoundValue
+positions_sound change (values.Switch switch) keeps s = keeps switch refl s
+positions_sound change _ keeps s = s
 
-value_sound : (v : Value) (r : Request) → IsSoundValue v → is_out_of_range v r ≡ false → FitsPositions v r → IsSoundValue (changed_value v r)
-unfolding changed_value is_out_of_range IsSoundValue
-value_sound values.Block r s e f = tt
-value_sound (values.Mute state) r s e f = tt
-value_sound (values.Polarity state) r s e f = tt
-value_sound (values.Switch switch) r s e f = positions_sound switch r s e f
-value_sound (values.Boolean truth) r s e f = tt
-value_sound (values.Number range) r s e f = range_sound range r s e
+-- a list that fits is as long as the names
+fits_names : (n : ℕ) (v : Value) (switch : Switch) → v ≡ values.Switch switch → (n == positions v) ≡ true → n ≡ length switch.names.items
+fits_names n v switch is fits = eqb-true n (length switch.names.items) (rw is at fits)
+
+value_sound : (v : Value) (r : Request) → IsSoundValue v → asks_out_of_range v r ≡ false → fits_positions v r ≡ true → IsSoundValue (value_changed_by v r)
+unfolding asks_out_of_range
+value_sound v (asked.Set new) s e f = set_sound v new s e
+value_sound v (asked.SetPositionName n name) s e f =
+    positions_sound (with_name n name) v (λ switch is t. record { few = rw length-set t.few; both = rw length-set t.both; position = rw length-set t.position }) s
+value_sound v (asked.SetPositionNames names) s e f =
+    positions_sound (λ switch. record switch { names = names }) v
+    (λ switch is t. let same = fits_names (length names.items) v switch is f in record { few = rw same t.few; both = t.both ∙ sym same; position = rw same t.position }) s
+value_sound v (asked.SetPositionEnabled n truth) s e f =
+    positions_sound (enabled_at n truth) v (λ switch is t. record { few = t.few; both = rw length-set t.both; position = t.position }) s
+value_sound v (asked.SetPositionEnableds flags) s e f =
+    positions_sound (λ switch. record switch { enableds = flags }) v
+    (λ switch is t. record { few = t.few; both = fits_names (length flags.items) v switch is f; position = t.position }) s
+value_sound v _ s e f = s
 
 locked_sound : (lockable : Bool) → not lockable ≡ false → IsTrue lockable
 locked_sound lockable e = grind arith
 
-pub changed_sound : (o : Object) (peer : Peer) (r : Request) → IsSound o → is_out_of_range o.value r ≡ false → is_invalid o.lockable o.lock r ≡ false → FitsPositions o.value r → IsSound (changed o peer r)
-unfolding changed is_invalid
-changed_sound o peer requests.GetClassIdentification s range valid f = record { value = value_sound o.value requests.GetClassIdentification s.value range f; lock = s.lock }
-changed_sound o peer requests.GetLockable s range valid f = record { value = value_sound o.value requests.GetLockable s.value range f; lock = s.lock }
-changed_sound o peer requests.LockTotal s range valid f = record { value = s.value; lock = locked_sound o.lockable valid }
-changed_sound o peer requests.Unlock s range valid f = record { value = s.value; lock = tt }
-changed_sound o peer requests.GetRole s range valid f = record { value = value_sound o.value requests.GetRole s.value range f; lock = s.lock }
-changed_sound o peer requests.LockReadonly s range valid f = record { value = s.value; lock = locked_sound o.lockable valid }
-changed_sound o peer requests.GetEnabled s range valid f = record { value = value_sound o.value requests.GetEnabled s.value range f; lock = s.lock }
-changed_sound o peer (requests.SetEnabled truth) s range valid f = record { value = s.value; lock = s.lock }
-changed_sound o peer requests.GetLabel s range valid f = record { value = value_sound o.value requests.GetLabel s.value range f; lock = s.lock }
-changed_sound o peer (requests.SetLabel text) s range valid f = record { value = s.value; lock = s.lock }
-changed_sound o peer requests.GetOwner s range valid f = record { value = value_sound o.value requests.GetOwner s.value range f; lock = s.lock }
-changed_sound o peer requests.GetMembers s range valid f = record { value = value_sound o.value requests.GetMembers s.value range f; lock = s.lock }
-changed_sound o peer requests.GetMembersRecursive s range valid f = record { value = value_sound o.value requests.GetMembersRecursive s.value range f; lock = s.lock }
-changed_sound o peer requests.GetState s range valid f = record { value = value_sound o.value requests.GetState s.value range f; lock = s.lock }
-changed_sound o peer (requests.SetState n) s range valid f = record { value = value_sound o.value (requests.SetState n) s.value range f; lock = s.lock }
-changed_sound o peer (requests.Switch request) s range valid f = record { value = value_sound o.value (requests.Switch request) s.value range f; lock = s.lock }
-changed_sound o peer requests.GetSetting s range valid f = record { value = value_sound o.value requests.GetSetting s.value range f; lock = s.lock }
-changed_sound o peer (requests.SetBoolean truth) s range valid f = record { value = value_sound o.value (requests.SetBoolean truth) s.value range f; lock = s.lock }
-changed_sound o peer (requests.SetNumber n) s range valid f = record { value = value_sound o.value (requests.SetNumber n) s.value range f; lock = s.lock }
+pub changed_sound : (o : Object) (peer : Peer) (r : Request) → IsSound o → asks_out_of_range o.value r ≡ false → asks_invalid o r ≡ false → fits_positions o.value r ≡ true → IsSound (changed_by o peer r)
+unfolding changed_by asks_invalid
+changed_sound o peer asked.LockTotal s range valid f = record { value = s.value; lock = locked_sound o.lockable valid }
+changed_sound o peer asked.LockReadonly s range valid f = record { value = s.value; lock = locked_sound o.lockable valid }
+changed_sound o peer asked.Unlock s range valid f = record { value = s.value; lock = tt }
+changed_sound o peer (asked.SetEnabled truth) s range valid f = record { value = s.value; lock = s.lock }
+changed_sound o peer (asked.SetLabel text) s range valid f = record { value = s.value; lock = s.lock }
+changed_sound o peer (asked.Set new) s range valid f = record { value = value_sound o.value (asked.Set new) s.value range f; lock = s.lock }
+changed_sound o peer (asked.SetPositionName n name) s range valid f = record { value = value_sound o.value (asked.SetPositionName n name) s.value range f; lock = s.lock }
+changed_sound o peer (asked.SetPositionNames names) s range valid f = record { value = value_sound o.value (asked.SetPositionNames names) s.value range f; lock = s.lock }
+changed_sound o peer (asked.SetPositionEnabled n truth) s range valid f = record { value = value_sound o.value (asked.SetPositionEnabled n truth) s.value range f; lock = s.lock }
+changed_sound o peer (asked.SetPositionEnableds flags) s range valid f = record { value = value_sound o.value (asked.SetPositionEnableds flags) s.value range f; lock = s.lock }
+changed_sound o peer _ s range valid f = s
 
 -- ---- writing an object back
 
-places_set : (tree : List Object) (i : ℕ) (o new : Object) → i < length tree → o ≡ get_or tree i o → place_of new ≡ place_of o → places (set tree i new) ≡ places tree
+places_set : (tree : List Object) (i : ℕ) (o new : Object) → i < length tree → o ≡ get_or tree i o → place_of new ≡ place_of o → places (put tree i new) ≡ places tree
 places_set [] i o new within here same = absurd (omega arith)
 places_set (x ∷ xs) zero o new within here same = ap (λ p. p ∷ places xs) (same ∙ ap place_of here)
 places_set (x ∷ xs) (suc i) o new within here same = ap (λ ps. place_of x ∷ ps) (places_set xs i o new (omega arith) here same)
 
-pub written_tree : (tree : List Object) (i : ℕ) (o new : Object) → i < length tree → o ≡ get_or tree i o → place_of new ≡ place_of o → IsSound new → IsTree tree → IsTree (set tree i new)
+pub written_tree : (tree : List Object) (i : ℕ) (o new : Object) → i < length tree → o ≡ get_or tree i o → place_of new ≡ place_of o → IsSound new → IsTree tree → IsTree (put tree i new)
 written_tree tree i o new within here same sound h = record {
   built = rw (places_set tree i o new within here same) h.built;
   objects = All-set IsSound tree i new sound h.objects;

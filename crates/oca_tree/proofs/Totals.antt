@@ -43,18 +43,7 @@ item_length false o = omega arith
 
 deep_few : (of : Class) → item_bytes true of ≤ 22
 deep_few class.Block = omega arith
-deep_few class.Mute = omega arith
-deep_few class.Polarity = omega arith
-deep_few class.Switch = omega arith
-deep_few class.Boolean = omega arith
-deep_few class.Int8 = omega arith
-deep_few class.Int16 = omega arith
-deep_few class.Int32 = omega arith
-deep_few class.Int64 = omega arith
-deep_few class.Uint8 = omega arith
-deep_few class.Uint16 = omega arith
-deep_few class.Uint32 = omega arith
-deep_few class.Uint64 = omega arith
+deep_few _ = omega arith
 
 item_few : (deep : Bool) (of : Class) → item_bytes deep of ≤ 22
 item_few true of = deep_few of

@@ -33,6 +33,13 @@ not_fits false e = cc
 not_above : (n : ℕ) → nat_lt 1452 n ≡ false → n ≤ 1452
 not_above n e = grind (arith, nat_tests)
 
+-- the status of what came of a command is the one by which it came
+pub same_end : (tree : List Object) (peer : Peer) (o : Option Object) (asked : Result Request ValueFault) (s : Status) → (by_status tree peer o asked s).status ≡ s
+same_end tree peer None asked s = refl
+same_end tree peer (Some o) (Err fault) s = refl
+same_end tree peer (Some o) (Ok q) statuses.Ok = refl
+same_end tree peer (Some o) (Ok q) _ = refl
+
 module _ (tree : List Object) (peer : Peer) (c : CommandFields) where
   module _ (o : Object) (found : object_of tree c.target ≡ Some o) (method : Method) (reached : Access) (kind : kind_at (Some o) c ≡ Known method reached)
       (q : Request) (asked : request_in (class_of o.value) method c.count c.params ≡ Ok q) where
@@ -102,12 +109,6 @@ module _ (tree : List Object) (peer : Peer) (c : CommandFields) where
   by_end (Some o) (Ok q) statuses.Ok e = cc
   by_end (Some o) (Ok q) _ e = refl
 
-  same_end : (o : Option Object) (asked : Result Request ValueFault) (s : Status) → (by_status tree peer o asked s).status ≡ s
-  same_end None asked s = refl
-  same_end (Some o) (Err fault) s = refl
-  same_end (Some o) (Ok q) statuses.Ok = refl
-  same_end (Some o) (Ok q) _ = refl
-
 pub commands_typed : CommandsAreTyped
 commands_typed tree peer c ok = by_object tree peer c (object_of tree c.target) refl ok
 
@@ -117,4 +118,4 @@ refusals_change tree peer c e =
     let o = object_of tree c.target in
     let asked = asked_at o (kind_at o c) c in
     let s = status_of tree peer o c in
-    by_end tree peer c o asked s (sym (ap is_ok (same_end tree peer c o asked s)) ∙ e)
+    by_end tree peer c o asked s (sym (ap is_ok (same_end tree peer o asked s)) ∙ e)

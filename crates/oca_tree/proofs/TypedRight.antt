@@ -43,7 +43,7 @@ use Rattle.oca_tree.specs.Places.{places, reaches}
 use Rattle.oca_tree.specs.Trees.{IsSound, IsSoundValue, IsSoundRange}
 use Rattle.oca_tree.specs.Typed.{reading_held, number_reading, answer_given, of_positions, member_of, descendant_of}
 use Rattle.oca_tree.specs.TypedLaws.{IsOfItsTypes, IsRight, AnswersAreRight}
-use Rattle.oca_tree.proofs.TypedRequests.{known_belongs, belongs, has_state, has_positions, has_setting}
+use Rattle.oca_tree.proofs.Belonging.{known_belongs, belongs, has_state, has_positions, has_setting}
 
 -- An answer of the class, and of this kind.
 record Is (of : Class) (kind : Shape) (a : Answer) : Type 0 where
@@ -89,27 +89,15 @@ can_be_read _ = true
 
 state_can : (value : Held) → has_state value ≡ true → can_be_read value ≡ true
 state_can held.Block e = cc
-state_can (held.Mute state) e = refl
-state_can (held.Polarity state) e = refl
-state_can (held.Switch switch) e = refl
-state_can (held.Boolean truth) e = refl
-state_can (held.Number range) e = refl
+state_can _ e = refl
 
 positions_can : (value : Held) → has_positions value ≡ true → can_be_read value ≡ true
 positions_can held.Block e = cc
-positions_can (held.Mute state) e = refl
-positions_can (held.Polarity state) e = refl
-positions_can (held.Switch switch) e = refl
-positions_can (held.Boolean truth) e = refl
-positions_can (held.Number range) e = refl
+positions_can _ e = refl
 
 setting_can : (value : Held) → has_setting value ≡ true → can_be_read value ≡ true
 setting_can held.Block e = cc
-setting_can (held.Mute state) e = refl
-setting_can (held.Polarity state) e = refl
-setting_can (held.Switch switch) e = refl
-setting_can (held.Boolean truth) e = refl
-setting_can (held.Number range) e = refl
+setting_can _ e = refl
 
 reading_right : (value : Held) → can_be_read value ≡ true → IsSoundValue value → Is (class_of value) shape.Reading (option_map_or answers.Reading (reading_held value) answers.Done)
 unfolding class_of reading_held IsSoundValue
@@ -140,9 +128,6 @@ record PositionsAreRight (value : Held) : Type 0 where
 
 positions_right : (value : Held) → has_positions value ≡ true → IsSoundValue value → Each IsText (names_in value) → PositionsAreRight value
 unfolding IsSoundValue names_in
-positions_right held.Block e sound texts = let no : ⊥ = cc in absurd no
-positions_right (held.Mute state) e sound texts = let no : ⊥ = cc in absurd no
-positions_right (held.Polarity state) e sound texts = let no : ⊥ = cc in absurd no
 positions_right (held.Switch switch) e sound texts =
     let few : length switch.names.items ≤ 16 = sound.few in
     let both : length switch.enableds.items ≡ length switch.names.items = sound.both in
@@ -152,8 +137,7 @@ positions_right (held.Switch switch) e sound texts =
       flag = λ n. record { answer = tt; shape = refl };
       flags = record { answer = omega arith; shape = refl };
     }
-positions_right (held.Boolean truth) e sound texts = let no : ⊥ = cc in absurd no
-positions_right (held.Number range) e sound texts = let no : ⊥ = cc in absurd no
+positions_right _ e sound texts = let no : ⊥ = cc in absurd no
 
 -- ---- what is listed of a block
 
@@ -181,18 +165,7 @@ Twelve c = 8 ≤ length (class_identification_encoding c)
 
 class_bytes_many : (c : Class) → Twelve c
 class_bytes_many class.Block = lit≤ tt
-class_bytes_many class.Mute = lit≤ tt
-class_bytes_many class.Polarity = lit≤ tt
-class_bytes_many class.Switch = lit≤ tt
-class_bytes_many class.Boolean = lit≤ tt
-class_bytes_many class.Int8 = lit≤ tt
-class_bytes_many class.Int16 = lit≤ tt
-class_bytes_many class.Int32 = lit≤ tt
-class_bytes_many class.Int64 = lit≤ tt
-class_bytes_many class.Uint8 = lit≤ tt
-class_bytes_many class.Uint16 = lit≤ tt
-class_bytes_many class.Uint32 = lit≤ tt
-class_bytes_many class.Uint64 = lit≤ tt
+class_bytes_many _ = lit≤ tt
 
 member_bytes : (o : Object) → 12 ≤ length (member_encoding (member_of o))
 member_bytes o =

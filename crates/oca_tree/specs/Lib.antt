@@ -16,9 +16,5 @@ pub mod Copies
 pub mod Settings
 pub mod SetRequests
 pub mod TypedLaws
-pub mod PrivateRequests
-pub mod PrivateExecution
-pub mod PrivateTypes
-pub mod PrivateTyped
 pub mod PrivateSteps
 pub mod PrivateObjects

@@ -1,11 +1,14 @@
 -- What the tree's own functions say to one another. No public clause cites it.
 use Rattle.std.specs.Prelude.{◌≡◌, ℕ, ◌==◌, Bool, true, false, if◌then◌else◌, List, [], ◌∷◌, ◌++◌, map, length, ◌+◌}
-use Rattle.std.specs.Prelude.{◌<◌, nat_lt, Option, Some, None, Result, Ok, Err}
+use Rattle.std.specs.Prelude.{◌<◌, nat_lt, not, slice_index_or, Option, Some, None, Result, Ok, Err}
 use Rattle.std.specs.List.{flat_map, filter}
+use Rattle.std.specs.Option.{option_map_or}
+use Rattle.std.specs.Result.{result_ok}
 use Rattle.oca_types.specs.declared.words.Peer.{Peer}
 use Rattle.oca_types.specs.declared.fault.PutFault.{PutFault}
 use Rattle.oca_types.specs.declared.class.Access.{Access}
 use Rattle.oca_types.specs.declared.class.Access.TheVariants.{Read}
+use Rattle.oca_types.specs.declared.class.Class.TheVariants as class
 use Rattle.oca_types.specs.declared.class.Method.{Method}
 use Rattle.oca_types.specs.declared.class.MethodKind.TheVariants.{Known}
 use Rattle.oca_types.specs.Sizes.{most_parameter_bytes}
@@ -13,12 +16,21 @@ use Rattle.oca_types.specs.Methods.{access}
 use Rattle.oca_types.specs.declared.status.Status.{Status}
 use Rattle.oca_types.specs.declared.status.Status.TheVariants as status
 use Rattle.oca_types.specs.Peers.{CommandFields}
+use Rattle.oca_model.specs.declared.answer.Answer.{Answer}
+use Rattle.oca_model.specs.declared.answer.Answer.TheVariants as answers
+use Rattle.oca_model.specs.declared.asked.Asked.{Asked}
+use Rattle.oca_model.specs.declared.request.Request.{Request}
+use Rattle.oca_model.specs.declared.request.Request.TheVariants as asked
+use Rattle.oca_model.specs.declared.value.ValueFault.{ValueFault}
+use Rattle.oca_model.specs.declared.value.ValueFault.TheVariants.{Malformed, Unlisted}
+use Rattle.oca_model.specs.Answers.{answer_encoding, answer_count}
+use Rattle.oca_model.specs.HeldRequests.{asked_by}
+use Rattle.oca_model.specs.Members.{member_encoding, descendant_encoding}
+use Rattle.oca_model.specs.Requests.{request_in}
 use Rattle.oca_tree.specs.declared.lengths.Lengths.{Lengths}
 use Rattle.oca_tree.specs.declared.object.Object.{Object}
 use Rattle.oca_tree.specs.declared.object.Range.{Range}
 use Rattle.oca_tree.specs.declared.object.Value.{Value}
-use Rattle.oca_tree.specs.declared.object.Value.TheVariants as values
-use Rattle.oca_tree.specs.declared.request.Request.{Request}
 use Rattle.oca_tree.specs.declared.builder.AddFault.{AddFault}
 use Rattle.oca_tree.specs.declared.builder.Kind.{Kind}
 use Rattle.oca_tree.specs.declared.builder.Kind.TheVariants as given
@@ -26,23 +38,17 @@ use Rattle.oca_tree.specs.declared.builder.Spec.{Spec}
 use Rattle.oca_tree.specs.declared.start.Start.{Start}
 use Rattle.oca_tree.specs.declared.start.StartFault.{StartFault}
 use Rattle.oca_tree.specs.declared.start.StartFault.TheVariants.{BadFlags}
-use Rattle.oca_model.specs.declared.value.Value.{Value as Setting}
-use Rattle.oca_tree.specs.declared.setting.SetFault.{SetFault}
 use Rattle.oca_tree.specs.Kinds.{IsOfType}
 use Rattle.oca_tree.specs.Places.{places, reaches}
-use Rattle.oca_tree.specs.Objects.{Store}
+use Rattle.oca_tree.specs.Objects.{Store, members, descendants}
 use Rattle.oca_tree.specs.Locks.{lock_refuses}
-use Rattle.oca_tree.specs.PrivateRequests.{request_carried, is_out_of_range, is_invalid}
-use Rattle.oca_tree.specs.PrivateExecution.{identification_encoding, block_member_encoding, joined, answer}
-use Rattle.oca_tree.specs.Execution.{kind_at}
-use Rattle.oca_tree.specs.PrivateExecution.{request_at, own_status, by_own_status, execution_in_bytes}
-use Rattle.oca_tree.specs.Execution.{TreeAndReply, refused, execution}
+use Rattle.oca_tree.specs.Requests.{fits_positions, asks_out_of_range, asks_invalid}
+use Rattle.oca_tree.specs.Typed.{reading_held, answer_given, member_of, descendant_of, of_positions}
+use Rattle.oca_tree.specs.Execution.{kind_at, asked_at, status_of, by_status, refused, execution}
 use Rattle.oca_tree.specs.Written.{is_ok}
 use Rattle.oca_tree.specs.Trees.{IsTree, IsSoundValue}
 use Rattle.oca_tree.specs.Building.{add_fault, object_of_spec, is_bad_value}
 use Rattle.oca_tree.specs.Starts.{with_flags, has_other_flags, restored, start_fault}
-use Rattle.oca_tree.specs.PrivateRequests.{request_for}
-use Rattle.oca_tree.specs.Settings.{fault_at}
 
 -- members and descendants in one: whether an object is listed, and how
 abbrev pub is_listed : List Object → ℕ → Bool → Object → Bool
@@ -50,8 +56,13 @@ is_listed tree block true o = reaches (places tree) block o.container.0
 is_listed tree block false o = o.container.0 == block
 
 abbrev pub item_encoding : Bool → Object → List ℕ
-item_encoding true o = block_member_encoding o
-item_encoding false o = identification_encoding o
+item_encoding true o = descendant_encoding (descendant_of o)
+item_encoding false o = member_encoding (member_of o)
+
+-- the answer that lists them
+abbrev pub listed_answer : Bool → List Object → ℕ → Answer
+listed_answer true tree block = answers.Descendants (record { items = map descendant_of (descendants tree block) })
+listed_answer false tree block = answers.Members (record { items = map member_of (members tree block) })
 
 -- how many bytes the items of all that is listed take
 abbrev pub listed_bytes : Bool → List Object → ℕ → ℕ
@@ -83,11 +94,25 @@ abbrev pub counted_as : {X : Type 0} → ℕ → Result X PutFault → Result �
 counted_as count (Ok _) = Ok count
 counted_as count (Err _) = Err status.BufferOverflow
 
--- All parameters were appended, and there are so many of them; or there is no room for them.
-abbrev pub PutsAll : Result ℕ Status → List ℕ → List ℕ → List (List ℕ) → Type 0
-PutsAll (Ok count) old new parameters = (new ≡ old ++ joined parameters) × (count ≡ length parameters)
-PutsAll (Err s) old new parameters =
-    (s ≡ status.BufferOverflow) × (most_parameter_bytes < length old + length (joined parameters))
+-- The answer was appended, and this is its ParamCount; or there is no room for it.
+abbrev pub PutsAnswer : Result ℕ Status → List ℕ → List ℕ → Answer → Type 0
+PutsAnswer (Ok count) old new a = (new ≡ old ++ answer_encoding a) × (count ≡ answer_count a)
+PutsAnswer (Err s) old new a =
+    (s ≡ status.BufferOverflow) × (most_parameter_bytes < length old + length (answer_encoding a))
+
+-- what is answered of what a value reads as
+abbrev pub reading_answer : Value → Answer
+reading_answer value = option_map_or answers.Reading (reading_held value) answers.Done
+
+-- what is answered of the positions of a switch
+abbrev pub positions_answer : Value → Request → Answer
+positions_answer value (asked.GetPositionName n) =
+    of_positions value (λ switch. answers.Text (slice_index_or switch.names.items n []))
+positions_answer value asked.GetPositionNames = of_positions value (λ switch. answers.Names switch.names)
+positions_answer value (asked.GetPositionEnabled n) =
+    of_positions value (λ switch. answers.Truth (slice_index_or switch.enableds.items n false))
+positions_answer value asked.GetPositionEnableds = of_positions value (λ switch. answers.Flags switch.enableds)
+positions_answer value _ = answers.Done
 
 -- whether a method of this access only reads
 abbrev pub only_reads : Access → Bool
@@ -96,7 +121,20 @@ only_reads _ = false
 
 -- what a method asks that only reads and has no parameters, the same of every object, or nothing
 abbrev pub plain_request : Method → Option Request
-plain_request method = if only_reads (access method) then request_carried values.Block method 0 [] else None
+plain_request method =
+    if only_reads (access method) then result_ok (request_in class.Block method 0 []) else None
+
+-- the status of parameters that are not understood
+abbrev pub status_of_fault : ValueFault → Status
+status_of_fault Malformed = status.ParameterError
+status_of_fault Unlisted = status.ParameterOutOfRange
+
+-- the status that refuses a request, whatever its answer is
+abbrev pub refusal_of : Object → Request → Option Status
+refusal_of o r =
+    if not (fits_positions o.value r) then Some status.ParameterError
+    else (if asks_out_of_range o.value r then Some status.ParameterOutOfRange
+    else (if asks_invalid o r then Some status.InvalidRequest else None))
 
 -- The object has the method, and no lock keeps the peer from it.
 abbrev pub MayCall : Method → Object → Peer → CommandFields → Type 0
@@ -106,35 +144,34 @@ MayCall method o peer c =
 -- The command is refused at the object, whatever the tree.
 abbrev pub IsRefusedAt : Status → Object → Peer → CommandFields → Type 0
 IsRefusedAt s o peer c = (tree : List Object) →
-    by_own_status tree peer (Some o) (request_at (Some o) (kind_at (Some o) c) c) (own_status tree peer (Some o) c)
+    by_status tree peer (Some o) (asked_at (Some o) (kind_at (Some o) c) c) (status_of tree peer (Some o) c)
     ≡ refused tree s
 
 abbrev pub IsMethodFor : Result Method Status → Object → Peer → CommandFields → Type 0
 IsMethodFor (Ok method) o peer c = MayCall method o peer c
 IsMethodFor (Err s) o peer c = IsRefusedAt s o peer c × (is_ok s ≡ false)
 
--- A command is understood at an object, and then only the answer can be too long, or it is refused whatever the tree.
-abbrev pub IsRequestFor : Result Request Status → Object → Peer → CommandFields → Type 0
-IsRequestFor (Ok r) o peer c =
-    (request_at (Some o) (kind_at (Some o) c) c ≡ Some r)
-    × (is_out_of_range o.value r ≡ false) × (is_invalid o.lockable o.lock r ≡ false)
-    × ((tree : List Object) →
-    own_status tree peer (Some o) c
-    ≡ (if nat_lt most_parameter_bytes (length (answer tree o r)) then status.BufferOverflow else status.Ok))
+-- The request is what the command asks of the object, and only its answer can be too long.
+pub record IsUnderstood (r : Request) (o : Object) (peer : Peer) (c : CommandFields) : Type 0 where
+  pub asked : asked_at (Some o) (kind_at (Some o) c) c ≡ Ok r
+  pub fits : fits_positions o.value r ≡ true
+  pub within : asks_out_of_range o.value r ≡ false
+  pub valid : asks_invalid o r ≡ false
+  pub ends : (tree : List Object) →
+      status_of tree peer (Some o) c
+      ≡ (if nat_lt most_parameter_bytes (length (answer_encoding (answer_given tree o r))) then status.BufferOverflow
+      else status.Ok)
+
+-- A command is understood at an object, or it is refused whatever the tree.
+abbrev pub IsRequestFor : Result Asked Status → Object → Peer → CommandFields → Type 0
+IsRequestFor (Ok r) o peer c = IsUnderstood (asked_by r) o peer c
 IsRequestFor (Err s) o peer c = IsRefusedAt s o peer c × (is_ok s ≡ false)
 
--- A command was carried out, or refused with nothing changed, as this execution of it says.
-abbrev pub ExecutesAs : TreeAndReply → Result ℕ Status → List Object → List Object → List ℕ → Type 0
-ExecutesAs execution (Ok count) old new out =
-    execution ≡ record { tree = new; status = status.Ok; count = count; parameters = out }
-ExecutesAs execution (Err s) old new out = (execution ≡ refused old s) × (new ≡ old) × (is_ok s ≡ false)
-
--- as its execution in bytes says, and as its execution says
-abbrev pub ExecutesInBytes : Result ℕ Status → List Object → List Object → List ℕ → Peer → CommandFields → Type 0
-ExecutesInBytes result old new out peer c = ExecutesAs (execution_in_bytes old peer c) result old new out
-
+-- A command was carried out, or refused with nothing changed, as its execution says.
 abbrev pub Executes : Result ℕ Status → List Object → List Object → List ℕ → Peer → CommandFields → Type 0
-Executes result old new out peer c = ExecutesAs (execution old peer c) result old new out
+Executes (Ok count) old new out peer c =
+    execution old peer c ≡ record { tree = new; status = status.Ok; count = count; parameters = out }
+Executes (Err s) old new out peer c = (execution old peer c ≡ refused old s) × (new ≡ old) × (is_ok s ≡ false)
 
 -- A value is made where it is in range.
 abbrev pub MakesValue : Option Value → Value → Type 0
@@ -174,8 +211,3 @@ abbrev pub Restores : {X : Type 0} → Result X StartFault → Object → Object
 Restores (Ok _) old new start =
     (start_fault old.value start ≡ None) × (new ≡ restored start old) × IsSoundValue new.value
 Restores (Err e) old new start = start_fault old.value start ≡ Some e
-
--- The request of a value's set method can be carried out at an object that holds this, or the first fault refuses it.
-abbrev pub ChecksSetting : Result Request SetFault → Value → Setting → Type 0
-ChecksSetting (Ok r) held value = (fault_at held value ≡ None) × (r ≡ request_for value)
-ChecksSetting (Err e) held value = fault_at held value ≡ Some e

@@ -1,33 +1,28 @@
 //! Writing the parameters of an answer.
-ghost use Rattle.std.specs.Prelude.{◌≡◌, ◌≤◌, ◌<◌, ◌+◌, ◌++◌, Bool, [], length, take, drop, slice_index_or, true};
-ghost use Rattle.std.specs.Prelude.{false, IfSome, IfNone, IfOk};
+ghost use Rattle.std.specs.Prelude.{◌≡◌, ◌≤◌, ◌<◌, ◌+◌, ◌++◌, length, take, drop, slice_index_or, true, false, IfOk};
 ghost use Rattle.std.specs.List.{flat_map, filter};
-ghost use Rattle.std.specs.Int.{w8, w16};
-ghost use Rattle.oca_types.specs.Numbers.{bool_encoding, unsigned_encoding};
+ghost use Rattle.std.specs.Int.{w16};
+ghost use Rattle.oca_types.specs.Numbers.{unsigned_encoding};
 ghost use Rattle.oca_types.specs.Putting.{Puts};
-ghost use Rattle.oca_types.specs.Texts.{text_encoding};
-ghost use Rattle.oca_tree.specs.PrivateRequests.{is_out_of_range};
+ghost use Rattle.oca_model.specs.Answers.{answer_encoding};
+ghost use Rattle.oca_model.specs.HeldRequests.{asked_by};
 ghost use Rattle.oca_model.specs.Lists.{list_encoding};
-ghost use Rattle.oca_tree.specs.PrivateExecution.{state_encoding, position_parameters, switch_parameters, setting_parameters};
-ghost use Rattle.oca_tree.specs.PrivateExecution.{parameters, joined};
-ghost use Rattle.oca_model.specs.Values.{mute_number, polarity_number};
-ghost use Rattle.oca_tree.specs.PrivateRequests.{is_bad_position};
+ghost use Rattle.oca_model.specs.Readings.{reading_encoding};
+ghost use Rattle.oca_tree.specs.Kinds.{number_encoding};
+ghost use Rattle.oca_tree.specs.PrivateSteps.{is_listed, item_encoding, listed_answer, counted_as, PutsAnswer};
+ghost use Rattle.oca_tree.specs.PrivateSteps.{reading_answer, positions_answer};
+ghost use Rattle.oca_tree.specs.Requests.{asks_out_of_range};
 ghost use Rattle.oca_tree.specs.Trees.{IsTree, IsSoundValue, IsSoundSwitch, IsSoundRange};
-ghost use Rattle.oca_tree.specs.PrivateSteps.{is_listed, item_encoding, counted_as, PutsAll};
+ghost use Rattle.oca_tree.specs.Typed.{answer_given, number_reading, position_reading};
 ghost use Rattle.oca_tree.specs.declared.object.Object.{Object as AnObject};
-ghost use Rattle.oca_tree.specs.declared.object.Switch.{Switch};
-ghost use Rattle.oca_tree.specs.declared.object.Value.TheVariants.{Number};
-ghost use Rattle.oca_tree.specs.declared.request.Request.TheVariants.{Switch as AsSwitch};
-ghost use Rattle.oca_tree.specs.declared.request.SwitchRequest.TheVariants.{GetPosition};
 
 use crate::object::{Object, Range, Switch, Value};
 use crate::objects::Objects;
 use crate::put::put_number;
-use crate::request::{Request, SwitchRequest};
-use oca_model::{MuteState, PolarityState};
+use oca_model::{Asked, put_flags, put_names};
 use oca_types::{
-    MOST_PARAMETER_BYTES, Params, PutFault, Status, Text, put_bool, put_class_identification,
-    put_text, put_u8, put_u16, put_u32,
+    MOST_PARAMETER_BYTES, Params, PutFault, Status, put_bool, put_class_identification, put_text,
+    put_u8, put_u16, put_u32,
 };
 
 /// An object's number and class, and where all descendants are listed its container too.
@@ -160,89 +155,15 @@ fn put_members(
     Ok(())
 }
 
-/// The number of a mute's state.
-pub(crate) fn mute_number(state: MuteState) -> u8
-    ensures { result ≡ mute_number state }
-{
-    state as u8
-}
-
-/// The number of a polarity's state.
-pub(crate) fn polarity_number(state: PolarityState) -> u8
-    ensures { result ≡ polarity_number state }
-{
-    state as u8
-}
-
-/// The number of the state of a mute or a polarity; nothing of any other value.
-fn state_number(value: &Value) -> Option<u8>
-    ensures state { IfSome result (λ number. state_encoding value.now ≡ unsigned_encoding w8 number) }
-    ensures other { IfNone result (state_encoding value.now ≡ []) }
-{
-    match value {
-        Value::Mute(state) => Some(mute_number(*state)),
-        Value::Polarity(state) => Some(polarity_number(*state)),
-        _ => None,
-    }
-}
-
-/// The state of a mute or a polarity.
-#[inline]
-fn put_state(out: &mut Params, value: &Value) -> Result<(), PutFault>
-    ensures { Puts result out.old.items out.new.items (state_encoding value.now) }
-{
-    match state_number(value) {
-        Some(number) => put_u8(out, number),
-        None => Ok(()),
-    }
-}
-
 /// The position, the least and the greatest.
+#[tactic(auto, unfolding(oca_model::specs::Readings::reading_encoding))]
 fn put_position(out: &mut Params, switch: &Switch) -> Result<(), PutFault>
     requires { IsSoundSwitch switch.now }
-    ensures { Puts result out.old.items out.new.items (joined (position_parameters switch.now GetPosition)) }
+    ensures { Puts result out.old.items out.new.items (reading_encoding (position_reading switch.now)) }
 {
     put_u16(out, switch.position)?;
     put_u16(out, 0)?;
     put_u16(out, (switch.names.len() - 1) as u16)
-}
-
-/// Texts, one after another.
-fn put_texts(out: &mut Params, texts: &[Text]) -> Result<(), PutFault>
-    ensures { Puts result out.old.items out.new.items (flat_map text_encoding texts.now) }
-{
-    for text in texts {
-        put_text(out, text)?;
-    }
-    Ok(())
-}
-
-/// Booleans, one after another.
-fn put_bools(out: &mut Params, truths: &[bool]) -> Result<(), PutFault>
-    ensures { Puts result out.old.items out.new.items (flat_map bool_encoding truths.now) }
-{
-    for truth in truths {
-        put_bool(out, *truth)?;
-    }
-    Ok(())
-}
-
-/// An OcaList of texts.
-fn put_text_list(out: &mut Params, texts: &[Text]) -> Result<(), PutFault>
-    requires { length texts.now ≤ 16 }
-    ensures { Puts result out.old.items out.new.items (list_encoding text_encoding texts.now) }
-{
-    put_u16(out, texts.len() as u16)?;
-    put_texts(out, texts)
-}
-
-/// An OcaList of Booleans.
-fn put_bool_list(out: &mut Params, truths: &[bool]) -> Result<(), PutFault>
-    requires { length truths.now ≤ 16 }
-    ensures { Puts result out.old.items out.new.items (list_encoding bool_encoding truths.now) }
-{
-    put_u16(out, truths.len() as u16)?;
-    put_bools(out, truths)
 }
 
 /// What a put of so many parameters gives: their number, or that the answer is too long.
@@ -255,66 +176,81 @@ fn counted(count: u8, put: Result<(), PutFault>) -> Result<u8, Status>
     }
 }
 
-/// What a switch answers.
-fn put_switch_answer(
-    out: &mut Params,
-    switch: &Switch,
-    request: &SwitchRequest<'_>,
-) -> Result<u8, Status>
-    requires sound { IsSoundSwitch switch.now }
-    requires there { is_bad_position switch.now request.now ≡ false }
-    ensures { PutsAll result out.old.items out.new.items (position_parameters switch.now request.now) }
-{
-    match request {
-        SwitchRequest::GetPosition => counted(3, put_position(out, switch)),
-        SwitchRequest::GetPositionName(position) => {
-            counted(1, put_text(out, &switch.names[usize::from(*position)]))
-        }
-        SwitchRequest::GetPositionNames => counted(1, put_text_list(out, &switch.names)),
-        SwitchRequest::GetPositionEnabled(position) => {
-            counted(1, put_bool(out, switch.enableds[usize::from(*position)]))
-        }
-        SwitchRequest::GetPositionEnableds => counted(1, put_bool_list(out, &switch.enableds)),
-        _ => Ok(0),
-    }
-}
-
-/// What a switch answers; any other value answers nothing to it.
-#[tactic(auto, unfolding(crate::specs::PrivateRequests::is_out_of_range, crate::specs::Trees::IsSoundValue))]
-fn put_position_answer(
-    out: &mut Params,
-    value: &Value,
-    request: &SwitchRequest<'_>,
-) -> Result<u8, Status>
-    requires sound { IsSoundValue value.now }
-    requires there { is_out_of_range value.now (AsSwitch request.now) ≡ false }
-    ensures { PutsAll result out.old.items out.new.items (switch_parameters value.now request.now) }
-{
-    match value {
-        Value::Switch(switch) => put_switch_answer(out, switch, request),
-        _ => Ok(0),
-    }
-}
-
 /// The setting of a number, its least and its greatest.
-fn put_range(out: &mut Params, range: &Range) -> Result<(), PutFault>
+fn put_limits(out: &mut Params, range: &Range) -> Result<(), PutFault>
     requires { IsSoundRange range.now }
-    ensures { Puts result out.old.items out.new.items (joined (setting_parameters (Number range.now))) }
+    ensures { Puts result out.old.items out.new.items
+        (number_encoding range.now.kind range.now.setting ++ number_encoding range.now.kind range.now.least
+        ++ number_encoding range.now.kind range.now.greatest) }
 {
     put_number(out, range.kind, range.setting)?;
     put_number(out, range.kind, range.least)?;
     put_number(out, range.kind, range.greatest)
 }
 
-/// The setting, and of a number its least and its greatest too.
-#[tactic(auto, unfolding(crate::specs::Trees::IsSoundValue))]
-fn put_setting(out: &mut Params, value: &Value) -> Result<u8, Status>
+/// What a number reads as.
+#[tactic(auto, using(crate::proofs::NumberKinds::number_encoded))]
+fn put_range(out: &mut Params, range: &Range) -> Result<(), PutFault>
+    requires { IsSoundRange range.now }
+    ensures { Puts result out.old.items out.new.items (reading_encoding (number_reading range.now.kind range.now)) }
+{
+    put_limits(out, range)
+}
+
+/// What a value reads as, with its limits; a block has nothing to read.
+#[inline]
+#[tactic(auto, unfolding(crate::specs::Trees::IsSoundValue, crate::specs::Typed::reading_held, oca_model::specs::Answers::answer_encoding, oca_model::specs::Readings::reading_encoding), using(crate::proofs::NumberKinds::three_of))]
+fn put_reading(out: &mut Params, value: &Value) -> Result<u8, Status>
     requires { IsSoundValue value.now }
-    ensures { PutsAll result out.old.items out.new.items (setting_parameters value.now) }
+    ensures { PutsAnswer result out.old.items out.new.items (reading_answer value.now) }
 {
     match value {
+        Value::Block => Ok(0),
+        Value::Mute(state) => counted(1, put_u8(out, *state as u8)),
+        Value::Polarity(state) => counted(1, put_u8(out, *state as u8)),
+        Value::Switch(switch) => counted(3, put_position(out, switch)),
         Value::Boolean(truth) => counted(1, put_bool(out, *truth)),
         Value::Number(range) => counted(3, put_range(out, range)),
+    }
+}
+
+/// What is answered that lists the members of a block, or all that lies in it.
+#[tactic(auto, using(crate::proofs::Listing::listed_encoding, crate::proofs::Listing::listed_count))]
+fn put_listed(
+    out: &mut Params,
+    objects: &Objects,
+    block: &Object,
+    place: usize,
+    deep: bool,
+) -> Result<u8, Status>
+    requires tree { IsTree objects.now.list }
+    requires within { place < length objects.now.list }
+    requires here { block.now ≡ slice_index_or objects.now.list place block.now }
+    ensures { PutsAnswer result out.old.items out.new.items
+        (listed_answer deep objects.now.list block.now.ono.0) }
+{
+    counted(1, put_members(out, objects, block, place, deep))
+}
+
+/// What is answered of the positions of a switch; any other value has none.
+#[tactic(auto, unfolding(oca_model::specs::HeldRequests::asked_by, oca_model::specs::Answers::answer_encoding, crate::specs::Requests::asks_out_of_range, crate::specs::Trees::IsSoundValue))]
+fn put_positions(out: &mut Params, value: &Value, request: &Asked<'_>) -> Result<u8, Status>
+    requires sound { IsSoundValue value.now }
+    requires there { asks_out_of_range value.now (asked_by request.now) ≡ false }
+    ensures { PutsAnswer result out.old.items out.new.items (positions_answer value.now (asked_by request.now)) }
+{
+    let Value::Switch(switch) = value else {
+        return Ok(0);
+    };
+    match request {
+        Asked::GetPositionName(position) => {
+            counted(1, put_text(out, &switch.names[usize::from(*position)]))
+        }
+        Asked::GetPositionNames => counted(1, put_names(out, &switch.names)),
+        Asked::GetPositionEnabled(position) => {
+            counted(1, put_bool(out, switch.enableds[usize::from(*position)]))
+        }
+        Asked::GetPositionEnableds => counted(1, put_flags(out, &switch.enableds)),
         _ => Ok(0),
     }
 }
@@ -322,35 +258,36 @@ fn put_setting(out: &mut Params, value: &Value) -> Result<u8, Status>
 /// Appends the parameters of the answer of the object, which stands at index `place`, and says how many they are,
 /// unless it is too long. Inlined, it is one jump table with the one that made the request.
 #[inline(always)]
-#[tactic(auto, unfolding(crate::specs::PrivateExecution::parameters))]
+#[tactic(auto, unfolding(oca_model::specs::HeldRequests::asked_by, oca_model::specs::Answers::answer_encoding, crate::specs::Typed::answer_given))]
 pub(crate) fn put_answer(
     out: &mut Params,
     objects: &Objects,
     object: &Object,
     place: usize,
-    request: &Request<'_>,
+    request: &Asked<'_>,
 ) -> Result<u8, Status>
     requires within { place < length objects.now.list }
     requires here { object.now ≡ slice_index_or objects.now.list place object.now }
     requires sound { IsSoundValue object.now.value }
-    requires range { is_out_of_range object.now.value request.now ≡ false }
+    requires range { asks_out_of_range object.now.value (asked_by request.now) ≡ false }
     requires tree { IsTree objects.now.list }
-    ensures { PutsAll result out.old.items out.new.items (parameters objects.now.list object.now request.now) }
+    ensures { PutsAnswer result out.old.items out.new.items
+        (answer_given objects.now.list object.now (asked_by request.now)) }
 {
     match request {
-        Request::GetClassIdentification => {
-            counted(1, put_class_identification(out, object.class()))
-        }
-        Request::GetLockable => counted(1, put_bool(out, object.lockable)),
-        Request::GetRole => counted(1, put_text(out, &object.role)),
-        Request::GetEnabled => counted(1, put_bool(out, object.enabled)),
-        Request::GetLabel => counted(1, put_text(out, &object.label)),
-        Request::GetOwner => counted(1, put_u32(out, object.container.0)),
-        Request::GetMembers => counted(1, put_members(out, objects, object, place, false)),
-        Request::GetMembersRecursive => counted(1, put_members(out, objects, object, place, true)),
-        Request::GetState => counted(1, put_state(out, &object.value)),
-        Request::Switch(request) => put_position_answer(out, &object.value, request),
-        Request::GetSetting => put_setting(out, &object.value),
+        Asked::GetClassIdentification => counted(1, put_class_identification(out, object.class())),
+        Asked::GetLockable => counted(1, put_bool(out, object.lockable)),
+        Asked::GetRole => counted(1, put_text(out, &object.role)),
+        Asked::GetEnabled => counted(1, put_bool(out, object.enabled)),
+        Asked::GetLabel => counted(1, put_text(out, &object.label)),
+        Asked::GetOwner => counted(1, put_u32(out, object.container.0)),
+        Asked::GetMembers => put_listed(out, objects, object, place, false),
+        Asked::GetMembersRecursive => put_listed(out, objects, object, place, true),
+        Asked::Get => put_reading(out, &object.value),
+        Asked::GetPositionName(_)
+        | Asked::GetPositionNames
+        | Asked::GetPositionEnabled(_)
+        | Asked::GetPositionEnableds => put_positions(out, &object.value, request),
         _ => Ok(0),
     }
 }

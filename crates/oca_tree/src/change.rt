@@ -1,114 +1,103 @@
 //! What a request changes in its object.
 ghost use Rattle.std.specs.Prelude.{◌≡◌, ◌≤◌, ◌+◌, false};
+ghost use Rattle.oca_model.specs.HeldRequests.{asked_by};
 ghost use Rattle.oca_tree.specs.Locks.{lock_of_one};
-ghost use Rattle.oca_tree.specs.PrivateRequests.{is_out_of_range};
-ghost use Rattle.oca_tree.specs.PrivateExecution.{changed, changed_value, changed_switch, mute_state, polarity_state};
-ghost use Rattle.oca_tree.specs.PrivateRequests.{is_bad_position};
-ghost use Rattle.oca_tree.specs.Trees.{IsSoundValue, IsSoundSwitch};
+ghost use Rattle.oca_tree.specs.Requests.{asks_out_of_range};
+ghost use Rattle.oca_tree.specs.Trees.{IsSoundValue};
+ghost use Rattle.oca_tree.specs.Typed.{changed_by, set_to, value_changed_by};
 
 use crate::marks::Marks;
-use crate::object::{LockKind, Object, Switch, Value};
-use crate::request::{Request, SwitchRequest};
-use oca_model::{MuteState, PolarityState};
+use crate::object::{LockKind, Object, Value};
+use crate::request::integer_of;
+use oca_model::{Asked, Value as Setting};
 use oca_types::Peer;
 
-/// The state of a mute with this number: 1 is muted.
-fn mute_state(state: u8) -> MuteState
-    ensures { result ≡ mute_state state }
-{
-    if state == 1 {
-        MuteState::Muted
-    } else {
-        MuteState::Unmuted
-    }
-}
-
-/// The state of a polarity with this number: 1 is not inverted.
-fn polarity_state(state: u8) -> PolarityState
-    ensures { result ≡ polarity_state state }
-{
-    if state == 1 {
-        PolarityState::NonInverted
-    } else {
-        PolarityState::Inverted
-    }
-}
-
-/// Sets what is asked of a switch; what only reads leaves it.
-fn change_switch(switch: &mut Switch, request: SwitchRequest<'_>)
-    requires sound { IsSoundSwitch switch.old }
-    requires there { is_bad_position switch.old request ≡ false }
-    ensures { switch.new ≡ changed_switch switch.old request.entry }
-{
-    match request {
-        SwitchRequest::SetPosition(position) => switch.position = position,
-        SwitchRequest::SetPositionName(position, name) => {
-            switch.names[usize::from(position)] = name.text();
-        }
-        SwitchRequest::SetPositionNames(names) => switch.names = names.texts(),
-        SwitchRequest::SetPositionEnabled(position, truth) => {
-            switch.enableds[usize::from(position)] = truth;
-        }
-        SwitchRequest::SetPositionEnableds(truths) => switch.enableds = truths,
-        _ => {}
-    }
-}
-
-/// Sets what a request sets of a value; any other leaves it.
+/// Sets the value to another one of its class; a value of another class sets nothing.
 #[inline(always)]
-#[tactic(auto, unfolding(crate::specs::PrivateExecution::changed_value, crate::specs::PrivateRequests::is_out_of_range, crate::specs::Trees::IsSoundValue))]
-fn change_value(value: &mut Value, request: Request<'_>)
-    requires sound { IsSoundValue value.old }
-    requires there { is_out_of_range value.old request ≡ false }
-    ensures { value.new ≡ changed_value value.old request.entry }
+fn set_value(value: &mut Value, setting: Setting)
+    ensures { value.new ≡ set_to value.old setting }
 {
     match value {
         Value::Mute(state) => {
-            if let Request::SetState(number) = request {
-                *state = mute_state(number);
+            if let Setting::Mute(new) = setting {
+                *state = new;
             }
         }
         Value::Polarity(state) => {
-            if let Request::SetState(number) = request {
-                *state = polarity_state(number);
+            if let Setting::Polarity(new) = setting {
+                *state = new;
             }
         }
         Value::Switch(switch) => {
-            if let Request::Switch(request) = request {
-                change_switch(switch, request);
+            if let Setting::Switch(position) = setting {
+                switch.position = position;
             }
         }
         Value::Boolean(truth) => {
-            if let Request::SetBoolean(set) = request {
-                *truth = set;
+            if let Setting::Boolean(new) = setting {
+                *truth = new;
             }
         }
         Value::Number(range) => {
-            if let Request::SetNumber(setting) = request {
-                range.setting = setting;
+            if let Some(new) = integer_of(setting) {
+                range.setting = new;
             }
         }
         Value::Block => {}
     }
 }
 
+/// Sets what a request sets of a value; any other leaves it.
+#[inline(always)]
+#[tactic(auto, unfolding(oca_model::specs::HeldRequests::asked_by, crate::specs::Requests::asks_out_of_range, crate::specs::Trees::IsSoundValue))]
+fn change_value(value: &mut Value, request: Asked<'_>)
+    requires sound { IsSoundValue value.old }
+    requires there { asks_out_of_range value.old (asked_by request) ≡ false }
+    ensures { value.new ≡ value_changed_by value.old (asked_by request.entry) }
+{
+    match request {
+        Asked::Set(setting) => set_value(value, setting),
+        Asked::SetPositionName(position, name) => {
+            if let Value::Switch(switch) = value {
+                switch.names[usize::from(position)] = name.text();
+            }
+        }
+        Asked::SetPositionNames(names) => {
+            if let Value::Switch(switch) = value {
+                switch.names = names.texts();
+            }
+        }
+        Asked::SetPositionEnabled(position, truth) => {
+            if let Value::Switch(switch) = value {
+                switch.enableds[usize::from(position)] = truth;
+            }
+        }
+        Asked::SetPositionEnableds(truths) => {
+            if let Value::Switch(switch) = value {
+                switch.enableds = truths;
+            }
+        }
+        _ => {}
+    }
+}
+
 /// Carries out what a request changes. `marks` count the locks of the tree that are held.
 #[inline(always)]
-#[tactic(auto, unfolding(crate::specs::PrivateExecution::changed))]
-pub(crate) fn change(object: &mut Object, marks: &mut Marks, peer: Peer, request: Request<'_>)
+#[tactic(auto, unfolding(oca_model::specs::HeldRequests::asked_by, crate::specs::Typed::changed_by))]
+pub(crate) fn change(object: &mut Object, marks: &mut Marks, peer: Peer, request: Asked<'_>)
     requires sound { IsSoundValue object.old.value }
-    requires range { is_out_of_range object.old.value request ≡ false }
+    requires range { asks_out_of_range object.old.value (asked_by request) ≡ false }
     requires room { marks.old.locks ≤ 4096 }
     requires counted { lock_of_one object.old ≤ marks.old.locks }
-    ensures object { object.new ≡ changed object.old peer request.entry }
+    ensures object { object.new ≡ changed_by object.old peer (asked_by request.entry) }
     ensures count { marks.new.locks + lock_of_one object.old ≡ marks.old.locks + lock_of_one object.new }
 {
     match request {
-        Request::LockTotal => object.lock(marks, LockKind::Total, peer),
-        Request::LockReadonly => object.lock(marks, LockKind::Readonly, peer),
-        Request::Unlock => object.unlock(marks),
-        Request::SetEnabled(enabled) => object.enabled = enabled,
-        Request::SetLabel(label) => object.label = label.text(),
+        Asked::LockTotal => object.lock(marks, LockKind::Total, peer),
+        Asked::LockReadonly => object.lock(marks, LockKind::Readonly, peer),
+        Asked::Unlock => object.unlock(marks),
+        Asked::SetEnabled(enabled) => object.enabled = enabled,
+        Asked::SetLabel(label) => object.label = label.text(),
         other => change_value(&mut object.value, other),
     }
 }

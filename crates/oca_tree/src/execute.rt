@@ -5,7 +5,7 @@ ghost use Rattle.oca_types.specs.Peers.{fields_of};
 ghost use Rattle.oca_tree.specs.Objects.{has_number};
 ghost use Rattle.oca_tree.specs.Locks.{lock_count};
 ghost use Rattle.oca_tree.specs.Trees.{IsTree, IsSound};
-ghost use Rattle.oca_tree.specs.PrivateSteps.{MayCall, IsMethodFor, IsRequestFor, Executes, ExecutesInBytes};
+ghost use Rattle.oca_tree.specs.PrivateSteps.{MayCall, IsMethodFor, IsRequestFor, Executes, status_of_fault};
 ghost use Rattle.oca_types.specs.declared.class.MethodKind.TheVariants.{Known};
 ghost use Rattle.oca_types.specs.Methods.{access};
 ghost use Rattle.oca_tree.specs.Written.{is_write, calls_a_write};
@@ -16,7 +16,8 @@ use crate::marks::Marks;
 use crate::object::Object;
 use crate::objects::Objects;
 use crate::place::index_from;
-use crate::request::Request;
+use crate::request::{plain, refusal};
+use oca_model::{Asked, ValueFault};
 use oca_types::{
     Access, Command, MOST_PARAMETER_BYTES, Method, MethodKind, Params, Peer, Status, access_of,
     method_of,
@@ -38,26 +39,33 @@ fn method_for(object: &Object, peer: Peer, command: &Command<'_>) -> Result<Meth
     }
 }
 
+/// The status of what is not understood.
+fn status_of_fault(fault: ValueFault) -> Status
+    ensures { result ≡ status_of_fault fault }
+{
+    match fault {
+        ValueFault::Malformed => Status::ParameterError,
+        ValueFault::Unlisted => Status::ParameterOutOfRange,
+    }
+}
+
 /// What a command asks by this method of an object, or why it is refused.
 fn check_request<'a>(
     object: &Object,
     command: &Command<'a>,
     method: Method,
-) -> Result<Request<'a>, Status>
+) -> Result<Asked<'a>, Status>
     requires { IsSound object.now }
     ensures { (peer : Peer) → MayCall method object.now peer (fields_of command.now) →
         IsRequestFor result object.now peer (fields_of command.now) }
 {
-    let Some(request) = Request::read(&object.value, method, command.count, command.params) else {
-        return Err(Status::ParameterError);
-    };
-    if request.is_out_of_range(&object.value) {
-        return Err(Status::ParameterOutOfRange);
+    match Asked::read(object.class(), method, command.count, command.params) {
+        Ok(request) => match refusal(object, &request) {
+            Some(status) => Err(status),
+            None => Ok(request),
+        },
+        Err(fault) => Err(status_of_fault(fault)),
     }
-    if request.is_invalid(object) {
-        return Err(Status::InvalidRequest);
-    }
-    Ok(request)
 }
 
 /// Carries out any method of the object at this index, which the peer may call. It stands apart, so that
@@ -78,7 +86,7 @@ fn carry_out_at(
     requires empty { out.old.items ≡ [] }
     requires tree { IsTree objects.old.list }
     requires count { marks.old.locks ≡ lock_count objects.old.list }
-    ensures done { ExecutesInBytes result objects.old.list objects.new.list out.new.items peer (fields_of command.now) }
+    ensures done { Executes result objects.old.list objects.new.list out.new.items peer (fields_of command.now) }
     ensures tree { IsTree objects.new.list }
     ensures count { marks.new.locks ≡ lock_count objects.new.list }
 {
@@ -123,7 +131,7 @@ pub(crate) fn carry_out(
     let method = method_for(object, peer, command)?;
     if command.count == 0
         && command.params.is_empty()
-        && let Some(request) = Request::plain(method)
+        && let Some(request) = plain(method)
     {
         let answered = put_answer(out, objects, object, at, &request);
         prove!(out.len() <= MOST_PARAMETER_BYTES);

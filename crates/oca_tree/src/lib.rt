@@ -11,7 +11,6 @@ mod builder;
 mod change;
 mod description;
 mod execute;
-mod held;
 mod infos;
 mod laws;
 mod lengths;
@@ -25,7 +24,6 @@ mod room;
 mod same;
 mod setting;
 mod start;
-mod take;
 mod tree;
 
 pub use bench_tree::{bench, bench_with_channels};

@@ -5,8 +5,9 @@ ghost use Rattle.std.specs.List.{position};
 ghost use Rattle.indexmap.specs.IndexMap.{values, spare, index_map_len};
 ghost use Rattle.oca_tree.specs.Objects.{has_number, object_of};
 ghost use Rattle.oca_tree.specs.Locks.{released, lock_count};
-ghost use Rattle.oca_tree.specs.PrivateRequests.{is_out_of_range};
-ghost use Rattle.oca_tree.specs.PrivateExecution.{changed};
+ghost use Rattle.oca_model.specs.HeldRequests.{asked_by};
+ghost use Rattle.oca_tree.specs.Requests.{asks_out_of_range};
+ghost use Rattle.oca_tree.specs.Typed.{changed_by};
 ghost use Rattle.oca_tree.specs.Places.{places};
 ghost use Rattle.oca_tree.specs.Trees.{IsTree};
 ghost use Rattle.oca_tree.specs.PrivateObjects.{IsKeyed, IsMap, containers};
@@ -17,8 +18,8 @@ use crate::change::change;
 use crate::lengths::{Lengths, add_last, push_none};
 use crate::marks::Marks;
 use crate::object::Object;
-use crate::request::Request;
 use indexmap::IndexMap;
+use oca_model::Asked;
 use oca_types::{Ono, Peer};
 use std::alloc::{AllocError, Global};
 use std::marker::Model;
@@ -157,20 +158,15 @@ impl Objects {
 
     /// Carries out what a request changes in the object at this index. `marks` count the locks that are held.
     #[inline(always)]
-    pub(crate) fn change_at(
-        &mut self,
-        at: usize,
-        marks: &mut Marks,
-        peer: Peer,
-        request: Request<'_>,
-    )
+    pub(crate) fn change_at(&mut self, at: usize, marks: &mut Marks, peer: Peer, request: Asked<'_>)
         requires within { at < length self.old.list }
         requires tree { IsTree self.old.list }
-        requires range { (d : Item) → is_out_of_range (slice_index_or self.old.list at d).value request ≡ false }
+        requires range { (d : Item) →
+            asks_out_of_range (slice_index_or self.old.list at d).value (asked_by request) ≡ false }
         requires count { marks.old.locks ≡ lock_count self.old.list }
         ensures objects { (d : Item) →
             self.new.list
-            ≡ slice_set self.old.list at (changed (slice_index_or self.old.list at d) peer request.entry) }
+            ≡ slice_set self.old.list at (changed_by (slice_index_or self.old.list at d) peer (asked_by request.entry)) }
         ensures count { marks.new.locks ≡ lock_count self.new.list }
     {
         change(&mut self.map[at], marks, peer, request);

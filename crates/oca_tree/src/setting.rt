@@ -3,17 +3,14 @@ ghost use Rattle.std.specs.Prelude.{◌≡◌, OnErr};
 ghost use Rattle.std.specs.Result.{result_err};
 ghost use Rattle.oca_tree.specs.Locks.{lock_count};
 ghost use Rattle.oca_tree.specs.Trees.{IsTree, IsSoundValue};
-ghost use Rattle.oca_tree.specs.PrivateRequests.{request_for};
-ghost use Rattle.oca_tree.specs.Settings.{is_of_its_class, set_fault, after_set, front};
-ghost use Rattle.oca_tree.specs.PrivateSteps.{ChecksSetting};
+ghost use Rattle.oca_tree.specs.Settings.{fault_at, is_of_its_class, set_fault, after_set, front};
 
-use crate::answer::{mute_number, polarity_number};
 use crate::marks::Marks;
 use crate::object::Value as Held;
 use crate::objects::Objects;
 use crate::place::index_from;
-use crate::request::{Request, SwitchRequest};
-use oca_model::Value;
+use crate::request::cannot_be;
+use oca_model::{Asked, Value};
 use oca_types::{Class, Ono, Peer};
 use std::error::Error;
 use std::fmt;
@@ -63,26 +60,6 @@ const _: () = prove!(SetFault::OutOfRange as u8 == 4);
 /// The peer in whose name the front asks: what is set is the same for each peer.
 const FRONT: Peer = Peer { ip: 0, port: 0 };
 
-/// The request of the set method of the value's class.
-fn request_for(value: Value) -> Request<'static>
-    ensures { result ≡ request_for value }
-{
-    match value {
-        Value::Mute(state) => Request::SetState(mute_number(state)),
-        Value::Polarity(state) => Request::SetState(polarity_number(state)),
-        Value::Switch(position) => Request::Switch(SwitchRequest::SetPosition(position)),
-        Value::Boolean(truth) => Request::SetBoolean(truth),
-        Value::Int8(setting) => Request::SetNumber(i128::from(setting)),
-        Value::Int16(setting) => Request::SetNumber(i128::from(setting)),
-        Value::Int32(setting) => Request::SetNumber(i128::from(setting)),
-        Value::Int64(setting) => Request::SetNumber(i128::from(setting)),
-        Value::Uint8(setting) => Request::SetNumber(i128::from(setting)),
-        Value::Uint16(setting) => Request::SetNumber(i128::from(setting)),
-        Value::Uint32(setting) => Request::SetNumber(i128::from(setting)),
-        Value::Uint64(setting) => Request::SetNumber(i128::from(setting)),
-    }
-}
-
 /// Whether the value is one of the class.
 #[tactic(auto, unfolding(crate::specs::Settings::is_of_its_class))]
 fn is_of_its_class(class: Class, value: Value) -> bool
@@ -104,11 +81,10 @@ fn is_of_its_class(class: Class, value: Value) -> bool
     }
 }
 
-/// What is asked of an object that holds this value, or why it cannot be set so.
-#[tactic(auto, using(crate::proofs::TypedRefusals::out_for))]
-fn check_setting(held: &Held, value: Value) -> Result<Request<'static>, SetFault>
+/// That an object that holds this can be set to the value, or why not.
+fn check_setting(held: &Held, value: Value) -> Result<(), SetFault>
     requires { IsSoundValue held.now }
-    ensures { ChecksSetting result held.now value }
+    ensures { result_err result ≡ fault_at held.now value }
 {
     if held.is_block() {
         return Err(SetFault::NoSetting);
@@ -116,11 +92,10 @@ fn check_setting(held: &Held, value: Value) -> Result<Request<'static>, SetFault
     if !is_of_its_class(held.class(), value) {
         return Err(SetFault::OtherKind);
     }
-    let request = request_for(value);
-    if request.is_out_of_range(held) {
+    if cannot_be(held, value) {
         return Err(SetFault::OutOfRange);
     }
-    Ok(request)
+    Ok(())
 }
 
 /// Sets the object with this number. `marks` count the locks that are held, and say where an object was found last.
@@ -141,7 +116,7 @@ pub(crate) fn set(
     let Some(at) = index_from(objects, marks, ono) else {
         return Err(SetFault::NoObject);
     };
-    let request = check_setting(&objects.object_at(at).value, value)?;
-    objects.change_at(at, marks, FRONT, request);
+    check_setting(&objects.object_at(at).value, value)?;
+    objects.change_at(at, marks, FRONT, Asked::Set(value));
     Ok(())
 }

@@ -12,7 +12,6 @@ ghost use Rattle.oca_tree.specs.Readers.{info_of, info_at, infos_left, class_of_
 ghost use Rattle.oca_tree.specs.Readers.{setting_at};
 ghost use Rattle.oca_tree.specs.Copies.{stored_in, stored_at, names_of_ono, lockable_at, all_unlocked};
 
-use crate::answer::{mute_number, polarity_number};
 use crate::description::{class_in, lockable_in, position_names_in, start_in};
 use crate::execute::carry_out;
 use crate::infos::ObjectInfos;
@@ -289,8 +288,8 @@ fn value_setting(value: &Held) -> Option<Setting>
 {
     match value {
         Held::Block => None,
-        Held::Mute(state) => Some(Setting::State(mute_number(*state))),
-        Held::Polarity(state) => Some(Setting::State(polarity_number(*state))),
+        Held::Mute(state) => Some(Setting::State(*state as u8)),
+        Held::Polarity(state) => Some(Setting::State(*state as u8)),
         Held::Switch(switch) => Some(Setting::Position(switch.position)),
         Held::Boolean(truth) => Some(Setting::Truth(*truth)),
         Held::Number(range) => Some(Setting::Number {

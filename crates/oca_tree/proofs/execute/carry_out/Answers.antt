@@ -1,35 +1,27 @@
 use Rattle.std.proofs.Common.{sym, refl, ap, ◌∙◌, arith}
-use Rattle.std.specs.Prelude.{Some, Err}
-use Rattle.oca_types.specs.declared.status.Status.TheVariants as statuses
+use Rattle.std.specs.Prelude.{Some}
 use Rattle.std.proofs.lemmas.Result.{err_from_is_err_and}
 use Rattle.oca_types.specs.Peers.{fields_of}
-use Rattle.oca_tree.proofs.Plain.{plain_in_range}
+use Rattle.oca_model.specs.HeldRequests.{asked_by}
+use Rattle.oca_tree.proofs.Plain.{plain}
 use Rattle.oca_tree.proofs.Executing.{exec_none, exec_refused, read_at}
-use Rattle.oca_tree.proofs.TypedExecution.{same_execution, executed}
 use Rattle.oca_tree.proofs.execute.carry_out.Goals as goal
 
 pub returns-in_default-clause-done : goal.returns-in_default-clause-done
 returns-in_default-clause-done c =
-    executed c.args.objects.now.list c.requires.tree (Err statuses.BadOno) c.args.objects.now.list c.args.out.now.items c.args.peer (fields_of c.args.command.now)
     (exec_none c.args.objects.now.list c.args.peer (fields_of c.args.command.now) c.in_default.ensures.absent, refl, refl)
 
 pub returns-in_err-method-clause-done : goal.returns-in_err-method-clause-done
 returns-in_err-method-clause-done c =
     let p = err_from_is_err_and c.from_residual.result c.from_residual.ensures.1 in
     let found = c.in-Some.ensures.found c.object_at-object.result.now ∙ ap Some (sym c.object_at-object.ensures) in
-    let c_is = fields_of c.args.command.now in
-    rw (p.1, p.2) (same_execution c.args.objects.now.list c.requires.tree.objects c.args.peer c_is ∙ exec_refused c.args.objects.now.list c.args.peer c_is c.object_at-object.result.now found _ c.in_err-method.ensures.0, refl, c.in_err-method.ensures.1)
+    rw (p.1, p.2) (exec_refused c.args.objects.now.list c.args.peer (fields_of c.args.command.now) c.object_at-object.result.now found _ c.in_err-method.ensures.0, refl, c.in_err-method.ensures.1)
 
 pub put_answer-answered-requires-clause-range : goal.put_answer-answered-requires-clause-range
-put_answer-answered-requires-clause-range c = plain_in_range c.in_ok-method.method c.in-Some-plain.request (sym c.in-Some-plain.ensures) c.object_at-object.result.now.value
+put_answer-answered-requires-clause-range c = (plain c.in_ok-method.method (asked_by c.in-Some-plain.request) (sym c.in-Some-plain.ensures)).within c.object_at-object.result.now
 
 pub returns-clause-done : goal.returns-clause-done
 returns-clause-done c =
-    executed c.args.objects.now.list c.requires.tree c.put_answer-answered.result c.args.objects.now.list c.put_answer-answered.new.out.items c.args.peer (fields_of c.args.command.now)
-    (read_at c.args.objects.now.list c.args.peer (fields_of c.args.command.now) c.in-Some.at c.object_at-object.result.now c.in-Some.ensures.index c.object_at-object.ensures
-    c.in_ok-method.method c.in-Some-plain.request c.in_ok-method.ensures (sym c.in-Some-plain.ensures) c.if-command-eq0.true (grind (arith, c.if-is_empty.ensures))
-    c.put_answer-answered.result c.put_answer-answered.new.out.items (rw c.requires.empty at c.put_answer-answered.ensures) (omega arith))
-
-pub returns-2-clause-done : goal.returns-2-clause-done
-returns-2-clause-done c =
-    executed c.args.objects.now.list c.requires.tree c.carry_out_at.result c.carry_out_at.new.objects.list c.carry_out_at.new.out.items c.args.peer (fields_of c.args.command.now) c.carry_out_at.ensures.done
+    read_at c.args.objects.now.list c.args.peer (fields_of c.args.command.now) c.in-Some.at c.object_at-object.result.now c.in-Some.ensures.index c.object_at-object.ensures
+    c.in_ok-method.method (asked_by c.in-Some-plain.request) c.in_ok-method.ensures (sym c.in-Some-plain.ensures) c.if-command-eq0.true (grind (arith, c.if-is_empty.ensures))
+    c.put_answer-answered.result c.put_answer-answered.new.out.items (rw c.requires.empty at c.put_answer-answered.ensures) (omega arith)

@@ -1,7 +1,8 @@
 use Rattle.std.proofs.Common.{sym, ap, ◌∙◌, refl, arith, set}
 use Rattle.std.proofs.lemmas.Result.{err_from_is_err_and}
 use Rattle.oca_types.specs.Peers.{fields_of}
-use Rattle.oca_tree.specs.PrivateExecution.{changed}
+use Rattle.oca_model.specs.HeldRequests.{asked_by}
+use Rattle.oca_tree.specs.Typed.{changed_by}
 use Rattle.oca_tree.specs.Written.{is_ok}
 use Rattle.oca_tree.proofs.Executing.{exec_refused, found_at, full_at, done_at, tree_at}
 use Rattle.oca_tree.proofs.execute.carry_out_at.Goals as goal
@@ -23,7 +24,7 @@ returns-in_err-count-clause-done c =
     let may = rw (← here) at (c.requires.method o) in
     let asked = c.in_ok-request.ensures c.args.peer may in
     let puts = rw c.requires.empty at c.in_err-count.ensures in
-    rw (p.1, p.2) (full_at c.args.objects.now.list c.args.peer (fields_of c.args.command.now) c.args.at o (sym c.requires.place) here c.in_ok-request.request asked c.put_answer.new.out.items _ puts, refl, ap is_ok puts.0)
+    rw (p.1, p.2) (full_at c.args.objects.now.list c.args.peer (fields_of c.args.command.now) c.args.at o (sym c.requires.place) here (asked_by c.in_ok-request.request) asked c.put_answer.new.out.items _ puts, refl, ap is_ok puts.0)
 
 pub returns-clause-done : goal.returns-clause-done
 returns-clause-done c =
@@ -32,8 +33,8 @@ returns-clause-done c =
     let may = rw (← here) at (c.requires.method o) in
     let asked = c.in_ok-request.ensures c.args.peer may in
     let puts = rw c.requires.empty at c.in_ok-count.ensures in
-    let new = c.change_at.ensures.objects o ∙ ap (λ x. set c.args.objects.now.list c.args.at (changed x c.args.peer c.in_ok-request.request)) (sym here) in
-    let done = done_at c.args.objects.now.list c.args.peer (fields_of c.args.command.now) c.args.at o (sym c.requires.place) here c.in_ok-request.request asked c.put_answer.new.out.items c.in_ok-count.count puts (omega arith) in
+    let new = c.change_at.ensures.objects o ∙ ap (λ x. set c.args.objects.now.list c.args.at (changed_by x c.args.peer (asked_by c.in_ok-request.request))) (sym here) in
+    let done = done_at c.args.objects.now.list c.args.peer (fields_of c.args.command.now) c.args.at o (sym c.requires.place) here (asked_by c.in_ok-request.request) asked c.put_answer.new.out.items c.in_ok-count.count puts (omega arith) in
     rw new done
 
 pub returns-clause-tree : goal.returns-clause-tree
@@ -42,5 +43,5 @@ returns-clause-tree c =
     let here = c.object_at-object.ensures in
     let may = rw (← here) at (c.requires.method o) in
     let asked = c.in_ok-request.ensures c.args.peer may in
-    let new = c.change_at.ensures.objects o ∙ ap (λ x. set c.args.objects.now.list c.args.at (changed x c.args.peer c.in_ok-request.request)) (sym here) in
-    rw new (tree_at c.args.objects.now.list c.args.peer (fields_of c.args.command.now) c.args.at o (sym c.requires.place) here c.in_ok-request.request asked c.put_answer.new.out.items c.requires.tree)
+    let new = c.change_at.ensures.objects o ∙ ap (λ x. set c.args.objects.now.list c.args.at (changed_by x c.args.peer (asked_by c.in_ok-request.request))) (sym here) in
+    rw new (tree_at c.args.objects.now.list c.args.peer (fields_of c.args.command.now) c.args.at o (sym c.requires.place) here (asked_by c.in_ok-request.request) asked c.put_answer.new.out.items c.requires.tree)

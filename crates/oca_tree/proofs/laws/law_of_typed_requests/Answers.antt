@@ -1,4 +1,4 @@
-use Rattle.oca_tree.proofs.TypedChanges.{settings_read}
+use Rattle.oca_tree.proofs.SetReads.{settings_read}
 use Rattle.oca_tree.proofs.TypedCommands.{commands_typed, refusals_change}
 use Rattle.oca_tree.proofs.TypedRight.{answers_right}
 use Rattle.oca_tree.proofs.laws.law_of_typed_requests.Goals as goal

@@ -1,5 +1,6 @@
 use Rattle.std.proofs.Common.{sym, ap, ◌∙◌, arith}
 use Rattle.indexmap.specs.IndexMap.{values}
+use Rattle.oca_model.specs.HeldRequests.{asked_by}
 use Rattle.oca_tree.specs.Locks.{lock_count}
 use Rattle.oca_tree.specs.Objects.{Store}
 use Rattle.oca_tree.specs.Places.{Place}
@@ -22,7 +23,7 @@ change-requires-clause-counted c =
 
 pub invariant_of-self : goal.invariant_of-self
 invariant_of-self c =
-    let shape = ap shape_of c.change.ensures.object ∙ changed_shape c.index_mut.result.now c.args.peer c.args.request in
+    let shape = ap shape_of c.change.ensures.object ∙ changed_shape c.index_mut.result.now c.args.peer (asked_by c.args.request) in
     let same = shapes_kept c.self.inside.map.entries c.args.at c.index_mut.result.now c.change.new.object c.index_mut.ensures.value shape in
     let long = length-set_value c.self.inside.map.entries c.args.at c.change.new.object in (
       record {
@@ -45,7 +46,7 @@ invariant_of-self c =
 
 pub returns-clause-objects : goal.returns-clause-objects
 returns-clause-objects c = λ d. rw (← c.self.view_is)
-    (change_there c.self.inside.map.entries c.args.at c.index_mut.result.now c.change.new.object c.args.peer c.args.request d c.index_mut.ensures.value c.change.ensures.object)
+    (change_there c.self.inside.map.entries c.args.at c.index_mut.result.now c.change.new.object c.args.peer (asked_by c.args.request) d c.index_mut.ensures.value c.change.ensures.object)
 
 pub returns-clause-count : goal.returns-clause-count
 returns-clause-count c =

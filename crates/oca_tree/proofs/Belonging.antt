@@ -1,0 +1,94 @@
+-- Which methods a value has.
+use Rattle.std.proofs.Common.{◌≡◌, ℕ, Bool, true, false, cond, List, [], ◌∷◌, refl, sym, ap, ◌∙◌}
+use Rattle.std.specs.Prelude.{Option, Some, None, ◌==◌}
+use Rattle.oca_types.specs.declared.class.Access.{Access}
+use Rattle.oca_types.specs.declared.class.Method.{Method}
+use Rattle.oca_types.specs.declared.class.Method.TheVariants as methods
+use Rattle.oca_types.specs.declared.class.MethodKind.TheVariants.{Known}
+use Rattle.oca_types.specs.declared.words.MethodId.{MethodId}
+use Rattle.oca_types.specs.Methods.{method_kind, kind_from, row_at, own_methods, class_methods, is_left_out}
+use Rattle.oca_model.specs.Lists.{Each}
+use Rattle.oca_tree.specs.declared.object.NumberKind.{NumberKind}
+use Rattle.oca_tree.specs.declared.object.NumberKind.TheVariants as kinds
+use Rattle.oca_tree.specs.declared.object.Range.{Range}
+use Rattle.oca_tree.specs.declared.object.Value.{Value as Held}
+use Rattle.oca_tree.specs.declared.object.Value.TheVariants as held
+use Rattle.oca_tree.specs.Kinds.{number_class}
+use Rattle.oca_tree.specs.Objects.{class_of}
+use Rattle.oca_tree.specs.Places.{is_block_value}
+
+abbrev pub has_state : Held → Bool
+has_state (held.Mute _) = true
+has_state (held.Polarity _) = true
+has_state _ = false
+
+abbrev pub has_positions : Held → Bool
+has_positions (held.Switch _) = true
+has_positions _ = false
+
+abbrev pub has_setting : Held → Bool
+has_setting (held.Boolean _) = true
+has_setting (held.Number _) = true
+has_setting _ = false
+
+abbrev pub belongs : Held → Method → Bool
+belongs value methods.GetMembers = is_block_value value
+belongs value methods.GetMembersRecursive = is_block_value value
+belongs value methods.GetState = has_state value
+belongs value methods.SetState = has_state value
+belongs value methods.GetPosition = has_positions value
+belongs value methods.SetPosition = has_positions value
+belongs value methods.GetPositionName = has_positions value
+belongs value methods.SetPositionName = has_positions value
+belongs value methods.GetPositionNames = has_positions value
+belongs value methods.SetPositionNames = has_positions value
+belongs value methods.GetPositionEnabled = has_positions value
+belongs value methods.SetPositionEnabled = has_positions value
+belongs value methods.GetPositionEnableds = has_positions value
+belongs value methods.SetPositionEnableds = has_positions value
+belongs value methods.GetSetting = has_setting value
+belongs value methods.SetSetting = has_setting value
+belongs value _ = true
+
+module _ (value : Held) where
+  abbrev Belongs : ℕ × Method → Type 0
+  Belongs row = belongs value row.1 ≡ true
+
+  row_belongs : (rows : List (ℕ × Method)) (index : ℕ) (m : Method) → Each Belongs rows → row_at rows index ≡ Some m → belongs value m ≡ true
+  row_belongs [] index m each e = cc
+  row_belongs (row ∷ rows) index m each e = by (index == row.0) (row_belongs rows index m each.1) e
+    where
+      by : (b : Bool) → (row_at rows index ≡ Some m → belongs value m ≡ true) → cond b (Some row.1) (row_at rows index) ≡ Some m → belongs value m ≡ true
+      by true further h = let same : row.1 ≡ m = cc in sym (ap (belongs value) same) ∙ each.0
+      by false further h = further h
+
+number_methods : (range : Range) (k : NumberKind) → Each (Belongs (held.Number range)) (class_methods (number_class k)).1
+number_methods range kinds.Int8 = (refl, (refl, tt))
+number_methods range _ = (refl, (refl, tt))
+
+class_belongs : (value : Held) → Each (Belongs value) (class_methods (class_of value)).1
+unfolding class_of
+class_belongs (held.Switch switch) = (refl, (refl, (refl, (refl, (refl, (refl, (refl, (refl, (refl, (refl, tt))))))))))
+class_belongs (held.Number range) = number_methods range range.kind
+class_belongs _ = (refl, (refl, tt))
+
+level_belongs : (value : Held) (level : ℕ) → Each (Belongs value) (own_methods (class_of value) level)
+level_belongs value level = by (level == 1) (level == 2) (level == (class_methods (class_of value)).0)
+  where
+    by : (one two own : Bool)
+        → Each (Belongs value) (cond one ((1, methods.GetClassIdentification) ∷ (2, methods.GetLockable) ∷ (3, methods.LockTotal) ∷ (4, methods.Unlock) ∷ (5, methods.GetRole) ∷ (6, methods.LockReadonly) ∷ [])
+        (cond two ((1, methods.GetEnabled) ∷ (2, methods.SetEnabled) ∷ (8, methods.GetLabel) ∷ (9, methods.SetLabel) ∷ (10, methods.GetOwner) ∷ [])
+        (cond own (class_methods (class_of value)).1 [])))
+    by true two own = (refl, (refl, (refl, (refl, (refl, (refl, tt))))))
+    by false true own = (refl, (refl, (refl, (refl, (refl, tt)))))
+    by false false true = class_belongs value
+    by false false false = tt
+
+pub known_belongs : (value : Held) (id : MethodId) (m : Method) (reached : Access) → method_kind (class_of value) id ≡ Known m reached → belongs value m ≡ true
+unfolding method_kind
+known_belongs value id m reached e = by (row_at (own_methods (class_of value) id.level) id.index) (is_left_out (class_of value) id) refl e
+  where
+    by : (found : Option Method) (left : Bool) → row_at (own_methods (class_of value) id.level) id.index ≡ found → kind_from found left ≡ Known m reached → belongs value m ≡ true
+    by None true is h = cc
+    by None false is h = cc
+    by (Some other) left is h = let same : other ≡ m = cc in row_belongs value (own_methods (class_of value) id.level) id.index m (level_belongs value id.level) (is ∙ ap Some same)
