@@ -797,7 +797,8 @@ struct oca_socket { bool is_open; int file, error; const char *call; uint32_t ip
 /* The present moment, in milliseconds of a clock that does not go back and, on Linux, counts the time for which the machine slept. */
 uint64_t oca_socket_now(void);
 
-/* Opens a device's socket at an address of this machine (0 for each) and a port (0 for any). A failure leaves it closed. */
+/* Opens a device's socket at an address of this machine and a port (0 for any). At the address 0 it hears at each, and a machine with several
+ * may answer from another one. A failure leaves it closed. */
 enum oca_socket_result oca_socket_open(struct oca_socket *own, uint32_t ip, uint16_t port) OCA_LOOKED_AT;
 
 /* Opens a panel's socket, at the one address from which the system reaches the device, and this port (0 for any): each copy of a command
