@@ -691,9 +691,32 @@ static void exact_room(void) {
 static void exact_room(void) {}
 #endif
 
+#ifdef COUNTS_BLOCKS
+/* Where no memory is given any more, a started device is told of as before. */
+static void asks_for_none(void) {
+    struct oca_device d = OCA_DEVICE_INIT;
+    struct oca_spec spec = OCA_SPEC_INIT, stored = OCA_SPEC_INIT;
+    struct oca_kept kept[2];
+    struct oca_value value = oca_mute(true);
+    size_t count = 9;
+    uint32_t ip = 9;
+    uint16_t port = 9;
+    refused = -1;
+    same("open", oca_device_open(&d, 3) == OCA_DONE && oca_device_add_mute(&d, 100, 4097, text("mute"), 4, true, true) == OCA_DONE, 1);
+    same("start", oca_device_start(&d, 2, 2), OCA_DONE);
+    requests = refused = 0;
+    same("by number", oca_device_spec_of(&d, 4097, &spec) == OCA_DONE && oca_device_spec_of(&d, 4097, &stored) == OCA_DONE, 1);
+    same("restore", oca_spec_restore(&spec, &stored), OCA_DONE);
+    same("keep", oca_device_keep(&d, kept, 2, &count), OCA_DONE);
+    same("peers", oca_device_peers(&d, &count) == OCA_DONE && oca_device_peer(&d, 0, &ip, &port) == OCA_NOTHING, 1);
+    same("words", strcmp(oca_value_word(value).text, "muted") == 0 && oca_value_from_text(OCA_CLASS_MUTE, text("unmuted"), 7, &value) == OCA_DONE, 1);
+    same("none was asked for", (uint32_t)requests, 0);
+    oca_device_close(&d);
+    refused = -1;
+}
+
 /* Where a request for memory is refused at an opening or a start, the struct is closed, each call says so, and all memory is given back;
  * where it is refused at an addition, nothing is added. */
-#ifdef COUNTS_BLOCKS
 static void without_memory(void) {
     const struct oca_value value = oca_mute(false);
     const long before = blocks;
@@ -728,6 +751,18 @@ static void without_memory(void) {
         oca_device_close(&d);
     }
     same("it is done once all is given", is_done, true);
+    for (is_done = false, refused = 0; !is_done && refused < 9; refused++) {
+        struct oca_device d = OCA_DEVICE_INIT;
+        struct oca_spec root = oca_spec_of_block("root"), mute = oca_spec_of("mute", oca_alone(oca_mute(true)));
+        const struct oca_kept kept[] = {{100, 0, root}, {4097, 100, mute}};
+        requests = 0;
+        const enum oca_result result = oca_device_open_kept(&d, 3, &root, kept, 2);
+        is_done = result == OCA_DONE;
+        same("as it was kept", is_done ? d.is_open : result == OCA_NO_MEMORY && !d.is_open && blocks == before, true);
+        same("an addition as it was kept", oca_device_add_kept(&d, 100, 4097, &mute, kept, 2), is_done ? OCA_DONE : OCA_CLOSED);
+        oca_device_close(&d);
+    }
+    asks_for_none();
     for (is_done = false, refused = 0; !is_done && refused < 9; refused++) {
         struct oca_link link = OCA_LINK_INIT;
         requests = 0;
