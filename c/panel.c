@@ -117,6 +117,33 @@ struct oca_outcome oca_panel_finish(struct oca_panel *panel, uint32_t handle, st
     return outcome;
 }
 
+enum oca_result oca_flight_push(struct oca_flight *flight, uint32_t handle, void *item) {
+    if (flight->count >= 32) return OCA_SPAN_FULL;
+    const uint32_t at = (flight->first % 32 + flight->count++) % 32;
+    flight->handles[at] = handle;
+    flight->items[at] = item;
+    return OCA_DONE;
+}
+
+/* Takes the command in front out, once it is known how it fared. */
+static struct oca_outcome take_first(struct oca_flight *flight, struct oca_outcome outcome, void **item) {
+    *item = flight->items[flight->first % 32];
+    if (outcome.asked == OCA_ASKED_UNANSWERED) return outcome;
+    flight->first = (flight->first + 1) % 32;
+    flight->count--;
+    return outcome;
+}
+
+struct oca_outcome oca_flight_finish(struct oca_flight *flight, struct oca_panel *panel, struct oca_answer *answer, void **item) {
+    if (flight->count == 0) return oca_outcome_of(OCA_ASKED_NO_HANDLE, 0, 0);
+    return take_first(flight, oca_panel_finish(panel, flight->handles[flight->first % 32], answer), item);
+}
+
+struct oca_outcome oca_flight_try_finish(struct oca_flight *flight, struct oca_panel *panel, struct oca_answer *answer, void **item) {
+    if (flight->count == 0) return oca_outcome_of(OCA_ASKED_NO_HANDLE, 0, 0);
+    return take_first(flight, oca_panel_try_finish(panel, flight->handles[flight->first % 32], answer), item);
+}
+
 /* The outcome of a command that the link did not take, by why. */
 static struct oca_outcome refused(enum oca_result result) {
     if (result == OCA_LOST) return oca_outcome_of(OCA_ASKED_LOST, 0, 0);

@@ -16,6 +16,7 @@ else
     COMPILER=$KIND-gcc
     ARCHIVER=$KIND-ar
 fi
+PARTS="panel kept store socket serve"
 VERSION=$(sed -n 's/^Version: //p' include/oca.pc.in)
 MAJOR=${VERSION%%.*}
 
@@ -40,18 +41,18 @@ install_programs() {
     done
 }
 
-# The static library with all C of c/ (a panel, a store, a heap over malloc), the one without the heap, and the shared one, whose names all
+# The static library with all C of c/ (a panel, a device's loop and what it needs, a heap over malloc), the one without the heap, and the shared one, whose names all
 # begin with `oca_`.
 install_library() {
     made=crates/oca_c/out/$TARGET
     archive=${LIBRARY:-$made/liboca_c.a}
     work=$(mktemp -d)
     trap 'rm -rf "$work"' EXIT
-    for name in panel store malloc; do
+    for name in $PARTS malloc; do
         $COMPILER -O2 -fPIC -Wall -Wextra -Iinclude -c -o "$work/$name.o" "c/$name.c"
     done
     cp "$archive" "$work/liboca_c.a"
-    $ARCHIVER rs "$work/liboca_c.a" "$work/panel.o" "$work/store.o" 2> /dev/null
+    for name in $PARTS; do $ARCHIVER rs "$work/liboca_c.a" "$work/$name.o" 2> /dev/null; done
     cp "$work/liboca_c.a" "$work/liboca.a"
     $ARCHIVER rs "$work/liboca.a" "$work/malloc.o" 2> /dev/null
     $COMPILER -shared -o "$work/liboca.so.$VERSION" -Wl,-soname,liboca.so.$MAJOR -Wl,--version-script=include/oca.map \

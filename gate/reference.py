@@ -21,9 +21,9 @@ HELPERS = {"oca_device_close_any", "oca_link_close_any", "oca_outcome_of"}
 SET, SUBMITTED = "NO_OBJECT NO_SETTING OTHER_KIND OUT_OF_RANGE", "LOST HANDLES_SPENT SPAN_FULL TOO_LONG"
 ADDED = "FULL RESERVED TAKEN NO_SUCH_BLOCK TOO_DEEP BAD_TEXT"
 ANSWERS = [
-    (r"oca_device_open_with", "BAD_TEXT NO_MEMORY OPEN BAD_SIZE"),
+    (r"oca_device_open_(with|kept)", "BAD_TEXT NO_MEMORY OPEN BAD_SIZE"),
     (r"oca_(device|link|panel)_open", "NO_MEMORY OPEN BAD_SIZE"),
-    (r"oca_device_add", f"{ADDED} BAD_RANGE NO_MEMORY CLOSED STARTED BAD_SIZE NO_VALUE"),
+    (r"oca_device_add(_kept)?", f"{ADDED} BAD_RANGE NO_MEMORY CLOSED STARTED BAD_SIZE NO_VALUE"),
     (r"oca_device_add_(block|mute|polarity|boolean)", f"{ADDED} NO_MEMORY CLOSED STARTED"),
     (r"oca_device_add_\w+", f"{ADDED} BAD_RANGE NO_MEMORY CLOSED STARTED"),
     (r"oca_device_start(_within)?", "NO_MEMORY CLOSED STARTED BAD_SIZE"),
@@ -31,27 +31,37 @@ ANSWERS = [
     (r"oca_device_(next_lapse|setting|lock|object(_words)?)", "CLOSED NOT_STARTED NOTHING"),
     (r"oca_device_packet", "CLOSED NOT_STARTED NOTHING TOO_SMALL"),
     (r"oca_device_written", "CLOSED NOT_STARTED TOO_SMALL"),
-    (r"oca_device_spec", "CLOSED NOT_STARTED NOTHING BAD_SIZE"),
+    (r"oca_device_spec(_of)?", "CLOSED NOT_STARTED NOTHING BAD_SIZE"),
+    (r"oca_device_peers", "CLOSED NOT_STARTED"),
+    (r"oca_device_peer", "CLOSED NOT_STARTED NOTHING"),
+    (r"oca_device_keep", "CLOSED NOT_STARTED TOO_SMALL"),
+    (r"oca_spec_restore", "BAD_TEXT BAD_RANGE BAD_SIZE OTHER_KIND OUT_OF_RANGE"),
     (r"oca_device_set", f"CLOSED NOT_STARTED {SET} NO_VALUE"),
     (r"oca_device_set_\w+", f"CLOSED NOT_STARTED {SET}"),
     (r"oca_link_(submit|ask|call)|oca_panel_begin", f"CLOSED {SUBMITTED}"),
     (r"oca_panel_begin_[sg]et", f"CLOSED {SUBMITTED} NO_VALUE"),
+    (r"oca_flight_push", "SPAN_FULL"),
     (r"oca_link_due", "CLOSED TOO_SMALL"),
     (r"oca_link_take", "CLOSED NOTHING TOO_SMALL"),
     (r"oca_link_(next_due|answered|next_handle)", "CLOSED NOTHING"),
     (r"oca_link_(datagram|last_heard|is_lost|is_late|in_flight)", "CLOSED"),
-    (r"oca_(value|text)_put", "TOO_SMALL NO_VALUE"),
-    (r"oca_((value|text|names|members|class)_read|[sg]et_request)", "NO_VALUE"),
+    (r"oca_((value|text)_put|value_text)", "TOO_SMALL NO_VALUE"),
+    (r"oca_((value|text|names|members|class)_read|value_from_text|[sg]et_request)", "NO_VALUE"),
+    (r"oca_serve", "CLOSED NOT_STARTED NOTHING BAD_SIZE"),
     (r"oca_store_open", "HELD NO_FILE OPEN BAD_PATH NULL SYSTEM"),
     (r"oca_store_load", "NOTHING NO_FILE BROKEN TOO_SMALL CLOSED NULL SYSTEM"),
     (r"oca_store_save", "NO_FILE CLOSED NULL SYSTEM"),
+    (r"oca_socket_open(_towards)?", "OPEN NULL SYSTEM"),
+    (r"oca_socket_(wait|receive)", "NOTHING CLOSED NULL SYSTEM"),
+    (r"oca_socket_send", "CLOSED NULL SYSTEM"),
 ]
 
 
 def answers_of(name):
     """The results that a call answers with."""
     said = next((said for form, said in ANSWERS if re.fullmatch(form, name)), None)
-    of = "OCA_STORE_" if name.startswith("oca_store_") else "OCA_"
+    kind = re.match(r"oca_(store|socket)_", name)
+    of = f"OCA_{kind[1].upper()}_" if kind else "OCA_"
     return [f"{of}{it}" for it in ["DONE", *said.split()]] if said else []
 
 
@@ -112,7 +122,7 @@ def page(name, said, declared, types, general, answers, version):
     about = said.split("\n")[0].split(". ")[0].split("; ")[0].rstrip(".")
     parts = [f'.TH {name} 3 "" "oca {version}" "OCA (AES70) for C"', ".SH NAME", f"{name} \\- {about}", ".SH SYNOPSIS", ".nf", "#include <oca.h>", "",
              *[roff(of) + "\n" for of in types], roff(declared), ".fi", ".SH DESCRIPTION", said]
-    if re.search("enum oca_(store_)?result oca_", declared):
+    if re.search("enum oca_((store|socket)_)?result oca_", declared):
         parts += [".SH RETURN VALUE", ".nf", roff(answers), ".fi"]
     return "\n".join([*parts, ".SH NOTES", roff(general), ""])
 

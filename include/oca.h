@@ -6,7 +6,8 @@
  * answers OCA_DONE, or another number of enum oca_result; what it would have told is then not to be read (but how many there
  * are, with OCA_TOO_SMALL). Texts are bytes and a length, in UTF-8.
  * Addresses and ports are in the host's byte order: 127.0.0.1 is 0x7F000001. Moments are in milliseconds, of a clock that does
- * not go back. Nothing here opens a socket, reads a clock or starts a thread.
+ * not go back. Nothing here opens a file or a socket or reads a clock but oca_store_.., oca_socket_.. and oca_serve.., and nothing starts a
+ * thread.
  *
  * What the caller promises, at every call (no proof sees the C side):
  *  - each pointer is not null (but at a close and where it is said), also where its length is 0, and leads to that much memory that holds values (zero what is only
@@ -193,6 +194,25 @@ enum oca_result oca_value_put(const struct oca_value *value, uint8_t *out, size_
  * block. */
 enum oca_result oca_value_read(uint32_t class_number, const uint8_t *params, size_t params_len, struct oca_reading *reading) OCA_NONNULL;
 
+/* The word for a value, 1 to 20 bytes, without a 0 behind it, and how many they are: "muted", "unmuted", "non-inverted", "inverted", "on",
+ * "off", and a position and an integer in decimal digits. OCA_NO_VALUE where the words are those of no value. */
+enum oca_result oca_value_text(const struct oca_value *value, uint8_t *out, size_t out_len, size_t *len) OCA_NONNULL;
+
+/* The same word as a C string, for a log; an empty one where there is no such value: oca_value_word(oca_int16(-60)).text is "-60". */
+struct oca_word { char text[24]; };
+static inline struct oca_word oca_value_word(struct oca_value value) {
+    struct oca_word word = {{0}};
+    uint8_t bytes[20] = {0};
+    size_t size = 0;
+    if (oca_value_text(&value, bytes, sizeof bytes, &size) == OCA_DONE)
+        for (size_t i = 0; i < size; i++) word.text[i] = (char)bytes[i];
+    return word;
+}
+
+/* The value of an object of the class that a word names: one of the class's words as oca_value_text puts them, or an integer of its type in
+ * decimal digits with or without a sign. OCA_NO_VALUE for any other word, and for a block, and then nothing is written. */
+enum oca_result oca_value_from_text(uint32_t class_number, const uint8_t *text, size_t text_len, struct oca_value *value) OCA_NONNULL;
+
 /* What is asked of an object: the method's level and index, ParamCount, and so many bytes of parameters. */
 struct oca_request { uint16_t level, index; uint8_t count, size; uint8_t params[8]; };
 
@@ -271,6 +291,13 @@ static inline void oca_spec_position(struct oca_spec *spec, const char *name) {
     }
     if (spec->positions < 17) spec->positions++;
 }
+
+/* Brings what was stored of an object into the struct that says what it is to be: its value, its label, whether it is enabled, and of a switch
+ * the names of its positions and which are enabled. Its role, its limits and whether it can be locked stay. So a new version of a program may
+ * change those. The first that applies, and then nothing is changed: OCA_BAD_SIZE; OCA_OTHER_KIND where they are of two classes, or have not as
+ * many positions; OCA_BAD_RANGE for more than 16 positions; OCA_BAD_TEXT for a stored label or name that is none; OCA_OUT_OF_RANGE where the
+ * value is none, outside the limits of the struct, or no position. */
+enum oca_result oca_spec_restore(struct oca_spec *spec, const struct oca_spec *stored) OCA_NONNULL;
 
 /* ---- the device ---- */
 
@@ -406,9 +433,31 @@ static inline enum oca_result oca_device_object(struct oca_device *device, size_
  * front; oca_device_object has the object's number and that of its block. */
 enum oca_result oca_device_spec(struct oca_device *device, size_t index, struct oca_spec *spec) OCA_NONNULL;
 
+/* The same by the object's number. OCA_NOTHING where it is not there. */
+enum oca_result oca_device_spec_of(struct oca_device *device, uint32_t ono, struct oca_spec *spec) OCA_NONNULL;
+
+/* Which peers have a session at the device's present moment: how many they are, and the address and port of each, by its index from 0 in
+ * order of opening: OCA_NOTHING behind the last. A session ends 120,000 ms after its peer was heard last. */
+enum oca_result oca_device_peers(struct oca_device *device, size_t *count) OCA_NONNULL;
+enum oca_result oca_device_peer(struct oca_device *device, size_t index, uint32_t *ip, uint16_t *port) OCA_NONNULL;
+
 /* The lock of an object, which binds this object alone, also where it is a block: kind 1 keeps other peers from all access, 2 from all but reading; and the peer that holds it. OCA_NOTHING
  * where the object is not locked or not there. */
 enum oca_result oca_device_lock(struct oca_device *device, uint32_t ono, uint32_t *kind, uint32_t *ip, uint16_t *port) OCA_NONNULL;
+
+/* What a device keeps of an object over a stop: its number, that of its block, and what it is. There is no pointer in it, and no byte between
+ * its fields. */
+struct oca_kept { uint32_t ono, container; struct oca_spec spec; };
+
+/* What each object is now, in order of adding, the root first: as many as there is room for, and how many there are. OCA_TOO_SMALL where they
+ * are more. Between the first and the last of them nothing else is to be called for the device. */
+enum oca_result oca_device_keep(struct oca_device *device, struct oca_kept *kept, size_t room, size_t *count) OCA_NONNULL;
+
+/* Opens a device with this root, and adds an object to it, as oca_device_open_with and oca_device_add do, but as they were kept: each with what
+ * oca_spec_restore brings in of the one that was kept under its number. Where none was, or what was kept cannot be so any more, it is as the
+ * struct says. `count` may be 0. */
+enum oca_result oca_device_open_kept(struct oca_device *device, uint16_t room, const struct oca_spec *root, const struct oca_kept *kept, size_t count) OCA_CHECKED;
+enum oca_result oca_device_add_kept(struct oca_device *device, uint32_t container, uint32_t ono, const struct oca_spec *spec, const struct oca_kept *kept, size_t count) OCA_CHECKED;
 
 /* ---- the store ---- */
 
@@ -636,6 +685,17 @@ struct oca_outcome oca_panel_try_finish(struct oca_panel *panel, uint32_t handle
 /* Waits for a command that was begun, and takes its answer. After OCA_ASKED_UNANSWERED it can be waited for again. */
 struct oca_outcome oca_panel_finish(struct oca_panel *panel, uint32_t handle, struct oca_answer *answer);
 
+/* The commands of a panel that are in flight, the one begun first in front, each with what the caller keeps of it; zeroed, there are none. */
+struct oca_flight { uint32_t first, count, handles[32]; void *items[32]; };
+
+/* Adds a command that was begun; `item` may be null. OCA_SPAN_FULL where there are 32: a panel has no more in flight, where each that was begun is added. */
+enum oca_result oca_flight_push(struct oca_flight *flight, uint32_t handle, void *item);
+
+/* How the command in front fared, with what was kept of it: waited for, or where that is known without a turn. It is taken out, but where it
+ * is OCA_ASKED_UNANSWERED. OCA_ASKED_NO_HANDLE where there is none, and then nothing is told. */
+struct oca_outcome oca_flight_finish(struct oca_flight *flight, struct oca_panel *panel, struct oca_answer *answer, void **item);
+struct oca_outcome oca_flight_try_finish(struct oca_flight *flight, struct oca_panel *panel, struct oca_answer *answer, void **item);
+
 /* Asks for a command by a method of enum oca_method with its parameters (their layout is in docs/PROTOCOL.md, section 3), and waits for its
  * answer. */
 struct oca_outcome oca_panel_ask(struct oca_panel *panel, uint32_t ono, uint32_t method, uint8_t count, const uint8_t *params, size_t params_len, struct oca_answer *answer);
@@ -700,18 +760,125 @@ typedef bool (*oca_visitor)(void *context, const struct oca_visit *visit);
  * clock stands still. */
 struct oca_outcome oca_panel_walk(struct oca_panel *panel, struct oca_walk *walk, oca_visitor visit, void *context);
 
+/* ---- over a socket ---- */
+
+#ifndef OCA_NO_POSIX
+
+/* What became of a call of a socket. Where it is OCA_SOCKET_SYSTEM, a call of the system failed: the socket has its name and its errno. */
+enum oca_socket_result {
+    OCA_SOCKET_DONE = 0,
+    OCA_SOCKET_NOTHING = 1, /* no datagram is there */
+    OCA_SOCKET_CLOSED = 2,  /* the socket is closed */
+    OCA_SOCKET_OPEN = 3,    /* it is open */
+    OCA_SOCKET_NULL = 4,    /* a pointer is null */
+    OCA_SOCKET_SYSTEM = 5   /* a call of the system failed */
+};
+
+/* A result of a socket in words, for a log. */
+static inline const char *oca_socket_text(uint32_t result) {
+    switch (result) {
+    case OCA_SOCKET_DONE: return "done";
+    case OCA_SOCKET_NOTHING: return "no datagram is there";
+    case OCA_SOCKET_CLOSED: return "the socket is closed";
+    case OCA_SOCKET_OPEN: return "the socket is open";
+    case OCA_SOCKET_NULL: return "a pointer is null";
+    case OCA_SOCKET_SYSTEM: return "a call of the system failed";
+    default: return "a result of a later version";
+    }
+}
+
+/* A UDP socket of IPv4, of POSIX systems: zeroed, it is closed; struct oca_socket own = OCA_SOCKET_INIT; It has its own address and port, and
+ * of a panel's its device's. Of the last call of it that answered OCA_SOCKET_SYSTEM `call` is the name of the call of the system that failed,
+ * as "bind", and `error` its errno; else they are a null pointer and 0. The file may be polled; the other fields are read alone. One call at a
+ * time. The struct may be moved, but never copied and both copies used; not while a panel has an end of it. */
+struct oca_socket { bool is_open; int file, error; const char *call; uint32_t ip, device_ip; uint16_t port, device_port; };
+#define OCA_SOCKET_INIT {false, 0, 0, NULL, 0, 0, 0, 0}
+
+/* The present moment, in milliseconds of a clock that does not go back and, on Linux, counts the time for which the machine slept. */
+uint64_t oca_socket_now(void);
+
+/* Opens a device's socket at an address of this machine and a port (0 for any). At the address 0 it hears at each, and a machine with several
+ * may answer from another one. A failure leaves it closed. */
+enum oca_socket_result oca_socket_open(struct oca_socket *own, uint32_t ip, uint16_t port) OCA_LOOKED_AT;
+
+/* Opens a panel's socket, at the one address from which the system reaches the device, and this port (0 for any): each copy of a command
+ * leaves from there, or none does. A failure leaves it closed, as where there is no route. */
+enum oca_socket_result oca_socket_open_towards(struct oca_socket *own, uint32_t device_ip, uint16_t device_port, uint16_t port) OCA_LOOKED_AT;
+
+/* Closes a socket; a closed one stays closed, and at a null pointer nothing is done. */
+void oca_socket_close(struct oca_socket *own);
+
+/* Waits for a datagram until that moment at most, and a minute at most. OCA_SOCKET_NOTHING where none came, also after a signal. */
+enum oca_socket_result oca_socket_wait(struct oca_socket *own, uint64_t until);
+
+/* Takes a datagram that is there, without waiting: its length and its sender. One that is longer than the room is cut: with room for 1,473
+ * bytes one of more than 1,472 is seen. Nothing is told where none was there. */
+enum oca_socket_result oca_socket_receive(struct oca_socket *own, uint8_t *out, size_t out_len, size_t *len, uint32_t *ip, uint16_t *port) OCA_LOOKED_AT;
+
+/* Sends a datagram, without waiting: where there is no room for it, it is not sent, and that is OCA_SOCKET_SYSTEM. */
+enum oca_socket_result oca_socket_send(struct oca_socket *own, const uint8_t *bytes, size_t len, uint32_t ip, uint16_t port);
+
+/* The end of a panel over a socket that was opened towards its device, for oca_panel_open. The socket stays where it is until the panel is
+ * closed. */
+struct oca_end oca_socket_end(struct oca_socket *own);
+
+/* A device that serves over a socket: the size of the struct first, the started device, and its open socket. Where there is a store, what was
+ * answered with OCA_STATUS_OK is stored before it is answered, in a place for as many objects as `room` says, which is of the caller's. Each of
+ * the functions may be a null pointer, and is handed `context`. `lock` and `unlock` are for a program in which other threads use the device:
+ * each call for the device is made between the two, and neither waiting nor storing is. `written` is called, between the two, for each object
+ * that a datagram wrote to, once it was answered, and also where it could not be stored. `told` is called after each try to store. Under
+ * the lock the program sets `is_set` where it set something at the front: then that is stored at the next turn, and where that fails, again
+ * a second later. Then come what became of the last try to store, and of the last receive, and two fields that are the server's own. */
+struct oca_server {
+    size_t size;
+    struct oca_device *device;
+    struct oca_socket *socket;
+    struct oca_store *store;
+    struct oca_kept *kept;
+    size_t room;
+    void *context;
+    void (*lock)(void *context);
+    void (*unlock)(void *context);
+    void (*written)(void *context, uint32_t ono);
+    void (*told)(void *context, enum oca_store_result stored);
+    bool is_set;
+    enum oca_store_result stored;
+    enum oca_socket_result received;
+    uint64_t next;
+    bool is_busy;
+};
+
+/* A server of this device over this socket, which stores nothing; set what else it is to have. */
+static inline struct oca_server oca_server_of(struct oca_device *device, struct oca_socket *own) {
+    struct oca_server server = {sizeof server, device, own, NULL, NULL, 0, NULL, NULL, NULL, NULL, NULL, false, OCA_STORE_DONE, OCA_SOCKET_DONE, 0, false};
+    return server;
+}
+
+/* Takes one turn: waits for a datagram until that moment at most (oca_socket_now), or until a clock reading changes something; takes one, stores
+ * what it wrote, and sends its answers. Where it cannot be stored, none is sent: the panel's next copy of its command tries again. A datagram
+ * of more than 1,472 bytes is dropped. Where none came the clock is read. OCA_BAD_SIZE for a struct of another size; OCA_CLOSED and
+ * OCA_NOT_STARTED of the device. Where the system fails, `received` says so. OCA_NOTHING where one of the server's functions calls it: nothing
+ * is done then. */
+enum oca_result oca_serve(struct oca_server *server, uint64_t until) OCA_NONNULL;
+
+/* Stores what was set at the front and is not stored yet: at the end of a program. */
+void oca_serve_end(struct oca_server *server);
+#endif
+
 #ifdef __cplusplus
 }
 static_assert(sizeof(struct oca_device) == 16 && sizeof(struct oca_link) == 16 && sizeof(struct oca_setting) == 16, "64 bits");
 static_assert(sizeof(struct oca_value) == 16 && sizeof(struct oca_reading) == 48 && sizeof(struct oca_request) == 14, "values");
 static_assert(sizeof(enum oca_result) == sizeof(uint32_t), "a result is a word");
 static_assert(sizeof(struct oca_verdict) == 28 && sizeof(struct oca_name) == 65 && sizeof(struct oca_spec) == 1248 && offsetof(struct oca_object, role) == 16, "words");
+static_assert(sizeof(struct oca_kept) == 1256, "kept");
 static_assert(sizeof(struct oca_names) == 1044 && sizeof(struct oca_members) == 728 && sizeof(struct oca_class_id) == 40, "answers");
 #else
 _Static_assert(sizeof(struct oca_device) == 16 && sizeof(struct oca_link) == 16 && sizeof(struct oca_setting) == 16, "64 bits");
 _Static_assert(sizeof(struct oca_value) == 16 && sizeof(struct oca_reading) == 48 && sizeof(struct oca_request) == 14, "values");
 _Static_assert(sizeof(enum oca_result) == sizeof(uint32_t), "a result is a word");
 _Static_assert(sizeof(struct oca_verdict) == 28 && sizeof(struct oca_name) == 65 && sizeof(struct oca_spec) == 1248 && offsetof(struct oca_object, role) == 16, "words");
+_Static_assert(sizeof(struct oca_kept) == 1256, "kept");
 _Static_assert(sizeof(struct oca_names) == 1044 && sizeof(struct oca_members) == 728 && sizeof(struct oca_class_id) == 40, "answers");
 #endif
 #endif

@@ -691,9 +691,32 @@ static void exact_room(void) {
 static void exact_room(void) {}
 #endif
 
+#ifdef COUNTS_BLOCKS
+/* Where no memory is given any more, a started device is told of as before. */
+static void asks_for_none(void) {
+    struct oca_device d = OCA_DEVICE_INIT;
+    struct oca_spec spec = OCA_SPEC_INIT, stored = OCA_SPEC_INIT;
+    struct oca_kept kept[2];
+    struct oca_value value = oca_mute(true);
+    size_t count = 9;
+    uint32_t ip = 9;
+    uint16_t port = 9;
+    refused = -1;
+    same("open", oca_device_open(&d, 3) == OCA_DONE && oca_device_add_mute(&d, 100, 4097, text("mute"), 4, true, true) == OCA_DONE, 1);
+    same("start", oca_device_start(&d, 2, 2), OCA_DONE);
+    requests = refused = 0;
+    same("by number", oca_device_spec_of(&d, 4097, &spec) == OCA_DONE && oca_device_spec_of(&d, 4097, &stored) == OCA_DONE, 1);
+    same("restore", oca_spec_restore(&spec, &stored), OCA_DONE);
+    same("keep", oca_device_keep(&d, kept, 2, &count), OCA_DONE);
+    same("peers", oca_device_peers(&d, &count) == OCA_DONE && oca_device_peer(&d, 0, &ip, &port) == OCA_NOTHING, 1);
+    same("words", strcmp(oca_value_word(value).text, "muted") == 0 && oca_value_from_text(OCA_CLASS_MUTE, text("unmuted"), 7, &value) == OCA_DONE, 1);
+    same("none was asked for", (uint32_t)requests, 0);
+    oca_device_close(&d);
+    refused = -1;
+}
+
 /* Where a request for memory is refused at an opening or a start, the struct is closed, each call says so, and all memory is given back;
  * where it is refused at an addition, nothing is added. */
-#ifdef COUNTS_BLOCKS
 static void without_memory(void) {
     const struct oca_value value = oca_mute(false);
     const long before = blocks;
@@ -728,6 +751,18 @@ static void without_memory(void) {
         oca_device_close(&d);
     }
     same("it is done once all is given", is_done, true);
+    for (is_done = false, refused = 0; !is_done && refused < 9; refused++) {
+        struct oca_device d = OCA_DEVICE_INIT;
+        struct oca_spec root = oca_spec_of_block("root"), mute = oca_spec_of("mute", oca_alone(oca_mute(true)));
+        const struct oca_kept kept[] = {{100, 0, root}, {4097, 100, mute}};
+        requests = 0;
+        const enum oca_result result = oca_device_open_kept(&d, 3, &root, kept, 2);
+        is_done = result == OCA_DONE;
+        same("as it was kept", is_done ? d.is_open : result == OCA_NO_MEMORY && !d.is_open && blocks == before, true);
+        same("an addition as it was kept", oca_device_add_kept(&d, 100, 4097, &mute, kept, 2), is_done ? OCA_DONE : OCA_CLOSED);
+        oca_device_close(&d);
+    }
+    asks_for_none();
     for (is_done = false, refused = 0; !is_done && refused < 9; refused++) {
         struct oca_link link = OCA_LINK_INIT;
         requests = 0;
@@ -933,6 +968,333 @@ static void objects_by_struct(void) {
     oca_device_close(&again);
 }
 
+/* What was stored, brought into what an object is to be: what is taken, and each refusal, the first that applies, which changes nothing. */
+static void refuses_stored(const char *what, struct oca_spec spec, struct oca_spec stored, uint32_t expected) {
+    const struct oca_spec before = spec, given = stored;
+    same(what, oca_spec_restore(&spec, &stored), expected);
+    same("it is left as it was", same_object(&spec, &before) && same_object(&stored, &given), 1);
+}
+
+static void restores(void) {
+    struct oca_spec spec = gain_spec(), stored = gain_spec(), wanted = gain_spec();
+    stored.role = oca_name_of("old role"), stored.lockable = 1, stored.enabled = 0, stored.label = oca_name_of("Bass");
+    stored.reading = oca_within(oca_int16(-600), oca_int16(-700), oca_int16(7));
+    wanted.enabled = 0, wanted.label = oca_name_of("Bass"), wanted.reading.value = oca_int16(-600);
+    same("restore", oca_spec_restore(&spec, &stored) == OCA_DONE && same_object(&spec, &wanted), 1);
+    stored.reading.value = oca_int16(100);
+    same("the greatest", oca_spec_restore(&spec, &stored) == OCA_DONE && spec.reading.value.bits == 100, 1);
+    const struct oca_value outside[] = {oca_int16(101), oca_int16(-601), oca_value_of(OCA_CLASS_INT16, 32768)};
+    for (size_t i = 0; i < 3; i++) stored.reading.value = outside[i], refuses_stored("outside its limits", gain_spec(), stored, OCA_OUT_OF_RANGE);
+    const struct oca_value others[] = {oca_int8(1), oca_uint16(1), oca_mute(true), oca_value_of(OCA_CLASS_BLOCK, 0), oca_value_of(14, 0), oca_value_of(0, 0)};
+    for (size_t i = 0; i < 6; i++) stored.reading.value = others[i], refuses_stored("another class", gain_spec(), stored, OCA_OTHER_KIND);
+    stored = gain_spec(), stored.label.size = 65;
+    refuses_stored("a label above 64 bytes", gain_spec(), stored, OCA_BAD_TEXT);
+    stored.reading.value = oca_int16(101);
+    refuses_stored("text before range", gain_spec(), stored, OCA_BAD_TEXT);
+    stored.size = 0;
+    refuses_stored("no size", gain_spec(), stored, OCA_BAD_SIZE);
+    stored = gain_spec(), stored.zeros[5] = 1;
+    refuses_stored("a byte that is no zero", gain_spec(), stored, OCA_BAD_SIZE);
+    refuses_stored("such a byte where it is to go", stored, gain_spec(), OCA_BAD_SIZE);
+    /* a switch */
+    spec = mode_spec(), stored = mode_spec();
+    stored.names[0] = oca_name_of("aus"), stored.enableds[1] = 1, stored.enableds[0] = 0, stored.reading.value = oca_position(0);
+    wanted = stored, wanted.enabled = 0;
+    same("a switch", oca_spec_restore(&spec, &stored) == OCA_DONE && same_object(&spec, &wanted), 1);
+    stored.reading.value = oca_position(3);
+    refuses_stored("no such position", mode_spec(), stored, OCA_OUT_OF_RANGE);
+    stored = mode_spec(), stored.positions = 2;
+    refuses_stored("not as many positions", mode_spec(), stored, OCA_OTHER_KIND);
+    stored = mode_spec(), stored.names[2].size = 1, stored.names[2].text[0] = 0xff;
+    refuses_stored("a name that is no UTF-8", mode_spec(), stored, OCA_BAD_TEXT);
+    spec = mode_spec(), spec.positions = 17, stored = spec;
+    refuses_stored("17 positions", spec, stored, OCA_BAD_RANGE);
+    stored = mode_spec(), stored.names[3].size = 200;
+    spec = mode_spec();
+    same("a name behind the last is not looked at", oca_spec_restore(&spec, &stored), OCA_DONE);
+    /* a block, and each class at its limits */
+    spec = oca_spec_of_block("desk"), stored = oca_spec_of_block("root");
+    stored.label = oca_name_of("FOH"), stored.reading.value.bits = 9, stored.enabled = 0;
+    same("a block", oca_spec_restore(&spec, &stored) == OCA_DONE && spec.label.size == 3 && spec.role.size == 4 && !spec.enabled, 1);
+    struct oca_spec specs[16];
+    const size_t count = specs_of_each_class(specs);
+    for (size_t i = 0; i < count; i++) {
+        const struct oca_value limits[] = {specs[i].reading.value, specs[i].reading.least, specs[i].reading.greatest};
+        for (size_t k = 0; k < 3; k++) {
+            spec = stored = specs[i];
+            stored.reading.value = limits[k];
+            same("of each class", oca_spec_restore(&spec, &stored) == OCA_DONE && spec.reading.value.bits == limits[k].bits, 1);
+        }
+    }
+}
+
+/* A text, a name of a position and a label of exactly 64 bytes, also of two bytes a character; a byte more is none. */
+static void longest_texts(void) {
+    struct oca_device d = OCA_DEVICE_INIT;
+    struct oca_spec spec = gain_spec(), told = OCA_SPEC_INIT;
+    char plain[65] = {0}, accented[65] = {0};
+    for (int i = 0; i < 64; i++) plain[i] = (char)('a' + i % 26), accented[i] = (char)(i % 2 ? 0xa9 : 0xc3);
+    uint8_t bytes[80] = {0};
+    size_t size = 0;
+    const struct oca_name whole = oca_name_of(plain), two = oca_name_of(accented);
+    same("a text of 64 bytes", oca_text_put(&whole, bytes, sizeof bytes, &size) == OCA_DONE && size == 66 && bytes[1] == 64 && bytes[65] == 'l', 1);
+    same("of 32 characters in 64 bytes", oca_text_put(&two, bytes, sizeof bytes, &size) == OCA_DONE && size == 66 && bytes[1] == 32 && bytes[65] == 0xa9, 1);
+    same("open", oca_device_open(&d, 9), OCA_DONE);
+    spec.role = whole, spec.label = two;
+    same("a role and a label of 64 bytes", oca_device_add(&d, 100, 4096, &spec), OCA_DONE);
+    spec = mode_spec(), spec.names[1] = whole, spec.names[0] = two, spec.role = two;
+    same("names of 64 bytes", oca_device_add(&d, 100, 4097, &spec), OCA_DONE);
+    same("by themselves", oca_device_add_switch(&d, 100, 4098, whole.text, 64, true, &whole, 1, 0), OCA_DONE);
+    same("a role of 65", oca_device_add_block(&d, 100, 4099, text("aaaaaaaaaaaaaaaaaaaaaaaaaaaaaaaaaaaaaaaaaaaaaaaaaaaaaaaaaaaaaaaaa"), 65, true), OCA_BAD_TEXT);
+    same("start", oca_device_start(&d, 8, 1), OCA_DONE);
+    same("the role and the label", oca_device_spec_of(&d, 4096, &told) == OCA_DONE && memcmp(&told.role, &whole, 65) == 0 && memcmp(&told.label, &two, 65) == 0, 1);
+    same("the names", oca_device_spec_of(&d, 4097, &told) == OCA_DONE && memcmp(&told.names[1], &whole, 65) == 0 && memcmp(&told.names[0], &two, 65) == 0, 1);
+    oca_device_close(&d);
+}
+
+/* The word for a value, and the value that a word names. */
+static void value_texts(void) {
+    const struct { struct oca_value value; const char *word; } rows[] = {
+        {oca_mute(true), "muted"}, {oca_mute(false), "unmuted"}, {oca_polarity(false), "non-inverted"}, {oca_polarity(true), "inverted"},
+        {oca_boolean(true), "on"}, {oca_boolean(false), "off"}, {oca_position(0), "0"}, {oca_position(65535), "65535"}, {oca_int8(-128), "-128"},
+        {oca_int8(127), "127"}, {oca_int16(-60), "-60"}, {oca_int16(INT16_MIN), "-32768"}, {oca_int32(INT32_MIN), "-2147483648"}, {oca_int32(INT32_MAX), "2147483647"},
+        {oca_int64(INT64_MIN), "-9223372036854775808"}, {oca_int64(INT64_MAX), "9223372036854775807"}, {oca_uint8(255), "255"}, {oca_uint16(1000), "1000"},
+        {oca_uint32(UINT32_MAX), "4294967295"}, {oca_uint64(UINT64_MAX), "18446744073709551615"}};
+    uint8_t out[32];
+    size_t size = 99;
+    struct oca_value value = oca_value_of(0, 7);
+    for (size_t i = 0; i < sizeof rows / sizeof *rows; i++) {
+        const size_t wanted = strlen(rows[i].word);
+        memset(out, 0xee, sizeof out);
+        same(rows[i].word, oca_value_text(&rows[i].value, out, sizeof out, &size) == OCA_DONE && size == wanted && memcmp(out, rows[i].word, wanted) == 0 && out[wanted] == 0xee, 1);
+        same("just enough room", oca_value_text(&rows[i].value, out, wanted, &size) == OCA_DONE && size == wanted, 1);
+        memset(out, 0xee, sizeof out);
+        same("too little", oca_value_text(&rows[i].value, out, wanted - 1, &size) == OCA_TOO_SMALL && size == wanted && out[0] == 0xee, 1);
+        value = oca_value_of(0, 7);
+        const struct oca_word word = oca_value_word(rows[i].value);
+        same("as a C string", strcmp(word.text, rows[i].word) == 0, 1);
+        same("back", oca_value_from_text(rows[i].value.class_number, text(rows[i].word), wanted, &value) == OCA_DONE && memcmp(&value, &rows[i].value, sizeof value) == 0, 1);
+    }
+    const struct { uint32_t class_number; const char *word; bool is_one; uint64_t bits; } words[] = {
+        {OCA_CLASS_MUTE, "Muted", false, 0}, {OCA_CLASS_MUTE, "1", false, 0}, {OCA_CLASS_MUTE, "", false, 0}, {OCA_CLASS_MUTE, "inverted", false, 0},
+        {OCA_CLASS_BOOLEAN, "true", false, 0}, {OCA_CLASS_BLOCK, "0", false, 0}, {0, "0", false, 0}, {14, "0", false, 0}, {UINT32_MAX, "0", false, 0},
+        {OCA_CLASS_INT8, "+7", true, 7}, {OCA_CLASS_INT8, "007", true, 7}, {OCA_CLASS_INT8, "128", false, 0}, {OCA_CLASS_INT8, "-129", false, 0},
+        {OCA_CLASS_INT8, "-0", true, 0}, {OCA_CLASS_INT8, "7 ", false, 0}, {OCA_CLASS_INT8, "-", false, 0}, {OCA_CLASS_UINT8, "256", false, 0},
+        {OCA_CLASS_UINT8, "-1", false, 0}, {OCA_CLASS_SWITCH, "65536", false, 0}, {OCA_CLASS_SWITCH, "+3", true, 3}, {OCA_CLASS_UINT64, "18446744073709551616", false, 0},
+        {OCA_CLASS_INT64, "-9223372036854775809", false, 0}, {OCA_CLASS_INT16, "\xff", false, 0}, {OCA_CLASS_INT16, "\xd9\xa1", false, 0}};
+    for (size_t i = 0; i < sizeof words / sizeof *words; i++) {
+        value = oca_value_of(9, 77);
+        const enum oca_result result = oca_value_from_text(words[i].class_number, text(words[i].word), strlen(words[i].word), &value);
+        same(words[i].word, result, words[i].is_one ? OCA_DONE : OCA_NO_VALUE);
+        same("its number, or left alone", value.bits == (words[i].is_one ? words[i].bits : 77) && value.class_number == (words[i].is_one ? words[i].class_number : 9), 1);
+    }
+    const struct oca_value none[] = {oca_value_of(OCA_CLASS_MUTE, 0), oca_value_of(OCA_CLASS_BLOCK, 0), oca_value_of(14, 1), oca_value_of(OCA_CLASS_INT8, 128)};
+    for (size_t i = 0; i < 4; i++) {
+        size = 99;
+        const struct oca_word word = oca_value_word(none[i]);
+        same("an empty one for none", word.text[0] == 0, 1);
+        same("no value has no word", oca_value_text(&none[i], out, sizeof out, &size) == OCA_NO_VALUE && size == 99, 1);
+    }
+}
+
+/* An object by its number, and the peers: before the start, and after it. */
+static void by_number(void) {
+    struct oca_device d = OCA_DEVICE_INIT;
+    struct oca_spec told = gain_spec(), other = OCA_SPEC_INIT, gain = gain_spec();
+    struct oca_verdict v = {9, 9, 9, 9, 9, 9, 9};
+    size_t count = 77;
+    uint32_t ip = 77;
+    uint16_t port = 77;
+    same("closed: spec of", oca_device_spec_of(&d, 100, &told), OCA_CLOSED);
+    same("closed: peers", oca_device_peers(&d, &count) == OCA_CLOSED && count == 77, 1);
+    same("closed: peer", oca_device_peer(&d, 0, &ip, &port) == OCA_CLOSED && ip == 77 && port == 77, 1);
+    same("open", oca_device_open(&d, 4) == OCA_DONE && oca_device_add(&d, 100, 4200, &gain) == OCA_DONE, 1);
+    same("not started: spec of", oca_device_spec_of(&d, 100, &told), OCA_NOT_STARTED);
+    same("not started: peers", oca_device_peers(&d, &count) == OCA_NOT_STARTED && count == 77, 1);
+    same("not started: peer", oca_device_peer(&d, 0, &ip, &port) == OCA_NOT_STARTED && ip == 77 && port == 77, 1);
+    same("left as it was", same_object(&told, &gain), 1);
+    same("start", oca_device_start(&d, 8, 2), OCA_DONE);
+    static const uint32_t nobody[] = {0, 1, 99, 101, 4199, 4201, UINT32_MAX};
+    for (size_t i = 0; i < sizeof nobody / sizeof *nobody; i++) same("no such object", oca_device_spec_of(&d, nobody[i], &told), OCA_NOTHING);
+    same("left as it was", same_object(&told, &gain), 1);
+    same("by its number", oca_device_spec_of(&d, 4200, &other) == OCA_DONE && same_object(&other, &gain), 1);
+    same("the root", oca_device_spec_of(&d, 100, &other) == OCA_DONE && oca_device_spec(&d, 0, &told) == OCA_DONE && same_object(&other, &told), 1);
+    other.size = 0;
+    same("no size", oca_device_spec_of(&d, 100, &other), OCA_BAD_SIZE);
+    same("no size before no object", oca_device_spec_of(&d, 1, &other), OCA_BAD_SIZE);
+    same("no peer yet", oca_device_peers(&d, &count) == OCA_DONE && count == 0 && oca_device_peer(&d, 0, &ip, &port) == OCA_NOTHING, 1);
+    same("one", oca_device_datagram(&d, 0x0a000001, 65001, keep_alive, sizeof keep_alive, 5, &v), OCA_DONE);
+    same("two", oca_device_datagram(&d, 0x0a000002, 65002, keep_alive, sizeof keep_alive, 6, &v), OCA_DONE);
+    same("a third finds no room", oca_device_datagram(&d, 0x0a000003, 65003, keep_alive, sizeof keep_alive, 7, &v) == OCA_DONE && v.kind == 2, 1);
+    same("two peers", oca_device_peers(&d, &count) == OCA_DONE && count == 2, 1);
+    same("the first", oca_device_peer(&d, 0, &ip, &port) == OCA_DONE && ip == 0x0a000001 && port == 65001, 1);
+    same("the second", oca_device_peer(&d, 1, &ip, &port) == OCA_DONE && ip == 0x0a000002 && port == 65002, 1);
+    same("no third", oca_device_peer(&d, 2, &ip, &port) == OCA_NOTHING && oca_device_peer(&d, SIZE_MAX, &ip, &port) == OCA_NOTHING && port == 65002, 1);
+    same("silent for 120 s", oca_device_tick(&d, 120005) == OCA_DONE && oca_device_peers(&d, &count) == OCA_DONE && count == 2, 1);
+    same("and longer", oca_device_tick(&d, 120006) == OCA_DONE && oca_device_peers(&d, &count) == OCA_DONE && count == 1, 1);
+    same("the other one is first", oca_device_peer(&d, 0, &ip, &port) == OCA_DONE && port == 65002, 1);
+    oca_device_close(&d);
+}
+
+/* A whole device as it was kept: with what can be so no more it is as it is to be. */
+static void keeps(void) {
+    struct oca_device d = OCA_DEVICE_INIT, again = OCA_DEVICE_INIT;
+    struct oca_kept kept[8];
+    struct oca_spec told = OCA_SPEC_INIT, root = oca_spec_of_block("root"), desk = oca_spec_of_block("desk"), gain = gain_spec(), mode = mode_spec();
+    const struct oca_value up = oca_int16(7), off = oca_position(0);
+    size_t count = 77;
+    memset(kept, 0xee, sizeof kept);
+    root.label = oca_name_of("FOH");
+    same("closed: keep", oca_device_keep(&d, kept, 8, &count) == OCA_CLOSED && count == 77, 1);
+    same("closed: add", oca_device_add_kept(&d, 100, 4096, &desk, kept, 0), OCA_CLOSED);
+    same("open", oca_device_open_kept(&d, 8, &root, kept, 0), OCA_DONE);
+    same("open again", oca_device_open_kept(&d, 8, &root, kept, 0), OCA_OPEN);
+    same("not started: keep", oca_device_keep(&d, kept, 8, &count) == OCA_NOT_STARTED && count == 77, 1);
+    same("desk", oca_device_add_kept(&d, 100, 4096, &desk, kept, 0), OCA_DONE);
+    same("gain", oca_device_add_kept(&d, 4096, 4097, &gain, kept, 0), OCA_DONE);
+    same("mode", oca_device_add_kept(&d, 4096, 4098, &mode, kept, 0), OCA_DONE);
+    same("taken", oca_device_add_kept(&d, 4096, 4098, &mode, kept, 0), OCA_TAKEN);
+    same("start", oca_device_start(&d, 8, 2), OCA_DONE);
+    same("set", oca_device_set(&d, 4097, &up) == OCA_DONE && oca_device_set(&d, 4098, &off) == OCA_DONE, 1);
+    same("room for none", oca_device_keep(&d, kept, 0, &count) == OCA_TOO_SMALL && count == 4 && kept[0].ono == 0xeeeeeeee, 1);
+    same("room for two", oca_device_keep(&d, kept, 2, &count) == OCA_TOO_SMALL && count == 4 && kept[1].ono == 4096 && kept[2].ono == 0xeeeeeeee, 1);
+    same("keep", oca_device_keep(&d, kept, 8, &count) == OCA_DONE && count == 4 && kept[4].ono == 0xeeeeeeee, 1);
+    same("what is kept", kept[0].ono == 100 && kept[0].container == 0 && kept[2].ono == 4097 && kept[2].container == 4096 && kept[2].spec.reading.value.bits == 7, 1);
+    oca_device_close(&d);
+    root.label = oca_name_of(""), gain.reading.greatest = oca_int16(6), kept[3].spec.label = oca_name_of("Mode");
+    same("open as kept", oca_device_open_kept(&again, 8, &root, kept, count), OCA_DONE);
+    same("a new object", oca_device_add_kept(&again, 100, 4200, &desk, kept, count), OCA_DONE);
+    same("the mode", oca_device_add_kept(&again, 4200, 4098, &mode, kept, count), OCA_DONE);
+    same("the gain", oca_device_add_kept(&again, 4200, 4097, &gain, kept, count), OCA_DONE);
+    same("start", oca_device_start(&again, 8, 2), OCA_DONE);
+    same("the root's label", oca_device_spec_of(&again, 100, &told) == OCA_DONE && told.label.size == 3, 1);
+    same("the mode as kept", oca_device_spec_of(&again, 4098, &told) == OCA_DONE && told.reading.value.bits == 0 && told.label.size == 4, 1);
+    same("the gain as new", oca_device_spec_of(&again, 4097, &told) == OCA_DONE && same_object(&told, &gain), 1);
+    oca_device_close(&again);
+}
+
+/* Sockets: each call of a closed one, of a null pointer, and two that talk. */
+static void sockets(void) {
+    struct oca_socket one = OCA_SOCKET_INIT, two = OCA_SOCKET_INIT, third = OCA_SOCKET_INIT;
+    uint8_t bytes[9] = {0};
+    size_t len = 77;
+    uint32_t ip = 77;
+    uint16_t port = 77;
+    same("null: open", oca_socket_open(NULL, 1, 2), OCA_SOCKET_NULL);
+    same("null: open towards", oca_socket_open_towards(NULL, 1, 2, 3), OCA_SOCKET_NULL);
+    same("null: wait", oca_socket_wait(NULL, 0), OCA_SOCKET_NULL);
+    same("null: receive", oca_socket_receive(NULL, bytes, 9, &len, &ip, &port), OCA_SOCKET_NULL);
+    same("null: send", oca_socket_send(NULL, bytes, 9, 1, 2), OCA_SOCKET_NULL);
+    oca_socket_close(NULL);
+    oca_socket_close(&one);
+    same("closed: wait", oca_socket_wait(&one, 0), OCA_SOCKET_CLOSED);
+    same("closed: receive", oca_socket_receive(&one, bytes, 9, &len, &ip, &port), OCA_SOCKET_CLOSED);
+    same("closed: send", oca_socket_send(&one, bytes, 9, 1, 2), OCA_SOCKET_CLOSED);
+    same("no route", oca_socket_open_towards(&one, UINT32_MAX, 9, 0) == OCA_SOCKET_SYSTEM && !one.is_open && one.error != 0 && strcmp(one.call, "connect") == 0, 1);
+    same("an address of another machine", oca_socket_open(&one, 0x01010101, 0) == OCA_SOCKET_SYSTEM && !one.is_open && strcmp(one.call, "bind") == 0, 1);
+    same("open", oca_socket_open(&one, 0x7F000001, 0) == OCA_SOCKET_DONE && one.is_open && one.call == NULL && one.port != 0 && one.ip == 0x7F000001, 1);
+    same("open again", oca_socket_open(&one, 0x7F000001, 0), OCA_SOCKET_OPEN);
+    same("open again towards", oca_socket_open_towards(&one, 0x7F000001, 9, 0), OCA_SOCKET_OPEN);
+    same("a port that is taken", oca_socket_open(&two, 0x7F000001, one.port) == OCA_SOCKET_SYSTEM && strcmp(two.call, "bind") == 0, 1);
+    same("towards it", oca_socket_open_towards(&two, 0x7F000001, one.port, 0) == OCA_SOCKET_DONE && two.ip == 0x7F000001 && two.device_port == one.port, 1);
+    same("at this port", oca_socket_open_towards(&third, 0x7F000001, one.port, two.port) == OCA_SOCKET_SYSTEM && strcmp(third.call, "bind") == 0, 1);
+    same("nothing is there", oca_socket_wait(&one, 0) == OCA_SOCKET_NOTHING && oca_socket_receive(&one, bytes, 9, &len, &ip, &port) == OCA_SOCKET_NOTHING && len == 77 && ip == 77, 1);
+    same("null: a place", oca_socket_receive(&one, NULL, 9, &len, &ip, &port), OCA_SOCKET_NULL);
+    same("null: a length", oca_socket_receive(&one, bytes, 9, NULL, &ip, &port), OCA_SOCKET_NULL);
+    same("null: bytes", oca_socket_send(&one, NULL, 9, 1, 2), OCA_SOCKET_NULL);
+    const struct oca_end end = oca_socket_end(&two);
+    end.send(end.context, text("hello"), 5);
+    same("a wait until then", oca_socket_wait(&one, oca_socket_now() + 5000), OCA_SOCKET_DONE);
+    same("receive", oca_socket_receive(&one, bytes, 9, &len, &ip, &port) == OCA_SOCKET_DONE && len == 5 && ip == 0x7F000001 && port == two.port && memcmp(bytes, "hello", 5) == 0, 1);
+    same("send back", oca_socket_send(&one, text("longer than nine"), 16, ip, port), OCA_SOCKET_DONE);
+    same("a datagram that is cut", end.receive(end.context, end.now(end.context) + 5000, bytes, 9, &len, &ip, &port) && len == 9 && port == one.port, 1);
+    const uint64_t before = oca_socket_now();
+    same("a receive until a moment that is past", end.receive(end.context, before - 1, bytes, 9, &len, &ip, &port) || end.receive(end.context, 0, bytes, 9, &len, &ip, &port), 0);
+    same("a receive until then", end.receive(end.context, before + 30, bytes, 9, &len, &ip, &port), 0);
+    same("it waited", oca_socket_now() >= before + 30, 1);
+    same("a datagram that is too large", oca_socket_send(&one, bytes, 70000, 0x7F000001, 9) == OCA_SOCKET_SYSTEM && strcmp(one.call, "sendto") == 0 && one.error != 0, 1);
+    oca_socket_close(&one);
+    same("closed", !one.is_open && one.call == NULL && oca_socket_wait(&one, 0) == OCA_SOCKET_CLOSED, 1);
+    oca_socket_close(&two);
+    oca_socket_close(&third);
+}
+
+/* A device over a socket, and a panel at it: what the server calls, and between what. */
+struct watched { struct oca_server *server; int held, locks, calls, stores; uint32_t last; bool is_wrong; };
+static void holds(void *context) {
+    struct watched *it = (struct watched *)context;
+    it->is_wrong = it->is_wrong || it->held++ != 0;
+    it->locks++;
+}
+static void lets_go(void *context) {
+    struct watched *it = (struct watched *)context;
+    it->is_wrong = it->is_wrong || it->held-- != 1;
+}
+static void writes(void *context, uint32_t ono) {
+    struct watched *it = (struct watched *)context;
+    it->is_wrong = it->is_wrong || it->held != 1;
+    it->is_wrong = it->is_wrong || oca_serve(it->server, 0) != OCA_NOTHING;
+    oca_serve_end(it->server);
+    it->last = ono;
+    it->calls++;
+}
+static void stores(void *context, enum oca_store_result stored) {
+    struct watched *it = (struct watched *)context;
+    it->is_wrong = it->is_wrong || it->held != 0;
+    it->is_wrong = it->is_wrong || (it->server->is_busy && oca_serve(it->server, 0) != OCA_NOTHING);
+    it->stores = it->stores * 10 + (int)stored + 1;
+}
+
+static void serves(void) {
+    struct oca_device d = OCA_DEVICE_INIT;
+    struct oca_socket own = OCA_SOCKET_INIT, panels = OCA_SOCKET_INIT;
+    struct oca_server server = oca_server_of(&d, &own);
+    struct oca_store store = OCA_STORE_INIT;
+    struct oca_kept kept[4];
+    struct watched seen = {&server, 0, 0, 0, 0, 0, false};
+    uint8_t bytes[OCA_MOST_BYTES + 1] = {0};
+    size_t len = 0;
+    uint32_t ip = 0;
+    uint16_t port = 0;
+    same("a server of a closed device", oca_serve(&server, 0), OCA_CLOSED);
+    same("open", oca_device_open(&d, 4), OCA_DONE);
+    same("a server of a device that is not started", oca_serve(&server, 0), OCA_NOT_STARTED);
+    same("start", oca_device_add_mute(&d, 100, 4097, text("mute"), 4, true, true) == OCA_DONE && oca_device_start(&d, 8, 4) == OCA_DONE, 1);
+    same("over a closed socket", oca_serve(&server, 0) == OCA_DONE && server.received == OCA_SOCKET_CLOSED, 1);
+    same("sockets", oca_socket_open(&own, 0x7F000001, 0) == OCA_SOCKET_DONE && oca_socket_open_towards(&panels, 0x7F000001, own.port, 0) == OCA_SOCKET_DONE, 1);
+    server.size++;
+    same("another size", oca_serve(&server, 0), OCA_BAD_SIZE);
+    server.size = 0;
+    oca_serve_end(&server);
+    oca_serve_end(NULL);
+    same("no size", oca_serve(&server, 0), OCA_BAD_SIZE);
+    server.size = sizeof server;
+    server.context = &seen, server.lock = holds, server.unlock = lets_go, server.written = writes, server.told = stores;
+    same("nothing came", oca_serve(&server, 0) == OCA_DONE && server.received == OCA_SOCKET_NOTHING, 1);
+    (void)oca_socket_send(&panels, unmute, sizeof unmute, 0x7F000001, own.port);
+    same("it is served", oca_serve(&server, oca_socket_now() + 5000) == OCA_DONE && server.received == OCA_SOCKET_DONE, 1);
+    same("what was written", seen.calls == 1 && seen.last == 4097 && seen.stores == 0, 1);
+    same("it is answered", oca_socket_wait(&panels, oca_socket_now() + 5000) == OCA_SOCKET_DONE && oca_socket_receive(&panels, bytes, sizeof bytes, &len, &ip, &port) == OCA_SOCKET_DONE
+         && len == sizeof done && memcmp(bytes, done, sizeof done) == 0, 1);
+    memset(bytes, 0x3b, sizeof bytes);
+    (void)oca_socket_send(&panels, bytes, sizeof bytes, 0x7F000001, own.port);
+    same("a datagram of 1,473 bytes is dropped", oca_serve(&server, oca_socket_now() + 5000) == OCA_DONE && server.received == OCA_SOCKET_DONE && seen.calls == 1, 1);
+    /* a store that cannot store: what wrote is not answered, what reads is */
+    server.store = &store, server.kept = kept, server.room = 4;
+    (void)oca_socket_send(&panels, unmute, sizeof unmute, 0x7F000001, own.port);
+    same("a copy, while nothing is stored", oca_serve(&server, oca_socket_now() + 5000) == OCA_DONE && server.stored == OCA_STORE_CLOSED && seen.stores == OCA_STORE_CLOSED + 1, 1);
+    same("is not answered", oca_socket_wait(&panels, oca_socket_now() + 20), OCA_SOCKET_NOTHING);
+    server.room = 1, seen.stores = 0;
+    oca_serve_end(&server);
+    same("room for too few objects", server.stored == OCA_STORE_TOO_SMALL && seen.stores == OCA_STORE_TOO_SMALL + 1 && server.is_set, 1);
+    server.store = NULL;
+    (void)oca_socket_send(&panels, unmute, sizeof unmute, 0x7F000001, own.port);
+    same("without a store", oca_serve(&server, oca_socket_now() + 5000) == OCA_DONE && oca_socket_wait(&panels, oca_socket_now() + 5000) == OCA_SOCKET_DONE, 1);
+    same("each call between the two", seen.held == 0 && !seen.is_wrong && seen.locks > 9, 1);
+    oca_socket_close(&own), oca_socket_close(&panels);
+    oca_device_close(&d);
+}
+
 /* Each constant, by its number: of results as docs/EMBEDDING.md and the header promise them, of AES70 as docs/PROTOCOL.md has them. */
 static void numbers(void) {
     const struct { uint32_t first; uint32_t numbers[16]; } runs[] = {
@@ -1112,6 +1474,13 @@ int main(void) {
     without_memory();
     own_ports();
     objects_by_struct();
+    restores();
+    longest_texts();
+    value_texts();
+    by_number();
+    keeps();
+    sockets();
+    serves();
     numbers();
     alone();
     texts();

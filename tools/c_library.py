@@ -41,6 +41,7 @@ STRICT = ["-O2", "-Wall", "-Wextra", "-Werror"]
 LANGUAGES = {"c11": ["cc", "-std=c11"], "c++17": ["c++", "-x", "c++", "-std=c++17"]}
 RESULTS = {name: int(number) for name, number in re.findall(r"(OCA_\w+) = (\d+)", (TOP / "include/oca.h").read_text())}
 CALLS = 1_500_000  # of a run of random ones
+PARTS = ("panel", "kept", "store", "socket", "serve")  # of c/, but the heap
 SANITIZED = ["-O1", "-g", "-fsanitize=address,undefined", "-fno-sanitize-recover=all"]
 
 
@@ -249,37 +250,6 @@ def examples_alone(checks, made):
     run.communicate()
 
 
-LATE = """#define main panel_main
-#include "%s"
-#undef main
-int main(void) {
-    struct line line;
-    uint8_t bytes[9];
-    size_t len = 0;
-    uint32_t ip = 0;
-    uint16_t port = 0;
-    memset(&line, 0, sizeof line);
-    line.file = socket(AF_INET, SOCK_DGRAM, 0);
-    line.to.sin_family = AF_INET;
-    line.to.sin_addr.s_addr = htonl(INADDR_LOOPBACK);
-    if (bind(line.file, (struct sockaddr *)&line.to, sizeof line.to)) return 9;
-    for (uint64_t k = 0; k < 2; k++)
-        if (receive(&line, k * now_ms(&line), bytes, sizeof bytes, &len, &ip, &port)) return 8;
-    return 0;
-}
-"""
-
-
-def late_receives(checks, made, prefix):
-    """The panel of the example waits for nothing where the moment is past, or now."""
-    (made / "late.c").write_text(LATE % (TOP / "examples/c/panel.c"))
-    subprocess.run(["cc", "-std=c11", *STRICT, f"-I{prefix}/include", "-o", made / "late", made / "late.c", prefix / "lib/liboca.a"], check=True)
-    try:
-        checks.same("a receive until a moment that is past", subprocess.run([made / "late"], timeout=30).returncode, 0)
-    except subprocess.TimeoutExpired:
-        checks.same("a receive until a moment that is past", "it waits", 0)
-
-
 # What a compiler must warn of, by the name of the warning: a result that nobody looks at, and a pointer that is null.
 CARELESS = [("unused-result", it) for it in (
     "oca_device_open(&device, 1)", "oca_device_open_with(&device, 1, &spec)",
@@ -287,10 +257,13 @@ CARELESS = [("unused-result", it) for it in (
     "oca_device_add_mute(&device, 100, 4096, text, 4, true, true)", "oca_device_start(&device, 32, 16)",
     "oca_device_start_within(&device, 32, 16, 4)", "oca_link_open(&link, 1, 2, 3, 4, 5)",
     "oca_link_submit(&link, 1, 2, 3, 0, text, 0, 4, &number)",
-    "oca_store_open(\"file\", &store)", "oca_store_load(&store, text, 4, &size)", "oca_store_save(&store, text, 4)")]
+    "oca_device_open_kept(&device, 1, &spec, &kept, 1)", "oca_device_add_kept(&device, 100, 4096, &spec, &kept, 1)",
+    "oca_socket_open(&own, 1, 2)", "oca_socket_open_towards(&own, 1, 2, 3)", "oca_store_open(\"file\", &store)", "oca_store_load(&store, text, 4, &size)", "oca_store_save(&store, text, 4)")]
 CARELESS += [("nonnull", f"(void)!{it}") for it in (
     "oca_device_open(NULL, 1)", "oca_device_tick(NULL, 1)", "oca_device_packets(&device, NULL)",
-    "oca_device_set(&device, 4096, NULL)", "oca_device_waits(&device, NULL)", "oca_device_spec(&device, 0, NULL)", "oca_link_in_flight(&link, 1, NULL)",
+    "oca_device_set(&device, 4096, NULL)", "oca_device_waits(&device, NULL)", "oca_device_spec(&device, 0, NULL)", "oca_device_spec_of(&device, 1, NULL)",
+    "oca_device_peers(&device, NULL)", "oca_device_peer(&device, 0, NULL, NULL)", "oca_device_keep(&device, NULL, 1, &size)", "oca_spec_restore(NULL, &spec)",
+    "oca_value_text(NULL, text, 4, &size)", "oca_value_from_text(2, text, 4, NULL)", "oca_serve(NULL, 1)", "oca_link_in_flight(&link, 1, NULL)",
     "oca_link_next_due(&link, NULL)", "oca_link_due(&link, 1, NULL, 1472, &size, &number, &number)",
     "oca_text_put(NULL, text, 4, &size)")]
 ONE_CALL = """#include <oca.h>
@@ -298,12 +271,14 @@ static struct oca_device device = OCA_DEVICE_INIT;
 static struct oca_link link = OCA_LINK_INIT;
 static struct oca_spec spec;
 static struct oca_store store = OCA_STORE_INIT;
+static struct oca_socket own = OCA_SOCKET_INIT;
+static struct oca_kept kept;
 static uint8_t text[] = "text";
 static uint32_t number;
 static size_t size;
 void calls(void);
 void calls(void) {
-    (void)device, (void)link, (void)spec, (void)store, (void)text, (void)number, (void)size;
+    (void)device, (void)link, (void)spec, (void)store, (void)own, (void)kept, (void)text, (void)number, (void)size;
     %s;
 }
 """
@@ -582,7 +557,7 @@ def from_python(checks, made, prefix):
         checks.same("Python where nobody answers", said_by([*words[:-1], silent.getsockname()[1]]), ("lost\n", 0))
 
 
-# Put before the mixer: each call of its running device ends the program where nobody has the lock.
+# The mixer with the library's loop: each call of its running device ends the program where nobody has the lock.
 HELD = """#define _POSIX_C_SOURCE 200809L
 #include <oca.h>
 #include <pthread.h>
@@ -591,17 +566,19 @@ static inline void held(pthread_mutex_t *by) {
     if (pthread_mutex_trylock(by) == 0) abort();
 }
 """ + "".join(f"#define oca_device_{name}(...) (held(&lock), oca_device_{name}(__VA_ARGS__))\n"
-              for name in ("datagram", "packets", "packet", "waits", "stored", "tick", "next_lapse", "set", "objects", "object", "spec"))
+              for name in ("datagram", "packets", "packet", "waits", "stored", "tick", "next_lapse", "set", "objects", "object", "spec", "written")) \
+    + "".join(f'#include "{it}"\n' for it in ("examples/c/mixer.c", "c/serve.c", "c/kept.c"))
 
 
 def mixers(checks, made, prefix):
     """The mixer as it is, over addresses and undefined behaviour, over threads, and under valgrind; and as C++."""
     subprocess.run(["c++", "-x", "c++", "-std=c++17", *STRICT, f"-I{prefix}/include", "-c", "-o", made / "mixer.o", TOP / "examples/c/mixer.c"], check=True)
-    (made / "held.h").write_text(HELD)
+    (made / "held.c").write_text(HELD)
     subprocess.run(["cc", "-O1", "-Wall", "-shared", "-fPIC", "-o", made / "calls.so", HERE / "unreliable.c", "-ldl"], check=True)
-    for name, more in (("plain", ["-O2"]), ("sanitized", SANITIZED), ("threads", ["-O1", "-g", "-fsanitize=thread"]),
-                       ("held", ["-O2", "-include", str(made / "held.h")])):
-        subprocess.run(["cc", "-std=c11", *STRICT[1:], "-Wpedantic", *more, f"-I{prefix}/include", "-o", made / f"mixer-{name}", TOP / "examples/c/mixer.c",
+    mixer, whole = [TOP / "examples/c/mixer.c"], [TOP / "examples/c/mixer.c", *(TOP / f"c/{name}.c" for name in PARTS)]
+    for name, more, of in (("plain", ["-O2"], mixer), ("sanitized", SANITIZED, whole), ("threads", ["-O1", "-g", "-fsanitize=thread"], whole),
+                           ("held", ["-O2", f"-I{TOP}"], [made / "held.c"])):
+        subprocess.run(["cc", "-std=c11", *STRICT[1:], "-Wpedantic", *more, f"-I{prefix}/include", "-o", made / f"mixer-{name}", *of,
                         f"{prefix}/lib/liboca.a", "-pthread"], check=True)
         a_mixer(checks, made, name)
     kept_safely(checks, made)
@@ -672,8 +649,9 @@ def installed_as_made(checks, made, archive, place):
     checks.same("oca.h as it was made", (place / "include/oca.h").read_bytes() == (TOP / "include/oca.h").read_bytes(), True)
     members = lambda file: subprocess.run(["ar", "t", file], capture_output=True, text=True, check=True).stdout.split()
     own = members(archive)
-    checks.same("what liboca_c.a has", members(place / "lib/liboca_c.a"), [*own, "panel.o", "store.o"])
-    checks.same("what liboca.a has", members(place / "lib/liboca.a"), [*own, "panel.o", "store.o", "malloc.o"])
+    parts = [f"{name}.o" for name in PARTS]
+    checks.same("what liboca_c.a has", members(place / "lib/liboca_c.a"), [*own, *parts])
+    checks.same("what liboca.a has", members(place / "lib/liboca.a"), [*own, *parts, "malloc.o"])
     said = (place / "lib/pkgconfig/oca.pc").read_text() + (place / "lib/cmake/oca/oca-config.cmake").read_text()
     named = re.findall(r"^prefix=(.*)$|^set\(oca_include \"(.*)\"\)$", said, re.MULTILINE)
     checks.same("the folders that are named", named, [("/opt/oca", ""), ("", "/opt/oca/include")])
@@ -836,6 +814,76 @@ def beside_another_kind(checks, made, archive):
     checks.same("what `make uninstall` leaves of AArch64", files_below(made / "arm-alone"), [])
 
 
+class Board:
+    """A device without an operating system, on an emulated board: what is said over its serial line."""
+
+    def __init__(self, program):
+        words = ["qemu-system-aarch64", "-M", "virt", "-cpu", "cortex-a53", "-display", "none", "-monitor", "none", "-serial", "stdio", "-kernel", program]
+        self.run = subprocess.Popen([str(it) for it in words], stdin=subprocess.PIPE, stdout=subprocess.PIPE, bufsize=0)
+
+    def read(self, size, seconds=60):
+        """So many bytes; fewer where they do not come in time."""
+        got, until = b"", time.monotonic() + seconds
+        while len(got) < size and select.select([self.run.stdout], [], [], max(0, until - time.monotonic()))[0]:
+            more = self.run.stdout.read(size - len(got))
+            if not more:
+                break
+            got += more
+        return got
+
+    def say(self, data, ip=0x0a000001, port=65001):
+        self.run.stdin.write(struct.pack(">HIH", len(data), ip, port) + data)
+
+    def answer(self, ip=0x0a000001, port=65001, seconds=60):
+        """The next datagram for this peer; nothing where none comes."""
+        head = self.read(8, seconds)
+        if len(head) < 8:
+            return None
+        data = self.read(struct.unpack(">H", head[:2])[0])
+        return data if head[2:] == struct.pack(">IH", ip, port) else (head, data)
+
+
+def asks(handle, ono, level, index, params=b"", count=0):
+    """The datagram of a command."""
+    message = struct.pack(">IIIHHB", 17 + len(params), handle, ono, level, index, count) + params
+    return b"\x3b" + struct.pack(">HIBH", 1, 9 + len(message), 1, 1) + message
+
+
+def answers(handle, status, params=b"", count=0):
+    """The datagram of a response."""
+    message = struct.pack(">IIBB", 10 + len(params), handle, status, count) + params
+    return b"\x3b" + struct.pack(">HIBH", 1, 9 + len(message), 3, 1) + message
+
+
+# What the device without an operating system is asked, by commands of one peer, and what it answers.
+BARE = [(asks(1, 4097, 4, 2, b"\2", 1), answers(1, 0)), (asks(1, 4097, 4, 2, b"\2", 1), answers(1, 0)), (asks(2, 4097, 4, 1), answers(2, 0, b"\2", 1)),
+        (asks(3, 4098, 5, 2, struct.pack(">h", 101), 1), answers(3, 7)), (asks(4, 4098, 5, 2, struct.pack(">h", -600), 1), answers(4, 0)),
+        (asks(5, 4098, 5, 1), answers(5, 0, struct.pack(">hhh", -600, -600, 100), 3)), (asks(6, 9, 5, 1), answers(6, 5)),
+        (b"\x3b\0\1\0\0\0\x0b\4\0\1\0\5", b"\x3b\0\1\0\0\0\x0b\4\0\1\0\5")]
+
+
+def without_a_system(checks, made, prefix):
+    """The device of examples/c without an operating system, over 24,576 bytes: it answers a peer over its serial line, and none that has no
+    room, nothing malformed and nothing too large."""
+    if not shutil.which("qemu-system-aarch64"):
+        return print("NOT TRIED: a board without an operating system, without qemu-system-aarch64")
+    program = made / "bare"
+    subprocess.run(["aarch64-linux-gnu-gcc", "-std=c11", *STRICT, "-Wpedantic", "-ffreestanding", "-nostdlib", "-static", "-DARENA=24576", f"-I{prefix}/include",
+                    "-Wl,-Ttext=0x40100000", "-o", program, TOP / "examples/c/bare.c", TOP / "examples/c/heap.c", f"{prefix}/{OF_ARM}/liboca_c.a", "-lgcc"], check=True)
+    board = Board(program)
+    checks.same("how the device without a system starts", board.read(2), b"\0\0")
+    for asked, wanted in BARE:
+        board.say(asked)
+        checks.same(f"what it answers to {asked[10:].hex()}", board.answer(), wanted)
+    for what, data, of in (("a peer without room", asks(1, 4097, 4, 1), {"port": 65002}), ("a malformed datagram", b"\x3b\0", {}), ("a datagram of 1,473 bytes", bytes(1473), {})):
+        board.say(data, **of)
+        checks.same(f"its answer to {what}", board.answer(seconds=1), None)
+    board.say(asks(7, 4097, 4, 1))
+    checks.same("its answer behind these", board.answer(), answers(7, 0, b"\2", 1))
+    board.run.kill()
+    board.run.communicate()
+
+
 def on_arm(checks, made):
     """For AArch64: device and panel against each other and each call, under emulation."""
     tools = [it for it in ("aarch64-linux-gnu-gcc", "qemu-aarch64") if not shutil.which(it)]
@@ -853,6 +901,7 @@ def on_arm(checks, made):
     checks.same("each call on AArch64", said_by([*emulated, made / "calls-arm"])[1], 0)
     first = ["qemu-aarch64", "-cpu", "cortex-a53", "-L", "/usr/aarch64-linux-gnu"]
     checks.same("each call on an AArch64 of the first kind", said_by([*first, made / "calls-arm"])[1], 0)
+    without_a_system(checks, made, prefix)
     make("uninstall", prefix, "none", TARGET=ARM)
     checks.same("what `make uninstall` leaves for AArch64", files_below(prefix), [])
 
@@ -895,7 +944,6 @@ def main():
         names(checks, archive, TOP / "include/oca.h", prefix)
         arenas(checks, made)
         for_every_processor(checks, archive)
-        late_receives(checks, made, prefix)
         warnings(checks, made, prefix)
         stays_below(checks, made, archive)
         prefixes(checks, made, archive)

@@ -300,6 +300,37 @@ static void begins_several(struct oca_panel *panel) {
     }
 }
 
+/* Several in flight, each with what is kept of it: as many as the span, and then the oldest is finished before each. */
+static void flies(struct oca_panel *panel) {
+    static struct oca_answer answer;
+    struct oca_flight flight = {0, 0, {0}, {0}};
+    int16_t values[70];
+    void *item = values;
+    uint32_t handle = 0;
+    int finished = 0;
+    same("none", oca_flight_finish(&flight, panel, &answer, &item).asked == OCA_ASKED_NO_HANDLE && item == values, 1);
+    same("nor without a turn", oca_flight_try_finish(&flight, panel, &answer, &item).asked == OCA_ASKED_NO_HANDLE && item == values, 1);
+    for (int k = 0; k < 70; k++) {
+        values[k] = (int16_t)k;
+        while (oca_panel_begin_set(panel, 4098, oca_int16(values[k]), &handle) == OCA_SPAN_FULL) {
+            same("the oldest", oca_flight_finish(&flight, panel, &answer, &item).asked, OCA_ASKED_DONE);
+            same("what was kept of it", item == &values[finished++], 1);
+        }
+        same("push", oca_flight_push(&flight, handle, &values[k]), OCA_DONE);
+    }
+    same("some were finished", finished > 50, 1);
+    for (; flight.count > 0; finished++) {
+        struct oca_outcome outcome = oca_flight_try_finish(&flight, panel, &answer, &item);
+        for (; outcome.asked == OCA_ASKED_UNANSWERED; outcome = oca_flight_try_finish(&flight, panel, &answer, &item)) (void)oca_panel_turn(panel);
+        same("one by one", outcome.asked == OCA_ASKED_DONE && item == &values[finished], 1);
+    }
+    same("each once", (uint32_t)finished, 70);
+    for (uint32_t k = 0; k < 32; k++) same("32 have room", oca_flight_push(&flight, k, NULL), OCA_DONE);
+    same("and no more", oca_flight_push(&flight, 32, NULL) == OCA_SPAN_FULL && flight.count == 32, 1);
+    flight.first = UINT32_MAX;
+    same("a number of its own that is none", oca_flight_finish(&flight, panel, &answer, &item).asked, OCA_ASKED_NO_HANDLE);
+}
+
 static void locks(struct oca_panel *panel, struct oca_panel *other) {
     struct oca_reading reading = oca_alone(oca_int8(9));
     same("lock", oca_panel_lock(panel, 4098).asked, OCA_ASKED_DONE);
@@ -333,6 +364,7 @@ static void at_device(uint32_t seed, uint32_t lost, uint32_t doubled, uint32_t d
     reads(&panels[0]);
     sets(&panels[0]);
     begins_several(&panels[0]);
+    flies(&panels[0]);
     networks[1].now = networks[0].now;
     opens(&panels[1], &networks[1], 77);
     locks(&panels[0], &panels[1]);

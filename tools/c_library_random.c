@@ -104,11 +104,12 @@ static void calls_device(struct oca_device *d) {
     const uint32_t ono = below(3) ? 4096 + below(8) : (uint32_t)number(), container = below(3) ? 100 : 4096 + below(9);
     const size_t size = below(4) ? below(80) : 0;
     const struct oca_value value = any_value();
+    static struct oca_kept kept[3];
     struct oca_spec spec = any_spec(), *read;
     enum oca_result result = OCA_DONE;
     int count = 0;
     bool may_open = false;
-    switch (below(28)) {
+    switch (below(34)) {
     case 0: result = CALL(oca_device_open)(d, (uint16_t)(below(2) ? below(30) : number())), may_open = true; break;
     case 1: result = CALL(oca_device_open_with)(d, (uint16_t)below(30), &spec), may_open = true; break;
     case 2: if (below(8) == 0) oca_device_close(d); return;
@@ -137,6 +138,18 @@ static void calls_device(struct oca_device *d) {
         result = CALL(oca_device_spec)(d, below(12), read), count = 1;
         expect(read->size == sizeof spec || result != OCA_DONE, "a struct of another size is written to");
         break;
+    case 27:
+        read = (struct oca_spec *)room(0, sizeof spec);
+        read->size = below(4) ? (uint32_t)sizeof spec : (uint32_t)number();
+        memcpy(places[0].before + EDGE, &read->size, 4);
+        result = CALL(oca_device_spec_of)(d, below(3) ? ono : 100, read), count = 1;
+        expect(read->size == sizeof spec || result != OCA_DONE, "a struct of another size is written to");
+        break;
+    case 28: result = CALL(oca_device_peers)(d, (size_t *)room(0, sizeof(size_t))), count = 1; break;
+    case 29: result = CALL(oca_device_peer)(d, below(4), (uint32_t *)room(0, 4), (uint16_t *)room(1, 2)), count = 2; break;
+    case 30: result = CALL(oca_device_keep)(d, kept, below(4), (size_t *)room(0, sizeof(size_t))), count = 1; break;
+    case 31: result = CALL(oca_device_add_kept)(d, container, ono, &spec, kept, 3); break;
+    case 32: result = CALL(oca_device_open_kept)(d, (uint16_t)below(30), &spec, kept, 3), may_open = true; break;
     case 24: result = CALL(oca_device_set_position)(d, ono, (uint16_t)number()); break;
     case 25: result = CALL(oca_device_waits)(d, (bool *)memset(room(0, 1), 0, 1)), count = 0; break;
     case 26: result = CALL(oca_device_stored)(d); break;
@@ -148,6 +161,31 @@ static void calls_device(struct oca_device *d) {
     expect(!was_open || !may_open || result == OCA_OPEN, "an open device is not opened");
     expect(d->is_open == (d->at != NULL), "a device is open or not");
     looks(count, result == OCA_DONE || result == OCA_TOO_SMALL, "what a call of a device writes");
+}
+
+/* A call without a device: a stored struct, and words for values. */
+static void calls_values(void) {
+    static const char *const words[] = {"muted", "unmuted", "on", "off", "inverted", "-0", "+1", "255", "-129", "9223372036854775808", "\xff", ""};
+    const struct oca_value value = any_value();
+    const struct oca_spec stored = any_spec();
+    struct oca_value *found;
+    const char *word = words[below(sizeof words / sizeof *words)];
+    const size_t size = below(24);
+    enum oca_result result = OCA_DONE;
+    switch (below(3)) {
+    case 0:
+        *(struct oca_spec *)memcpy(room(0, sizeof stored), &stored, sizeof stored) = any_spec();
+        memcpy(places[0].before + EDGE, places[0].whole + EDGE, sizeof stored);
+        result = CALL(oca_spec_restore)((struct oca_spec *)(void *)(places[0].whole + EDGE), &stored);
+        break;
+    case 1: result = CALL(oca_value_text)(&value, (uint8_t *)room(0, size), size, (size_t *)memset(room(1, sizeof(size_t)), 0, sizeof(size_t))); break;
+    default:
+        found = (struct oca_value *)room(0, sizeof value);
+        result = CALL(oca_value_from_text)(below(15), (const uint8_t *)word, strlen(word), found);
+        break;
+    }
+    told(result);
+    looks(1, result == OCA_DONE, "what a call of a value writes");
 }
 
 /* A call of a link. */
@@ -248,8 +286,9 @@ int main(int count, char **words) {
     state = count > 2 ? (uint64_t)atoll(words[2]) : 1;
     for (int k = 0; k < 4; k++) places[k].whole = (uint8_t *)malloc(sizeof places[k].before);
     for (long k = 0; k < calls; k++) {
-        const uint32_t which = below(20);
-        if (which < 9) calls_device(&devices[which % 2]);
+        const uint32_t which = below(22);
+        if (which > 19) calls_values();
+        else if (which < 9) calls_device(&devices[which % 2]);
         else if (which < 18) calls_link(&links[which % 2]);
         else calls_panel(&panel);
     }

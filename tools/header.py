@@ -67,7 +67,7 @@ def exported():
 def prototypes(header):
     """The prototypes of the header."""
     found = {}
-    for result, name, given in re.findall(r"^((?:enum|struct) oca_\w+|uint32_t|void) (oca_\w+)\(([^)]*)\)(?: OCA_\w+)?;", header, re.M):
+    for result, name, given in re.findall(r"^((?:enum|struct) oca_\w+|uint(?:32|64)_t|void) (oca_\w+)\(([^)]*)\)(?: OCA_\w+)?;", header, re.M):
         words = [re.fullmatch(r"(.*?[ *])(\w+)", it.strip()).groups() for it in given.split(",") if it.strip() not in ("", "void")]
         found[name] = ([(of.strip().replace("* ", "*"), it) for of, it in words], result)
     return found
@@ -90,8 +90,8 @@ def fields(header, name):
 
 
 def results(header):
-    """What calls answer with, of both kinds."""
-    return numbered(header, "oca_result").keys() | numbered(header, "oca_store_result").keys()
+    """What calls answer with, of each kind."""
+    return {word for name in ("oca_result", "oca_store_result", "oca_socket_result") for word in numbered(header, name)}
 
 
 def upper(name):
@@ -233,7 +233,8 @@ WRONG = [
     ("uint8_t lockable, enabled;", "uint8_t enabled, lockable;"),
     ("struct oca_name role, label, names[16];", "struct oca_name label, role, names[16];"),
     ("uint8_t enableds[16], zeros[6];", "uint8_t zeros[6], enableds[16];"),
-    ("uint32_t container, uint32_t ono, const struct oca_spec *spec", "uint32_t ono, uint32_t container, const struct oca_spec *spec"),
+    ("oca_device_add(struct oca_device *device, uint32_t container, uint32_t ono, const", "oca_device_add(struct oca_device *device, uint32_t ono, uint32_t container, const"),
+    ("oca_device_add_kept(struct oca_device *device, uint32_t container, uint32_t ono, const", "oca_device_add_kept(struct oca_device *device, uint32_t ono, uint32_t container, const"),
     ("size_t index, struct oca_spec *spec", "size_t index, const struct oca_spec *spec"),
     ("{ uint16_t level, index; uint8_t count, size;", "{ uint16_t level, index; uint8_t size, count;"),
     ("OCA_STATUS_LOCKED = 3, OCA_STATUS_BAD_FORMAT = 4", "OCA_STATUS_LOCKED = 4, OCA_STATUS_BAD_FORMAT = 3"),
@@ -266,6 +267,18 @@ WRONG = [
     ("enum oca_store_result oca_store_save(struct", "enum oca_result oca_store_save(struct"),
     ("\nvoid oca_store_close(struct oca_store *store);", ""),
     ('    case OCA_STORE_HELD: return "another device has the file";\n', ""),
+    ("oca_device_spec_of(struct oca_device *device, uint32_t ono,", "oca_device_spec_of(struct oca_device *device, size_t ono,"),
+    ("oca_spec_restore(struct oca_spec *spec, const struct oca_spec *stored)", "oca_spec_restore(const struct oca_spec *stored, struct oca_spec *spec)"),
+    ("oca_value_text(const struct oca_value *value, uint8_t *out, size_t out_len, size_t *len)", "oca_value_text(const struct oca_value *value, uint8_t *out, size_t *len, size_t out_len)"),
+    ("oca_value_from_text(uint32_t class_number, const uint8_t *text,", "oca_value_from_text(uint16_t class_number, const uint8_t *text,"),
+    ("oca_device_peers(struct oca_device *device, size_t *count)", "oca_device_peers(struct oca_device *device, uint32_t *count)"),
+    ("size_t index, uint32_t *ip, uint16_t *port", "size_t index, uint16_t *port, uint32_t *ip"),
+    ("oca_device_keep(struct oca_device *device, struct oca_kept *kept,", "oca_device_keep(struct oca_device *device, const struct oca_kept *kept,"),
+    ("uint16_t room, const struct oca_spec *root, const struct oca_kept *kept, size_t count)", "uint16_t room, const struct oca_kept *kept, size_t count, const struct oca_spec *root)"),
+    ("uint64_t oca_socket_now(void);", "uint32_t oca_socket_now(void);"),
+    ("oca_socket_open_towards(struct oca_socket *own, uint32_t device_ip, uint16_t device_port, uint16_t port)", "oca_socket_open_towards(struct oca_socket *own, uint32_t device_ip, uint16_t port, uint16_t device_port)"),
+    ("oca_serve(struct oca_server *server, uint64_t until)", "oca_serve(struct oca_server *server, uint32_t until)"),
+    ('    case OCA_SOCKET_NOTHING: return "no datagram is there";\n', ""),
 ]
 
 
@@ -310,7 +323,7 @@ def page_faults(name, page, header, comment, version):
         ("does not have its declaration", stands(declared, part(page, "SYNOPSIS"))),
         ("does not say what the header says", comment and words(part(page, "DESCRIPTION"))[:len(comment)] == comment),
         ("does not show what its declaration names", all(f"{it} {{" in part(page, "SYNOPSIS") for it in types)),
-        ("does not say what it can answer", answers == set(reference.answers_of(name)) and bool(answers) == bool(re.search(f"enum oca_(store_)?result {name}", declared))),
+        ("does not say what it can answer", answers == set(reference.answers_of(name)) and bool(answers) == bool(re.search(f"enum oca_((store|socket)_)?result {name}", declared))),
         ("does not say what all calls want",
          words(part(page, "NOTES")) == words(header[:header.index("#ifndef OCA_H")])),
     ]

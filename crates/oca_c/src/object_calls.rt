@@ -1,12 +1,12 @@
 //! What C calls to read the objects of a device.
-ghost use Rattle.std.specs.Prelude.{◌≡◌, ◌⊎◌, List, length};
+ghost use Rattle.std.specs.Prelude.{◌≡◌, ◌⊎◌, List, length, slice_get};
 ghost use Rattle.oca_types.specs.Sizes.{DeviceSizes};
 ghost use Rattle.oca_tree.specs.declared.object.Object.{Object};
 ghost use Rattle.oca_tree.specs.Readers.{info_at, lock_at, setting_at};
-ghost use Rattle.oca_device.specs.States.{state_after};
+ghost use Rattle.oca_device.specs.States.{known_after, state_after};
 ghost use Rattle.oca_device.specs.Events.{Event};
 ghost use Rattle.oca_calls.specs.Calls.{HandleRuns, RefusesBuilding, RefusesClosed};
-ghost use Rattle.oca_calls.specs.Outputs.{WritesLock, WritesObject, WritesSetting};
+ghost use Rattle.oca_calls.specs.Outputs.{WritesLock, WritesObject, WritesPeer, WritesSetting};
 
 use oca_calls::answer::Answer;
 use oca_calls::device_handle::DeviceHandle;
@@ -103,6 +103,52 @@ pub extern "C" fn oca_device_setting(
         return Answer::Closed.number();
     };
     let answer = behind.reading(ono, reading);
+    handle.put(behind);
+    answer.number()
+}
+
+/// Tells how many peers have a session.
+#[unsafe(no_mangle)]
+pub extern "C" fn oca_device_peers(
+    alloc: Global,
+    handle: &mut DeviceHandle,
+    count: &mut usize,
+) -> u32
+    ensures closed { RefusesClosed handle.old.slot.inner handle.new.slot.inner result }
+    ensures building { RefusesBuilding handle.old.slot.inner handle.new.slot.inner result }
+    ensures kept { handle.new.slot.inner ≡ handle.old.slot.inner }
+    ensures writes { (w : DeviceSizes) (T : List Object) (E : List Event) → HandleRuns w handle.old.slot.inner T E →
+        (result ≡ 0) × (count.new ≡ length (known_after (state_after w T E))) }
+    ensures unwritten { (result ≡ 0) ⊎ (count.new ≡ count.old) }
+{
+    let Some(behind) = handle.take(alloc) else {
+        return Answer::Closed.number();
+    };
+    let answer = behind.peers(count);
+    handle.put(behind);
+    answer.number()
+}
+
+/// Tells the peer of the session at an index.
+#[unsafe(no_mangle)]
+pub extern "C" fn oca_device_peer(
+    alloc: Global,
+    handle: &mut DeviceHandle,
+    index: usize,
+    ip: &mut u32,
+    port: &mut u16,
+) -> u32
+    ensures closed { RefusesClosed handle.old.slot.inner handle.new.slot.inner result }
+    ensures building { RefusesBuilding handle.old.slot.inner handle.new.slot.inner result }
+    ensures kept { handle.new.slot.inner ≡ handle.old.slot.inner }
+    ensures writes { (w : DeviceSizes) (T : List Object) (E : List Event) → HandleRuns w handle.old.slot.inner T E →
+        WritesPeer (slice_get (known_after (state_after w T E)) index) ip.new port.new result }
+    ensures unwritten { (result ≡ 0) ⊎ ((ip.new ≡ ip.old) × (port.new ≡ port.old)) }
+{
+    let Some(behind) = handle.take(alloc) else {
+        return Answer::Closed.number();
+    };
+    let answer = behind.peer(index, ip, port);
     handle.put(behind);
     answer.number()
 }

@@ -3,17 +3,21 @@ ghost use Rattle.std.specs.Prelude.{◌≡◌, ◌⊎◌, List, None, IsSome};
 ghost use Rattle.oca_types.specs.Sizes.{DeviceSizes};
 ghost use Rattle.oca_tree.specs.declared.object.Object.{Object};
 ghost use Rattle.oca_tree.specs.Objects.{Store};
-ghost use Rattle.oca_tree.specs.Readers.{info_at};
+ghost use Rattle.oca_tree.specs.Readers.{info_at, info_of_ono};
 ghost use Rattle.oca_device.specs.States.{state_after};
 ghost use Rattle.oca_device.specs.Events.{Event};
 ghost use Rattle.oca_calls.specs.Calls.{HandleBuilds, HandleRuns, RefusesBuilding, RefusesClosed, RefusesRunning};
 ghost use Rattle.oca_calls.specs.CSpecs.{HandleAddsSpec, OpensWith, WritesSpec, WrittenMakesAgain};
+ghost use Rattle.oca_calls.specs.Numbers.{answer_number};
+ghost use Rattle.oca_calls.specs.Restoring.{Restores};
+ghost use Rattle.oca_calls.specs.declared.answer.Answer.{Answer as AnswerItself};
 
 use oca_calls::answer::Answer;
 use oca_calls::device_handle::DeviceHandle;
 use oca_calls::laws::law_of_specs;
 use oca_calls::name::text_of;
 use oca_calls::opening::open_over;
+use oca_calls::restoring::restore;
 use oca_calls::spec_adding::start_with;
 use oca_calls::spec_words::SpecWords;
 use oca_tree::{Room, TreeBuilder};
@@ -96,4 +100,37 @@ pub extern "C" fn oca_device_spec(
     let answer = behind.spec(index, spec);
     handle.put(behind);
     answer.number()
+}
+
+/// Tells of the object with this number all that an addition of the struct makes of it.
+#[unsafe(no_mangle)]
+pub extern "C" fn oca_device_spec_of(
+    alloc: Global,
+    handle: &mut DeviceHandle,
+    ono: u32,
+    spec: &mut SpecWords,
+) -> u32
+    ensures closed { RefusesClosed handle.old.slot.inner handle.new.slot.inner result }
+    ensures building { RefusesBuilding handle.old.slot.inner handle.new.slot.inner result }
+    ensures kept { handle.new.slot.inner ≡ handle.old.slot.inner }
+    ensures writes { (w : DeviceSizes) (T : List Object) (E : List Event) → HandleRuns w handle.old.slot.inner T E →
+        WritesSpec (state_after w T E).tree (info_of_ono (state_after w T E).tree ono) spec.old spec.new result }
+    ensures again { WrittenMakesAgain }
+    ensures unwritten { (result ≡ 0) ⊎ (spec.new ≡ spec.old) }
+{
+    law_of_specs();
+    let Some(behind) = handle.take(alloc) else {
+        return Answer::Closed.number();
+    };
+    let answer = behind.spec_of(ono, spec);
+    handle.put(behind);
+    answer.number()
+}
+
+/// Brings what was stored of an object into the struct that says what it is to be.
+#[unsafe(no_mangle)]
+pub extern "C" fn oca_spec_restore(spec: &mut SpecWords, stored: &SpecWords) -> u32
+    ensures { (answer : AnswerItself) × (result ≡ answer_number answer) × Restores answer spec.old stored.now spec.new }
+{
+    restore(spec, stored).number()
 }

@@ -1,8 +1,11 @@
 //! What C calls to encode a value, to ask for one and to read what came back. Nothing here has a handle.
 ghost use Rattle.std.specs.Prelude.{◌≡◌, ◌⊎◌};
 ghost use Rattle.oca_calls.specs.CValues.{PutsWords, ReadsAnswer, WritesGetOf, WritesSetOf};
+ghost use Rattle.oca_calls.specs.CWords.{WordsAreReadBack, WritesNamed, WritesWordOf};
 
 use oca_calls::answer::Answer;
+use oca_calls::laws::law_of_words;
+use oca_calls::value_texts::{put_word, read_word};
 use oca_calls::value_words::{ReadingWords, RequestWords, ValueWords, class_with};
 use oca_calls::words::put_bytes;
 use oca_model::{Reading, get_request, set_request};
@@ -67,4 +70,25 @@ pub extern "C" fn oca_get_request(class_number: u32, request: &mut RequestWords)
     };
     *request = RequestWords::of(&found);
     Answer::Done.number()
+}
+
+/// Puts the word for a value: 1 to 20 bytes.
+#[unsafe(no_mangle)]
+pub extern "C" fn oca_value_text(value: &ValueWords, out: &mut [u8], len: &mut usize) -> u32
+    ensures writes { WritesWordOf value.now out.old out.new len.new result }
+    ensures untold { (result ≡ 24) → (len.new ≡ len.old) }
+    ensures again { WordsAreReadBack }
+{
+    law_of_words();
+    put_word(*value, out, len).number()
+}
+
+/// Tells the value that a word names, of an object of this class.
+#[unsafe(no_mangle)]
+pub extern "C" fn oca_value_from_text(class_number: u32, text: &[u8], value: &mut ValueWords) -> u32
+    ensures writes { WritesNamed class_number text.now value.old value.new result }
+    ensures again { WordsAreReadBack }
+{
+    law_of_words();
+    read_word(class_number, text, value).number()
 }

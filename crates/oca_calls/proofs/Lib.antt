@@ -3,3 +3,4 @@ mod DeviceAsBox
 mod LinkAsBox
 pub mod SpecsAgain
 pub mod Waits
+pub mod WordsAgain

@@ -9,3 +9,5 @@ pub mod CValues
 pub mod CSpecs
 pub mod FrontCalls
 pub mod AnswerCalls
+pub mod Restoring
+pub mod CWords

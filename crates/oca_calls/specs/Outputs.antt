@@ -12,6 +12,7 @@ use Rattle.oca_tree.specs.declared.tree.Setting.TheVariants as settings
 use Rattle.oca_pdu.specs.Faults.{fault_number}
 use Rattle.oca_device.specs.declared.verdict.Verdict.{Verdict}
 use Rattle.oca_device.specs.declared.verdict.Verdict.TheVariants.{Served, Malformed, NoRoom}
+use Rattle.oca_types.specs.declared.words.Peer.{Peer}
 use Rattle.oca_types.specs.Sizes.{DeviceSizes}
 use Rattle.oca_device.specs.States.{State}
 use Rattle.oca_device.specs.Lapses.{IsNextLapse, NeverLapses}
@@ -77,6 +78,11 @@ abbrev pub WritesLock : Option Lock → ℕ → ℕ → ℕ → ℕ → Type 0
 WritesLock None kind ip port number = number ≡ 13
 WritesLock (Some lock) kind ip port number =
     (number ≡ 0) × (kind ≡ lock_number lock.kind) × (ip ≡ lock.holder.ip) × (port ≡ lock.holder.port)
+
+-- A peer is written by its address and port; or that there is none at this index.
+abbrev pub WritesPeer : Option Peer → ℕ → ℕ → ℕ → Type 0
+WritesPeer None ip port number = number ≡ 13
+WritesPeer (Some peer) ip port number = (number ≡ 0) × (ip ≡ peer.ip) × (port ≡ peer.port)
 
 -- the words of a setting
 abbrev pub reading_of : Setting → Reading

@@ -4,9 +4,9 @@ ghost use Rattle.std.specs.Prelude.{◌⊎◌, take, slice_get};
 ghost use Rattle.oca_types.specs.Sizes.{DeviceSizes, peer_count, window_size};
 ghost use Rattle.oca_tree.specs.declared.object.Object.{Object};
 ghost use Rattle.oca_tree.specs.Objects.{Store};
-ghost use Rattle.oca_tree.specs.Readers.{info_at, lock_at, setting_at};
+ghost use Rattle.oca_tree.specs.Readers.{info_at, info_of_ono, lock_at, setting_at};
 ghost use Rattle.oca_tree.specs.Settings.{set_fault};
-ghost use Rattle.oca_device.specs.States.{state_after};
+ghost use Rattle.oca_device.specs.States.{known_after, state_after};
 ghost use Rattle.oca_device.specs.Events.{Event, Datagram as DatagramEvent, Tick, Local};
 ghost use Rattle.oca_device.specs.Answers.{packets, verdict};
 ghost use Rattle.oca_device.specs.Outboxes.{first_packets};
@@ -20,7 +20,8 @@ ghost use Rattle.oca_model.specs.declared.value.Value.{Value as ValueItself};
 ghost use Rattle.oca_calls.specs.CValues.{AreWordsOf};
 ghost use Rattle.oca_calls.specs.FrontCalls.{SetsEntry, SetsFrontFound, SetsWords, State, Integer};
 ghost use Rattle.oca_calls.specs.CSpecs.{SpecAddedBy, WritesSpec};
-ghost use Rattle.oca_calls.specs.Outputs.{WritesLock, WritesNextLapse, WritesObject, WritesSetting, WritesWords, put_words};
+ghost use Rattle.oca_calls.specs.Outputs.{WritesLock, WritesNextLapse, WritesObject, WritesPeer, WritesSetting};
+ghost use Rattle.oca_calls.specs.Outputs.{WritesWords, put_words};
 ghost use Rattle.oca_calls.specs.Outputs.{verdict_words};
 ghost use Rattle.oca_calls.specs.Storings.{all_stored, unstored_behind};
 
@@ -29,7 +30,7 @@ use crate::front_values::{integer_at, state_at};
 use crate::name::{MOST_POSITIONS, Name, texts_of};
 use crate::reading::Reading;
 use crate::spec_adding::add_spec;
-use crate::spec_reading::read_spec;
+use crate::spec_reading::{read_spec, read_spec_of};
 use crate::spec_words::SpecWords;
 use crate::unstored::{Unstored, duplicates_in, has_written};
 use crate::value_words::ValueWords;
@@ -480,6 +481,52 @@ impl DeviceBehind {
             return Answer::NotStarted;
         };
         read_spec(device.tree(), index, out)
+    }
+
+    /// Tells of the object with this number all that an addition makes of it.
+    pub fn spec_of(&self, ono: u32, out: &mut SpecWords) -> Answer
+        ensures writes { (w : DeviceSizes) (T : List Object) (E : List Event) → RunsBehind w self.now T E →
+            WritesSpec (state_after w T E).tree (info_of_ono (state_after w T E).tree ono) out.old out.new
+            (answer_number result) }
+        ensures building { self.now.device ≡ None → (result ≡ NotStarted) × (out.new ≡ out.old) }
+        ensures unwritten { (result ≡ Done) ⊎ (out.new ≡ out.old) }
+    {
+        let Some(device) = &self.device else {
+            return Answer::NotStarted;
+        };
+        read_spec_of(device.tree(), Ono(ono), out)
+    }
+
+    /// Tells how many peers have a session.
+    pub fn peers(&self, count: &mut usize) -> Answer
+        ensures writes { (w : DeviceSizes) (T : List Object) (E : List Event) → RunsBehind w self.now T E →
+            (result ≡ Done) × (count.new ≡ length (known_after (state_after w T E))) }
+        ensures building { self.now.device ≡ None → result ≡ NotStarted }
+        ensures unwritten { (result ≡ Done) ⊎ (count.new ≡ count.old) }
+    {
+        let Some(device) = &self.device else {
+            return Answer::NotStarted;
+        };
+        *count = device.sessions();
+        Answer::Done
+    }
+
+    /// Tells the peer of the session at this index.
+    pub fn peer(&self, index: usize, ip: &mut u32, port: &mut u16) -> Answer
+        ensures writes { (w : DeviceSizes) (T : List Object) (E : List Event) → RunsBehind w self.now T E →
+            WritesPeer (slice_get (known_after (state_after w T E)) index) ip.new port.new (answer_number result) }
+        ensures building { self.now.device ≡ None → result ≡ NotStarted }
+        ensures unwritten { (result ≡ Done) ⊎ ((ip.new ≡ ip.old) × (port.new ≡ port.old)) }
+    {
+        let Some(device) = &self.device else {
+            return Answer::NotStarted;
+        };
+        let Some(peer) = device.peer_at(index) else {
+            return Answer::Nothing;
+        };
+        *ip = peer.ip;
+        *port = peer.port;
+        Answer::Done
     }
 
     /// Tells of an object's lock what it keeps other peers from, and its holder.

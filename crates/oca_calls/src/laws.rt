@@ -1,5 +1,6 @@
 //! What the definitions of this crate say of one another.
 ghost use Rattle.oca_calls.specs.CSpecs.{WrittenMakesAgain};
+ghost use Rattle.oca_calls.specs.CWords.{WordsAreReadBack};
 ghost use Rattle.oca_calls.specs.Storings.{WaitsAsKept};
 
 use oca_tree::law_of_copies;
@@ -15,4 +16,10 @@ pub fn law_of_specs()
 #[tactic(auto, using(crate::proofs::Waits::waits_as_kept))]
 pub fn law_of_waits()
     ensures { WaitsAsKept }
+{}
+
+/// Law: the word for a value names that value again.
+#[tactic(auto, using(crate::proofs::WordsAgain::read_back))]
+pub fn law_of_words()
+    ensures { WordsAreReadBack }
 {}

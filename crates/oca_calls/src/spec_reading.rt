@@ -1,7 +1,7 @@
 //! Telling of an object all that an addition makes of it.
 ghost use Rattle.std.specs.Prelude.{◌≡◌, ◌⊎◌, ◌≤◌, length, map, take, Some, IfSome, IsSome};
 ghost use Rattle.std.specs.Option.{option_copied};
-ghost use Rattle.oca_tree.specs.Readers.{info_at};
+ghost use Rattle.oca_tree.specs.Readers.{info_at, info_of_ono};
 ghost use Rattle.oca_calls.specs.CSpecs.{AreSettingWords, FitsBits, FitsSetting, FitsSpec, HasBits, IsNumberWords};
 ghost use Rattle.oca_calls.specs.CSpecs.{IsSpecOf, WritesFound, WritesSpec, alone, is_yes};
 ghost use Rattle.oca_calls.specs.Numbers.{answer_number};
@@ -14,6 +14,7 @@ use crate::spec_words::{SPEC_SIZE, SpecWords, bytes_of};
 use crate::value_words::{ReadingWords, ValueWords};
 use crate::words::class_number;
 use oca_tree::{ObjectInfo, Setting, Tree};
+use oca_types::Ono;
 
 /// A number in 64 bits, one below 0 in two's complement; nothing of a number beyond, which no object has.
 fn bits_of(number: i128) -> Option<u64>
@@ -186,15 +187,26 @@ pub fn read_spec(tree: &Tree, index: usize, out: &mut SpecWords) -> Answer
     if out.size != SPEC_SIZE {
         return Answer::BadSize;
     }
-    write_spec(tree, index, out)
+    write_spec(tree, tree.object_at(index), out)
 }
 
-/// The same of a struct of this size; nothing is written where there is no object or it has no room.
-fn write_spec(tree: &Tree, index: usize, out: &mut SpecWords) -> Answer
-    ensures writes { WritesFound tree.now (info_at tree.now index) out.old out.new (answer_number result) }
+/// Tells of the object with this number what it is; nothing is written to a struct of another size.
+pub fn read_spec_of(tree: &Tree, ono: Ono, out: &mut SpecWords) -> Answer
+    ensures writes { WritesSpec tree.now (info_of_ono tree.now ono.0) out.old out.new (answer_number result) }
     ensures unwritten { (result ≡ Done) ⊎ (out.new ≡ out.old) }
 {
-    let Some(object) = tree.object_at(index) else {
+    if out.size != SPEC_SIZE {
+        return Answer::BadSize;
+    }
+    write_spec(tree, tree.object_of(ono), out)
+}
+
+/// Tells what this object is; nothing is written where there is none or it has no room.
+fn write_spec(tree: &Tree, found: Option<ObjectInfo>, out: &mut SpecWords) -> Answer
+    ensures writes { WritesFound tree.now found out.old out.new (answer_number result) }
+    ensures unwritten { (result ≡ Done) ⊎ (out.new ≡ out.old) }
+{
+    let Some(object) = found else {
         return Answer::Nothing;
     };
     match spec_of(tree, &object) {

@@ -1,6 +1,6 @@
 -- Noted each step of serving does to a device that is in a state.
 use Rattle.std.proofs.Common.{◌≡◌, ℕ, ◌+◌, ◌≤◌, ◌<◌, Bool, true, false, cond, List, [], ◌∷◌, ◌++◌, length, refl, sym, ap, ◌∙◌, subst, arith}
-use Rattle.std.specs.Prelude.{min, max, nat_lt, ◌||◌, IfSome, Option, Some, None, IsSome, Result, Ok}
+use Rattle.std.specs.Prelude.{min, max, nat_lt, ◌||◌, IfSome, Option, Some, None, IsSome, Result, Ok, map, slice_get}
 use Rattle.std.proofs.lemmas.Bool.{lt-ltb, le-ltb}
 use Rattle.std.proofs.lemmas.List.{append_assoc, append-nil, length-map}
 use Rattle.oca_types.specs.declared.words.Peer.{Peer}
@@ -8,7 +8,7 @@ use Rattle.oca_types.specs.Sizes.{DeviceSizes}
 use Rattle.oca_pdu.specs.Messages.{Msg, Command, Response, KeepAlive, Pdu}
 use Rattle.oca_session.specs.declared.sessions.Admission.TheVariants as heard
 use Rattle.oca_session.specs.Accepted.{Entry, retained_of, AgreesWithAccepted, Judgement, Fresh, Duplicate, Reused, Old}
-use Rattle.oca_session.specs.Table.{Session, Table, session_of, with_changed, opened_session, heard_at, with_heartbeat, with_accepted, with_sessions, with_moment_and_sessions, present, lapsed, staying, Hears, AgreesAt}
+use Rattle.oca_session.specs.Table.{Session, Table, session_of, with_changed, opened_session, heard_at, with_heartbeat, with_accepted, with_sessions, with_moment_and_sessions, present, lapsed, staying, peers_of, Hears, AgreesAt}
 use Rattle.oca_pdu.specs.declared.fault.PduFault.{PduFault}
 use Rattle.oca_pdu.specs.Reading.{read_datagram}
 use Rattle.oca_device.specs.declared.counts.Counts.{Counts}
@@ -92,6 +92,18 @@ count_known w s old was = ap (λ (x : Table). length x.sessions) was ∙ length-
 pub known_counted : (w : DeviceSizes) (d : DeviceState) (tree : List Object) (events : List Event) → Represents w d tree events →
     length d.sessions.sessions ≡ length (known_after (state_after w tree events))
 known_counted w d tree events h = count_known w (state_after w tree events) d.sessions h.state.sessions
+
+peers_noted : (w : DeviceSizes) (s : State) (ps : List Peer) → peers_of (map (session_for w s.notes) ps) ≡ ps
+peers_noted w s [] = refl
+peers_noted w s (p ∷ ps) = ap (λ (qs : List Peer). p ∷ qs) (peers_noted w s ps)
+
+-- and their peers are these
+pub known_at : (w : DeviceSizes) (d : DeviceState) (tree : List Object) (events : List Event) (i : ℕ) → Represents w d tree events →
+    slice_get (peers_of d.sessions.sessions) i ≡ slice_get (known_after (state_after w tree events)) i
+known_at w d tree events i h =
+    let s = state_after w tree events in
+    ap (λ (x : Table). slice_get (peers_of x.sessions) i) h.state.sessions
+    ∙ ap (λ (ps : List Peer). slice_get ps i) (peers_noted w s (noted_peers s.moment s.notes))
 
 -- a moment that is not later than the clock's
 pub present_is : (w : DeviceSizes) (s : State) (old : Table) (now : ℕ) → old ≡ table_of w s → now ≤ old.moment → present old now ≡ s.moment

@@ -1,6 +1,6 @@
 //! The device: it takes events, and puts its answers into an outbox.
 ghost use Rattle.std.specs.Prelude.{◌≡◌, ◌+◌, ◌<◌, ◌≤◌, List, [], ◌∷◌, ◌++◌, length, max, IfOk, OnErr, MatchOption};
-ghost use Rattle.std.specs.Prelude.{IsTrue, IsSome, if◌then◌else◌, Ok, Err};
+ghost use Rattle.std.specs.Prelude.{IsTrue, IsSome, if◌then◌else◌, Ok, Err, slice_get};
 ghost use Rattle.oca_types.specs.Peers.{fields_of};
 ghost use Rattle.oca_types.specs.Sizes.{most_command_parameter_bytes, window_size, sizes_of, DeviceSizes};
 ghost use Rattle.std.specs.List.{AllByRecursion};
@@ -8,7 +8,7 @@ ghost use Rattle.oca_pdu.specs.Messages.{Msg, Command as Commands, msg_of};
 ghost use Rattle.oca_pdu.specs.Limits.{most_answered, most_commands};
 ghost use Rattle.oca_pdu.specs.Datagrams.{messages_left};
 ghost use Rattle.oca_tree.specs.declared.object.Object.{Object};
-ghost use Rattle.oca_session.specs.Table.{session_of};
+ghost use Rattle.oca_session.specs.Table.{session_of, peers_of};
 ghost use Rattle.oca_device.specs.Events.{Event, Datagram as DatagramEvent, Tick, Local};
 ghost use Rattle.oca_device.specs.Notes.{Admitted, run, last_noted};
 ghost use Rattle.oca_device.specs.States.{State, state_after, known_after, noted, moved_to, admits, released_all};
@@ -216,6 +216,17 @@ impl Device {
             result ≡ length (known_after (state_after w T E)) }
     {
         self.sessions.len()
+    }
+
+    /// The peer of the session at this index, counted from 0 in order of opening; nothing behind the last. They are the
+    /// peers that are known at the present moment.
+    #[tactic(auto, using(crate::proofs::Steps::known_at))]
+    pub fn peer_at(&self, index: usize) -> Option<Peer>
+        ensures peer { result ≡ slice_get (peers_of self.now.sessions.sessions) index }
+        ensures represented { (w : DeviceSizes) (T : List Object) (E : List Event) → Represents w self.now T E →
+            result ≡ slice_get (known_after (state_after w T E)) index }
+    {
+        self.sessions.peer_at(index)
     }
 
     /// The objects that the last datagram wrote to: of each of its commands that it executed with status OK and

@@ -1,6 +1,6 @@
 //! The sessions of all peers.
 ghost use Rattle.std.specs.Prelude.{◌≡◌, ℕ, ◌<◌, ◌≤◌, List, [], ◌∷◌, ◌++◌, length, IfOk, IsSome, IfSome, is_some, Some};
-ghost use Rattle.std.specs.Prelude.{vec_len, take, position, All, Contains, ◌==◌};
+ghost use Rattle.std.specs.Prelude.{vec_len, take, position, All, Contains, ◌==◌, slice_get};
 ghost use Rattle.oca_types.specs.declared.words.Peer.{Peer};
 ghost use Rattle.oca_types.specs.Peers.{fields_of};
 ghost use Rattle.oca_types.specs.Sizes.{most_command_parameter_bytes, window_size, sizes_of};
@@ -124,6 +124,16 @@ impl Sessions {
         ensures { result ≡ (length self.now.sessions == 0) }
     {
         self.count == 0
+    }
+
+    /// The peer of the session at this index, counted from 0 in order of opening; nothing behind the last.
+    pub fn peer_at(&self, index: usize) -> Option<Peer>
+        ensures { result ≡ slice_get (peers_of self.now.sessions) index }
+    {
+        match self.slots[..self.count].get(index) {
+            Some(slot) => Some(slot.peer()),
+            None => None,
+        }
     }
 
     /// Whether the peer has a session.

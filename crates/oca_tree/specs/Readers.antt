@@ -20,6 +20,10 @@ info_of o = record { ono = o.ono; class = class_of o.value; container = o.contai
 abbrev pub info_at : List Object → ℕ → Option ObjectInfo
 info_at tree n = option_map info_of (slice_get tree n)
 
+-- the object with this number
+abbrev pub info_of_ono : List Object → ℕ → Option ObjectInfo
+info_of_ono tree number = option_map info_of (object_of tree number)
+
 -- what the objects are that an iterator has left
 abbrev pub infos_left : ObjectInfos → List ObjectInfo
 infos_left infos = map info_of infos.rest.now

@@ -9,7 +9,7 @@ ghost use Rattle.oca_tree.specs.Execution.{execution};
 ghost use Rattle.oca_tree.specs.Written.{wrote};
 ghost use Rattle.oca_tree.specs.Settings.{after_set, set_fault};
 ghost use Rattle.oca_tree.specs.Readers.{info_of, info_at, infos_left, class_of_ono, lock_at, value_setting};
-ghost use Rattle.oca_tree.specs.Readers.{setting_at};
+ghost use Rattle.oca_tree.specs.Readers.{setting_at, info_of_ono};
 ghost use Rattle.oca_tree.specs.Copies.{stored_in, stored_at, names_of_ono, lockable_at, all_unlocked};
 
 use crate::description::{class_in, lockable_in, position_names_in, start_in};
@@ -175,6 +175,16 @@ impl Tree {
         ensures { result ≡ info_at self.now index }
     {
         match self.objects.as_slice().get(index) {
+            Some(object) => Some(info_of(object)),
+            None => None,
+        }
+    }
+
+    /// The object with this number; nothing where it is not there.
+    pub fn object_of(&self, ono: Ono) -> Option<ObjectInfo>
+        ensures { result ≡ info_of_ono self.now ono.0 }
+    {
+        match self.objects.find(ono) {
             Some(object) => Some(info_of(object)),
             None => None,
         }
