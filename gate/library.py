@@ -14,6 +14,7 @@ from pathlib import Path
 
 sys.path.insert(0, str(Path(__file__).resolve().parent))
 import build
+import kit
 
 LEAST = {"x86_64-unknown-linux-gnu": "x86-64", "aarch64-unknown-linux-gnu": "generic"}
 
@@ -54,14 +55,14 @@ def main():
     if target not in LEAST or len(sys.argv) > 3:
         sys.exit(__doc__)
     cpu = sys.argv[2] if len(sys.argv) > 2 else LEAST[target]
-    rt = build.toolchain()
-    os.chdir(build.TOP)
-    crate = {it.name: it for it in rt.rtlib.crates_below(str(build.TOP))}["oca_c"]
-    held = rt.rtlib.lock([*crate.below(), crate])
-    is_left = all(is_left_by_the_gate(it, rt.rtlib.files_of) for it in crate.below())
+    rt = kit.toolchain()
+    os.chdir(kit.TOP)
+    crate = kit.crates(rt)["oca_c"]
+    held = rt.lock([*crate.below(), crate])
+    is_left = all(is_left_by_the_gate(it, rt.files_of) for it in crate.below())
     os.makedirs(f"{crate.folder}/out/{target}", exist_ok=True)
     words = ["--jobs", os.environ.get("LIBRARY_JOBS") or str(rt.processors()), "--target", target, "--cpu", cpu]
-    with build.in_memory(rt):
+    with kit.in_memory(rt):
         if not is_left:
             build.apart(crate.below())
             if not build.build_all(rt, set(crate.below())):

@@ -33,7 +33,7 @@ from pathlib import Path
 HERE = Path(__file__).resolve().parent
 TOP = HERE.parent
 sys.path.insert(0, str(HERE))
-import build
+import kit
 
 BESIDE = 3
 LAST_LINES = 12  # so many are shown of a step that passed
@@ -174,11 +174,6 @@ def least_of_ci(top=TOP):
     return sum(map(bool, lines)) + len(list(top.glob("crates/*/must-fail/*.edit")))
 
 
-def lanes():
-    """How many checks `rt ci` is to run at once."""
-    return build.lanes(build.toolchain())
-
-
 def waited_for(top=TOP):
     """The crate that most others use, where it uses none of them: as long as it is not proved hardly any other can be."""
     lines = [line.split("#")[0].replace(":", " ").split() for line in (top / "crates.txt").read_text().splitlines()]
@@ -223,15 +218,21 @@ class Early:
             self.left = []
 
 
+def first_of_ci(rt):
+    """The crate that `rt ci` is asked for before all: that most wait for, proved in several processes; `rt ci` takes it as it is kept then, or
+    says itself what is wrong with it. None where RT_JOBS says how many checks run at once, where only one can, or where `rt ci` takes no
+    names: in some kits, and in any where CI is true."""
+    takes_names = rt.ci_takes_names and os.environ.get("CI") != "true"
+    return waited_for() if takes_names and kit.lanes(rt) > 1 and not kit.said_lanes() else None
+
+
 def of_ci(steps, others, room):
-    """Runs `rt ci`, and beside it, in this pool, the steps that begin early. Answers its counts, and the steps that have begun.
-    The crate that most wait for is proved before, in several processes; `rt ci` takes it as it is kept then, or says itself what
-    is wrong with it. Where RT_JOBS says how many checks run at once, it is not; nor where CI is true, since `rt ci` then
-    refuses names."""
-    early, first = Early(steps, others, room), waited_for()
-    if first and lanes() > 1 and not build.said_lanes() and os.environ.get("CI") != "true":
+    """Runs `rt ci`, and beside it, in this pool, the steps that begin early. Answers its counts, and the steps that have begun."""
+    early, rt = Early(steps, others, room), kit.toolchain()
+    first = first_of_ci(rt)
+    if first:
         watched(f"rt ci {first}", 1)
-    count = watched(f"RT_JOBS={lanes()} rt ci", least_of_ci(), early.note)
+    count = watched(f"RT_JOBS={kit.lanes(rt)} rt ci", least_of_ci(), early.note)
     early.add(ENDED)
     print(f"gate: {processor_minutes():.1f} processor minutes for rt ci", flush=True)
     return count, early.begun
@@ -261,7 +262,7 @@ def sets_aside_here():
 
 def writes():
     """Has what this starts write in memory what it removes again, where nothing is lost by it."""
-    return build.in_memory(build.toolchain()) if sets_aside_here() and shutil.which("rt") else contextlib.nullcontext()
+    return kit.in_memory(kit.toolchain()) if sets_aside_here() and shutil.which("rt") else contextlib.nullcontext()
 
 
 def refused(steps):
@@ -276,6 +277,8 @@ def main(words):
     if signal.getsignal(signal.SIGHUP) != signal.SIG_IGN:  # which it is under `nohup`
         signal.signal(signal.SIGHUP, interrupted)
     begun, counts = time.monotonic(), []
+    if not words:
+        kit.command()  # or one line says that there is none
     parts = paragraphs(Path(words[1]) if len(words) > 1 else HERE / "steps")
     steps = [step for part in parts for step in part]
     wrong = refused(steps)

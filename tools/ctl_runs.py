@@ -118,94 +118,34 @@ LONG_LINES = [
     ([(b"#", 4095)], 0, b"", b""),
 ]
 
-# Lines, and the words for their faults: each stands as the third of a script, and ends it.
-FAULTS = [
-    (b"take", b"form"),
-    (b"take due", b"number"),
-    (b"take 4294967296", b"number"),
-    (b"take +1", b"number"),
-    (b"take ", b"number"),
-    (b"take 1 2", b"form"),
-    (b"take 1\r", b"number"),
-    (b"0", b"form"),
-    (b"0 take 1", b"form"),
-    (b"0 Due", b"form"),
-    (b"0 due ", b"form"),
-    (b" 0 due", b"form"),
-    (b"x due", b"moment"),
-    (b" due", b"moment"),
-    (b"18446744073709551616 due", b"moment"),
-    (b"000000000000000000000 due", b"moment"),
-    (b"0 submit 4097 4 1 0", b"form"),
-    (b"0 submit 4097 4 1 0 - -", b"form"),
-    (b"x submit y 4 1 0 z", b"moment"),
-    (b"0 submit 4294967296 4 1 0 z", b"number"),
-    (b"0 submit 4097 65536 1 0 z", b"number"),
-    (b"0 submit 4097 4 65536 0 z", b"number"),
-    (b"0 submit 4097 4 1 256 z", b"number"),
-    (b"0 submit 4097 4 1 0000 -", b"number"),
-    (b"0 submit 4097 4 1 0 z", b"hex"),
-    (b"0 submit 4097 4 1 0 ", b"hex"),
-    (b"0 submit 4097 4 1 0 012", b"hex"),
-    (b"0 from 127.0.0.1:65000", b"form"),
-    (b"0 from 127.0.0.1:65000 - -", b"form"),
-    (b"x from y z", b"moment"),
-    (b"0 from 127.0.0.256:1 z", b"peer"),
-    (b"0 from 127.0.0.1:65536 -", b"peer"),
-    (b"0 from 127.0.0.1:65000 0", b"hex"),
-    (b"0 du\xe9", b"form"),
-]
+# Lines, by the words for their faults: each stands as the third of a script, and ends it.
+FAULTS = {
+    b"form": [b"take", b"take 1 2", b"0", b"0 take 1", b"0 Due", b"0 due ", b" 0 due", b"0 submit 4097 4 1 0", b"0 submit 4097 4 1 0 - -",
+        b"0 from 127.0.0.1:65000", b"0 from 127.0.0.1:65000 - -", b"0 du\xe9"],
+    b"number": [b"take due", b"take 4294967296", b"take +1", b"take ", b"take 1\r", b"0 submit 4294967296 4 1 0 z", b"0 submit 4097 65536 1 0 z",
+        b"0 submit 4097 4 65536 0 z", b"0 submit 4097 4 1 256 z", b"0 submit 4097 4 1 0000 -"],
+    b"moment": [b"x due", b" due", b"18446744073709551616 due", b"000000000000000000000 due", b"x submit y 4 1 0 z", b"x from y z"],
+    b"hex": [b"0 submit 4097 4 1 0 z", b"0 submit 4097 4 1 0 ", b"0 submit 4097 4 1 0 012", b"0 from 127.0.0.1:65000 0"],
+    b"peer": [b"0 from 127.0.0.256:1 z", b"0 from 127.0.0.1:65536 -"]}
 
-# A line that `run --ahead 1` reads alone, and the word for its fault.
-BAD_LINES = [
-    (b"4097 4 1 0", b"form"),
-    (b"4097 4 1 0 - -", b"form"),
-    (b"x 4 1 0 z", b"number"),
-    (b"4097 65536 1 0 -", b"number"),
-    (b"4097 4 65536 0 -", b"number"),
-    (b"4097 4 1 256 -", b"number"),
-    (b"4097 4 1 0 z", b"hex"),
-    (b"take 1", b"form"),
-    (b"wait 1", b"form"),
-    (b"Wait", b"form"),
-]
+# Lines that `run --ahead 1` reads alone, by the word for their fault.
+BAD_LINES = {
+    b"form": [b"4097 4 1 0", b"4097 4 1 0 - -", b"take 1", b"wait 1", b"Wait"],
+    b"number": [b"x 4 1 0 z", b"4097 65536 1 0 -", b"4097 4 65536 0 -", b"4097 4 1 256 -"],
+    b"hex": [b"4097 4 1 0 z"]}
 
-# Words that ask for nothing: those of a program, of a replay and of `send`.
-BAD_WORDS = [
-    ["ocactl"],
-    ["ocactl", "Replay"],
-    ["ocactl", "--versions"],
-    ["ocactl", "replay"],
-    ["ocactl", "replay", "--device", "127.0.0.1:65000"],
-    ["ocactl", "replay", "--first-handle", "1"],
-    ["ocactl", "replay", "--device", "127.0.0.1:65000", "--first-handle"],
-    ["ocactl", "replay", "--device", "127.0.0.256:1", "--first-handle", "1"],
-    ["ocactl", "replay", "--device", "127.0.0.1:65536", "--first-handle", "1"],
-    ["ocactl", "replay", "--device", "127.0.0.1:1", "--first-handle", "4294967296"],
-    ["ocactl", "replay", "--device", "127.0.0.1:1", "--first-handle", "1", "x"],
-    [*REPLAY_1, "--span", "0"],
-    [*REPLAY_1, "--span", "33"],
-    [*REPLAY_1, "--span", "0016"],
-    [*REPLAY_1, "--span", "+1"],
-    [*REPLAY_1, "--span", ""],
-    [*REPLAY_1, "--span", "x"],
-    [*SEND, "127.0.0.256:1"],
-    [*SEND, "0.0.0.0:65000"],
-    [*SEND, "255.255.255.255:65000"],
-    [*SEND, "127.0.0.1:65000", "--ip", "127.0.0"],
-    [*SEND, "127.0.0.1:65000", "--ahead", "1"],
-    [*SEND, "127.0.0.1:65000", "--port", "65536"],
-    [*SEND, "127.0.0.1:65000", "--port", "+1"],
-    [*SEND, "127.0.0.1:65000", "--params", "012"],
-    [*SEND, "127.0.0.1:65000", "--params", ""],
-    [*SEND, "127.0.0.1:65000", "--span", "33"],
-    [*SEND, "127.0.0.1:65000", "--turns", "1"],
-    [*SEND, "127.0.0.1:65000", "x"],
-    ["ocactl", "send", "--device", "127.0.0.1:1", "--first-handle", "1"],
-    ["ocactl", "run", "--port", "1"],
-    # One byte of parameters more than a command has room for.
-    [*SEND, "127.0.0.1:65000", "--params", "00" * 1446],
-]
+# Words that ask for nothing, by what they begin with: those of a program, of a replay and of `send`. The last have one byte of parameters more
+# than a command has room for.
+BAD_WORDS = {
+    "ocactl": ["", " Replay", " --versions", " replay", " replay --device 127.0.0.1:65000", " replay --first-handle 1",
+        " replay --device 127.0.0.1:65000 --first-handle", " replay --device 127.0.0.256:1 --first-handle 1",
+        " replay --device 127.0.0.1:65536 --first-handle 1", " replay --device 127.0.0.1:1 --first-handle 4294967296",
+        " replay --device 127.0.0.1:1 --first-handle 1 x", " send --device 127.0.0.1:1 --first-handle 1", " run --port 1"],
+    " ".join(REPLAY_1): [" --span 0", " --span 33", " --span 0016", " --span +1", " --span ", " --span x"],
+    " ".join(SEND): [" 127.0.0.256:1", " 0.0.0.0:65000", " 255.255.255.255:65000", " 127.0.0.1:65000 --ip 127.0.0", " 127.0.0.1:65000 --ahead 1",
+        " 127.0.0.1:65000 --port 65536", " 127.0.0.1:65000 --port +1", " 127.0.0.1:65000 --params 012", " 127.0.0.1:65000 --params ",
+        " 127.0.0.1:65000 --span 33", " 127.0.0.1:65000 --turns 1", " 127.0.0.1:65000 x",
+        f" 127.0.0.1:65000 --params {'00' * 1446}"]}
 
 # Words that are answered by a text, and read nothing.
 HELP = ["ocactl --help", "ocactl help", "ocactl help send", "ocactl replay --help", "ocactl run -h"]
@@ -244,15 +184,15 @@ def replays(runs):
     for lines, status, output, fault in LONG_LINES:
         script = b"".join(before + b"0" * digits + b"\n" for before, digits in lines)
         runs.gives(REPLAY_1, script, status, output, fault)
-    for line, fault in FAULTS:
+    for line, fault in ((line, fault) for fault, lines in FAULTS.items() for line in lines):
         runs.gives(REPLAY_1, b"0 due\n# line 2\n" + line + b"\n0 due\n", 2, b"nothing\n", b"line 3: " + fault + b"\n")
     runs.gives(REPLAY_1, comments(64, MOST + 1), 1, b"", b"too much input\n")
 
 
 def asks_for_nothing(runs):
     """Words that are refused, and those that are answered by a text."""
-    for words in BAD_WORDS:
-        runs.gives(words, b"0 due\n", 2, b"", b"bad words\n")
+    for words in (begin + more for begin, all_more in BAD_WORDS.items() for more in all_more):
+        runs.gives(words.split(" "), b"0 due\n", 2, b"", b"bad words\n")
     refuses_no_word(runs, "ocactl", b"0 due\n")
     for words in HELP:
         unread = os.open("/", os.O_RDONLY)
@@ -322,7 +262,7 @@ def own_port():
 
 def refuses_lines(runs):
     """Lines of `run` that have a fault: nothing is sent."""
-    for line, fault in BAD_LINES:
+    for line, fault in ((line, fault) for fault, lines in BAD_LINES.items() for line in lines):
         with silent() as end:
             words = ["ocactl", "run", "--device", at(end), "--ahead", "1", "--first-handle", "1", "--port", str(own_port())]
             runs.gives(words, line, 2, b"", b"line 1: " + fault + b"\n")
@@ -340,8 +280,7 @@ def main(folder):
     sends(runs)
     for host, more, ahead in AHEAD:
         lets_ahead(runs, host, more, ahead)
-    print(f"{runs.passed} passed, {runs.failed} failed")
-    return 1 if runs.failed else 0
+    return runs.verdict()
 
 
 if __name__ == "__main__":

@@ -31,8 +31,6 @@ checks slow each other down. With EDITS_KEPT=1 a check begins with what earlier 
 out/incremental, which is faster while edits are written.
 The last line is 'N passed, M failed', and the exit status 1 where anything failed."""
 import copy
-import importlib.machinery
-import importlib.util
 import itertools
 import os
 import re
@@ -47,7 +45,7 @@ from pathlib import Path
 
 ROOT = Path(__file__).resolve().parent.parent
 sys.path.insert(0, str(ROOT / "gate"))
-import build
+import kit
 
 SELFTEST = ROOT / "tools" / "edits_selftest"
 FLAGS = ["--jobs", "1"]
@@ -60,23 +58,11 @@ BLOCK = re.compile(r"( *)(?:unsafe )?(?:pub(?:\([a-z: ]+\))? )?(impl|trait)\b(.*
 GONE = re.compile(r"has no field|is not in scope|has no `|was not admitted|is no name")
 # What is counted: whether an edit must not be refused, and whether all is well with it.
 KINDS = [(False, True), (False, False), (True, True), (True, False)]
-NEEDS = 4_000_000_000  # bytes for a check, beside others of which only some take so much
 PRINTING = threading.Lock()
 ENDED = "(ended)"  # the last line of GATE_PROVED
 
 
-def loaded(name):
-    """The toolchain's own command, as a module."""
-    sys.dont_write_bytecode = True
-    path = os.path.realpath(shutil.which(name) or sys.exit(f"edits: there is no {name}"))
-    spec = importlib.util.spec_from_loader(name, importlib.machinery.SourceFileLoader(name, path))
-    module = importlib.util.module_from_spec(spec)
-    spec.loader.exec_module(module)
-    return module
-
-
-rt = loaded("rt")
-rtlib = rt.rtlib
+rt = kit.toolchain(builds=False)
 
 
 def say(text):
@@ -426,7 +412,7 @@ class Answer:
         bad = next((it for it in lines if rt.unread(it, texts)), "")
         if bad:
             self.why = f"the edited text cannot be read: {bad[:200]}"
-        elif rtlib.STALE.search(ran.stdout):
+        elif rt.STALE.search(ran.stdout):
             self.why = "the kept work of a library could not be used"
         elif not self.is_proved and not (ran.returncode == 1 and lines[-1].startswith(("logic=not-proved", "only="))):
             self.why = f"it did not reach the prover: {' '.join(lines[:3])[:300]}"
@@ -502,7 +488,7 @@ class Trial:
         with tempfile.TemporaryDirectory(prefix="edits-") as room:
             crate = copy.copy(self.crate)
             crate.folder = room
-            for part in rtlib.PARTS:
+            for part in rt.PARTS:
                 if os.path.isdir(f"{self.crate.folder}/{part}"):
                     shutil.copytree(f"{self.crate.folder}/{part}", f"{room}/{part}")
             for file in itertools.chain(*(proofs_of(crate, it) for it in without)):
@@ -597,7 +583,7 @@ def stands(library):
     if os.path.isfile(f"{library.folder}/out/rlib/stamp"):
         return library.is_built()
     made = os.path.getmtime(library.rlib) if os.path.isdir(library.rlib) else 0
-    files = [file for it in [library, *library.below()] for file in rtlib.files_of(it.folder)]
+    files = [file for it in [library, *library.below()] for file in rt.files_of(it.folder)]
     return all(os.path.getmtime(file) < made for file in files)
 
 
@@ -606,11 +592,6 @@ def proved_beside():
     file = Path(os.environ.get("GATE_PROVED") or os.devnull)
     names = file.read_text().splitlines() if file.is_file() else [ENDED]
     return None if ENDED in names else {*names}
-
-
-def lanes():
-    """How many checks run at once at most: as many as there are processors, and as memory holds, or as RT_JOBS says."""
-    return build.said_lanes() or max(1, min(rt.processors(), rt.free() // NEEDS))
 
 
 def is_idle(number):
@@ -649,8 +630,8 @@ def verdict(counts):
 
 def main(names):
     os.chdir(ROOT)
-    rtlib.guarded()
-    listed_crates = rtlib.crates_below(str(ROOT))
+    rt.guarded()
+    listed_crates = rt.crates_below(str(ROOT))
     unknown = {*names} - {it.name for it in listed_crates}
     if unknown:
         sys.exit(f"edits: crates.txt has no {', '.join(sorted(unknown))}")
@@ -671,8 +652,8 @@ def main(names):
         memory = rt.need(crate) // 2
         for part in range(parts):
             tasks[crate.name, "edits", part] = ([], work, memory, lambda given, jobs, of=(crate, part, parts): tried(*of))
-    with build.in_memory(rt):
-        given = beside_proofs(tasks, {it.name: it for it in crates}, lanes()) if is_beside else rt.in_lanes(tasks)
+    with kit.in_memory(rt):
+        given = beside_proofs(tasks, {it.name: it for it in crates}, kit.lanes(rt)) if is_beside else rt.in_lanes(tasks)
     passed, failed = verdict(given.values())
     print(f"{passed} passed, {failed} failed")
     return 1 if failed else 0

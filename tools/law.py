@@ -112,7 +112,7 @@ def lapses(r):
 
 def start_of_noise(r):
     """A datagram that is malformed, or that holds what is not served."""
-    return r.choice([b"\0", b"", get(1)[:-1], get(1) + b"\0", oca.pdu(3, [oca.response_body(1, 0, 0, b"")]), get(1)])
+    return r.choice([b"\0", b"", get(1)[:-1], get(1) + b"\0", oca.response(1), get(1)])
 
 
 def forgetting(r):
@@ -193,7 +193,7 @@ def packings(r):
             at += len(body)
             part = r.choice([oca.pdu(1, body)] * 5
                 + [oca.pdu(0, body), beat(5000), oca.pdu(4, [oca.u16(3)]),
-                   oca.pdu(3, [oca.response_body(1, 0, 0, b"")]), get(at - 1)])
+                   oca.response(1), get(at - 1)])
             if size + len(part) <= LARGEST_DATAGRAM:
                 parts.append(part)
                 size += len(part)

@@ -50,21 +50,16 @@ class Behind:
 class Network:
     """Carries datagrams between one controller and one device, as badly as the seed says."""
 
-    def __init__(self, device, seed):
+    def __init__(self, device, seed, back="127.0.0.1"):
         self.random = random.Random(seed)
-        self.front = self.bound()  # the controller takes this for the device
-        self.back = self.bound()
-        self.device, self.controller = device, None
-        self.due, self.number = [], 0
-        self.latest = {True: -1, False: -1}
+        self.front, self.back = bound("127.0.0.1"), bound(back)  # the controller takes the front for the device
+        self.device, self.controller, self.behind = device, None, Behind()
+        self.due, self.number, self.latest = [], 0, {True: -1, False: -1}
         self.lost = self.doubled = self.overtaken = self.carried = 0
-        self.behind = Behind()
 
-    @staticmethod
-    def bound():
-        s = socket.socket(socket.AF_INET, socket.SOCK_DGRAM)
-        s.bind(("127.0.0.1", 0))
-        return s
+    def wait(self):
+        """For how many seconds a datagram is held."""
+        return self.random.uniform(0, 0.7) if self.random.random() < SLOW else self.random.uniform(0, 0.02)
 
     def accept(self, inward, data):
         """A datagram that was sent: it will be delivered not at all, once or twice, after a while."""
@@ -75,8 +70,7 @@ class Network:
         copies = 2 if self.random.random() < DOUBLING else 1
         self.doubled += copies - 1
         for _ in range(copies):
-            wait = self.random.uniform(0, 0.7) if self.random.random() < SLOW else self.random.uniform(0, 0.02)
-            heapq.heappush(self.due, (time.time() + wait, self.number, inward, data))
+            heapq.heappush(self.due, (time.time() + self.wait(), self.number, inward, data))
         self.number += 1
 
     def carry(self, inward, data):
@@ -95,13 +89,27 @@ class Network:
             self.carry(inward, data)
 
     def step(self):
-        wait = min(0.02, max(0, self.due[0][0] - time.time())) if self.due else 0.02
-        for s in select.select([self.front, self.back], [], [], wait)[0]:
-            data, sender = s.recvfrom(65535)
-            if s is self.front:
-                self.controller = sender
-            self.accept(s is self.front, data)
-        self.deliver()
+        step(self)
+
+
+def bound(ip):
+    s = socket.socket(socket.AF_INET, socket.SOCK_DGRAM)
+    s.bind((ip, 0))
+    return s
+
+
+def step(*networks):
+    """Takes what comes within 20 ms or until the next delivery is due, and delivers what is."""
+    due = min((network.due[0][0] for network in networks if network.due), default=time.time() + 0.02)
+    ways = {end: network for network in networks for end in (network.front, network.back)}
+    for end in select.select(list(ways), [], [], min(0.02, max(0, due - time.time())))[0]:
+        network = ways[end]
+        data, sender = end.recvfrom(65535)
+        if end is network.front:
+            network.controller = sender
+        network.accept(end is network.front, data)
+    for network in networks:
+        network.deliver()
 
 
 class Directed(Network):
@@ -169,6 +177,15 @@ def told_apart(r, count):
     return made
 
 
+def answers_of(made):
+    """What `ocactl run` prints where each command is executed once, in this order."""
+    tree, printed = oca.bench(), []
+    for _, command in made:
+        status, items, params = oca.execute(tree, "the panel", command)
+        printed.append(f"answer {status} {items} {oca.hex_text(params)}")
+    return printed
+
+
 def line_of(c):
     return f"{c.target} {c.level} {c.index} {c.count} {oca.hex_text(c.params)}"
 
@@ -209,11 +226,7 @@ class Run:
         device.kill()
         self.answers, self.status = panel.stdout.read().decode().splitlines(), panel.wait()
         self.report = {name: int(n) for name, n in re.findall(r"([a-z-]+) ([0-9]+)", device.stdout.read().decode())}
-        tree, self.expected = oca.bench(), []
-        for _, c in made:
-            status, items, params = oca.execute(tree, "the panel", c)
-            self.expected.append(f"answer {status} {items} {oca.hex_text(params)}")
-        self.wrong = sum(1 for a, b in zip(self.answers, self.expected) if a != b)
+        self.wrong = sum(a != b for a, b in zip(self.answers, answers_of(made)))
         self.missing = len(made) - len(self.answers)
 
     def is_as_promised(self, count):

@@ -93,7 +93,7 @@ def response_body(handle, status, count, params):
 
 
 class Command:
-    def __init__(self, handle, target, level, index, count, params):
+    def __init__(self, handle, target, level, index, count=0, params=b""):
         self.handle, self.target, self.level, self.index = handle, target, level, index
         self.count, self.params = count, bytes(params)
 
@@ -104,6 +104,16 @@ class Command:
         return ((17 + len(self.params)).to_bytes(4, "big") + self.handle.to_bytes(4, "big")
                 + self.target.to_bytes(4, "big") + self.level.to_bytes(2, "big") + self.index.to_bytes(2, "big")
                 + bytes([self.count]) + self.params)
+
+
+def command(*fields):
+    """A datagram of one command that asks for a response."""
+    return pdu(1, [Command(*fields).body()])
+
+
+def response(handle, status=0, count=0, params=b""):
+    """A datagram of one response."""
+    return pdu(3, [response_body(handle, status, count, params)])
 
 
 # ---- objects

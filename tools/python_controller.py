@@ -25,6 +25,7 @@ from pathlib import Path
 from types import ModuleType
 
 import oca_profile as oca
+from checks import Checks
 from lossy import Network
 from own_ports import free_port
 
@@ -48,20 +49,6 @@ WRONG = [
 ROW = r"\| [^|]+ \| `([0-9A-F ]+)` \| `([0-9A-F .]+)`[^|]* \|"
 
 
-class Checks:
-    """What was compared."""
-
-    def __init__(self):
-        self.passed, self.failed = 0, 0
-
-    def same(self, name, got, wanted):
-        if got == wanted:
-            self.passed += 1
-        else:
-            self.failed += 1
-            print(f"python_controller: {name}: FAILED: {got!r} where {wanted!r} is right")
-
-
 def example(old="", new=""):
     """The example as a module, or with another text in the place of one that stands once."""
     text = EXAMPLE.read_text()
@@ -74,7 +61,7 @@ def example(old="", new=""):
 
 def answer(handle, status=0):
     """A response without parameters."""
-    return oca.pdu(3, [oca.response_body(handle, status, 0, b"")])
+    return oca.response(handle, status, 0, b"")
 
 
 def what_is_due(its, link, now):
@@ -340,8 +327,7 @@ def main():
         runs(checks, folder, device)
         watches = at_a_loss(checks, device)
     executed_once(checks, device, watches)
-    print(f"{checks.passed} passed, {checks.failed} failed")
-    return 1 if checks.failed else 0
+    return checks.verdict()
 
 
 if __name__ == "__main__":

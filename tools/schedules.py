@@ -98,7 +98,7 @@ def submit(r, schedule, link):
 def others_bytes(r):
     c = oca.Command(r.randrange(5), 4097, 1, r.choice([3, 4, 5, 6]), 0, b"")
     return r.choice([oca.pdu(1, [c.body()]), oca.pdu(4, [oca.u16(1)]), b"", b"\x3b\x00",
-                     oca.pdu(3, [oca.response_body(1, 0, 0, b"")]),
+                     oca.response(1),
                      oca.pdu(1, [c.body(), c.body()])])
 
 

@@ -21,6 +21,7 @@ import threading
 import time
 from pathlib import Path
 
+import checks
 import oca_profile as oca
 from own_ports import free_port
 
@@ -126,7 +127,7 @@ class Peer:
 
     def ask(self, index, count=0, params=b""):
         self.handle += 1
-        command = oca.pdu(1, [oca.Command(self.handle, MUTE, 4, index, count, params).body()])
+        command = oca.command(self.handle, MUTE, 4, index, count, params)
         for _ in range(PATIENCE):
             with contextlib.suppress(TimeoutError):
                 self.socket.send(command)
@@ -161,7 +162,7 @@ class Scene:
 
     def start(self, *words, **streams):
         env = dict(os.environ, LD_PRELOAD=self.checks.layer, AHEAD=f"{self.folder.name}/time")
-        run = subprocess.Popen([f"{self.checks.programs}/{words[0]}", *words[1:]], env=env, **streams)
+        run = subprocess.Popen([f"{self.checks.folder}/{words[0]}", *words[1:]], env=env, **streams)
         self.runs.append(run)
         return run
 
@@ -180,16 +181,10 @@ class Scene:
         self.folder.cleanup()
 
 
-class Checks:
+class Checks(checks.Checks):
     def __init__(self, programs, layer):
-        self.programs, self.layer, self.passed, self.failed = programs, layer, 0, 0
-
-    def same(self, what, got, expected):
-        if got == expected:
-            self.passed += 1
-        else:
-            self.failed += 1
-            print(f"WRONG: {what}: {got!r:.300} in place of {expected!r:.300}")
+        super().__init__(programs)
+        self.layer = layer
 
     @contextlib.contextmanager
     def scene(self):
@@ -407,15 +402,13 @@ def in_time(checks):
 
 
 def main():
-    programs = os.path.abspath(sys.argv[1])
     with tempfile.TemporaryDirectory() as folder:
         layer = f"{folder}/ahead.so"
         subprocess.run(["gcc", "-O1", "-Wall", "-shared", "-fPIC", "-o", layer, f"{HERE}/ahead.c"], check=True)
-        checks = Checks(programs, layer)
+        counts = Checks(sys.argv[1], layer)
         for part in (stopped, stopped_between, read_between, read_rarely, waits_behind, in_time):
-            part(checks)
-    print(f"{checks.passed} passed, {checks.failed} failed")
-    return 1 if checks.failed else 0
+            part(counts)
+    return counts.verdict()
 
 
 if __name__ == "__main__":
