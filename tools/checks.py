@@ -89,3 +89,10 @@ def write(run, given, ends=True):
         with contextlib.suppress(BrokenPipeError):
             run.stdin.close()
         run.stdin = None
+
+
+def layered(place, name):
+    """The layer over the C library of the file `NAME.c` here, built in this folder, as LD_PRELOAD names it."""
+    source = os.path.join(os.path.dirname(os.path.abspath(__file__)), f"{name}.c")
+    subprocess.run(["gcc", "-O1", "-Wall", "-shared", "-fPIC", "-o", f"{place}/{name}.so", source, "-ldl"], check=True)
+    return f"{place}/{name}.so"

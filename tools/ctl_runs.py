@@ -8,11 +8,11 @@ write fails by the system. The last line is 'N passed, M failed'."""
 import contextlib
 import os
 import select
-import socket
 import subprocess
 import sys
 import time
 
+from own_ports import at, bound, free_port
 from runs import MOST, Runs, comments, cut_input, fails_to_write, refuses_no_word
 
 REPLAY = ["ocactl", "replay", "--device", "127.0.0.1:65000", "--first-handle"]
@@ -165,17 +165,6 @@ AHEAD = [
     ("255.255.255.255", "", None),
 ]
 
-def silent():
-    """A socket of this machine where nobody answers."""
-    end = socket.socket(socket.AF_INET, socket.SOCK_DGRAM)
-    end.bind(("127.0.0.1", 0))
-    return end
-
-
-def at(end):
-    return f"127.0.0.1:{end.getsockname()[1]}"
-
-
 def replays(runs):
     """Scripts that are replayed, to their end and to a line with a fault."""
     for more, script, output in PRINTS:
@@ -214,10 +203,10 @@ def fails_to_read(runs):
 
 def sends(runs):
     """`send` to a socket that never answers, and from a port that is taken."""
-    with silent() as end:
+    with bound() as end:
         for more, output in (["--turns", "2"], b"no answer\n"), (["--turns", "0"], b"no answer\n"), ([], b"lost\n"):
             runs.gives([*SENT, "--device", at(end), *more], b"", 3, output)
-    with silent() as end:
+    with bound() as end:
         runs.gives([*SENT, "--device", "127.0.0.1:65000", "--port", str(end.getsockname()[1])], b"", 1, b"", b"socket failed\n")
 
 
@@ -239,8 +228,8 @@ def handles_heard(end, run, least):
 
 def lets_ahead(runs, host, more, ahead):
     """As many commands are under way as the words say, of more than that."""
-    with silent() as end:
-        words = ["ocactl", "run", "--device", f"{host}:{end.getsockname()[1]}", *more.split(), "--first-handle", "1", "--port", str(own_port())]
+    with bound() as end:
+        words = ["ocactl", "run", "--device", f"{host}:{end.getsockname()[1]}", *more.split(), "--first-handle", "1", "--port", str(free_port())]
         if ahead is None:
             runs.gives(words, b"", 2, b"", b"bad words\n")
             return
@@ -254,17 +243,11 @@ def lets_ahead(runs, host, more, ahead):
         runs.check(words, len(handles) == ahead, (sorted(handles), said))
 
 
-def own_port():
-    """A port of this machine that nobody has just now."""
-    with silent() as own:
-        return own.getsockname()[1]
-
-
 def refuses_lines(runs):
     """Lines of `run` that have a fault: nothing is sent."""
     for line, fault in ((line, fault) for fault, lines in BAD_LINES.items() for line in lines):
-        with silent() as end:
-            words = ["ocactl", "run", "--device", at(end), "--ahead", "1", "--first-handle", "1", "--port", str(own_port())]
+        with bound() as end:
+            words = ["ocactl", "run", "--device", at(end), "--ahead", "1", "--first-handle", "1", "--port", str(free_port())]
             runs.gives(words, line, 2, b"", b"line 1: " + fault + b"\n")
             runs.check(words, not select.select([end], [], [], 0)[0], f"{line!r} is sent")
 

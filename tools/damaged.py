@@ -11,10 +11,10 @@ A datagram that is refused comes to a device from a peer with a session and from
 what no line of objects shows (labels, enabled flags, names and flags of positions), and the peer with a session sends
 again each command for which a reply is retained. A second device hears all but the damaged datagrams: both answer alike,
 and have the same objects, locks and number of sessions."""
-import subprocess
 import sys
 
 import oca_profile as oca
+from comparing import runs_of
 
 # the examples of docs/PROTOCOL.md and some more: commands of all sizes, responses, keep-alives of both forms, two
 # commands in a PDU
@@ -83,11 +83,10 @@ def found(data):
 
 def blocks(folder, events):
     """What `trials events` says of each event of a history: its lines but the last two, and those."""
-    text = "".join(line + "\n" for line in ["history 32 16 0", *events])
-    done = subprocess.run([f"{folder}/trials", "events"], input=text.encode(), capture_output=True, timeout=300)
-    said = done.stdout.decode().removeprefix("history\n").split("\nobjects")
-    if done.returncode != 0 or len(said) != len(events) + 1:
-        raise RuntimeError(f"status {done.returncode}: {done.stderr.decode()!r}")
+    (lines,) = runs_of(f"{folder}/trials", "events", "history", [["history 32 16 0", *events]])
+    said = "".join(f"{line}\n" for line in lines[1:]).split("\nobjects")
+    if len(said) != len(events) + 1:
+        raise RuntimeError(f"{len(said) - 1} of {len(events)} events")
     heads = [said[0]] + [part.partition("\n")[2] for part in said[1:-1]]
     states = [part.partition("\n")[0] for part in said[1:]]
     return [(head.rpartition("\nsessions ")[0], head.rpartition("\nsessions ")[2] + state)

@@ -12,8 +12,6 @@ import pty
 import re
 import select
 import signal
-import socket
-import subprocess
 import sys
 import tempfile
 import threading
@@ -194,9 +192,8 @@ class OldSession(Served):
 
 @contextlib.contextmanager
 def silent(port=0):
-    """A socket that hears, and never answers, and its port."""
-    with socket.socket(socket.AF_INET, socket.SOCK_DGRAM) as s:
-        s.bind(("127.0.0.1", port))
+    """The port of a socket that hears, and never answers."""
+    with own_ports.bound(port=port) as s:
         yield s.getsockname()[1]
 
 

@@ -17,9 +17,10 @@ import sys
 import threading
 import time
 
-from lossy import Network, answers_of, bound, step, told_apart
+from lossy import Network, answers_of, step, told_apart
 from namespaces import Machines
 from neighbours import DEVICE, PEER, PORT
+from own_ports import bound
 
 PANELS, WINDOW = 10, 31
 

@@ -11,14 +11,15 @@ Usage: law.py BIN [HISTORIES] [SEED]     BIN is the folder with `trials`
 
 The last line is 'N passed, M failed'."""
 import collections
-import multiprocessing
 import random
 import subprocess
 import sys
+from unittest.mock import patch
 
 import oca_profile as oca
+from comparing import broken, in_processes, runs_of, verdict
 from fuzz import Panel, datagram
-from oca_law import LARGEST_DATAGRAM, Break, Datagram, Local, Tick, Told, shown_objects, walk
+from oca_law import LARGEST_DATAGRAM, Datagram, Local, Tick, Told, shown_objects, walk
 from wrong_devices import RULES
 
 # ---- histories
@@ -346,22 +347,16 @@ def tale_in(lines):
 
 def tales(folder, histories):
     """What the built program says of each history."""
-    text = "".join(line + "\n" for h in histories for line in h.text())
-    done = subprocess.run([f"{folder}/trials", "events"], input=text.encode(), capture_output=True, timeout=300)
-    lines = done.stdout.decode().splitlines()
-    begins = [i for i, line in enumerate(lines) if line == "history"] + [len(lines)]
-    if done.returncode != 0 or len(begins) != len(histories) + 1:
-        raise RuntimeError(f"status {done.returncode}: {done.stderr.decode()!r}")
-    return [tale_in(lines[first + 1:end]) for first, end in zip(begins, begins[1:])]
+    return [tale_in(lines[1:]) for lines in runs_of(f"{folder}/trials", "events", "history", [history.text() for history in histories])]
 
 
 def shown(history, tale, fault):
     """A history to where it breaks, with what was said."""
     lines = history.text()
     out = lines[:1]
-    for line, told in list(zip(lines[1:], tale))[:fault.number + 1]:
+    for line, told in list(zip(lines[1:], tale))[:fault.at + 1]:
         out += [line, f"    {' '.join(map(str, told.verdict))}"] + [f"    > {packet.hex()}" for packet in told.packets]
-    return "\n".join(out + [f"BREAK of '{fault.sentence}' at event {fault.number}: {fault.what}"])
+    return "\n".join(out + [f"BREAK of '{fault.law}' at event {fault.at}: {fault.what}"])
 
 
 # ---- altered transcripts
@@ -421,20 +416,14 @@ def refuses(job):
     """Whether the law refuses a history of the wrong device of this name by its sentence, that sentence, and how."""
     seed, name = job
     sentence, owner, method, body = RULES[name]
-    kept = getattr(owner, method)
-    setattr(owner, method, body)
     first = None
-    try:
+    with patch.object(owner, method, body):
         for number in range(WRONG_HISTORIES):
             history = made(f"{seed} {name}", number)
-            try:
-                walk(history, tale_of(history, oca.Device(oca.bench(history.channels), history.window, history.peers)))
-            except Break as fault:
-                first = first or fault.sentence
-                if fault.sentence == sentence:
-                    return True, sentence, f"{name}: '{sentence}' refuses history {number}, at event {fault.number}"
-    finally:
-        setattr(owner, method, kept)
+            fault = broken(walk, history, tale_of(history, oca.Device(oca.bench(history.channels), history.window, history.peers)))
+            if fault and fault.law == sentence:
+                return True, sentence, f"{name}: '{sentence}' refuses history {number}, at event {fault.at}"
+            first = first or fault and fault.law
     return False, sentence, f"{name}: no break of '{sentence}'" + (f", but of '{first}'" if first else "")
 
 
@@ -458,16 +447,12 @@ def count_of(tale):
 def alterations(r, history, tale):
     """Of some lines altered, how many were refused where they stand, by the sentence that they belong to."""
     total = collections.Counter()
-    for change in filter(None, (altered(r, history, tale) for _ in range(3))):
-        sentence, at, other = change
-        total["altered"] += 1
-        try:
-            walk(history, other)
-            print(f"altered for '{sentence}' at event {at}, not refused")
-        except Break as fault:
-            total["altered, refused"] += (fault.sentence, fault.number) == (sentence, at)
-            if (fault.sentence, fault.number) != (sentence, at):
-                print(f"altered for '{sentence}' at event {at}, refused by '{fault.sentence}' at {fault.number}")
+    for sentence, at, other in filter(None, (altered(r, history, tale) for _ in range(3))):
+        fault = broken(walk, history, other)
+        is_refused = fault is not None and (fault.law, fault.at) == (sentence, at)
+        total += collections.Counter({"altered": 1, "altered, refused": int(is_refused)})
+        if not is_refused:
+            print(f"altered for '{sentence}' at event {at}, " + (f"refused by '{fault.law}' at {fault.at}" if fault else "not refused"))
     return total
 
 
@@ -477,9 +462,8 @@ def work(job):
     histories, total = [made(seed, n) for n in numbers], collections.Counter()
     r = random.Random(f"{seed} {numbers[0]} altered")
     for history, tale in zip(histories, tales(folder, histories), strict=True):
-        try:
-            walk(history, tale)
-        except Break as fault:
+        fault = broken(walk, history, tale)
+        if fault:
             return total, shown(history, tale, fault)
         total["histories"] += 1
         total += count_of(tale) + alterations(r, history, tale)
@@ -522,27 +506,18 @@ def main():
         sys.exit("law: trials does not know the sizes that are tried, or does not tell what was written")
     count = int(sys.argv[2]) if len(sys.argv) > 2 else 300
     seed = int(sys.argv[3]) if len(sys.argv) > 3 else 1
-    total = collections.Counter()
     jobs = [(folder, seed, range(first, min(first + 9, count))) for first in range(0, count, 9)]
-    with multiprocessing.Pool(min(4, multiprocessing.cpu_count())) as pool:
-        for counts, fault in pool.imap(work, jobs):
-            total += counts
-            if fault:
-                print(fault)
-                print(f"law: seed {seed}: a break after {total['histories']} histories without one")
-                print("0 passed, 1 failed")
-                return 1
-        wrong = pool.map(refuses, [(seed, name) for name in RULES], chunksize=1)
+    total, fault, wrong = in_processes(work, jobs, refuses, [(seed, name) for name in RULES])
+    if fault:
+        print(f"{fault}\nlaw: seed {seed}: a break after {total['histories']} histories without one")
+        return verdict({"law": False})
     for found, _, said in wrong:
         if not found:
             print(f"FAILED: {said}")
     summary(seed, total, wrong)
-    met = ["executed", "duplicates", "old", "reused", "said malformed", "said no-room", "packets",
-           "said set", "said refused"]
-    checks = [total["histories"] == count and all(total[name] for name in met), all(found for found, _, _ in wrong),
-              total["altered"] > count and total["altered, refused"] == total["altered"]]
-    print(f"{sum(map(bool, checks))} passed, {sum(not passed for passed in checks)} failed")
-    return 0 if all(checks) else 1
+    met = ["executed", "duplicates", "old", "reused", "said malformed", "said no-room", "packets", "said set", "said refused"]
+    return verdict({"law": total["histories"] == count and all(total[name] for name in met), "wrong": all(found for found, _, _ in wrong),
+                    "altered": total["altered"] > count and total["altered, refused"] == total["altered"]})
 
 
 if __name__ == "__main__":

@@ -20,13 +20,12 @@ import heapq
 import random
 import re
 import select
-import socket
 import subprocess
 import sys
 import time
 
 import oca_profile as oca
-from own_ports import free_port
+from own_ports import bound, free_port
 
 LOSS, DOUBLING, SLOW = 0.2, 0.2, 0.15
 TURNS = 20000
@@ -52,7 +51,7 @@ class Network:
 
     def __init__(self, device, seed, back="127.0.0.1"):
         self.random = random.Random(seed)
-        self.front, self.back = bound("127.0.0.1"), bound(back)  # the controller takes the front for the device
+        self.front, self.back = bound(), bound(back)  # the controller takes the front for the device
         self.device, self.controller, self.behind = device, None, Behind()
         self.due, self.number, self.latest = [], 0, {True: -1, False: -1}
         self.lost = self.doubled = self.overtaken = self.carried = 0
@@ -90,12 +89,6 @@ class Network:
 
     def step(self):
         step(self)
-
-
-def bound(ip):
-    s = socket.socket(socket.AF_INET, socket.SOCK_DGRAM)
-    s.bind((ip, 0))
-    return s
 
 
 def step(*networks):

@@ -11,12 +11,12 @@ and `ip` (iproute2); without them it says so, and tries nothing. The last line i
 import os
 import re
 import socket
-import subprocess
 import sys
 import time
 
 import namespaces
 import oca_profile as oca
+from own_ports import bound
 
 DEVICE, PEER, SILENT = "10.91.0.1", "10.91.0.2", "10.91.0.{}"
 PORT = 65000
@@ -56,8 +56,7 @@ def flood(hosts, rate, alive, seconds):
 
 def ask(seconds):
     """Asks for a state twenty times a second: prints how many were asked, how many answered at the first sending, and the slowest in ms."""
-    peer = socket.socket(socket.AF_INET, socket.SOCK_DGRAM)
-    peer.bind((PEER, 0))
+    peer = bound(PEER)
     asked = answered = slowest = 0
     begun = time.monotonic()
     while time.monotonic() < begun + seconds:

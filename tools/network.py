@@ -3,8 +3,7 @@
 
 Usage: network.py BIN     BIN is the folder with `ocadev` and `ocactl`
 
-Signals and failing calls come from the layer of `unreliable.c`, and what a send buffer is granted from that of
-`granted.c`. What the programs print and how long they take is compared. What is timed is held against waits of the same
+Signals, failing calls and what a send buffer is granted come from the layer of `unreliable.c`. What the programs print and how long they take is compared. What is timed is held against waits of the same
 length that this script makes meanwhile, and tried again while it is too long, since a machine may be busy: a part is
 repeated only where nothing but times was wrong, and how often one was stands before the last line.
 The last line is 'N passed, M failed'."""
@@ -26,25 +25,16 @@ from pathlib import Path
 import checks
 import grants
 import oca_profile as oca
-from checks import ended, write
-from own_ports import free_port
+from checks import ended, layered, write
+from own_ports import at, bound, free_port, heard
 
-HERE = Path(__file__).resolve().parent
 GET, ASKS = (4097, 4, 1), ("--target", 4097, "--level", 4, "--index", 1, "--count", 0)
 WAIT_MS = 50
 # Linux's option by which the system tells when a datagram came
 SO_TIMESTAMPNS = 35
 TRIES = 12
-LAYERS = ("unreliable", "granted")
 # so many turns that no run comes to their end by waiting: it is ended by datagrams, each of which is a turn
 TURNS_OF_A_COPY = 4000
-
-
-def bound(ip="127.0.0.1", port=0):
-    s = socket.socket(socket.AF_INET, socket.SOCK_DGRAM)
-    s.bind((ip, port))
-    s.settimeout(10)
-    return s
 
 
 def get_command(handle):
@@ -53,10 +43,6 @@ def get_command(handle):
 
 def response(handle, params=b"\1"):
     return oca.response(handle, 0, 1, params)
-
-
-def at(device):
-    return f"127.0.0.1:{device.getsockname()[1]}"
 
 
 def next_command(device):
@@ -98,7 +84,7 @@ class Checks(checks.Checks):
         self.layer = layer
 
     def start(self, *words, close=(), **how):
-        """A run in this folder, with these descriptors closed and what is written in capitals done by the layers."""
+        """A run in this folder, with these descriptors closed and what is written in capitals done by the layer."""
         settings = {name: str(how.pop(name)) for name in list(how) if name.isupper()}
         env = {**os.environ, **settings, **({"LD_PRELOAD": self.layer} if settings else {})}
         return super().start(*words, env=env, preexec_fn=lambda: [os.close(fd) for fd in close], **{"stdin": subprocess.DEVNULL, **how})
@@ -277,16 +263,6 @@ def send_buffers(checks):
         to = ("--device", at(device))
         got = with_a_buffer(checks, 1, "ocactl", "send", *to, *SENT, "--turns", 0)
         checks.same("`send`: notes, status, what is asked", got, ([], 3, "4000000\n"))
-
-
-def heard(device):
-    """The datagrams that lie at a socket."""
-    device.setblocking(False)
-    found = []
-    with contextlib.suppress(BlockingIOError):
-        while True:
-            found.append(device.recv(2000))
-    return found
 
 
 def arrivals(device):
@@ -603,14 +579,6 @@ def other_addresses(checks):
     run.kill()
 
 
-def layers(place):
-    """The layers, built in this folder, as LD_PRELOAD names them."""
-    for name in LAYERS:
-        subprocess.run(["gcc", "-O1", "-Wall", "-shared", "-fPIC", "-o", f"{place}/{name}.so", str(HERE / f"{name}.c"),
-                        "-ldl"], check=True)
-    return ":".join(f"{place}/{name}.so" for name in LAYERS)
-
-
 PARTS = (closed_descriptors, broken_pipes, null_at_closed, quiet_turns, signals, runs_under_signals, refused_sends, refused_sockets, send_buffers,
          is_a_program_there, lines_at_once, a_line_behind_a_pause, a_stalled_neighbour, asleep, a_failed_receive, reports_behind_a_sleep, kept_safely,
          calls_in_a_row, other_addresses)
@@ -618,7 +586,7 @@ PARTS = (closed_descriptors, broken_pipes, null_at_closed, quiet_turns, signals,
 
 def main():
     with tempfile.TemporaryDirectory() as made:
-        counts = Checks(sys.argv[1], layers(made))
+        counts = Checks(sys.argv[1], layered(made, "unreliable"))
         counts.parts(*PARTS)
         return counts.verdict()
 

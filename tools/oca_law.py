@@ -10,6 +10,7 @@ import functools
 from typing import NamedTuple
 
 import oca_profile as oca
+from comparing import Break
 
 # ---- messages and PDUs (Messages.antt), their encodings (Encoding.antt)
 
@@ -639,12 +640,6 @@ class Told(NamedTuple):
     written: tuple
     sessions: int
     objects: tuple
-
-
-class Break(Exception):
-    def __init__(self, sentence, number, what):
-        super().__init__(sentence, number, what)
-        self.sentence, self.number, self.what = sentence, number, what
 
 
 def shown_objects(objects):

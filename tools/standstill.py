@@ -25,7 +25,6 @@ import checks
 import oca_profile as oca
 from own_ports import free_port
 
-HERE = Path(__file__).resolve().parent
 HOST = "127.0.0.1"
 MUTE, MUTED, UNMUTED = 4097, 1, 2
 GET_LINE, MUTE_LINE = b"4097 4 1 0 -\n", b"4097 4 2 1 01\n"
@@ -403,9 +402,7 @@ def in_time(checks):
 
 def main():
     with tempfile.TemporaryDirectory() as folder:
-        layer = f"{folder}/ahead.so"
-        subprocess.run(["gcc", "-O1", "-Wall", "-shared", "-fPIC", "-o", layer, f"{HERE}/ahead.c"], check=True)
-        counts = Checks(sys.argv[1], layer)
+        counts = Checks(sys.argv[1], checks.layered(folder, "ahead"))
         for part in (stopped, stopped_between, read_between, read_rarely, waits_behind, in_time):
             part(counts)
     return counts.verdict()

@@ -20,6 +20,7 @@ import sys
 import tempfile
 
 import oca_profile as oca
+from checks import layered
 from damaged import MESSAGES
 
 PEERS = ["127.0.0.1:9001", "127.0.0.1:9002"]
@@ -169,10 +170,9 @@ TREES = {"tree-builder-new", "tree-builder-with-room", "bench", "device-new", "d
 
 def main():
     folder = os.path.abspath(sys.argv[1])
-    here = os.path.dirname(os.path.abspath(__file__))
     device, link = ["ocadev", "replay"], ["ocactl", "replay", "--device", "127.0.0.1:65000", "--first-handle", "1"]
     with tempfile.TemporaryDirectory() as layer:
-        subprocess.run(["gcc", "-O1", "-Wall", "-shared", "-fPIC", "-o", f"{layer}/unreliable.so", f"{here}/unreliable.c", "-ldl"], check=True)
+        layered(layer, "unreliable")
         runs = Runs(folder, layer)
         for words in (["ocadev", "show"], ["ocadev", "--help"], ["ocadev", "serve", "--help"], ["ocactl", "--help"], ["ocactl", "send", "--help"]):
             runs.memory(words, b"")

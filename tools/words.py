@@ -23,22 +23,11 @@ import grants
 import oca_profile as oca
 import own_ports
 from checks import Checks, ended, write
-from own_ports import free_port
+from own_ports import at, bound, free_port, heard
 
 TURNS = 80
 ALIVE = oca.pdu(4, [b"\0\5"])  # a keep-alive of five seconds
 EXAMPLES = Path(__file__).resolve().parent.parent / "examples"
-
-
-def bound(port=0):
-    s = socket.socket(socket.AF_INET, socket.SOCK_DGRAM)
-    s.bind(("127.0.0.1", port))
-    s.settimeout(10)
-    return s
-
-
-def at(device):
-    return f"127.0.0.1:{device.getsockname()[1]}"
 
 
 def controls(checks, device, command, *words, given=None, first=1):
@@ -53,16 +42,6 @@ def answers(device, handle, status=0, count=0, params=b"", wanted=None):
         data, sender = device.recvfrom(2000)
     device.sendto(oca.response(handle, status, count, params), sender)
     return data, sender
-
-
-def heard(device):
-    """The datagrams that lie at a socket."""
-    device.setblocking(False)
-    found = []
-    with contextlib.suppress(BlockingIOError):
-        while True:
-            found.append(device.recv(2000))
-    return found
 
 
 def sends(checks):
@@ -147,7 +126,7 @@ def at_own_ports(checks):
     port is in use, `run` is at another, and `lock` is refused. The first handle is the clock's."""
     own = own_ports.by_turns()[0]
     for taken in (False, True):
-        with bound() as device, bound(own) if taken else contextlib.nullcontext():
+        with bound() as device, bound(port=own) if taken else contextlib.nullcontext():
             for words, given, command, printed in ((["run"], "1 2 3 0 -\n", (1, 2, 3), "answer 0 0 -\n"), (["lock", 4097], "", (4097, 1, 3), "4097 locked\n")):
                 run = checks.start("ocactl", words[0], "--device", at(device), *words[1:], given=given)
                 if taken and words[0] == "lock":

@@ -43,13 +43,14 @@ Some schedules end in a step that names what is not there, or start two links of
 and by name. At the first break the schedule is printed, and the exit status is 1. The last line is 'N passed, M failed'
 over these checks."""
 import collections
-import multiprocessing
 import random
 import subprocess
 import sys
+from unittest.mock import patch
 
 import oca_profile as oca
-from schedules import PAIRS, PEERS, Schedule, crowd, directed, lossy, slow, visitors, wander
+from comparing import Break, broken, in_processes, runs_of, verdict
+from schedules import PAIRS, PEERS, crowd, directed, lossy, slow, visitors, wander
 
 BATCH = 40
 
@@ -78,12 +79,6 @@ class Waiting:
     def __init__(self, since):
         self.since = self.asked = since
         self.ms, self.given = 0, []
-
-
-class Break(Exception):
-    def __init__(self, law, step, what):
-        super().__init__(law, step, what)
-        self.law, self.step, self.what = law, step, what
 
 
 class Laws:
@@ -126,7 +121,7 @@ class Laws:
             try:
                 getattr(self, step[0].replace("-", "_"))(step, said)
             except Break as fault:
-                fault.step = self.number
+                fault.at = self.number
                 raise
             self.count[("front " if step[0] == "set" else "said ") + said.split(" ")[0]] += 1
             self.count["said too old"] += said == "served 0 0 1"
@@ -384,14 +379,7 @@ class Laws:
 
 
 def transcripts(program, schedules):
-    text = "\n".join(line for s in schedules for line in s.text()) + "\n"
-    done = subprocess.run([program, "world"], input=text.encode(), capture_output=True, timeout=300)
-    lines = done.stdout.decode().splitlines()
-    begins = [i for i, line in enumerate(lines) if line == "schedule"] + [len(lines)]
-    runs = [lines[a:b] for a, b in zip(begins, begins[1:])]
-    if done.returncode != 0 or len(runs) != len(schedules):
-        raise RuntimeError(f"status {done.returncode}, {len(runs)} of {len(schedules)} runs, {done.stderr.decode()!r}")
-    return runs
+    return runs_of(program, "world", "schedule", [schedule.text() for schedule in schedules])
 
 
 def fits(window, span):
@@ -401,7 +389,7 @@ def fits(window, span):
 def hold(schedule, lines):
     """The laws' walk along a run in which nothing breaks; None of a refusal."""
     expected = schedule.expected()
-    walk = None if schedule.refusal else Laws(schedule, lines, fits(schedule.window, schedule.span)).walk()
+    walk = None if schedule.refusal else laws(schedule, lines)
     if lines != expected:
         at = next((i for i, (a, b) in enumerate(zip(lines, expected)) if a != b), min(len(lines), len(expected)))
         raise Break("second", min(max(at - 1, 0), len(schedule.steps) - 1),
@@ -413,7 +401,7 @@ def shown(schedule, lines, fault):
     """A schedule with what its steps led to."""
     text = schedule.text()
     return [text[0]] + [f"{line:44}{said}" for line,
-        said in zip(text[1:], lines[1:])] + [f"BREAK of '{fault.law}' at step {fault.step}: {fault.what}"]
+        said in zip(text[1:], lines[1:])] + [f"BREAK of '{fault.law}' at step {fault.at}: {fault.what}"]
 
 
 def made(seed, number):
@@ -469,11 +457,14 @@ def work(job):
         change = altered(r, walk, lines)
         if change:
             total["altered"] += 1
-            try:
-                Laws(schedule, change[1], fits(schedule.window, schedule.span)).walk()
-            except Break as fault:
-                total["altered, refused"] += fault.law == change[0]
+            fault = broken(laws, schedule, change[1])
+            total["altered, refused"] += fault is not None and fault.law == change[0]
     return total, None
+
+
+def laws(schedule, lines, fit=None):
+    """The laws' walk along a run; they hold as for these sizes, or as if they fitted."""
+    return Laws(schedule, lines, fits(schedule.window, schedule.span) if fit is None else fit).walk()
 
 
 # ---- wrong devices and links
@@ -639,28 +630,21 @@ def refuses(job):
     """Whether the laws alone refuse a run of the wrong rule of this name, and how."""
     seed, name = job
     law, owner, method, changed = wrong_rules()[name]
-    kept = getattr(owner, method)
-    setattr(owner, method, changed)
-    try:
+    with patch.object(owner, method, changed):
         for number in range(len(PAIRS), len(PAIRS) + 4000):
             for schedule in made(seed, number):
-                if schedule.refusal is None:
-                    Laws(schedule, schedule.expected(), fits(schedule.window, schedule.span)).walk()
-    except Break as fault:
-        return fault.law == law, f"{name}: '{fault.law}' breaks at schedule {number}"
-    finally:
-        setattr(owner, method, kept)
+                fault = None if schedule.refusal else broken(laws, schedule, schedule.expected())
+                if fault:
+                    return fault.law == law, f"{name}: '{fault.law}' breaks at schedule {number}"
     return False, f"{name}: no break"
 
 
-def broken(program, window, span, schedules):
+def first_broken(program, schedules):
     """The first of the schedules that breaks 'untaken' for sizes that do not fit, as text, and the break."""
     for schedule, lines in zip(schedules, transcripts(program, schedules)):
-        try:
-            Laws(schedule, lines, True).walk()
-        except Break as fault:
-            if fault.law == "untaken" and lines == schedule.expected():
-                return "\n".join(shown(schedule, lines, fault)), fault
+        fault = broken(laws, schedule, lines, True)
+        if fault and fault.law == "untaken" and lines == schedule.expected():
+            return "\n".join(shown(schedule, lines, fault)), fault
     return None
 
 
@@ -670,7 +654,7 @@ def sizes(program, seed):
     for span in range(2, 33):
         window = 2 * span - 2
         schedule = directed(window, span)
-        result = broken(program, window, span, [schedule])
+        result = first_broken(program, [schedule])
         if result is None:
             print(f"no break with a window of {window} and a span of {span}")
             continue
@@ -683,41 +667,37 @@ def sizes(program, seed):
     for window, span in ((2, 2), (4, 3)):
         r = random.Random(f"{seed} {window}")
         schedules = [wander(r, window, span) if n % 2 else directed(window, span, r) for n in range(400)]
-        result = broken(program, window, span, schedules)
+        result = first_broken(program, schedules)
         if result:
             random_found += 1
-            print(f"window {window}, span {span}: a random schedule breaks too, at step {result[1].step}")
+            print(f"window {window}, span {span}: a random schedule breaks too, at step {result[1].at}")
         else:
             print(f"window {window}, span {span}: none of {len(schedules)} random schedules breaks")
     return found == 31 and random_found == 2
 
 
-# a line that is refused, and the word for it; a step stands behind the line `schedule 1 1 127.0.0.1:1/1`
-BAD_LINES = [
-    ("schedule 0 1", "number"), ("schedule 65 1", "number"), ("schedule 1 33", "number"), ("schedule 1 0",
-        "number"), ("schedule 1", "form"),
-    ("schedule 1 1 127.0.0.1:1", "form"), ("schedule 1 1 127.0.0.1/1", "peer"), ("schedule 1 1 127.0.0.1:1/4294967296",
-        "number"),
-    ("schedule 1 1 ", "form"), ("0 due", "form"), ("0 due x", "number"), ("x due 0", "moment"), ("0 due 0 0",
-        "form"), ("0 jump", "form"),
-    ("18446744073709551616 tick", "moment"), ("0 tick ", "form"), ("0 to-device -1",
-        "number"), ("0 to-link 4294967296", "number"),
-    ("0 other 1.2.3 -", "peer"), ("0 other 1.2.3.4:5 0", "hex"), ("0 other 1.2.3.4:5 zz",
-        "hex"), ("0 other 1.2.3.4:5 ", "hex"),
-    ("0 other 1.2.3.4:5", "form"), ("take 0", "form"), ("take 0 4294967296", "number"), ("0 submit 0 1 1 1 256 -",
-        "number"),
-    ("0 submit 0 1 65536 1 0 -", "number"), ("0 submit 0 1 1 1 0", "form"), ("0  tick", "form"),
-    ("set 4097 mute", "form"), ("set 4097 mute 1 1", "form"), ("set 4097 colour 1", "form"),
-    ("set x mute 1", "number"), ("set 4097 mute 0", "number"), ("set 4097 mute 3", "number"),
-    ("set 4097 polarity 256", "number"), ("set 4101 boolean 2", "number"), ("set 4099 switch 65536", "number"),
-    ("set 4100 int16 32768", "number"), ("set 4100 int8 -129", "number"), ("set 4100 uint64 -1", "number"),
-    ("set 4100 int64 170141183460469231731687303715884105728", "number"), ("set 4294967296 boolean 1", "number")]
+# lines that are refused, by the word for it; a step stands behind the line `schedule 1 1 127.0.0.1:1/1`
+BAD_LINES = {
+    "number": ["schedule 1 1 0 127.0.0.1:1/1", "schedule 1 1 65 127.0.0.1:1/1", "schedule 0 1", "schedule 65 1", "schedule 1 33", "schedule 1 0", "schedule 1 1 127.0.0.1:1/4294967296", "0 due x", "0 to-device -1",
+        "0 to-link 4294967296", "take 0 4294967296", "0 submit 0 1 1 1 256 -", "0 submit 0 1 65536 1 0 -", "set x mute 1", "set 4097 mute 0",
+        "set 4097 mute 3", "set 4097 polarity 256", "set 4101 boolean 2", "set 4099 switch 65536", "set 4100 int16 32768", "set 4100 int8 -129",
+        "set 4100 uint64 -1", "set 4100 int64 170141183460469231731687303715884105728", "set 4294967296 boolean 1"],
+    "form": ["schedule 1", "schedule 1 1 127.0.0.1:1", "schedule 1 1 ", "0 due", "0 due 0 0", "0 jump", "0 tick ", "0 other 1.2.3.4:5", "take 0",
+        "0 submit 0 1 1 1 0", "0  tick", "set 4097 mute", "set 4097 mute 1 1", "set 4097 colour 1"],
+    "peer": ["schedule 1 1 127.0.0.1/1", "0 other 1.2.3 -"],
+    "moment": ["x due 0", "18446744073709551616 tick"],
+    "hex": ["0 other 1.2.3.4:5 0", "0 other 1.2.3.4:5 zz", "0 other 1.2.3.4:5 "]}
+
+
+def bad_lines():
+    """Each bad line with its word; the first one stands alone."""
+    return [("0 tick", "form"), *((line, word) for word, lines in BAD_LINES.items() for line in lines)]
 
 
 def lines_refused(program):
     """How many bad lines are refused with their number and their word, and status 2."""
     refused = 0
-    for line, word in [("0 tick", "form")] + BAD_LINES:
+    for line, word in bad_lines():
         before = [] if line == "0 tick" else ["# a comment", "", "schedule 1 1 127.0.0.1:1/1"]
         done = subprocess.run([program, "world"], input="\n".join(before + [line]).encode(), capture_output=True,
                               timeout=60)
@@ -761,20 +741,10 @@ def summary(total):
     print("also met: " + ", ".join(f"{total[name]} {text}" for name, text in MET))
 
 
-def verdicts(checks):
-    """Prints the checks that failed and the last line; answers the exit status."""
-    for name, passed in checks.items():
-        if not passed:
-            print(f"FAILED: {name}")
-    print(f"{sum(map(bool, checks.values()))} passed, {sum(not passed for passed in checks.values())} failed")
-    return 0 if all(checks.values()) else 1
-
-
 def learn_sizes(program):
     """Whether the program knows room for peers: only then is all of it tried."""
     line = b"schedule 1 1 2 127.0.0.1:1/1\n"
     PEERS.extend([16, 16, 16, 16, 1, 2, 15, 17, 64])
-    BAD_LINES.extend([("schedule 1 1 0 127.0.0.1:1/1", "number"), ("schedule 1 1 65 127.0.0.1:1/1", "number")])
     return subprocess.run([program, "world"], input=line, capture_output=True, timeout=60).returncode == 0
 
 
@@ -782,23 +752,17 @@ def main():
     program = f"{sys.argv[1]}/trials"
     if sys.argv[2] == "broken":
         window, span = int(sys.argv[3]), int(sys.argv[4])
-        result = broken(program, window, span, [directed(window, span)])
+        result = first_broken(program, [directed(window, span)])
         print(result[0] if result else "no break")
         return 0
     count, seed = int(sys.argv[2]), int(sys.argv[3]) if len(sys.argv) > 3 else 1
     if not learn_sizes(program):
         sys.exit("world: trials does not know room for peers")
-    total = collections.Counter()
     jobs = [(program, seed, range(first, min(first + BATCH, count))) for first in range(0, count, BATCH)]
-    with multiprocessing.Pool(min(4, multiprocessing.cpu_count())) as pool:
-        for counts, fault in pool.imap(work, jobs):
-            total += counts
-            if fault:
-                print(fault)
-                print(f"world: seed {seed}: a break after {total['schedules']} schedules without one")
-                print("0 passed, 1 failed")
-                return 1
-        wrong = pool.map(refuses, [(seed, name) for name in wrong_rules()], chunksize=1)
+    total, fault, wrong = in_processes(work, jobs, refuses, [(seed, name) for name in wrong_rules()])
+    if fault:
+        print(f"{fault}\nworld: seed {seed}: a break after {total['schedules']} schedules without one")
+        return verdict({"laws": False})
     for _, said in wrong:
         print(said)
     good = sizes(program, seed)
@@ -806,9 +770,9 @@ def main():
     print(f"seed {seed}, {fit} of {len(PAIRS)} pairs of sizes that fit")
     summary(total)
     lines, altered_lines = lines_refused(program), (total["altered, refused"], total["altered"])
-    print(f"bad lines refused: {lines} of {len(BAD_LINES) + 1}")
+    print(f"bad lines refused: {lines} of {len(bad_lines())}")
     print("altered transcripts refused by the law that they break: {} of {}".format(*altered_lines))
-    return verdicts({
+    return verdict({
         "answers": total["answers"], "only": total["only"] and total["only, of a peer that found no room before"],
         "untaken": total["untaken, the oldest of a full window"] and total["untaken, of more peers ever"],
         "room": total["room, of more peers ever"], "once": total["once"],
@@ -818,7 +782,7 @@ def main():
         "through": total["waiting, asked so, and given out again"],
         "second": total["schedules"] >= count and total["refused"],
         "premises": total["premises met, with loss, double and overtaking"], "sizes": good,
-        "lines": lines == len(BAD_LINES) + 1, "wrong": all(found for found, _ in wrong),
+        "lines": lines == len(bad_lines()), "wrong": all(found for found, _ in wrong),
         "altered": total["altered"] and altered_lines[0] == altered_lines[1]})
 
 
