@@ -3,10 +3,9 @@
 
 Usage: build.py FOLDER PROGRAM..     each program is copied into FOLDER
 
-A library is proved from nothing and holds its statements alone, as under `rt ci`, so that the crates above it load less;
-a program is proved and built as `rt run` does it. What stands as it would be built now is taken as it is. These
-libraries lie in out/statements of their crates, apart from those of other commands. A line is printed for each crate
-as it ends."""
+A library is proved from nothing and holds its statements alone, as under `rt ci`, so that the crates above it load less; a program is proved and
+built as `rt run` does it. What stands as it would be built now is taken as it is. These libraries lie in out/statements of their crates, apart from
+those of other commands. A line is printed for each crate as it ends."""
 import os
 import shutil
 import subprocess
@@ -19,8 +18,8 @@ from pathlib import Path
 import kit
 
 TOP = kit.TOP
-# The seconds that each took to prove and build, others beside it, as measured on 2026-11-27: which is begun first goes by them, and
-# which gets more processes. One that is not here counts a second for ten of its lines.
+# The seconds that each took to prove and build, others beside it, as measured on 2026-11-27: which is begun first goes by them, and which gets more
+# processes. One that is not here counts a second for ten of its lines.
 SECONDS = {
     "oca_types": 60, "oca_model": 130, "oca_tree": 280, "oca_net": 130, "oca_pdu": 80, "oca_session": 80, "oca_script": 130,
     "oca_control": 90, "oca_program": 90, "oca_panel": 120, "oca_device": 100, "oca_textree": 225, "oca_web": 285,

@@ -4,18 +4,16 @@
 Usage: run.py                    all of it
        run.py steps [FILE]       the steps alone, of this file
 
-The steps of a paragraph run three at a time, since most of them wait, begun in their order. What a step prints is shown
-when it ends, with its minutes: as a whole where it failed, else its last lines; a paragraph begins when the one before
-it is over. A step whose line begins with '&' is begun with its paragraph beside those three, gives way to them, and is
-awaited at the end: so proofs go on while other steps wait. One whose line begins with '&&' is begun as soon as `rt ci`
-has proved a crate; it finds the names of the crates that are proved, a line each, in the file GATE_PROVED, and behind
-them '(ended)' once `rt ci` has ended.
+The steps of a paragraph run three at a time, since most of them wait, begun in their order. What a step prints is shown when it ends, with its
+minutes: as a whole where it failed, else its last lines; a paragraph begins when the one before it is over. A step whose line begins with '&' is
+begun with its paragraph beside those three, gives way to them, and is awaited at the end: so proofs go on while other steps wait. One whose line
+begins with '&&' is begun as soon as `rt ci` has proved a crate; it finds the names of the crates that are proved, a line each, in the file
+GATE_PROVED, and behind them '(ended)' once `rt ci` has ended.
 
-A step has failed where one of its checks failed, it ended with another status than 0, it passed fewer checks than its
-line names, or it did not end in the minutes that its line allows. The gate has failed too where a line of the steps
-can't be read, and where a tool of the gate stands in no step. The last lines are a table of the minutes, some of the
-lines that say what failed, and 'N passed, M failed' over all of it; the exit status is 1 where anything
-failed."""
+A step has failed where one of its checks failed, it ended with another status than 0, it passed fewer checks than its line names, or it did not end
+in the minutes that its line allows. The gate has failed too where a line of the steps can't be read, and where a tool of the gate stands in no step.
+The last lines are a table of the minutes, some of the lines that say what failed, and 'N passed, M failed' over all of it; the exit status is 1 where
+anything failed."""
 import contextlib
 import os
 import re
@@ -68,8 +66,7 @@ def give_way():
 
 def started(command, gives_way=False):
     """Starts a command, with a group of processes of its own, so that all that it starts can be ended with it."""
-    RUNNING.append(subprocess.Popen(
-        command, shell=True, cwd=TOP, stdin=subprocess.DEVNULL, stdout=subprocess.PIPE, stderr=subprocess.STDOUT,
+    RUNNING.append(subprocess.Popen(command, shell=True, cwd=TOP, stdin=subprocess.DEVNULL, stdout=subprocess.PIPE, stderr=subprocess.STDOUT,
         text=True, errors="replace", start_new_session=True, preexec_fn=give_way if gives_way else None))
     return RUNNING[-1]
 
@@ -116,8 +113,7 @@ def took(command, begun, passed, failed, why=""):
 
 
 def watched(command, least, note=lambda _: None):
-    """Runs a command, shows what it prints as it prints it, and answers how many checks passed and failed. Each line is
-    handed on."""
+    """Runs a command, shows what it prints as it prints it, and answers how many checks passed and failed. Each line is handed on."""
     print(f"gate: {command}", flush=True)
     begun, last, said = time.monotonic(), "", []
     with started(command) as process:

@@ -1,9 +1,8 @@
 #!/usr/bin/env python3
-"""The gate's own test: steps that try nothing, too little, fail, crash, hang, or can't be read must make the gate fail, and
-so must an `rt ci` that does, and a gate that a signal ends; a tool that no step runs must be found, and a step that is
-taken away or names fewer checks than before; what a tool compares by must see a difference and tell it; a program that
-is not built must be no success; edits must be judged by what the prover says of them; and `make library` must see each
-source that is newer. The rows of what builds and installs are in selftest_builds.py, those of the tools in
+"""The gate's own test: steps that try nothing, too little, fail, crash, hang, or can't be read must make the gate fail, and so must an `rt ci` that
+does, and a gate that a signal ends; a tool that no step runs must be found, and a step that is taken away or names fewer checks than before; what a
+tool compares by must see a difference and tell it; a program that is not built must be no success; edits must be judged by what the prover says of
+them; and `make library` must see each source that is newer. The rows of what builds and installs are in selftest_builds.py, those of the tools in
 selftest_tools.py. The last line is 'N passed, M failed'."""
 import contextlib
 import functools
@@ -80,8 +79,7 @@ def is_as_wanted(folder, steps, passes, last):
 
 
 def tells_what_failed(folder):
-    """Behind the table stands what failed: the lines that say so, of a step that has none its last ones, and nothing of
-    a step that passed."""
+    """Behind the table stands what failed: the lines that say so, of a step that has none its last ones, and nothing of a step that passed."""
     steps = ("1 1 echo 'x: FAILED: it is so'; echo y; echo '1 passed, 1 failed'\n1 1 echo z; false\n"
              "1 1 echo 'w: FAILED before'; echo '1 passed, 0 failed'")
     return is_same(["x: FAILED: it is so", "z"], gate_over(folder, steps)[2])
@@ -149,8 +147,7 @@ def run_beside(file, crates, most, calls):
 
 
 def waits_for_proofs(_):
-    """Beside `rt ci` the edits of a crate wait for the libraries below it and for an idle processor, and only half as
-    many checks run as later."""
+    """Beside `rt ci` the edits of a crate wait for the libraries below it and for an idle processor, and only half as many checks run as later."""
     found, real, asked = [], edits.is_idle, []
     later, free = {"z": "c", "y": "ab", "x": "a", "w": ""}, dict.fromkeys("pqrst", "")
     tells = {"w": ["a"], "x": ["b"], "y": [edits.ENDED]}
@@ -203,8 +200,8 @@ def knows_what_is_waited_for(folder):
     return found == ["a", None, None, None]
 
 
-# What `rt ci` counts, what the steps count, the tools that no step runs, the lanes, what the environment says, whether `rt ci` takes
-# names, and whether the crate that others wait for is asked for before.
+# What `rt ci` counts, what the steps count, the tools that no step runs, the lanes, what the environment says, whether `rt ci` takes names, and
+# whether the crate that others wait for is asked for before.
 OF_ALL = [((3, 0), (5, 0), [], 3, {}, True, True), ((3, 1), (5, 0), [], 3, {"CI": "false"}, True, True), ((3, 0), (5, 1), [], 2, {}, True, True),
           ((3, 0), (5, 0), ["x.py"], 3, {"RT_JOBS": "0"}, True, True), ((3, 0), (5, 0), [], 3, {"RT_JOBS": ""}, True, True),
           ((3, 0), (5, 0), [], 1, {}, True, False), ((3, 0), (5, 0), [], 3, {"RT_JOBS": "3"}, True, False),
@@ -295,8 +292,7 @@ def text_of(file):
 
 
 def ends_when_told(folder, number, before=None):
-    """A gate that a signal ends has not passed, and what its steps have started ends with it; not where it was to ignore that one, as one
-    before."""
+    """A gate that a signal ends has not passed, and what its steps have started ends with it; not where it was to ignore that one, as one before."""
     begun, file, seconds = folder / f"begun-{number}", folder / "long-steps", f"{60 + number}.{os.getpid()}"
     file.write_text(f"1 2 touch '{begun}'; sleep {seconds}; echo '1 passed, 0 failed'\n")
     words = [sys.executable, str(HERE / "run.py"), "steps", str(file)]
@@ -379,8 +375,8 @@ def lists_each_edit(_):
     return refused == [("a.edit", False), ("b.edits", True), ("c", True)]
 
 
-# What the prover says of a copy of a crate: its status, its lines, and which of three edits it refuses by that: one of
-# `m::f`, one of `m::g`, which calls it, and one of no function.
+# What the prover says of a copy of a crate: its status, its lines, and which of three edits it refuses by that: one of `m::f`, one of `m::g`, which
+# calls it, and one of no function.
 DIFFERS, GONE = "F.antt:1:2: error: the two sides differ", "error: `x` is not in scope"
 CALLS, END = "fn a::m::g: not proved: it calls a::m::f", "logic=not-proved"
 SAID_OF_EDITS = [
@@ -408,8 +404,8 @@ def judges_edits(_):
     return found == [list(refused) for *_, refused in SAID_OF_EDITS] and all(told)
 
 
-# A crate with a function that two edits change, one that none does, and a method of a trait; the copies that one check
-# has of it, behind that function: as it stands, and with the second edit.
+# A crate with a function that two edits change, one that none does, and a method of a trait; the copies that one check has of it, behind that
+# function: as it stands, and with the second edit.
 SOURCE = """/// Counts.
 #[tactic(auto,
     using(a::b))]
@@ -444,9 +440,8 @@ SAID_OF_COPIES = [("f f_edited_1", "a b"), ("f", "a"), ("f_edited_1", "b"), ("f 
 
 
 def copies_edits(_):
-    """A further edit of a function is tried in a copy of it, with a copy of its proof and a copy as it stands, which
-    must be proved; a further one of a method of a trait, or of two functions, in another check. Edits that are left are
-    tried without copies."""
+    """A further edit of a function is tried in a copy of it, with a copy of its proof and a copy as it stands, which must be proved; a further one of
+    a method of a trait, or of two functions, in another check. Edits that are left are tried without copies."""
     with tempfile.TemporaryDirectory() as folder:
         for name, text in (("src/m.rt", SOURCE), ("proofs/m/f/Answers.antt", OF_F)):
             Path(folder, name).parent.mkdir(parents=True)
@@ -532,8 +527,8 @@ impl T {
 """
 EMPTY = BODIES.replace("    let m = n;\n    m + 2\n", "    #[tactic(none)] unreachable!();\n\n").replace(
     "        T(n)\n", "        #[tactic(none)] unreachable!();\n")
-# What the prover says of `touched` and others where these are empty, and where they are not; whether the edit of `touched`
-# is refused, and how many checks that takes.
+# What the prover says of `touched` and others where these are empty, and where they are not; whether the edit of `touched` is refused, and how many
+# checks that takes.
 LEMMA = f"proofs/Lemmas.antt:1:2: {GONE}"
 OPEN, ALSO = (f"fn a::m::{it}: no proof: the search did not prove a goal" for it in ("touched", "other"))
 SAID_OF_EMPTY = [([OPEN, ALSO], [], True, 1), ([OPEN, LEMMA], [], False, 2), ([OPEN, LEMMA], [OPEN], True, 2),
@@ -566,8 +561,8 @@ def empties_functions(_):
         return all(found)
 
 
-# Functions with a clause that is wanted of them alone and others; those whose contract is narrowed where `f` and `g` are
-# checked, and where `h`, which calls `g`, is too.
+# Functions with a clause that is wanted of them alone and others; those whose contract is narrowed where `f` and `g` are checked, and where `h`,
+# which calls `g`, is too.
 CONTRACT = """    requires { n < 9 }
     ensures low { result < 9 }
     ensures high {
@@ -606,8 +601,7 @@ def narrows_contracts(_):
 
 
 def told_of_clause(crate, clause, narrow, whole, wanted):
-    """Whether this is told of the edit of `f` that names this clause, where the prover says so of `f` with that clause
-    alone, and with all."""
+    """Whether this is told of the edit of `f` that names this clause, where the prover says so of `f` with that clause alone, and with all."""
     Path(crate.folder, "wrong").mkdir(exist_ok=True)
     Path(crate.folder, "wrong/f.edit").write_text(f"clause: {clause}\nfile: src/m.rt\nold: n + 1\nnew: n + 3\n")
     trial = edits.Trial(crate, crate.folder)
@@ -701,8 +695,7 @@ def compares_examples(folder):
     for text, status, _ in OF_EXAMPLES:
         program.write_text(PRINTS.format(python=sys.executable, examples=str(examples), text=text, status=status))
         program.chmod(0o755)
-        ran = subprocess.run([sys.executable, str(examples / "run.py"), str(program)], capture_output=True, text=True,
-                             timeout=120)
+        ran = subprocess.run([sys.executable, str(examples / "run.py"), str(program)], capture_output=True, text=True, timeout=120)
         found.append((ran.returncode, run.last_line(ran.stdout)))
     ends = {True: (0, f"{count} passed, 0 failed"), False: (1, f"0 passed, {count} failed")}
     return count > 0 and found == [ends[good] for _, _, good in OF_EXAMPLES]

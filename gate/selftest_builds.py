@@ -48,8 +48,7 @@ class FakeCrate(SimpleNamespace):
 
 
 def in_turn(tasks):
-    """What the toolchain's lanes give of tasks, one at a time, each once those that it waits for have ended, else the
-    last first."""
+    """What the toolchain's lanes give of tasks, one at a time, each once those that it waits for have ended, else the last first."""
     given, left = {}, dict(tasks)
     while left:
         key = next(it for it in reversed(left) if all(below in given for below in left[it][0]))
@@ -188,8 +187,8 @@ def takes_what_stands(folder):
     return found == [*wanted, (False, "e", True), (True, "abce", False), (False, "e", True), (True, "de", False)]
 
 
-# Which crates are begun, in their order, where so many of so many processors are idle and others wait long for these, of which some run;
-# and with how many processes.
+# Which crates are begun, in their order, where so many of so many processors are idle and others wait long for these, of which some run; and with how
+# many processes.
 SHARES = [("ab", 4, 4, "", "a2 b2"), ("ab", 4, 4, "a", "a3 b1"), ("abcde", 4, 4, "", "a1 b1 c1 d1"), ("abcde", 4, 4, "b", "a1 b3"),
           ("a", 8, 8, "", "a4"), ("a", 8, 8, "a", "a4"), ("ab", 2, 2, "a", "a1 b1"), ("ab", 1, 4, "a", "a1"), ("abc", 0, 4, "", ""),
           ("a", 1, 1, "a", "a1"), ("", 4, 4, "", ""), ("ab", 3, 4, "ab", "a2 b1"), ("abc", 4, 4, "ac", "a2 b1 c1"), ("ab", 3, 4, "az", "a2 b1"),
@@ -281,8 +280,7 @@ def builds_each_program(folder):
         place.mkdir(parents=True)
 
     def again(status, is_proved=True, stamps="", lost=""):
-        (top / "gate/build.py").write_text(
-            f"import os, sys\nprint(os.getcwd(), *sys.argv[1:], os.environ['ENDS'], file=open({str(log)!r}, 'a'))\n"
+        (top / "gate/build.py").write_text(f"import os, sys\nprint(os.getcwd(), *sys.argv[1:], os.environ['ENDS'], file=open({str(log)!r}, 'a'))\n"
             f"print('said of', sys.argv[2], file=sys.stderr)\nmade = 'crates/' + sys.argv[2] + '/out/' + sys.argv[2]\n"
             f"open(made, 'w').write('made {len(found)}')\nos.chmod(made, 0o755)\nos.utime(made, (1, 1))\nsys.exit({status})\n")
         low = fake_library(top / "crates", "low", [], [], lambda: int(not is_proved))
@@ -371,8 +369,8 @@ def writes():
     return " in memory" if is_there else ""
 
 
-# How many processors, how much free memory, how the folder in memory is mounted, its room and mode, and what RT_JOBS says, where a check
-# takes 4 GB and the folder is to have 6; and whether all is written there.
+# How many processors, how much free memory, how the folder in memory is mounted, its room and mode, and what RT_JOBS says, where a check takes 4 GB
+# and the folder is to have 6; and whether all is written there.
 OF_MEMORY = [(2, 14e9, 0, 7e9, 0o777, "", " in memory"), (2, 13.9e9, 0, 7e9, 0o777, "", ""), (2, 14e9, os.ST_NOEXEC, 7e9, 0o777, "", ""),
              (2, 14e9, 0, 5.9e9, 0o777, "", ""), (2, 14e9, 0, 6e9 + 4096, 0o777, "", " in memory"), (3, 18e9, 0, 7e9, 0o777, "", " in memory"),
              (3, 17.9e9, 0, 7e9, 0o777, "", ""), (4, 10e9, 0, 7e9, 0o777, "1", " in memory"), (1, 13e9, 0, 7e9, 0o777, "2", ""),
@@ -476,8 +474,7 @@ def without_make():
 
 
 def make_fails_with(goal, folder):
-    """Whether `make` runs for this goal, with its settings, what it is to, in that order, shows what it prints, and
-    fails where one of it does."""
+    """Whether `make` runs for this goal, with its settings, what it is to, in that order, shows what it prints, and fails where one of it does."""
     top, log = folder / "make", folder / "make.log"
     for name in ("python3", "sh"):
         stand_in(top / f"path/{name}", f'echo "$*" >> "{log}"\necho "said by $*"\n[ "$*" != "$FAILS" ]')
@@ -529,8 +526,7 @@ def ci_runs_the_gate(folder):
     return found == [(it, "said\n") for it in (0, 1, 7)] and log.read_text() == f"{top}: test\n" * 3
 
 
-# What is done with the libraries that the gate has left, low below high below the library for C, and whether they are
-# taken as they are.
+# What is done with the libraries that the gate has left, low below high below the library for C, and whether they are taken as they are.
 LEFT = [
     (lambda made: None, True), (lambda made: made("low/src/lib.rt", 200), False),
     (lambda made: made("high/src/lib.rt", 200), False),
@@ -577,9 +573,8 @@ def files_of(folder):
 
 
 def takes_what_the_gate_left(folder):
-    """`library.py` takes the libraries that `rt ci` has left only where each is there, has no stamp of other checks,
-    and is newer than all sources of its crate and of those below; else it builds them. `edits.py` takes them so,
-    too."""
+    """`library.py` takes the libraries that `rt ci` has left only where each is there, has no stamp of other checks, and is newer than all sources of
+    its crate and of those below; else it builds them. `edits.py` takes them so, too."""
     found = []
     for at, (change, is_taken) in enumerate(LEFT):
         low, high = left_crates(folder / f"left-{at}", change)
@@ -620,8 +615,7 @@ INSTALLS = ["", "compile", "link", "archive", "pages", "no library", "no header"
 
 
 def installs_whole(folder):
-    """`install.sh` fails where the compiler, the linker, the archiver or the pages fail, or where a file is missing
-    that it is to install."""
+    """`install.sh` fails where the compiler, the linker, the archiver or the pages fail, or where a file is missing that it is to install."""
     kind, found = f"{os.uname().machine}-unknown-linux-gnu", []
     for at, fails in enumerate(INSTALLS):
         top = folder / f"install-{at}"
@@ -630,8 +624,7 @@ def installs_whole(folder):
         stand_in(top / "path/cc", COMPILER)
         stand_in(top / "path/ar", '[ "$FAILS" != archive ]')
         stand_in(top / "path/python3", '[ "$FAILS" != pages ] && mkdir -p "$2" && echo page > "$2/oca_page.3"')
-        files = {"no library": "made.a", "no header": "include/oca.h", "no program": "bin/ocactl",
-                 "no page": "man/ocapanel.1"}
+        files = {"no library": "made.a", "no header": "include/oca.h", "no program": "bin/ocactl", "no page": "man/ocapanel.1"}
         for name in ("made.a", *(f"bin/{it}" for it in ("ocadev", "ocactl", "ocapanel"))):
             stand_in(top / name, "")
         if fails in files:

@@ -25,9 +25,8 @@ import unreliable
 # What the prover says where a proof names what is no more.
 GONE = "error: `x` is not in scope"
 
-# The functions of a crate of which edits are tried, and the edits: what an edit changes of them and into what, and what
-# is told of it. A body `wrong` is refused by the goal of its own function, `gone` only names what a proof has not, and
-# any other one is proved.
+# The functions of a crate of which edits are tried, and the edits: what an edit changes of them and into what, and what is told of it. A body `wrong`
+# is refused by the goal of its own function, `gone` only names what a proof has not, and any other one is proved.
 BODIES = {"f": "fine\n    more", "g": "good", "h": "hale", "i": "intact"}
 TRIED = {
     "a_f": ("fine", "wrong f", "refused"), "b_f_again": ("fine", "wrong f", "refused"),
@@ -69,8 +68,7 @@ def said_by_the_prover(crate, texts, flags, kept):
 
 
 def told_by_edits(folder, crates, words, most=60):
-    """The status of `edits.py`, what it tells of each edit, and its last line, where these are all crates and a lane
-    tries so many edits at most."""
+    """The status of `edits.py`, what it tells of each edit, and its last line, where these are all crates and a lane tries so many edits at most."""
     tools = SimpleNamespace(edited=edits.rt.edited, unread=edits.rt.unread, STALE=edits.rt.STALE, PARTS=("src", "specs"), checked=said_by_the_prover,
                             in_lanes=in_turn, need=lambda _: 1, free=lambda: 99e9, processors=lambda: 1, guarded=list, crates_below=lambda _: crates)
     with patch.multiple(edits, ROOT=folder, SELFTEST=folder / "none", rt=tools, MOST=most), memory_at(folder / "memory"), within(folder):
@@ -81,8 +79,7 @@ def told_by_edits(folder, crates, words, most=60):
 def tries_edits_in_groups(folder):
     """`edits.py` tells of each edit of each crate what the prover says of that one, with whatever others it is tried,
     and fails where one is not refused, names what is gone, or stands no more."""
-    crates = [crate_of_edits(folder, name, edits)
-              for name, edits in (("a", TRIED), ("b", GOOD_ONES), ("c", ["d_h_is_right"]))]
+    crates = [crate_of_edits(folder, name, edits) for name, edits in (("a", TRIED), ("b", GOOD_ONES), ("c", ["d_h_is_right"]))]
     right = True
     every = {"a": TRIED, "b": GOOD_ONES, "c": ["d_h_is_right"]}
     for words, its, most in (([], every, 60), ([], every, 3), (["b"], {"b": GOOD_ONES}, 60), (["a"], {"a": TRIED}, 60),
@@ -189,8 +186,7 @@ CHANGED = [("", ""), ("    one", "    other"), ("says two\n    ...", "says two\n
 
 
 def runs_what_documents_say(folder):
-    """`snippets.py` finds each session and piece of code of each of its documents, and fails where one of them is not
-    so."""
+    """`snippets.py` finds each session and piece of code of each of its documents, and fails where one of them is not so."""
     top, found = folder / "documents", []
     stand_in(folder / "says-bin/says", 'echo "$*"')
     (top / "code").mkdir(parents=True)
@@ -204,8 +200,7 @@ def runs_what_documents_say(folder):
 
 
 def finds_what_documents_say(_):
-    """`snippets.py` comes to each session, with each of its commands, and each block of code with a path of README.md
-    and of all of docs/."""
+    """`snippets.py` comes to each session, with each of its commands, and each block of code with a path of README.md and of all of docs/."""
     wanted, found = [], []
     for file in [run.TOP / "README.md", *sorted((run.TOP / "docs").glob("*.md"))]:
         name, lines = str(file.relative_to(run.TOP)), file.read_text().splitlines()
@@ -364,8 +359,8 @@ def lists_what_is_public(folder):
     return is_same(([], [], LISTED, "What it is: a sample."), ([it for it in rows if it not in LISTED], [it for it in LISTED if it not in rows], rows, about))
 
 
-# What a peer says of its questions beside silent hosts, and alone: asked, answered, the slowest in ms, how many
-# datagrams came; and how many checks of these two pass and fail (alone, all being well is no check of its own).
+# What a peer says of its questions beside silent hosts, and alone: asked, answered, the slowest in ms, how many datagrams came; and how many checks
+# of these two pass and fail (alone, all being well is no check of its own).
 OF_NEIGHBOURS = [
     ((20, 20, 5, 4000), (20, 20, 3, 0), 1, 0), ((20, 20, 103, 2000), (20, 20, 3, 0), 1, 0),
     ((20, 20, 104, 4000), (20, 20, 3, 0), 0, 1), ((20, 19, 5, 4000), (20, 20, 3, 0), 0, 1),
@@ -409,8 +404,7 @@ SCOPES = (ast.FunctionDef, ast.Lambda, ast.ListComp, ast.SetComp, ast.DictComp, 
 def own_names(tree):
     """The names that a piece of code gives to values of its own."""
     nodes = list(ast.walk(tree))
-    return {it.arg for it in nodes if isinstance(it, ast.arg)} | {
-        it.id for it in nodes if isinstance(it, ast.Name) and isinstance(it.ctx, ast.Store)}
+    return {it.arg for it in nodes if isinstance(it, ast.arg)} | {it.id for it in nodes if isinstance(it, ast.Name) and isinstance(it.ctx, ast.Store)}
 
 
 def named_in(tree, modules):
@@ -433,8 +427,7 @@ def named_in(tree, modules):
 
 
 def imported(tree):
-    """The modules that a piece of code imports, by what they are called there; those of which it imports names, by
-    theirs."""
+    """The modules that a piece of code imports, by what they are called there; those of which it imports names, by theirs."""
     found = {}
     for it in ast.walk(tree):
         if isinstance(it, ast.Import):
@@ -457,9 +450,8 @@ def looks_up(tree):
 
 
 def uncalled(folders):
-    """The functions and methods of the modules of these folders that nothing names but they themselves: neither their
-    own module nor one that imports it. What a decorator takes is named by that, and what has a name of Python's by
-    Python."""
+    """The functions and methods of the modules of these folders that nothing names but they themselves: neither their own module nor one that imports
+    it. What a decorator takes is named by that, and what has a name of Python's by Python."""
     trees = {file: ast.parse(file.read_text()) for folder in folders for file in sorted(folder.glob("*.py"))}
     modules = {file: imported(tree) for file, tree in trees.items()}
     names = {file: named_in(tree, modules[file]) for file, tree in trees.items()}
@@ -536,8 +528,7 @@ def d():
 
 TABLE = [used]
 """}
-UNCALLED = ["alone.py:1: left", "alone.py:8: d", "lib.py:18: c", "lib.py:21: d", "lib.py:4: left",
-            "table.py:8: not_done"]
+UNCALLED = ["alone.py:1: left", "alone.py:8: d", "lib.py:18: c", "lib.py:21: d", "lib.py:4: left", "table.py:8: not_done"]
 
 
 def calls_all_that_it_has(folder):
@@ -641,8 +632,7 @@ OF_KEEPERS = [("{value}", True), ("0", False), ("{value - 3}", False), ("{value 
 
 
 def sees_what_is_not_kept(folder):
-    """`keep.py` kills a device, and finds one that comes back with less than was answered, with more than was set, or
-    not at all."""
+    """`keep.py` kills a device, and finds one that comes back with less than was answered, with more than was set, or not at all."""
     found = []
     for at, (kept, is_well) in enumerate(OF_KEEPERS):
         place = folder / f"keeper-{at}"

@@ -12,6 +12,14 @@ class Break(Exception):
         self.law, self.at, self.what = law, at, what
 
 
+def wrong_rule(rules, name, law, owner, method):
+    """Notes that who has this body in the place of the method breaks this law."""
+    def note(body):
+        rules[name] = law, owner, method, body
+        return body
+    return note
+
+
 def broken(walk, *given):
     """The break to which a walk comes, or None."""
     try:

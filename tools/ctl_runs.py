@@ -129,13 +129,11 @@ FAULTS = {
     b"peer": [b"0 from 127.0.0.256:1 z", b"0 from 127.0.0.1:65536 -"]}
 
 # Lines that `run --ahead 1` reads alone, by the word for their fault.
-BAD_LINES = {
-    b"form": [b"4097 4 1 0", b"4097 4 1 0 - -", b"take 1", b"wait 1", b"Wait"],
-    b"number": [b"x 4 1 0 z", b"4097 65536 1 0 -", b"4097 4 65536 0 -", b"4097 4 1 256 -"],
-    b"hex": [b"4097 4 1 0 z"]}
+BAD_LINES = {b"form": [b"4097 4 1 0", b"4097 4 1 0 - -", b"take 1", b"wait 1", b"Wait"],
+    b"number": [b"x 4 1 0 z", b"4097 65536 1 0 -", b"4097 4 65536 0 -", b"4097 4 1 256 -"], b"hex": [b"4097 4 1 0 z"]}
 
-# Words that ask for nothing, by what they begin with: those of a program, of a replay and of `send`. The last have one byte of parameters more
-# than a command has room for.
+# Words that ask for nothing, by what they begin with: those of a program, of a replay and of `send`. The last have one byte of parameters more than a
+# command has room for.
 BAD_WORDS = {
     "ocactl": ["", " Replay", " --versions", " replay", " replay --device 127.0.0.1:65000", " replay --first-handle 1",
         " replay --device 127.0.0.1:65000 --first-handle", " replay --device 127.0.0.256:1 --first-handle 1",

@@ -289,8 +289,7 @@ def sets(checks):
                     checks.same(f"set {ono} {text}: the device", at[ono].state, state)
     with Served(stagebox()) as device:
         checks.prints("set by a name", device, ["set", 4099, "Mic"], "4099 1\n", 0)
-        checks.same("set by a name: what it asks", asked(device),
-                    [(4099, CLASS, b""), (4099, NAMES, b""), (4099, SET["switch"], b"\0\1")])
+        checks.same("set by a name: what it asks", asked(device), [(4099, CLASS, b""), (4099, NAMES, b""), (4099, SET["switch"], b"\0\1")])
     with Served(stagebox()) as device:
         checks.prints("set by a name as it is printed", device, ["set", 5008, oca.escaped(HIDING)], "5008 1\n", 0)
         checks.prints("set by a name as it is not printed", device, ["set", 5008, HIDING], "5008 no such value\n", 2)
@@ -299,8 +298,7 @@ def sets(checks):
 
 
 # What is told of a span that a device's window of 32 does not bear.
-OF_SPAN_32 = ("note: --span 32: the device needs a window of 63 commands or more; "
-              "its default of 32 is enough for a span of 16\n")
+OF_SPAN_32 = ("note: --span 32: the device needs a window of 63 commands or more; " "its default of 32 is enough for a span of 16\n")
 
 
 def sets_at_once(checks):
@@ -404,8 +402,7 @@ def helps(checks):
 
 
 SEND = ["--level", "4", "--index", "1", "--count", "0", "--target"]
-# Where a command ends with a status, in the words of its help: whether a device answers, the words behind the command,
-# and the lines of its input.
+# Where a command ends with a status, in the words of its help: whether a device answers, the words behind the command, and the lines of its input.
 ENDS = {
     "get": {"if all values were read": (True, ["4097"], ""), "if something was refused": (True, ["4097", "77"], ""),
             "if an answer did not come": (False, ["--turns", "2", "4097"], "")},
@@ -526,8 +523,7 @@ def silence(checks):
 
 def is_deaf(device, own):
     """The note on a device that is heard and answers no command."""
-    return f"note: 127.0.0.1:{device} is heard, but answers no command from port {own}: wait two minutes, or give " \
-        "another --port\n"
+    return f"note: 127.0.0.1:{device} is heard, but answers no command from port {own}: wait two minutes, or give " "another --port\n"
 
 
 def silence_of_a_run(checks):
@@ -621,8 +617,7 @@ def at_a_terminal(checks):
 
 
 def at_a_terminal_alone(checks):
-    """A terminal is known by the input alone: lines that are typed there are read where the output goes to a file, and
-    Ctrl-D ends the run."""
+    """A terminal is known by the input alone: lines that are typed there are read where the output goes to a file, and Ctrl-D ends the run."""
     with Served(stagebox()) as device, tempfile.TemporaryDirectory() as place:
         words = [f"{checks.folder}/ocactl", "run", "--device", f"127.0.0.1:{device.port}", "--port", str(free_port())]
         run = Terminal("sh", "-c", f"{' '.join(words)} > {place}/said 2>&1; exit $?")
@@ -645,9 +640,8 @@ def says_in(path, wanted, seconds=10):
         time.sleep(0.02)
 
 
-# Runs a command in the background of its terminal, prints its number, waits for it and prints its status. Of the words
-# before the command the first is its input, in place of the terminal, and the second the file of its output: each where
-# there is one.
+# Runs a command in the background of its terminal, prints its number, waits for it and prints its status. Of the words before the command the first
+# is its input, in place of the terminal, and the second the file of its output: each where there is one.
 IN_THE_BACKGROUND = """import os, subprocess, sys
 given, place, *words = sys.argv[1:]
 run = subprocess.Popen(words, preexec_fn=os.setpgrp, stdin=subprocess.PIPE if given else None,
@@ -666,8 +660,7 @@ def in_the_background(checks, device, *words, given="", place=""):
 
 
 def behind_a_terminal(checks):
-    """In the background of a terminal `lock --hold` reads nothing that is typed there, and is not stopped by it: it
-    keeps its lock."""
+    """In the background of a terminal `lock --hold` reads nothing that is typed there, and is not stopped by it: it keeps its lock."""
     with Served(stagebox()) as device:
         run = in_the_background(checks, device, "lock", "--hold", "4097")
         checks.same("lock --hold in the background", (run.says(b" is there"), run.says(b"4097 locked")), (True, True))

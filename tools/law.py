@@ -87,8 +87,7 @@ def beat(ms):
 
 
 def lapses(r):
-    """A lock, and moments about three heartbeats after its peer was last heard, of heartbeats in and outside their
-    limits."""
+    """A lock, and moments about three heartbeats after its peer was last heard, of heartbeats in and outside their limits."""
     h = History(r.choice([1, 8, 32]))
     ms = r.choice([None, 0, 100, 249, 250, 251, 1500, 1999, 29999, 30000, 30001, 100000, 2**32 - 1])
     kept = 5000 if ms is None else max(250, min(ms, 30000))
@@ -150,8 +149,7 @@ def crowds(r):
 
 
 def windows(r):
-    """A window filled, with handles in another order, copies of what is in it and behind it, other commands and types
-    under a handle."""
+    """A window filled, with handles in another order, copies of what is in it and behind it, other commands and types under a handle."""
     w = r.choice([1, 2, 3, 4, 5, 8, 16, 31, 32, 33, 63, 64])
     h = History(w)
     handles = [r.choice([1, 1000, oca.U32 - 3 * w - 9]) + k for k in range(2 * w + 4)]
@@ -166,21 +164,18 @@ def windows(r):
         sent += made
         h.says(0, *made)
         if r.randrange(3):
-            copies = [r.choice(sent[-w - 2:]) for _ in range(3)] + [sent[max(0, len(sent) - w - 1)],
-                                                                    sent[-min(w, len(sent))]]
+            copies = [r.choice(sent[-w - 2:]) for _ in range(3)] + [sent[max(0, len(sent) - w - 1)], sent[-min(w, len(sent))]]
             h.says(0, *r.sample(copies, r.choice([1, 3, 5])))
         if r.randrange(4) == 0:
             x = r.choice(handles[:k][-w - 1:])
-            h.says(0, r.choice([trim(x, 1), get(x, False), trim(x, x % 1300 - 650, False), ask(x, 4097, 1, 5),
-                                ask(x, 4097, 4, 1, 1)]))
+            h.says(0, r.choice([trim(x, 1), get(x, False), trim(x, x % 1300 - 650, False), ask(x, 4097, 1, 5), ask(x, 4097, 4, 1, 1)]))
         if r.randrange(6) == 0:
             h.says(0, get(max(0, min(handles[:k]) - 1)))
     return h.says(1, ask(1, 4100, 5, 1))
 
 
 def packings(r):
-    """Many answers in one datagram, of lengths about the limit, with keep-alives, borders of PDUs and messages without
-    an answer between."""
+    """Many answers in one datagram, of lengths about the limit, with keep-alives, borders of PDUs and messages without an answer between."""
     h = History(r.choice([1, 8, 64]))
     for n, size in enumerate(r.choice([[64] * 3, [60, 64, 1], [0, 64, 33]])):
         h.says(0, ask(n + 1, 4099, 4, 4, 2, oca.u16(n) + oca.text_bytes("x" * size)))
@@ -192,9 +187,7 @@ def packings(r):
         for _ in range(r.choice([2, 4, 20])):
             body = [oca.Command(at + i, *r.choice(kinds), 0, b"").body() for i in range(r.choice([1, 2, 7]))]
             at += len(body)
-            part = r.choice([oca.pdu(1, body)] * 5
-                + [oca.pdu(0, body), beat(5000), oca.pdu(4, [oca.u16(3)]),
-                   oca.response(1), get(at - 1)])
+            part = r.choice([oca.pdu(1, body)] * 5 + [oca.pdu(0, body), beat(5000), oca.pdu(4, [oca.u16(3)]), oca.response(1), get(at - 1)])
             if size + len(part) <= LARGEST_DATAGRAM:
                 parts.append(part)
                 size += len(part)
@@ -219,8 +212,7 @@ def fronts(r):
     for n in range(12):
         ono = r.choice([100, 4096, 4097, 4098, 4099, 4100, 4101, 4102, 5000])
         kind = r.choice(["mute", "polarity", "switch", "boolean", *oca.WIDTHS])
-        value = {"mute": r.choice([1, 2]), "polarity": r.choice([1, 2]), "switch": r.choice([0, 1, 2, 3, 65535]),
-                 "boolean": r.randrange(2)}.get(kind)
+        value = {"mute": r.choice([1, 2]), "polarity": r.choice([1, 2]), "switch": r.choice([0, 1, 2, 3, 65535]), "boolean": r.randrange(2)}.get(kind)
         if value is None:
             size, signed = oca.WIDTHS[kind]
             low, high = (-1 << 8 * size - 1, (1 << 8 * size - 1) - 1) if signed else (0, (1 << 8 * size) - 1)
@@ -239,8 +231,7 @@ def fronts(r):
 def reading(h, number, handle):
     """What a panel asks that reads every object."""
     h.says(number, *(ask(handle + k, *wanted) for k, wanted in enumerate(
-        [(4097, 4, 1), (4098, 4, 1), (4099, 4, 1), (4100, 5, 1), (4101, 5, 1), (4102, 5, 1), (4097, 2, 8),
-         (4099, 4, 5), (4099, 4, 9)])))
+        [(4097, 4, 1), (4098, 4, 1), (4099, 4, 1), (4100, 5, 1), (4101, 5, 1), (4102, 5, 1), (4097, 2, 8), (4099, 4, 5), (4099, 4, 9)])))
 
 
 def wander(r):
@@ -250,8 +241,7 @@ def wander(r):
     panels, handle = {n: Panel(r, h.channels) for n in numbers}, 1
     for _ in range(r.choice([20, 40, 60, 100])):
         kind = r.randrange(12)
-        step = r.choice([0, 0, 1, 5, 100, 251, 750, 2500, 3001, 7500, 15001, 90001, 119999, 120000, 120001, -50, -5000,
-                         -130000])
+        step = r.choice([0, 0, 1, 5, 100, 251, 750, 2500, 3001, 7500, 15001, 90001, 119999, 120000, 120001, -50, -5000, -130000])
         h.at(max(0, h.now + (step if r.randrange(3) == 0 or step < 3000 else 1)))
         if kind == 0:
             h.tick(h.now)
@@ -259,12 +249,10 @@ def wander(r):
             reading(h, 40, handle)
             handle += 9
         elif kind == 2:
-            h.sets(*r.choice([(4097, "mute", 1 + r.randrange(2)), (4100, "int16", r.randrange(-601, 602)),
-                              (4099, "switch", r.randrange(4))]))
+            h.sets(*r.choice([(4097, "mute", 1 + r.randrange(2)), (4100, "int16", r.randrange(-601, 602)), (4099, "switch", r.randrange(4))]))
         elif kind == 3:
             n = r.choice(numbers)
-            h.says(n, ask(min(oca.U32, r.choice([panels[n].next + 1, 1])), r.choice([4097, 4098, 4100]), 1,
-                          r.choice([3, 3, 6, 4])))
+            h.says(n, ask(min(oca.U32, r.choice([panels[n].next + 1, 1])), r.choice([4097, 4098, 4100]), 1, r.choice([3, 3, 6, 4])))
         else:
             h.says(r.choice(numbers), data=datagram(r, panels[r.choice(numbers)]))
     reading(h.at(h.now + 1), 41, 1)
@@ -389,8 +377,7 @@ def altered(r, history, tale):
     elif kind == 7 and told.objects:
         k = r.randrange(len(told.objects))
         ono, setting, held = told.objects[k]
-        one = (ono, setting, None if held else ("total", peer(0))) if setting is None or r.randrange(2) else (ono,
-            setting ^ 1, held)
+        one = (ono, setting, None if held else ("total", peer(0))) if setting is None or r.randrange(2) else (ono, setting ^ 1, held)
         new = "objects_are", told._replace(objects=told.objects[:k] + (one,) + told.objects[k + 1:])
     elif kind == 8:
         new = "sessions_are", told._replace(sessions=told.sessions + r.choice([-1, 1]))
@@ -472,18 +459,15 @@ def work(job):
 
 def summary(seed, total, wrong):
     print(f"law: seed {seed}: {total['histories']} histories of {total['events']} events: "
-          f"{total['executed']} executed, {total['duplicates']} duplicates, {total['old']} old, "
-          f"{total['reused']} reused, "
+          f"{total['executed']} executed, {total['duplicates']} duplicates, {total['old']} old, " f"{total['reused']} reused, "
           f"{total['said malformed']} malformed, {total['said no-room']} without room, {total['packets']} packets")
     print(f"room for {sorted(set(SIZES))} peers, {sorted(set(CHANNELS))} channels")
-    print(f"changes at the front: {total['said set']}, refused {total['said refused']}; "
-          f"objects written: {total['writes']}; 0 breaks")
+    print(f"changes at the front: {total['said set']}, refused {total['said refused']}; " f"objects written: {total['writes']}; 0 breaks")
     sentences = collections.Counter(sentence for _, sentence, _ in wrong)
     refused = sum(found for found, _, _ in wrong)
     print(f"wrong devices refused by the sentence that they break: {refused} of {len(wrong)} "
           f"({', '.join(f'{name} {n}' for name, n in sorted(sentences.items()))})")
-    print(f"altered lines refused where they stand, by the sentence that they belong to: "
-          f"{total['altered, refused']} of {total['altered']}")
+    print(f"altered lines refused where they stand, by the sentence that they belong to: " f"{total['altered, refused']} of {total['altered']}")
 
 
 def learn(folder):
@@ -496,8 +480,7 @@ def learn(folder):
     CHANNELS.extend([0, 0, 1, 2, 9])
     TOLD.append(())
     sets = ask(1, 4097, 4, 2, 1, b"\1").hex().encode()
-    return knows(b"history 1 2 0\n") and knows(b"history 1 16 1\n") and \
-        knows(b"history 1 16 0\n0 127.0.0.1:9001 " + sets + b"\n", b"written 4097\n")
+    return knows(b"history 1 2 0\n") and knows(b"history 1 16 1\n") and knows(b"history 1 16 0\n0 127.0.0.1:9001 " + sets + b"\n", b"written 4097\n")
 
 
 def main():

@@ -1,6 +1,5 @@
 #!/usr/bin/env python3
-"""`ocadev serve` and `ocactl run` on 127.0.0.1, with a network between them that loses, doubles, delays and reorders
-datagrams.
+"""`ocadev serve` and `ocactl run` on 127.0.0.1, with a network between them that loses, doubles, delays and reorders datagrams.
 
 Usage: lossy.py BIN [COMMANDS] [SEED]     so many commands one at a time, with a window of 32; four times as many with
                                           16 under way, with a window of 31. BIN is the folder with the programs
@@ -10,12 +9,11 @@ Usage: lossy.py BIN [COMMANDS] [SEED]     so many commands one at a time, with a
 In the gate: lossy.py bin 30
 In the gate: lossy.py bin directed
 
-Of each run it prints a table, and at the end 'N passed, M failed' over the runs. One at a time, each answer must be
-what the second implementation of the profile says, and the last two commands read back what was set. With 16 under way
-the commands may be executed in any order, so they are such whose answers tell them apart in every order. The exit
-status is 1 if a command was executed twice, a copy was too old whose command's answer had not been carried yet, an
-answer was wrong, or one is missing; of `directed`, if with a window of 31 or more the copy is not answered from the
-window, or with a smaller one is not too old."""
+Of each run it prints a table, and at the end 'N passed, M failed' over the runs. One at a time, each answer must be what the second implementation of
+the profile says, and the last two commands read back what was set. With 16 under way the commands may be executed in any order, so they are such
+whose answers tell them apart in every order. The exit status is 1 if a command was executed twice, a copy was too old whose command's answer had not
+been carried yet, an answer was wrong, or one is missing; of `directed`, if with a window of 31 or more the copy is not answered from the window, or
+with a smaller one is not too old."""
 import heapq
 import random
 import re
@@ -196,13 +194,11 @@ class Run:
     """A run of the two programs over a network: the answers, the controller's status, and the device's report."""
 
     def __init__(self, folder, made, window, network_of, words):
-        device = subprocess.Popen(
-            [f"{folder}/ocadev", "serve", "--port", "0", "--turns", str(TURNS), "--window", str(window)],
+        device = subprocess.Popen([f"{folder}/ocadev", "serve", "--port", "0", "--turns", str(TURNS), "--window", str(window)],
             stdout=subprocess.PIPE, stderr=subprocess.PIPE)
         self.network = network = network_of(listening(device))
         host, port = network.front.getsockname()
-        panel = subprocess.Popen(
-            [f"{folder}/ocactl", "run", "--device", f"{host}:{port}", "--first-handle", "1", "--port", str(free_port()), *words],
+        panel = subprocess.Popen([f"{folder}/ocactl", "run", "--device", f"{host}:{port}", "--first-handle", "1", "--port", str(free_port()), *words],
             stdin=subprocess.PIPE, stdout=subprocess.PIPE)
         panel.stdin.write("".join(line + "\n" for line, _ in made).encode())
         panel.stdin.close()

@@ -46,8 +46,7 @@ def response(handle, params=b"\1"):
 
 
 def next_command(device):
-    """The next command that comes, and from where; nothing where none comes in ten seconds. Keep-alives are passed
-    over."""
+    """The next command that comes, and from where; nothing where none comes in ten seconds. Keep-alives are passed over."""
     with contextlib.suppress(TimeoutError):
         while True:
             data, sender = device.recvfrom(2000)
@@ -146,8 +145,7 @@ def quiet_turns(checks):
     """A turn without a datagram waits 50 ms, with signals too; each failing receive waits as long and is counted."""
     turns = 20
     for failing, settings in ((0, {}), (0, {"SIGNALS": 30}), (0, {"SIGNALS": 1000}), (0, {"INTERRUPT": 5}),
-                              (7, {"FAIL_RECEIVE": 7, "ERRNO": errno.ENETDOWN}),
-                              (20, {"FAIL_RECEIVE": 99, "ERRNO": errno.ENOBUFS, "SIGNALS": 1000})):
+                              (7, {"FAIL_RECEIVE": 7, "ERRNO": errno.ENETDOWN}), (20, {"FAIL_RECEIVE": 99, "ERRNO": errno.ENOBUFS, "SIGNALS": 1000})):
         took, short = [], False
         for _ in range(TRIES):
             begun = time.monotonic()
@@ -181,13 +179,11 @@ def signals(checks):
 
 
 def runs_under_signals(checks):
-    """`ocactl run` whose input stays open, while signals come: each line is answered, nothing else is said, and it ends
-    with its input."""
+    """`ocactl run` whose input stays open, while signals come: each line is answered, nothing else is said, and it ends with its input."""
     run, port = checks.serve(100000)
     reader, writer = os.pipe()
     os.write(writer, b"4097 4 1 0 -\n")
-    asks = checks.start("ocactl", "run", "--device", f"127.0.0.1:{port}", "--first-handle", 1, "--port", free_port(),
-                        stdin=reader, SIGNALS=1000)
+    asks = checks.start("ocactl", "run", "--device", f"127.0.0.1:{port}", "--first-handle", 1, "--port", free_port(), stdin=reader, SIGNALS=1000)
     os.close(reader)
     for count in (1, 2, 3):
         is_there = bool(select.select([asks.stdout], [], [], 10)[0])
@@ -224,8 +220,7 @@ SENT = ("--target", 1, "--level", 1, "--index", 1, "--count", 0)
 
 
 def refused_sockets(checks):
-    """A socket that the system refuses: a note has the system's reason, with the port where the program chose one or
-    was given one for objects."""
+    """A socket that the system refuses: a note has the system's reason, with the port where the program chose one or was given one for objects."""
     in_use = "Address already in use (os error 98)"
     nowhere = "Cannot assign requested address (os error 99)"
     with bound() as taken, bound() as device:
@@ -238,8 +233,7 @@ def refused_sockets(checks):
                            (("ocactl", "run", *to, "--port", port), f"port {port}: {in_use}"),
                            (("ocactl", "get", *to, "--port", port, 4097), f"port {port}: {in_use}"),
                            (("ocactl", "lock", *to, "--port", port, 4097), f"port {port}: {in_use}")):
-            checks.same(f"a refused socket of {words}", ended(checks.start(*words)),
-                        ("", f"note: {why}\nsocket failed\n", 1))
+            checks.same(f"a refused socket of {words}", ended(checks.start(*words)), ("", f"note: {why}\nsocket failed\n", 1))
 
 
 def with_a_buffer(checks, granted, *words):
@@ -278,9 +272,8 @@ def arrivals(device):
 
 
 def asks_the_host(checks):
-    """A run of `ocactl get` at 127.0.0.2 that no device answers: what the host is asked last, from which address, and
-    whether from a port of its own; for how many milliseconds that is awaited; and how long a wait of 50 ms is
-    meanwhile."""
+    """A run of `ocactl get` at 127.0.0.2 that no device answers: what the host is asked last, from which address, and whether from a port of its own;
+    for how many milliseconds that is awaited; and how long a wait of 50 ms is meanwhile."""
     with bound() as device:
         device.setsockopt(socket.SOL_SOCKET, SO_TIMESTAMPNS, 1)
         own, to = free_port(), at(device)
@@ -293,9 +286,8 @@ def asks_the_host(checks):
 
 
 def is_a_program_there(checks):
-    """Where a device is not heard, its host is asked whether a program has its port: by an empty datagram, from the
-    address that the words give and a port of its own, for 200 ms: as long as four waits that this script makes
-    meanwhile."""
+    """Where a device is not heard, its host is asked whether a program has its port: by an empty datagram, from the address that the words give and a
+    port of its own, for 200 ms: as long as four waits that this script makes meanwhile."""
     asked, took = set(), []
     for _ in range(TRIES):
         what, ms, wait = asks_the_host(checks)
@@ -338,8 +330,7 @@ def sends_lines(checks, device, count):
 
 
 def lines_at_once(checks):
-    """A line of `ocactl run` is sent at once where nothing is under way: the fourth of seven sooner than half a wait of
-    50 ms ends."""
+    """A line of `ocactl run` is sent at once where nothing is under way: the fourth of seven sooner than half a wait of 50 ms ends."""
     fourth = []
     for _ in range(TRIES):
         with bound() as device, Waits() as waits:
@@ -349,8 +340,7 @@ def lines_at_once(checks):
         fourth.append(sorted(took[1:])[3] / waits.one)  # the first line waits for the program to begin
         if fourth[-1] < 0.5:
             break
-    checks.expect("`run`: a line is sent sooner than half a wait of 50 ms ends", fourth[-1] < 0.5,
-                  f"{fourth} of such a wait", is_time=True)
+    checks.expect("`run`: a line is sent sooner than half a wait of 50 ms ends", fourth[-1] < 0.5, f"{fourth} of such a wait", is_time=True)
 
 
 def copies_behind_a_pause(checks):
@@ -424,8 +414,7 @@ def closed_descriptors(checks):
 
 
 def broken_pipes(checks):
-    """A pipe that nobody reads does not end a program: an output that can't be written is a fault, and a place for
-    faults that can't be is none."""
+    """A pipe that nobody reads does not end a program: an output that can't be written is a fault, and a place for faults that can't be is none."""
     reader, writer = os.pipe()
     os.close(reader)
     with bound() as silent:
@@ -443,8 +432,7 @@ def broken_pipes(checks):
 
 
 def nulls_of(run):
-    """The descriptors of a run at which the null device stands, once it has a socket; nothing where it has none in ten
-    seconds."""
+    """The descriptors of a run at which the null device stands, once it has a socket; nothing where it has none in ten seconds."""
     place, until = f"/proc/{run.pid}/fd", time.monotonic() + 10
     while run.poll() is None and time.monotonic() < until:
         try:
@@ -467,8 +455,7 @@ def null_at_closed(checks):
                       ("ocapanel", "--device", f"127.0.0.1:{to}", "--listen", "127.0.0.1:0"), ("amplifier", 0, 1000), ("panel", to)):
             for closed in (of for count in (0, 1, 2, 3) for of in itertools.combinations((0, 1, 2), count)):
                 run = checks.start(*words, close=closed)
-                checks.same(f"{words[0]}: {closed} closed: where the null device stands", nulls_of(run),
-                            sorted({0, *closed}))
+                checks.same(f"{words[0]}: {closed} closed: where the null device stands", nulls_of(run), sorted({0, *closed}))
                 run.kill()
                 run.communicate(timeout=60)
 
@@ -516,8 +503,7 @@ def kept_safely(checks):
             wanted = []
             for handle, value in ((1, b"\2"), (2, b"\1")):
                 peer.sendto(oca.command(handle, 4097, 4, 2, 1, value), ("127.0.0.1", port))
-                checks.same(f"--keep {state}: the answer to {handle}", peer.recv(2000),
-                            oca.response(handle))
+                checks.same(f"--keep {state}: the answer to {handle}", peer.recv(2000), oca.response(handle))
                 wanted += [f"fsync {place}/state.new", f"rename {state}.new {state}", f"fsync {place}"]
                 until = time.monotonic() + 30
                 while time.monotonic() < until and (said := calls_in(place)) != wanted:

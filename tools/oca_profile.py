@@ -1,8 +1,6 @@
-"""A second, plain implementation of the profile in docs/PROTOCOL.md: a device, a controller, both over a network, and
-the texts of
-`ocadev replay`, `ocactl replay` and `trials world`. It is written from the rules of the profile and not from the
-programs' code, to compare them with it.
-It favours plain lists over speed. Python 3, standard library only."""
+"""A second, plain implementation of the profile in docs/PROTOCOL.md: a device, a controller, both over a network, and the texts of `ocadev replay`,
+`ocactl replay` and `trials world`. It is written from the rules of the profile and not from the programs' code, to compare them with it. It favours
+plain lists over speed. Python 3, standard library only."""
 
 import copy
 import re
@@ -73,8 +71,7 @@ def check(data):
                 if kind == 3:
                     messages.append(("response", number(body[4:8]), body[8], body[9], body[10:]))
                 else:
-                    command = Command(number(body[4:8]), number(body[8:12]), number(body[12:14]),
-                                      number(body[14:16]), body[16], body[17:])
+                    command = Command(number(body[4:8]), number(body[8:12]), number(body[12:14]), number(body[14:16]), body[16], body[17:])
                     messages.append(("command", kind == 1, command))
                 m += length
             if m < e:
@@ -102,8 +99,7 @@ class Command:
 
     def body(self):
         return ((17 + len(self.params)).to_bytes(4, "big") + self.handle.to_bytes(4, "big")
-                + self.target.to_bytes(4, "big") + self.level.to_bytes(2, "big") + self.index.to_bytes(2, "big")
-                + bytes([self.count]) + self.params)
+                + self.target.to_bytes(4, "big") + self.level.to_bytes(2, "big") + self.index.to_bytes(2, "big") + bytes([self.count]) + self.params)
 
 
 def command(*fields):
@@ -147,28 +143,17 @@ class Object:
 
 def bench(channels=0):
     """The bench device's objects, and behind them so many channel strips."""
-    own = [
-        Object(100, "block", 0, "root"),
-        Object(4096, "block", 100, "desk"),
-        Object(4097, "mute", 4096, "mute", state=1),
-        Object(4098, "polarity", 4096, "polarity", state=1),
-        Object(4099, "switch", 4096, "input", state=0, names=["Line", "Mic", "Off"]),
-        Object(4100, "int16", 4096, "trim", state=0, low=-600, high=600),
-        Object(4101, "boolean", 4096, "lamp", state=False),
-        Object(4102, "uint8", 4096, "dim", lockable=False, state=10, low=0, high=100),
-    ]
+    own = [Object(100, "block", 0, "root"), Object(4096, "block", 100, "desk"), Object(4097, "mute", 4096, "mute", state=1),
+        Object(4098, "polarity", 4096, "polarity", state=1), Object(4099, "switch", 4096, "input", state=0, names=["Line", "Mic", "Off"]),
+        Object(4100, "int16", 4096, "trim", state=0, low=-600, high=600), Object(4101, "boolean", 4096, "lamp", state=False),
+        Object(4102, "uint8", 4096, "dim", lockable=False, state=10, low=0, high=100)]
     for first in range(4103, 4103 + 4 * channels, 4):
-        own += [
-            Object(first, "block", 100, "strip"),
-            Object(first + 1, "mute", first, "mute", state=1),
-            Object(first + 2, "polarity", first, "polarity", state=1),
-            Object(first + 3, "int16", first, "trim", state=0, low=-600, high=600),
-        ]
+        own += [Object(first, "block", 100, "strip"), Object(first + 1, "mute", first, "mute", state=1),
+            Object(first + 2, "polarity", first, "polarity", state=1), Object(first + 3, "int16", first, "trim", state=0, low=-600, high=600)]
     return own
 
 
-WORDS = {"mute": {"muted": 1, "unmuted": 2}, "polarity": {"non-inverted": 1, "inverted": 2},
-         "boolean": {"on": True, "off": False}}
+WORDS = {"mute": {"muted": 1, "unmuted": 2}, "polarity": {"non-inverted": 1, "inverted": 2}, "boolean": {"on": True, "off": False}}
 
 
 class ObjectFault(Exception):
@@ -277,8 +262,7 @@ def refuse(tree, new):
     while at is not None and at.ono != 100:
         deep, at = deep + 1, next(o for o in tree if o.ono == at.container)
     texts = [new.role] + (new.names or [])
-    for fault, holds in (
-            ("full", len(tree) >= 4096), ("reserved", new.ono < 4096), ("taken", any(o.ono == new.ono for o in tree)),
+    for fault, holds in (("full", len(tree) >= 4096), ("reserved", new.ono < 4096), ("taken", any(o.ono == new.ono for o in tree)),
             ("container", block is None), ("depth", deep >= 8), ("text", not new.role or any(len(t.encode()) > 64 for t in texts)),
             ("range", new.low is not None and not new.low <= new.state <= new.high)):
         if holds:
@@ -397,13 +381,13 @@ def nothing(*_):
     return []
 
 
-# How parameters are read, a letter each: a truth, a text, an integer of one or two bytes, the value of the object's class, and a list of as
-# many truths or texts as a switch has positions.
+# How parameters are read, a letter each: a truth, a text, an integer of one or two bytes, the value of the object's class, and a list of as many
+# truths or texts as a switch has positions.
 READERS = {"b": lambda r, _: r.boolean(), "t": lambda r, _: r.text(), "1": lambda r, _: r.unsigned(1), "2": lambda r, _: r.unsigned(2),
            "v": lambda r, obj: r.boolean() if obj.kind == "boolean" else (r.signed if WIDTHS[obj.kind][1] else r.unsigned)(WIDTHS[obj.kind][0]),
            "B": lambda r, obj: r.listed(obj, r.boolean), "T": lambda r, obj: r.listed(obj, r.text)}
-# The methods of all classes and of each, by DefLevel and MethodIndex: what they need of a lock (R: read, W: write, L: lock), how their
-# parameters are read, what they answer, and what they change.
+# The methods of all classes and of each, by DefLevel and MethodIndex: what they need of a lock (R: read, W: write, L: lock), how their parameters are
+# read, what they answer, and what they change.
 OF_ALL = {
     (1, 1): ("R", "", lambda tree, obj: [class_bytes(obj)], nothing), (1, 2): ("R", "", lambda tree, obj: [flag(obj.lockable)], nothing),
     (1, 3): ("L", "", nothing, locks("total")), (1, 4): ("L", "", nothing, locks(None)), (1, 6): ("L", "", nothing, locks("read-only")),
@@ -411,8 +395,7 @@ OF_ALL = {
     (2, 1): ("R", "", lambda tree, obj: [flag(obj.enabled)], nothing), (2, 2): ("W", "b", nothing, puts("enabled")),
     (2, 8): ("R", "", lambda tree, obj: [text_bytes(obj.label)], nothing), (2, 9): ("W", "t", nothing, puts("label")),
     (2, 10): ("R", "", lambda tree, obj: [obj.container.to_bytes(4, "big")], nothing)}
-OF_BLOCK = {
-    (3, 5): ("R", "", lambda tree, obj: [listed_bytes([identification(o) for o in members(tree, obj.ono)])], nothing),
+OF_BLOCK = {(3, 5): ("R", "", lambda tree, obj: [listed_bytes([identification(o) for o in members(tree, obj.ono)])], nothing),
     (3, 6): ("R", "", lambda tree, obj: [listed_bytes([identification(o, True) for o in descendants(tree, obj.ono)])], nothing)}
 OF_STATE = {(4, 1): ("R", "", lambda tree, obj: [bytes([obj.state])], nothing), (4, 2): ("W", "1", nothing, puts("state"))}
 OF_SWITCH = {
@@ -502,8 +485,7 @@ NO_OBJECT, NO_SETTING, OTHER_KIND, TOO_FAR = 1, 2, 3, 4
 
 
 def set_local(tree, ono, kind, value):
-    """Sets an object as its class's set method would, whoever has locked it. The number of the fault, which changes
-    nothing, or None."""
+    """Sets an object as its class's set method would, whoever has locked it. The number of the fault, which changes nothing, or None."""
     obj = next((o for o in tree if o.ono == ono), None)
     if obj is None:
         return NO_OBJECT
@@ -511,8 +493,7 @@ def set_local(tree, ono, kind, value):
         return NO_SETTING
     if obj.kind != kind:
         return OTHER_KIND
-    if (kind in WIDTHS and not obj.low <= value <= obj.high) \
-            or (kind == "switch" and not (value < len(obj.names) and obj.enableds[value])):
+    if (kind in WIDTHS and not obj.low <= value <= obj.high) or (kind == "switch" and not (value < len(obj.names) and obj.enableds[value])):
         return TOO_FAR
     obj.state = bool(value) if kind == "boolean" else value
     return None
@@ -618,8 +599,7 @@ def packets(answers):
     """Neighbouring responses share one PDU while the datagram has at most 1,472 bytes; each keep-alive is alone."""
     groups = []
     for kind, body in answers:
-        if kind == "response" and groups and groups[-1][0] == "response" and len(pdu(3,
-            groups[-1][1] + [body])) <= LARGEST:
+        if kind == "response" and groups and groups[-1][0] == "response" and len(pdu(3, groups[-1][1] + [body])) <= LARGEST:
             groups[-1][1].append(body)
         else:
             groups.append((kind, [body]))
@@ -696,10 +676,8 @@ DEVICE = (127, 0, 0, 1, 65000)
 
 
 class Network:
-    """A device at 127.0.0.1:65000, a link for each start (a peer and a first handle), and two lists of datagrams that
-    only grow: those
-    sent to the device and those sent to links, each a pair of the link's peer and the bytes. A step is a tuple, as
-    `step_line` writes it."""
+    """A device at 127.0.0.1:65000, a link for each start (a peer and a first handle), and two lists of datagrams that only grow: those sent to the
+    device and those sent to links, each a pair of the link's peer and the bytes. A step is a tuple, as `step_line` writes it."""
 
     def __init__(self, window, span, starts, peers=16):
         self.device = Device(window=window, peers=peers)
@@ -834,16 +812,14 @@ def link_line(link, fields):
     if keyword == "from":
         peer = need(peer_of(fields[2]), "peer")
         return [link.datagram(peer, need(hex_of(fields[3]), "hex"), now)]
-    numbers = [digits(fields[2], 10, U32), digits(fields[3], 5, 65535), digits(fields[4], 5, 65535),
-               digits(fields[5], 3, 255)]
+    numbers = [digits(fields[2], 10, U32), digits(fields[3], 5, 65535), digits(fields[4], 5, 65535), digits(fields[5], 3, 255)]
     if None in numbers:
         raise LineFault("number")
     return [link.submit(*numbers, need(hex_of(fields[6]), "hex"), now)]
 
 
 def replay(script, serve):
-    """(standard output, the fault's line or None, the exit status) of a script's bytes; serve answers a line's
-    fields."""
+    """(standard output, the fault's line or None, the exit status) of a script's bytes; serve answers a line's fields."""
     limit = 16777216
     over = len(script) > limit
     lines = script[:limit].split(b"\n")

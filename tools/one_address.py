@@ -113,8 +113,7 @@ class Relay:
             self.front.sendto(self.peers[sender].recv(2000), sender)
 
     def serve(self):
-        """Until the input says that the program has ended: then prints how the mute is set, and from how many peers a command came that
-        sets it."""
+        """Until the input says that the program has ended: then prints how the mute is set, and from how many peers a command came that sets it."""
         print("listening", flush=True)
         while True:
             ways = {back: sender for sender, back in self.peers.items()}

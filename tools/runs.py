@@ -152,8 +152,7 @@ served 0 0 0
     ("ocadev show --channels 2", b"", STRIPS),
     ("ocadev replay --channels 2", GET_STRIP, b"served 1 0 0\n> 3b0001000000140300010000000b00000001000101\n"),
     ("ocadev replay", GET_STRIP, b"served 1 0 0\n> 3b0001000000130300010000000a000000010500\n"),
-    # Two responses leave in one PDU; a command that asks something else under a kept handle is counted, and its copy of no
-    # response is not answered.
+    # Two responses leave in one PDU; a command that asks something else under a kept handle is counted, and its copy of no response is not answered.
     ("ocadev replay",
      b"""\
 0 127.0.0.1:9001 3b00010000002b01000200000011000000010000100100040001000000001100000002000010020004000100
@@ -283,8 +282,8 @@ ALL_BELOW = bytes.fromhex("""
     00001004 0005 0001 0001 0001 0001 0003 0002 00001000
     00001005 0005 0001 0001 0001 0001 0001 0002 00001000
     00001006 0005 0001 0001 0001 0001 0006 0002 00001000""")
-# Block 4096 and mute 4097 in the root, and mute 4098 in the block; what is told of the root's members, of all below the root and of all
-# below the block.
+# Block 4096 and mute 4097 in the root, and mute 4098 in the block; what is told of the root's members, of all below the root and of all below the
+# block.
 TWO_LEVELS = b"""\
 root on ""
 object 4096 100 block lockable "block" on ""
@@ -305,8 +304,8 @@ def actuators(end):
 # What is told of 65 actuators, under handle 1, in 1,452 bytes.
 SIXTY_FIVE = bytes.fromhex("3b00010000 05ab 030001 000005a2 00000001 00 01 0041") + b"".join(
     struct.pack(">I", number) + bytes.fromhex("0005 0001 0001 0001 0001 0003 0002 00000064") for number in range(4096, 4161))
-# Nine times the members of the root with all below, under the handles 1 to 9 (156 bytes of response each), three times the position of the
-# switch, under 10 to 12 (16 bytes each), and the state set, under 13 (10 bytes); the responses, 1,472 bytes with their header.
+# Nine times the members of the root with all below, under the handles 1 to 9 (156 bytes of response each), three times the position of the switch,
+# under 10 to 12 (16 bytes each), and the state set, under 13 (10 bytes); the responses, 1,472 bytes with their header.
 THIRTEEN = [*(asked(handle, 100, (3, 6)) for handle in range(1, 10)), *(asked(handle, 4099, (4, 1)) for handle in range(10, 13)),
             asked(13, 4097, (4, 2), b"\1")]
 OF_THIRTEEN = pdu(3, *(told(handle, 0, 1, ALL_BELOW) for handle in range(1, 10)),
@@ -318,8 +317,8 @@ def muted(first, end):
     return [(0, A, get_state(handle), EXECUTED, [state(handle, 1)]) for handle in range(first, end)]
 
 
-# What a device makes of datagrams: its options, the text of its objects, or none of the bench's, and for each datagram the moment, the port
-# of its peer, its bytes, the verdict and the packets that leave.
+# What a device makes of datagrams: its options, the text of its objects, or none of the bench's, and for each datagram the moment, the port of its
+# peer, its bytes, the verdict and the packets that leave.
 DEVICE_SCRIPTS = {
     # Settings from -600 to 600 are taken, 601 is refused, and the setting stays.
     "refuses_out_of_range": ("", None, [
@@ -337,8 +336,8 @@ DEVICE_SCRIPTS = {
         (0, A, set_state(3, 1), EXECUTED, [done(3)]),
         (0, A, get_state(5), EXECUTED, [state(5, 1)]),
     ]),
-    # A locks an object at 0. A malformed datagram of B at 3,001 raises the moment past three heartbeats of A, so that the lock is off for
-    # what B sends after it, though that is marked with an earlier moment.
+    # A locks an object at 0. A malformed datagram of B at 3,001 raises the moment past three heartbeats of A, so that the lock is off for what B
+    # sends after it, though that is marked with an earlier moment.
     "malformed_datagrams_move_the_clock": ("", None, [
         (0, A, ONE_SECOND, NOTHING, [ONE_SECOND]),
         (0, A, lock(1), EXECUTED, [done(1)]),
@@ -473,10 +472,8 @@ DEVICE_LONG_LINES = [
 ]
 
 # What can't be done: no file is there, and the address is of no machine. The words by the fault.
-DEVICE_FAILS = {
-    b"read failed\n": ["ocadev show --tree /nowhere/objects.tree", "ocadev replay --tree /nowhere/objects.tree",
-        "ocadev serve --port 0 --turns 1 --tree /nowhere/objects.tree"],
-    b"socket failed\n": ["ocadev serve --port 0 --turns 2 --ip 192.0.2.1"]}
+DEVICE_FAILS = {b"read failed\n": ["ocadev show --tree /nowhere/objects.tree", "ocadev replay --tree /nowhere/objects.tree",
+        "ocadev serve --port 0 --turns 1 --tree /nowhere/objects.tree"], b"socket failed\n": ["ocadev serve --port 0 --turns 2 --ip 192.0.2.1"]}
 
 # Words that ask `ocadev` for nothing, by what they begin with; one is a word of nothing.
 DEVICE_BAD_WORDS = {

@@ -3,10 +3,9 @@
 
 Usage: standstill.py BIN     BIN is the folder with `ocadev` and `ocactl`
 
-Between the controller and the device lies a relay that loses what the row says. All clocks of both programs are set forward by the layer
-of `ahead.c` while the controller stands still, so that minutes pass in no time. Another controller changes the same object
-meanwhile: what the first one was asked for before must not be done behind that, and is told as lost.
-The last line is 'N passed, M failed'."""
+Between the controller and the device lies a relay that loses what the row says. All clocks of both programs are set forward by the layer of `ahead.c`
+while the controller stands still, so that minutes pass in no time. Another controller changes the same object meanwhile: what the first one was asked
+for before must not be done behind that, and is told as lost. The last line is 'N passed, M failed'."""
 import contextlib
 import fcntl
 import os

@@ -3,8 +3,8 @@
 No step of the gate."""
 import oca_profile as oca
 
-# Texts in a file, by how many lines `ocadev show --tree` prints for each, one for each object with the root, or by its fault. Blocks within blocks
-# go down to depth 8; a role has 64 bytes.
+# Texts in a file, by how many lines `ocadev show --tree` prints for each, one for each object with the root, or by its fault. Blocks within blocks go
+# down to depth 8; a role has 64 bytes.
 BLOCKS = b"".join(b"%d %d block lockable a\n" % (4096 + depth, 4095 + depth if depth else 100) for depth in range(8))
 LISTED = {
     1: [b"", b"\n", b"# \xff\x01", b"\n\n#\n"],
@@ -112,9 +112,8 @@ PLACES = [
     (13, b"4294967295 1.1.1.1.9 100 B\xc3\xbchne"),
 ]
 
-# An object of that text, the DefLevel of its class (the method that reads its value has the index 1 there), and the
-# parameters of the answer: a state; a position, the first and the last one; a truth; and of a number its setting, its least
-# and its greatest value, each of its bytes.
+# An object of that text, the DefLevel of its class (the method that reads its value has the index 1 there), and the parameters of the answer: a
+# state; a position, the first and the last one; a truth; and of a number its setting, its least and its greatest value, each of its bytes.
 READ = [
     (4097, 4, [(2, 1)]),
     (4098, 4, [(2, 1)]),

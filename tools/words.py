@@ -168,8 +168,8 @@ def faults(checks):
 
 
 TO, SENT = "--device 127.0.0.1:65000", "--target 1 --level 1 --index 1 --count 0"
-# Words, and how the note on them begins behind `note: `; and options of `send`, of a device and of `serve` with a value that is not valid,
-# whose note begins with both.
+# Words, and how the note on them begins behind `note: `; and options of `send`, of a device and of `serve` with a value that is not valid, whose note
+# begins with both.
 NOTED = [
     (f"ocactl run {TO} --ahead 0", "--ahead 0 "), (f"ocactl run {TO} --ahead 33", "--ahead 33 "),
     (f"ocactl run {TO} --ahead 17", "--ahead is more than the span"), (f"ocactl set {TO} --ahead 3 --span 2 4097 muted", "--ahead is more than the span"),
@@ -429,8 +429,7 @@ def unwritten(checks):
 
 
 def without_streams(checks):
-    """Where the standard streams are closed, no socket takes the place of one of them, to which what is printed would
-    go."""
+    """Where the standard streams are closed, no socket takes the place of one of them, to which what is printed would go."""
     with bound() as device:
         for words in ("ocadev serve --port 0", f"ocactl send --device {at(device)} {SENT}", f"ocapanel --device {at(device)} --listen 127.0.0.1:0"):
             run = checks.start(*words.split(), stdin=None, stdout=None, stderr=None, preexec_fn=lambda: [os.close(stream) for stream in range(3)])
@@ -452,8 +451,7 @@ def serving(checks, *words):
 
 
 def serves_until_stopped(checks):
-    """`serve` without `--turns`, of one peer and two channel strips: what it tells of each datagram, and that a signal ends it without a
-    report."""
+    """`serve` without `--turns`, of one peer and two channel strips: what it tells of each datagram, and that a signal ends it without a report."""
     run = checks.start("ocadev", "serve", "--port", 0, "--ip", "0.0.0.0", "--peers", 1, "--channels", 2, "--verbose")
     said = re.fullmatch(r"listening 0\.0\.0\.0:(\d+)\n", run.stderr.readline())
     checks.same("serve at 0.0.0.0: where it listens", said is not None, True)

@@ -43,13 +43,14 @@ Some schedules end in a step that names what is not there, or start two links of
 and by name. At the first break the schedule is printed, and the exit status is 1. The last line is 'N passed, M failed'
 over these checks."""
 import collections
+import functools
 import random
 import subprocess
 import sys
 from unittest.mock import patch
 
 import oca_profile as oca
-from comparing import Break, broken, in_processes, runs_of, verdict
+from comparing import Break, broken, in_processes, runs_of, verdict, wrong_rule
 from schedules import PAIRS, PEERS, crowd, directed, lossy, slow, visitors, wander
 
 BATCH = 40
@@ -82,9 +83,8 @@ class Waiting:
 
 
 class Laws:
-    """Walks along a schedule and what its steps led to, and holds each step against the laws. It knows the lists of
-    datagrams, commands, answers and executions, when datagrams came to the device, and nothing of what a device or a
-    link is inside."""
+    """Walks along a schedule and what its steps led to, and holds each step against the laws. It knows the lists of datagrams, commands, answers and
+    executions, when datagrams came to the device, and nothing of what a device or a link is inside."""
 
     def __init__(self, schedule, lines, fit):
         self.fit, self.window, self.most, self.count = fit, schedule.window, schedule.peers, collections.Counter()
@@ -139,8 +139,7 @@ class Laws:
         return self
 
     def note_delivery(self, way, k):
-        """Counts; an overtaking is a datagram that comes for the first time after a later one that was sent the same
-        way."""
+        """Counts; an overtaking is a datagram that comes for the first time after a later one that was sent the same way."""
         self.count["deliveries"] += 1
         key = (way, self.sent[way][k][0])
         if self.heard[way][k] == 0 and self.latest.get(key, -1) > k:
@@ -149,9 +148,8 @@ class Laws:
         self.latest[key] = max(self.latest.get(key, -1), k)
 
     def came_from(self, p, now, data, said):
-        """A datagram of p came to the device; whether it finds room: it is well-formed, and p is known, or fewer than
-        have room are. It is admitted then; and p does not keep its session where that is more than 120,000 ms after the
-        one before it."""
+        """A datagram of p came to the device; whether it finds room: it is well-formed, and p is known, or fewer than have room are. It is admitted
+        then; and p does not keep its session where that is more than 120,000 ms after the one before it."""
         self.clock = max(self.clock, now)
         self.came.add(p)
         try:
@@ -400,8 +398,7 @@ def hold(schedule, lines):
 def shown(schedule, lines, fault):
     """A schedule with what its steps led to."""
     text = schedule.text()
-    return [text[0]] + [f"{line:44}{said}" for line,
-        said in zip(text[1:], lines[1:])] + [f"BREAK of '{fault.law}' at step {fault.at}: {fault.what}"]
+    return [text[0]] + [f"{line:44}{said}" for line, said in zip(text[1:], lines[1:])] + [f"BREAK of '{fault.law}' at step {fault.at}: {fault.what}"]
 
 
 def made(seed, number):
@@ -430,8 +427,7 @@ def altered(r, walk, lines):
     law = r.choice(sorted(walk.places))
     at = 1 + r.choice(walk.places[law])
     status, count, params = (lines[at].split(" ") + [""] * 4)[1:4]
-    new = {"answers": f"answer {int(status) ^ 1} {count} {params}" if r.randrange(2) else lines[at].removesuffix("-")
-           + "00",
+    new = {"answers": f"answer {int(status) ^ 1} {count} {params}" if r.randrange(2) else lines[at].removesuffix("-") + "00",
            "untaken": "served 0 0 1", "once": "served 1 0 0", "round trip": "nothing new"}[law]
     return law, lines[:at] + [new] + lines[at + 1:]
 
@@ -470,166 +466,169 @@ def laws(schedule, lines, fit=None):
 # ---- wrong devices and links
 
 
-def wrong_rules():
-    """Devices and links with one rule changed, each with the law that must refuse them and what is changed."""
-    judge, submit_to, serve, hear = oca.Session.judge, oca.Link.submit, oca.Device.datagram, oca.Link.datagram
-    due, advance, execute, answer = oca.Link.due, oca.Device.advance, oca.execute, oca.answer
+JUDGE, SUBMIT, HEAR, DUE = oca.Session.judge, oca.Link.submit, oca.Link.datagram, oca.Link.due
+SERVE, ADVANCE, EXECUTE, ANSWER = oca.Device.datagram, oca.Device.advance, oca.execute, oca.answer
+RULES = {}
+wrong = functools.partial(wrong_rule, RULES)
 
-    def no_floor(session, window, command):
-        kept = [reply for c, reply in session.accepted[-window:] if c.handle == command.handle]
-        return ("duplicate", kept[0]) if kept else ("fresh", None)
+wrong("a window that is one smaller", "untaken", oca.Session, "judge")(lambda session, window, command: JUDGE(session, window - 1, command))
+wrong("copies are executed", "once", oca.Session, "judge")(lambda session, window, command: ("fresh", None))
 
-    def latest_reply(session, window, command):
-        verdict, reply = judge(session, window, command)
-        return verdict, session.accepted[-1][1] if verdict == "duplicate" else reply
 
-    def wider(link, *fields):
-        link.span += 1
-        said = submit_to(link, *fields)
-        link.span -= 1
+@wrong("no handle is too old", "once", oca.Session, "judge")
+def no_floor(session, window, command):
+    kept = [reply for c, reply in session.accepted[-window:] if c.handle == command.handle]
+    return ("duplicate", kept[0]) if kept else ("fresh", None)
+
+
+@wrong("a copy gets the latest reply", "untaken", oca.Session, "judge")
+def latest_reply(session, window, command):
+    verdict, reply = JUDGE(session, window, command)
+    return verdict, session.accepted[-1][1] if verdict == "duplicate" else reply
+
+
+@wrong("a span that is one larger", "untaken", oca.Link, "submit")
+def wider(link, *fields):
+    link.span += 1
+    said = SUBMIT(link, *fields)
+    link.span -= 1
+    return said
+
+
+@wrong("an answer goes to the lowest command", "answers", oca.Link, "datagram")
+def lowest(link, sender, data, now):
+    link.now = max(link.now, now)
+    waiting = [u for u in link.untaken if u[3] is None]
+    given = [m for m in oca.check(data) if m[0] == "response"]
+    if not waiting or not given:
+        return "nothing new"
+    waiting[0][3] = given[0][2:]
+    return "answered 1"
+
+
+@wrong("room for one fewer", "room", oca.Device, "datagram")
+def fewer_sessions(device, sender, data, now):
+    if len(device.sessions) >= device.peers - 1 and all(s.peer != sender for s in device.sessions):
+        return "no-room", []
+    return SERVE(device, sender, data, now)
+
+
+@wrong("a place is never given up", "room", oca.Device, "datagram")
+def never_given_up(device, sender, data, now):
+    device.ever = getattr(device, "ever", set())
+    if sender not in device.ever and len(device.ever) >= device.peers:
+        return "no-room", []
+    said, packets = SERVE(device, sender, data, now)
+    device.ever |= {sender} if said.startswith("served") else set()
+    return said, packets
+
+
+@wrong("where one finds no room a known peer finds none", "untaken", oca.Device, "datagram")
+def shut_for_all(device, sender, data, now):
+    if getattr(device, "shut", None) == max(device.now, now) and any(s.peer == sender for s in device.sessions):
+        return "no-room", []
+    said, packets = SERVE(device, sender, data, now)
+    device.shut = device.now if said == "no-room" else None
+    return said, packets
+
+
+@wrong("who was forgotten is forgotten sooner", "in time", oca.Device, "advance")
+def forgets_sooner(device, now):
+    again, known = getattr(device, "again", set()), {s.peer for s in device.sessions}
+    ADVANCE(device, now)
+    device.again = again | (known - {s.peer for s in device.sessions})
+    device.sessions = [s for s in device.sessions if s.peer not in again or device.now - s.heard < 115000]
+
+
+def without(is_left_out, call):
+    """A call of a link that knows none of its commands of which this is so."""
+    def made(link, *given):
+        left = [u for u in link.untaken if is_left_out(link, u)]
+        link.untaken = [u for u in link.untaken if u not in left]
+        said = call(link, *given)
+        link.untaken = sorted(link.untaken + left, key=lambda u: u[0].handle)
         return said
+    return made
 
-    def lowest(link, sender, data, now):
-        link.now = max(link.now, now)
-        waiting = [u for u in link.untaken if u[3] is None]
-        answers = [m for m in oca.check(data) if m[0] == "response"]
-        if not waiting or not answers:
-            return "nothing new"
-        waiting[0][3] = answers[0][2:]
-        return "answered 1"
 
-    def fewer_sessions(device, sender, data, now):
-        if len(device.sessions) >= device.peers - 1 and all(s.peer != sender for s in device.sessions):
-            return "no-room", []
-        return serve(device, sender, data, now)
+wrong("no answer to what was given out twice", "round trip", oca.Link, "datagram")(without(lambda link, u: u[1] > 1, HEAR))
+wrong("what was given out twice is not given out again", "through", oca.Link, "due")(without(lambda link, u: u[1] == 2, DUE))
+wrong("the lowest command alone is given out", "through", oca.Link, "due")(without(lambda link, u: u is not link.untaken[0], DUE))
 
-    def never_given_up(device, sender, data, now):
-        device.ever = getattr(device, "ever", set())
-        if sender not in device.ever and len(device.ever) >= device.peers:
-            return "no-room", []
-        said, packets = serve(device, sender, data, now)
-        device.ever |= {sender} if said.startswith("served") else set()
-        return said, packets
 
-    def shut_for_all(device, sender, data, now):
-        if getattr(device, "shut", None) == max(device.now, now) and any(s.peer == sender for s in device.sessions):
-            return "no-room", []
-        said, packets = serve(device, sender, data, now)
-        device.shut = device.now if said == "no-room" else None
-        return said, packets
+@wrong("one answer at a time", "round trip", oca.Link, "datagram")
+def one_answer(link, sender, data, now):
+    return "nothing new" if any(u[3] is not None for u in link.untaken) else HEAR(link, sender, data, now)
 
-    def forgets_sooner(device, now):
-        again, known = getattr(device, "again", set()), {s.peer for s in device.sessions}
-        advance(device, now)
-        device.again = again | (known - {s.peer for s in device.sessions})
-        device.sessions = [s for s in device.sessions if s.peer not in again or device.now - s.heard < 115000]
 
-    def hears_once(link, sender, data, now):
-        again = [u for u in link.untaken if u[1] > 1]
-        for u in again:
-            link.untaken.remove(u)
-        said = hear(link, sender, data, now)
-        link.untaken = sorted(link.untaken + again, key=lambda u: u[0].handle)
-        return said
+@wrong("an answer takes the others' place", "round trip", oca.Link, "datagram")
+def last_answer(link, sender, data, now):
+    kept = {u[0].handle: u[3] for u in link.untaken}
+    said = HEAR(link, sender, data, now)
+    for u in link.untaken:
+        if u[3] is not None and kept.get(u[0].handle):
+            u[3] = None if said.startswith("answered") else u[3]
+    return said
 
-    def twice_at_most(link, now):
-        again = [u for u in link.untaken if u[1] == 2]
-        link.untaken = [u for u in link.untaken if u[1] != 2]
-        said = due(link, now)
-        link.untaken = sorted(link.untaken + again, key=lambda u: u[0].handle)
-        return said
 
-    def lowest_alone(link, now):
-        later, link.untaken = link.untaken[1:], link.untaken[:1]
-        said = due(link, now)
-        link.untaken += later
-        return said
+def instead(change):
+    """Objects that give to a get method what they would if this were changed of them."""
+    def answered(tree, o, key, args):
+        seen = o.copy()
+        if key == READS.get(o.kind):
+            change(tree, seen)
+        return ANSWER(tree, seen, key, args)
+    return answered
 
-    def one_answer(link, sender, data, now):
-        return "nothing new" if any(u[3] is not None for u in link.untaken) else hear(link, sender, data, now)
 
-    def last_answer(link, sender, data, now):
-        kept = {u[0].handle: u[3] for u in link.untaken}
-        said = hear(link, sender, data, now)
-        for u in link.untaken:
-            if u[3] is not None and any(kept.values()) and kept.get(u[0].handle):
-                u[3] = None if said.startswith("answered") else u[3]
-        return said
+@instead
+def value_before(tree, o):
+    o.state = getattr(o, "before", o.state)
 
-    def instead(change):
-        """Objects that give to a get method what they would if this were changed of them."""
-        def answered(tree, o, key, args):
-            seen = o.copy()
-            if key == READS.get(o.kind):
-                change(tree, seen)
-            return answer(tree, seen, key, args)
-        return answered
 
-    def value_before(tree, o):
-        o.state = getattr(o, "before", o.state)
+@wrong("a reading is another object's", "said", oca, "answer")
+@instead
+def other_objects(tree, o):
+    other = {"mute": "polarity", "polarity": "mute"}.get(o.kind)
+    o.state = next((x.state for x in tree if x.kind == other), o.state)
 
-    def other_objects(tree, o):
-        other = {"mute": "polarity", "polarity": "mute"}.get(o.kind)
-        o.state = next((x.state for x in tree if x.kind == other), o.state)
 
-    def limits_exchanged(tree, o):
-        o.low, o.high = o.high, o.low
+@wrong("limits are exchanged", "said", oca, "answer")
+@instead
+def limits_exchanged(tree, o):
+    o.low, o.high = o.high, o.low
 
-    def remembers(tree, peer, c):
-        o = next((o for o in tree if o.ono == c.target), None)
-        was = o and o.state
-        done = execute(tree, peer, c)
-        if o and o.state != was:
-            o.before = was
-        return done
 
-    def late_reading(tree, peer, c):
-        oca.answer = instead(value_before)
-        try:
-            return remembers(tree, peer, c)
-        finally:
-            oca.answer = answer
+@wrong("a reading is the one before the last setting", "said", oca, "execute")
+def late_reading(tree, peer, c):
+    o = next((o for o in tree if o.ono == c.target), None)
+    was = o and o.state
+    with patch.object(oca, "answer", value_before):
+        done = EXECUTE(tree, peer, c)
+    if o and o.state != was:
+        o.before = was
+    return done
 
-    def earlier_execution(tree, peer, c):
-        tree[0].given = getattr(tree[0], "given", {})
-        return tree[0].given.setdefault(c.asks(), execute(tree, peer, c))
 
-    def sets_and_refuses(tree, peer, c):
-        done = execute(tree, peer, c)
-        o = next((o for o in tree if o.ono == c.target), None)
-        if done[0] == oca.OUT_OF_RANGE and o.kind in oca.WIDTHS:
-            o.state = o.high
-        return done
+@wrong("an answer is that of an earlier execution", "said", oca, "execute")
+def earlier_execution(tree, peer, c):
+    tree[0].given = getattr(tree[0], "given", {})
+    return tree[0].given.setdefault(c.asks(), EXECUTE(tree, peer, c))
 
-    return {
-        "a reading is the one before the last setting": ("said", oca, "execute", late_reading),
-        "a reading is another object's": ("said", oca, "answer", instead(other_objects)),
-        "limits are exchanged": ("said", oca, "answer", instead(limits_exchanged)),
-        "an answer is that of an earlier execution": ("said", oca, "execute", earlier_execution),
-        "what is refused is set to its limit": ("said", oca, "execute", sets_and_refuses),
-        "a window that is one smaller": ("untaken", oca.Session, "judge", lambda session, window,
-                                         command: judge(session, window - 1, command)),
-        "copies are executed": ("once", oca.Session, "judge", lambda session, window, command: ("fresh", None)),
-        "no handle is too old": ("once", oca.Session, "judge", no_floor),
-        "a copy gets the latest reply": ("untaken", oca.Session, "judge", latest_reply),
-        "a span that is one larger": ("untaken", oca.Link, "submit", wider),
-        "an answer goes to the lowest command": ("answers", oca.Link, "datagram", lowest),
-        "room for one fewer": ("room", oca.Device, "datagram", fewer_sessions),
-        "a place is never given up": ("room", oca.Device, "datagram", never_given_up),
-        "where one finds no room a known peer finds none": ("untaken", oca.Device, "datagram", shut_for_all),
-        "who was forgotten is forgotten sooner": ("in time", oca.Device, "advance", forgets_sooner),
-        "no answer to what was given out twice": ("round trip", oca.Link, "datagram", hears_once),
-        "one answer at a time": ("round trip", oca.Link, "datagram", one_answer),
-        "an answer takes the others' place": ("round trip", oca.Link, "datagram", last_answer),
-        "what was given out twice is not given out again": ("through", oca.Link, "due", twice_at_most),
-        "the lowest command alone is given out": ("through", oca.Link, "due", lowest_alone),
-    }
+
+@wrong("what is refused is set to its limit", "said", oca, "execute")
+def sets_and_refuses(tree, peer, c):
+    done = EXECUTE(tree, peer, c)
+    o = next((o for o in tree if o.ono == c.target), None)
+    if done[0] == oca.OUT_OF_RANGE and o.kind in oca.WIDTHS:
+        o.state = o.high
+    return done
 
 
 def refuses(job):
     """Whether the laws alone refuse a run of the wrong rule of this name, and how."""
     seed, name = job
-    law, owner, method, changed = wrong_rules()[name]
+    law, owner, method, changed = RULES[name]
     with patch.object(owner, method, changed):
         for number in range(len(PAIRS), len(PAIRS) + 4000):
             for schedule in made(seed, number):
@@ -699,8 +698,7 @@ def lines_refused(program):
     refused = 0
     for line, word in bad_lines():
         before = [] if line == "0 tick" else ["# a comment", "", "schedule 1 1 127.0.0.1:1/1"]
-        done = subprocess.run([program, "world"], input="\n".join(before + [line]).encode(), capture_output=True,
-                              timeout=60)
+        done = subprocess.run([program, "world"], input="\n".join(before + [line]).encode(), capture_output=True, timeout=60)
         if (done.stderr.decode(), done.returncode) == (f"line {len(before) + 1}: {word}\n", 2):
             refused += 1
         else:
@@ -728,8 +726,7 @@ HELD = [("answers", "answers"), ("only", "answers of an only execution"),
         ("in time, copies to a forgotten peer", "duplicates of such peers"),
         ("said", "answers of links in time"), ("said, of readings", "of these, readings")]
 MET = [("said too old", "old"), ("said no-room", "without room"), ("said refused", "refused submits"),
-       ("said lost", "lost"), ("refused", "refused schedules"), ("front set", "changes at the front"),
-       ("front refused", "refused ones")]
+       ("said lost", "lost"), ("refused", "refused schedules"), ("front set", "changes at the front"), ("front refused", "refused ones")]
 
 
 def summary(total):
@@ -759,7 +756,7 @@ def main():
     if not learn_sizes(program):
         sys.exit("world: trials does not know room for peers")
     jobs = [(program, seed, range(first, min(first + BATCH, count))) for first in range(0, count, BATCH)]
-    total, fault, wrong = in_processes(work, jobs, refuses, [(seed, name) for name in wrong_rules()])
+    total, fault, wrong = in_processes(work, jobs, refuses, [(seed, name) for name in RULES])
     if fault:
         print(f"{fault}\nworld: seed {seed}: a break after {total['schedules']} schedules without one")
         return verdict({"laws": False})
