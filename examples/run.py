@@ -11,6 +11,9 @@ import tempfile
 from pathlib import Path
 
 HERE = Path(__file__).resolve().parent
+sys.path.insert(0, str(HERE.parent / "gate"))
+import kit
+
 NAMES = sorted(path.stem for path in HERE.glob("*.script"))
 
 
@@ -24,6 +27,7 @@ def by_program(program):
 
 def by_try():
     """The same, by a program that `rt try` builds once and runs on each script."""
+    kit.command()  # or one line says that there is none
     with tempfile.TemporaryDirectory() as cases:
         for name in NAMES:
             shutil.copy(HERE / f"{name}.script", f"{cases}/{name}")

@@ -49,8 +49,7 @@ def shown(text):
 
 
 def items(text):
-    """The items of a source: the owner of each, none of one that stands alone, its name, whether it is public, and the
-    row that lists it."""
+    """The items of a source: the owner of each, none of one that stands alone, its name, whether it is public, and the row that lists it."""
     doc, owner, is_trait, at = [], None, False, 0
     for line in text.splitlines(keepends=True):
         opened, member = re.match(OWNER, line), owner and re.match(MEMBER, line)

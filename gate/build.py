@@ -3,13 +3,9 @@
 
 Usage: build.py FOLDER PROGRAM..     each program is copied into FOLDER
 
-A library is proved from nothing and holds its statements alone, as under `rt ci`, so that the crates above it load less;
-a program is proved and built as `rt run` does it. What stands as it would be built now is taken as it is. These
-libraries lie in out/statements of their crates, apart from those of other commands. A line is printed for each crate
-as it ends."""
-import contextlib
-import importlib.machinery
-import importlib.util
+A library is proved from nothing and holds its statements alone, as under `rt ci`, so that the crates above it load less; a program is proved and
+built as `rt run` does it. What stands as it would be built now is taken as it is. These libraries lie in out/statements of their crates, apart from
+those of other commands. A line is printed for each crate as it ends."""
 import os
 import shutil
 import subprocess
@@ -19,9 +15,11 @@ import time
 from concurrent.futures import FIRST_COMPLETED, ThreadPoolExecutor, wait
 from pathlib import Path
 
-TOP = Path(__file__).resolve().parent.parent
-# The seconds that each took to prove and build, others beside it, as measured on 2026-11-27: which is begun first goes by them, and
-# which gets more processes. One that is not here counts a second for ten of its lines.
+import kit
+
+TOP = kit.TOP
+# The seconds that each took to prove and build, others beside it, as measured on 2026-11-27: which is begun first goes by them, and which gets more
+# processes. One that is not here counts a second for ten of its lines.
 SECONDS = {
     "oca_types": 60, "oca_model": 130, "oca_tree": 280, "oca_net": 130, "oca_pdu": 80, "oca_session": 80, "oca_script": 130,
     "oca_control": 90, "oca_program": 90, "oca_panel": 120, "oca_device": 100, "oca_textree": 225, "oca_web": 285,
@@ -30,69 +28,8 @@ SECONDS = {
 }
 LONG = 0.6  # of the seconds of the longest chain of crates that is left: a crate that begins a chain of so many is long
 SHORT = 30  # seconds: a crate that takes fewer itself is not worth a second process, however long its chain is
-NEEDS = 4_000_000_000  # bytes for a check: the most that one took, measured, is 3.3 GB (ocactl_cli)
-MEMORY = Path("/dev/shm")  # a folder in memory, where the system has one
-ROOM = 6_000_000_000  # bytes there; the most that a run of the gate took, measured, is 1.8 GB
 # What a program is run with to be built: words that only print.
 WORDS = {"trials": ["calls"], "amplifier": [], "panel": []}
-
-
-def toolchain():
-    """The toolchain's own command, as a module. What `rt run` and the library for C keep is taken from other copies, and given to them."""
-    sys.dont_write_bytecode = True
-    path = os.path.realpath(shutil.which("rt") or sys.exit("build: there is no rt"))
-    spec = importlib.util.spec_from_loader("rt", importlib.machinery.SourceFileLoader("rt", path))
-    made = importlib.util.module_from_spec(spec)
-    spec.loader.exec_module(made)
-    if hasattr(made, "share_work"):  # not in each release of the toolchain
-        made.share_work(is_alone=True)
-    made.rtlib.guarded()
-    return made
-
-
-def said_lanes():
-    """How many checks RT_JOBS says are to run at once; 0 where it says no number above 0."""
-    said = os.environ.get("RT_JOBS", "")
-    return int(said) if said.isascii() and said.isdigit() else 0
-
-
-def lanes(rt):
-    """How many checks, or processes of checks, are to run at once: as many as there are processors, and as memory holds; or as many as
-    RT_JOBS says. The toolchain left to itself reckons with three to five times the memory that they take, and waits."""
-    return said_lanes() or max(1, min(rt.processors(), int(rt.free()) // NEEDS))
-
-
-def has_room_in_memory(rt):
-    """Whether memory has room for what checks write and remove again, which may write there and run programs from there, as nobody too."""
-    if not MEMORY.is_dir() or not os.access(MEMORY, os.W_OK | os.X_OK) or not MEMORY.stat().st_mode & 0o001:
-        return False
-    found = os.statvfs(MEMORY)
-    is_large = found.f_bavail * found.f_frsize >= ROOM and rt.free() >= lanes(rt) * NEEDS + ROOM
-    return is_large and not found.f_flag & os.ST_NOEXEC
-
-
-@contextlib.contextmanager
-def in_memory(rt):
-    """Has the checks that this process starts write into memory what they remove again, up to half a GB of small files each: to remove
-    them from a disk takes up to 15 seconds a check, in which no processor works. All that it starts finds the folder as TMPDIR. It is
-    removed at the end, also where this process is killed; a process that it has started, and that outlives it, may make it anew, and it is
-    left then. Where TMPDIR is set already, or memory has no such room, nothing is changed."""
-    if "TMPDIR" in os.environ or not has_room_in_memory(rt):
-        yield
-        return
-    room = tempfile.mkdtemp(prefix="oca-checks-", dir=MEMORY)
-    os.chmod(room, 0o711)  # as root, `rt ci` runs what it has built as nobody
-    # Once no process holds the other end; a second time for what is killed a moment later, and still writes.
-    words = ["sh", "-c", 'read _; rm -rf "$1"; sleep 2; rm -rf "$1"', "", room]
-    remover = subprocess.Popen(words, stdin=subprocess.PIPE, stdout=subprocess.DEVNULL, stderr=subprocess.DEVNULL, start_new_session=True)
-    os.environ["TMPDIR"], tempfile.tempdir = room, None
-    try:
-        yield
-    finally:
-        os.environ.pop("TMPDIR")
-        tempfile.tempdir = None
-        shutil.rmtree(room, ignore_errors=True)
-        remover.stdin.close()
 
 
 def apart(crates):
@@ -106,7 +43,7 @@ def made_from(rt, crate):
     built over, and of itself, as they stand; of a library the sum of its file `format`, which has sums of the others."""
     made = f"{crate.rlib}/format" if crate.makes_rlib() else f"{crate.folder}/out/{crate.name}"
     files = [f"{it.rlib}/format" for it in crate.below()]
-    return "\n".join([crate.stamp(), *map(rt.rtlib.sum_of, [*files, made])])
+    return "\n".join([crate.stamp(), *map(rt.sum_of, [*files, made])])
 
 
 def note_of(crate):
@@ -131,7 +68,7 @@ def build_library(rt, crate, jobs):
         shutil.rmtree(os.path.dirname(crate.rlib), ignore_errors=True)
         os.makedirs(os.path.dirname(crate.rlib))
         words = crate.words(["--jobs", str(jobs)], keeps=False)
-        status = crate.call(rt.rtlib.RATTLE, "build", *words, "--statements", "-o", crate.rlib)
+        status = crate.call(rt.RATTLE, "build", *words, "--statements", "-o", crate.rlib)
         crate.out.seek(0)
         if status:
             print(crate.out.read(), end="")
@@ -141,7 +78,7 @@ def build_library(rt, crate, jobs):
 def build_program(rt, crate, jobs):
     """Proves, builds and runs a program in a process of its own, which ends with this one; what is said where that fails is shown.
     Answers whether it is built."""
-    words = [*rt.rtlib.guarded(), sys.executable, TOP / "gate/build.py", "--one", crate.name, str(jobs)]
+    words = [*rt.guarded(), sys.executable, TOP / "gate/build.py", "--one", crate.name, str(jobs)]
     ran = subprocess.run(words, cwd=TOP, stdin=subprocess.DEVNULL, stdout=subprocess.DEVNULL, stderr=subprocess.PIPE, text=True)
     if ran.returncode:
         print(ran.stderr, end="")
@@ -229,15 +166,15 @@ def build_all(rt, libraries, programs=(), folder=None):
         print(f"build: {len(ended)} of {len(crates)}: {crate.name} {'proved' if is_built else 'NOT PROVED'}, {seconds:.0f} s", flush=True)
         return is_built
 
-    return side_by_side(crates, lanes(rt), make)
+    return side_by_side(crates, kit.lanes(rt), make)
 
 
 def run_program(name, jobs):
     """Proves, builds and runs a program as `rt run` does, but for the locks of the crates' folders, which the caller has."""
-    rt = toolchain()
-    crates = rt.rtlib.crates_below(str(TOP))
-    apart(crates)
-    crate = next(it for it in crates if it.name == name)
+    rt = kit.toolchain()
+    crates = kit.crates(rt)
+    apart(crates.values())
+    crate = crates[name]
     os.chdir(crate.folder)
     os.makedirs("out", exist_ok=True)
     crate.out, crate.held = sys.stderr, []
@@ -250,9 +187,9 @@ def main():
     if len(sys.argv) < 3:
         sys.exit(__doc__)
     folder, names = TOP / sys.argv[1], sys.argv[2:]
-    begun, rt = time.monotonic(), toolchain()
+    begun, rt = time.monotonic(), kit.toolchain()
     os.chdir(TOP)
-    crates = {it.name: it for it in rt.rtlib.crates_below(str(TOP))}
+    crates = kit.crates(rt)
     unknown = [name for name in names if name not in crates]
     if unknown:
         print(f"build: crates.txt has no {', '.join(unknown)}: NOTHING IS BUILT")
@@ -261,8 +198,8 @@ def main():
     programs = [crates[name] for name in names]
     libraries = {below for program in programs for below in program.below()}
     folder.mkdir(exist_ok=True)
-    held = rt.rtlib.lock([*libraries, *programs])
-    with in_memory(rt):
+    held = rt.lock([*libraries, *programs])
+    with kit.in_memory(rt):
         is_built = build_all(rt, libraries, programs, folder)
     for it in held:
         os.close(it)

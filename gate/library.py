@@ -3,17 +3,17 @@
 
 Usage: library.py [TARGET [CPU]]     TARGET is x86_64-unknown-linux-gnu or aarch64-unknown-linux-gnu
 
-Writes crates/oca_c/out/TARGET/liboca_c.a, for every processor of that kind unless CPU names one (x86-64-v2, x86-64-v3;
-neoverse-v2). Crates that the gate has just proved and left are taken as they are where no source has changed since,
-else all are built as `make build` does it. An archive that stood there before is taken away before `oca_c` is compiled.
-`oca_c` itself is proved by as many processes as there are processors, or as LIBRARY_JOBS says: one takes less of a busy
-machine."""
+Writes crates/oca_c/out/TARGET/liboca_c.a, for every processor of that kind unless CPU names one (x86-64-v2, x86-64-v3; neoverse-v2). Crates that the
+gate has just proved and left are taken as they are where no source has changed since, else all are built as `make build` does it. An archive that
+stood there before is taken away before `oca_c` is compiled. `oca_c` itself is proved by as many processes as there are processors, or as LIBRARY_JOBS
+says: one takes less of a busy machine."""
 import os
 import sys
 from pathlib import Path
 
 sys.path.insert(0, str(Path(__file__).resolve().parent))
 import build
+import kit
 
 LEAST = {"x86_64-unknown-linux-gnu": "x86-64", "aarch64-unknown-linux-gnu": "generic"}
 
@@ -54,14 +54,14 @@ def main():
     if target not in LEAST or len(sys.argv) > 3:
         sys.exit(__doc__)
     cpu = sys.argv[2] if len(sys.argv) > 2 else LEAST[target]
-    rt = build.toolchain()
-    os.chdir(build.TOP)
-    crate = {it.name: it for it in rt.rtlib.crates_below(str(build.TOP))}["oca_c"]
-    held = rt.rtlib.lock([*crate.below(), crate])
-    is_left = all(is_left_by_the_gate(it, rt.rtlib.files_of) for it in crate.below())
+    rt = kit.toolchain()
+    os.chdir(kit.TOP)
+    crate = kit.crates(rt)["oca_c"]
+    held = rt.lock([*crate.below(), crate])
+    is_left = all(is_left_by_the_gate(it, rt.files_of) for it in crate.below())
     os.makedirs(f"{crate.folder}/out/{target}", exist_ok=True)
     words = ["--jobs", os.environ.get("LIBRARY_JOBS") or str(rt.processors()), "--target", target, "--cpu", cpu]
-    with build.in_memory(rt):
+    with kit.in_memory(rt):
         if not is_left:
             build.apart(crate.below())
             if not build.build_all(rt, set(crate.below())):

@@ -4,18 +4,16 @@
 Usage: run.py                    all of it
        run.py steps [FILE]       the steps alone, of this file
 
-The steps of a paragraph run three at a time, since most of them wait, begun in their order. What a step prints is shown
-when it ends, with its minutes: as a whole where it failed, else its last lines; a paragraph begins when the one before
-it is over. A step whose line begins with '&' is begun with its paragraph beside those three, gives way to them, and is
-awaited at the end: so proofs go on while other steps wait. One whose line begins with '&&' is begun as soon as `rt ci`
-has proved a crate; it finds the names of the crates that are proved, a line each, in the file GATE_PROVED, and behind
-them '(ended)' once `rt ci` has ended.
+The steps of a paragraph run three at a time, since most of them wait, begun in their order. What a step prints is shown when it ends, with its
+minutes: as a whole where it failed, else its last lines; a paragraph begins when the one before it is over. A step whose line begins with '&' is
+begun with its paragraph beside those three, gives way to them, and is awaited at the end: so proofs go on while other steps wait. One whose line
+begins with '&&' is begun as soon as `rt ci` has proved a crate; it finds the names of the crates that are proved, a line each, in the file
+GATE_PROVED, and behind them '(ended)' once `rt ci` has ended.
 
-A step has failed where one of its checks failed, it ended with another status than 0, it passed fewer checks than its
-line names, or it did not end in the minutes that its line allows. The gate has failed too where a line of the steps
-can't be read, and where a tool of the gate stands in no step. The last lines are a table of the minutes, some of the
-lines that say what failed, and 'N passed, M failed' over all of it; the exit status is 1 where anything
-failed."""
+A step has failed where one of its checks failed, it ended with another status than 0, it passed fewer checks than its line names, or it did not end
+in the minutes that its line allows. The gate has failed too where a line of the steps can't be read, and where a tool of the gate stands in no step.
+The last lines are a table of the minutes, some of the lines that say what failed, and 'N passed, M failed' over all of it; the exit status is 1 where
+anything failed."""
 import contextlib
 import os
 import re
@@ -33,7 +31,7 @@ from pathlib import Path
 HERE = Path(__file__).resolve().parent
 TOP = HERE.parent
 sys.path.insert(0, str(HERE))
-import build
+import kit
 
 BESIDE = 3
 LAST_LINES = 12  # so many are shown of a step that passed
@@ -68,8 +66,7 @@ def give_way():
 
 def started(command, gives_way=False):
     """Starts a command, with a group of processes of its own, so that all that it starts can be ended with it."""
-    RUNNING.append(subprocess.Popen(
-        command, shell=True, cwd=TOP, stdin=subprocess.DEVNULL, stdout=subprocess.PIPE, stderr=subprocess.STDOUT,
+    RUNNING.append(subprocess.Popen(command, shell=True, cwd=TOP, stdin=subprocess.DEVNULL, stdout=subprocess.PIPE, stderr=subprocess.STDOUT,
         text=True, errors="replace", start_new_session=True, preexec_fn=give_way if gives_way else None))
     return RUNNING[-1]
 
@@ -116,8 +113,7 @@ def took(command, begun, passed, failed, why=""):
 
 
 def watched(command, least, note=lambda _: None):
-    """Runs a command, shows what it prints as it prints it, and answers how many checks passed and failed. Each line is
-    handed on."""
+    """Runs a command, shows what it prints as it prints it, and answers how many checks passed and failed. Each line is handed on."""
     print(f"gate: {command}", flush=True)
     begun, last, said = time.monotonic(), "", []
     with started(command) as process:
@@ -174,11 +170,6 @@ def least_of_ci(top=TOP):
     return sum(map(bool, lines)) + len(list(top.glob("crates/*/must-fail/*.edit")))
 
 
-def lanes():
-    """How many checks `rt ci` is to run at once."""
-    return build.lanes(build.toolchain())
-
-
 def waited_for(top=TOP):
     """The crate that most others use, where it uses none of them: as long as it is not proved hardly any other can be."""
     lines = [line.split("#")[0].replace(":", " ").split() for line in (top / "crates.txt").read_text().splitlines()]
@@ -223,15 +214,21 @@ class Early:
             self.left = []
 
 
+def first_of_ci(rt):
+    """The crate that `rt ci` is asked for before all: that most wait for, proved in several processes; `rt ci` takes it as it is kept then, or
+    says itself what is wrong with it. None where RT_JOBS says how many checks run at once, where only one can, or where `rt ci` takes no
+    names: in some kits, and in any where CI is true."""
+    takes_names = rt.ci_takes_names and os.environ.get("CI") != "true"
+    return waited_for() if takes_names and kit.lanes(rt) > 1 and not kit.said_lanes() else None
+
+
 def of_ci(steps, others, room):
-    """Runs `rt ci`, and beside it, in this pool, the steps that begin early. Answers its counts, and the steps that have begun.
-    The crate that most wait for is proved before, in several processes; `rt ci` takes it as it is kept then, or says itself what
-    is wrong with it. Where RT_JOBS says how many checks run at once, it is not; nor where CI is true, since `rt ci` then
-    refuses names."""
-    early, first = Early(steps, others, room), waited_for()
-    if first and lanes() > 1 and not build.said_lanes() and os.environ.get("CI") != "true":
+    """Runs `rt ci`, and beside it, in this pool, the steps that begin early. Answers its counts, and the steps that have begun."""
+    early, rt = Early(steps, others, room), kit.toolchain()
+    first = first_of_ci(rt)
+    if first:
         watched(f"rt ci {first}", 1)
-    count = watched(f"RT_JOBS={lanes()} rt ci", least_of_ci(), early.note)
+    count = watched(f"RT_JOBS={kit.lanes(rt)} rt ci", least_of_ci(), early.note)
     early.add(ENDED)
     print(f"gate: {processor_minutes():.1f} processor minutes for rt ci", flush=True)
     return count, early.begun
@@ -261,7 +258,7 @@ def sets_aside_here():
 
 def writes():
     """Has what this starts write in memory what it removes again, where nothing is lost by it."""
-    return build.in_memory(build.toolchain()) if sets_aside_here() and shutil.which("rt") else contextlib.nullcontext()
+    return kit.in_memory(kit.toolchain()) if sets_aside_here() and shutil.which("rt") else contextlib.nullcontext()
 
 
 def refused(steps):
@@ -276,6 +273,8 @@ def main(words):
     if signal.getsignal(signal.SIGHUP) != signal.SIG_IGN:  # which it is under `nohup`
         signal.signal(signal.SIGHUP, interrupted)
     begun, counts = time.monotonic(), []
+    if not words:
+        kit.command()  # or one line says that there is none
     parts = paragraphs(Path(words[1]) if len(words) > 1 else HERE / "steps")
     steps = [step for part in parts for step in part]
     wrong = refused(steps)

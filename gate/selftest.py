@@ -1,15 +1,15 @@
 #!/usr/bin/env python3
-"""The gate's own test: steps that try nothing, too little, fail, crash, hang, or can't be read must make the gate fail, and
-so must an `rt ci` that does, and a gate that a signal ends; a tool that no step runs must be found; what a tool compares
-by must see a difference and tell it; a program that is not built must be no success; edits must be judged by what the
-prover says of them; the steps must be those of FEWEST and name enough checks; and `make library` must see each source
-that is newer. The rows of what builds and installs are in selftest_builds.py, those of the tools in selftest_tools.py.
-The last line is 'N passed, M failed'."""
+"""The gate's own test: steps that try nothing, too little, fail, crash, hang, or can't be read must make the gate fail, and so must an `rt ci` that
+does, and a gate that a signal ends; a tool that no step runs must be found, and a step that is taken away or names fewer checks than before; what a
+tool compares by must see a difference and tell it; a program that is not built must be no success; edits must be judged by what the prover says of
+them; and `make library` must see each source that is newer. The rows of what builds and installs are in selftest_builds.py, those of the tools in
+selftest_tools.py. The last line is 'N passed, M failed'."""
 import contextlib
+import functools
 import importlib
 import inspect
-import io
 import os
+import re
 import shutil
 import signal
 import subprocess
@@ -18,11 +18,20 @@ import tempfile
 import time
 from pathlib import Path
 from types import SimpleNamespace
+from unittest.mock import patch
 
+import build
+import kit
+import library
 import run
 import selftest_builds
 import selftest_tools
-from selftest_builds import FakeCrate, memory_at, without, writes
+from selftest_builds import FakeCrate, fake_tools, is_same, memory_at, said, within, without, writes
+from selftest_tools import checks, edits, lossy, snippets
+
+import panel
+import runs
+import unreliable
 
 HERE = Path(__file__).resolve().parent
 GOOD = "3 1 echo '3 passed, 0 failed'"
@@ -56,29 +65,24 @@ CASES = [
 ]
 
 
+def gate_over(folder, steps):
+    """The status of the gate over these steps, its last line, and what it tells of what failed."""
+    (folder / "steps").write_text(steps + "\n")
+    ran = subprocess.run([sys.executable, str(HERE / "run.py"), "steps", str(folder / "steps")], capture_output=True, text=True, timeout=120)
+    told = [line.removeprefix("gate: wrong: ") for line in ran.stdout.splitlines() if line.startswith("gate: wrong: ")]
+    return ran.returncode, run.last_line(ran.stdout), sorted(told)
+
+
 def is_as_wanted(folder, steps, passes, last):
     """Whether the gate over these steps ends so."""
-    file = folder / "steps"
-    file.write_text(steps + "\n")
-    ran = subprocess.run([sys.executable, str(HERE / "run.py"), "steps", str(file)], capture_output=True, text=True, timeout=120)
-    got = run.last_line(ran.stdout)
-    if (ran.returncode == 0, got) != (passes, last):
-        print(f"status {ran.returncode}, {got!r} in place of {last!r}")
-        return False
-    return True
+    return is_same((int(not passes), last), gate_over(folder, steps)[:2])
 
 
 def tells_what_failed(folder):
-    """Behind the table stands what failed: the lines that say so, of a step that has none its last ones, and nothing of
-    a step that passed."""
-    file = folder / "steps"
-    file.write_text("1 1 echo 'x: FAILED: it is so'; echo y; echo '1 passed, 1 failed'\n1 1 echo z; false\n"
-                    "1 1 echo 'w: FAILED before'; echo '1 passed, 0 failed'\n")
-    ran = subprocess.run([sys.executable, str(HERE / "run.py"), "steps", str(file)], capture_output=True, text=True, timeout=120)
-    told = [line.removeprefix("gate: wrong: ") for line in ran.stdout.splitlines() if line.startswith("gate: wrong: ")]
-    if sorted(told) != ["x: FAILED: it is so", "z"]:
-        print(f"{told} is told of what failed")
-    return sorted(told) == ["x: FAILED: it is so", "z"]
+    """Behind the table stands what failed: the lines that say so, of a step that has none its last ones, and nothing of a step that passed."""
+    steps = ("1 1 echo 'x: FAILED: it is so'; echo y; echo '1 passed, 1 failed'\n1 1 echo z; false\n"
+             "1 1 echo 'w: FAILED before'; echo '1 passed, 0 failed'")
+    return is_same(["x: FAILED: it is so", "z"], gate_over(folder, steps)[2])
 
 
 def finds_what_is_left_out(folder):
@@ -93,7 +97,7 @@ def finds_what_is_left_out(folder):
     return run.left_out(steps, tools) == ["left_out.py", "twice.py bin more"]
 
 
-def leaves_none_out():
+def leaves_none_out(_):
     """Each tool of this repository that is a program stands in a step of its gate."""
     missing = run.left_out([step for part in run.paragraphs(HERE / "steps") for step in part], run.TOP / "tools")
     for name in missing:
@@ -103,13 +107,10 @@ def leaves_none_out():
 
 def goes_on_beside(folder):
     """A step that runs beside others goes on while later paragraphs run, and nothing that is no such step does."""
-    file, there = folder / "steps", folder / "there"
-    waits = f"1 1 for _ in $(seq 100); do [ -e '{there}' ] && exit 0; sleep 0.02; done; exit 1"
-    found = []
+    there, found = folder / "there", []
     for sign in ("&", ""):
-        file.write_text(f"{sign}{waits}\n{GOOD}\n\n1 1 touch '{there}'\n")
-        ran = subprocess.run([sys.executable, str(HERE / "run.py"), "steps", str(file)], capture_output=True, text=True, timeout=120)
-        found.append(run.last_line(ran.stdout))
+        waits = f"1 1 for _ in $(seq 100); do [ -e '{there}' ] && exit 0; sleep 0.02; done; exit 1"
+        found.append(gate_over(folder, f"{sign}{waits}\n{GOOD}\n\n1 1 touch '{there}'")[1])
         there.unlink(missing_ok=True)
     return found == ["5 passed, 0 failed", "4 passed, 1 failed"]
 
@@ -126,7 +127,7 @@ def begins_early(folder):
     return all(found) and early.begun == {steps[0]: "begun"} and os.environ.pop("GATE_PROVED") == str(early.file)
 
 
-def run_beside(edits, file, crates, most, calls):
+def run_beside(file, crates, most, calls):
     """What `edits.py` gives of these crates' tasks beside proofs, and how many ran at once at most."""
     running, at_once = [], []
 
@@ -145,28 +146,23 @@ def run_beside(edits, file, crates, most, calls):
     return [key[0] for key in given], max(at_once)
 
 
-def waits_for_proofs():
-    """Beside `rt ci` the edits of a crate wait for the libraries below it and for an idle processor, and only half as
-    many checks run as later."""
-    edits, found = importlib.import_module("edits"), []
-    real, edits.is_idle = edits.is_idle, lambda _: True
+def waits_for_proofs(_):
+    """Beside `rt ci` the edits of a crate wait for the libraries below it and for an idle processor, and only half as many checks run as later."""
+    found, real, asked = [], edits.is_idle, []
     later, free = {"z": "c", "y": "ab", "x": "a", "w": ""}, dict.fromkeys("pqrst", "")
     tells = {"w": ["a"], "x": ["b"], "y": [edits.ENDED]}
-    with tempfile.TemporaryDirectory() as folder:
+    with tempfile.TemporaryDirectory() as folder, patch.object(edits, "is_idle", lambda _: True):
         file = Path(folder, "proved")
-        os.environ["GATE_PROVED"] = str(file)
-        found += [edits.proved_beside() is None]
-        file.touch()
-        found += [edits.proved_beside() == set()]
-        found += [run_beside(edits, file, later, 1, tells) == (["w", "x", "y", "z"], 1), edits.proved_beside() is None]
-        found += [run_beside(edits, file, free, 4, {})[1] == 4]
-        file.write_text("")
-        found += [run_beside(edits, file, free, 4, {})[1] == 2, edits.ENDED == run.ENDED]
-        asked = []
-        edits.is_idle = lambda _: asked.append(1) or len(asked) > 3 and not file.write_text(f"{edits.ENDED}\n")
-        found += [run_beside(edits, file, {"p": ""}, 1, {}) == (["p"], 1), len(asked) == 4]
-        os.environ.pop("GATE_PROVED")
-    edits.is_idle = real
+        with patch.dict(os.environ, GATE_PROVED=str(file)):
+            found += [edits.proved_beside() is None]
+            file.touch()
+            found += [edits.proved_beside() == set()]
+            found += [run_beside(file, later, 1, tells) == (["w", "x", "y", "z"], 1), edits.proved_beside() is None]
+            found += [run_beside(file, free, 4, {})[1] == 4]
+            file.write_text("")
+            found += [run_beside(file, free, 4, {})[1] == 2, edits.ENDED == run.ENDED]
+            edits.is_idle = lambda _: asked.append(1) or len(asked) > 3 and not file.write_text(f"{edits.ENDED}\n")
+            found += [run_beside(file, {"p": ""}, 1, {}) == (["p"], 1), len(asked) == 4]
     return all(found) and real(1_000_000) and not real(0)
 
 
@@ -181,13 +177,9 @@ OF_CI = [
 ]
 
 
-def is_counted(command, least, wanted):
+def is_counted(_, command, least, wanted):
     """Whether so many checks are counted of a command that is watched."""
-    with contextlib.redirect_stdout(io.StringIO()):
-        got = run.watched(command, least)
-    if got != wanted:
-        print(f"{got} in place of {wanted}")
-    return got == wanted
+    return is_same(wanted, said(run.watched, command, least)[0])
 
 
 def knows_the_least(folder):
@@ -208,100 +200,79 @@ def knows_what_is_waited_for(folder):
     return found == ["a", None, None, None]
 
 
-def counts_all():
+# What `rt ci` counts, what the steps count, the tools that no step runs, the lanes, what the environment says, whether `rt ci` takes names, and
+# whether the crate that others wait for is asked for before.
+OF_ALL = [((3, 0), (5, 0), [], 3, {}, True, True), ((3, 1), (5, 0), [], 3, {"CI": "false"}, True, True), ((3, 0), (5, 1), [], 2, {}, True, True),
+          ((3, 0), (5, 0), ["x.py"], 3, {"RT_JOBS": "0"}, True, True), ((3, 0), (5, 0), [], 3, {"RT_JOBS": ""}, True, True),
+          ((3, 0), (5, 0), [], 1, {}, True, False), ((3, 0), (5, 0), [], 3, {"RT_JOBS": "3"}, True, False),
+          ((3, 0), (5, 0), [], 3, {"CI": "true"}, True, False), ((3, 0), (5, 0), [], 3, {}, False, False)]
+
+
+def counts_all(_):
     """The whole gate passes only where `rt ci`, its steps and their list do: each of them is made to fail alone. It calls
     `rt ci` without other words, on as many lanes as there are, for as many checks as that is to pass, and every step of
-    the file, as it stands there; before, where nothing says how many lanes there are and CI is not true, `rt ci` of the
-    crate that all others wait for, whose failure is left to the other call."""
-    real = run.watched, run.run_steps, run.left_out, run.lanes, run.waited_for
-    run.waited_for, toolchain, places = lambda: "a", run.build.toolchain, set()
-    run.build.toolchain = lambda: SimpleNamespace(free=lambda: 99e9, processors=lambda: 4)
-    parts = run.paragraphs(HERE / "steps")
-    steps = [[(step.least, step.minutes, step.command) for step in part] for part in parts]
-    called = lambda lanes: [(f"RT_JOBS={lanes} rt ci", run.least_of_ci()), (steps, {}), (sum(steps, []), run.TOP / "tools")]
+    the file, as it stands there; before, where nothing says how many lanes there are, `rt ci` takes names and CI is not
+    true, `rt ci` of the crate that all others wait for, whose failure is left to the other call."""
     words = lambda steps: [(it.least, it.minutes, it.command) for it in steps]
-    try:
-        found, wanted = [], []
-        for of_ci, of_steps, missing, lanes, said, is_first in (
-                ((3, 0), [(5, 0)], [], 3, {}, True), ((3, 1), [(5, 0)], [], 3, {"CI": "false"}, True), ((3, 0), [(5, 1)], [], 2, {}, True),
-                ((3, 0), [(5, 0)], ["x.py"], 3, {"RT_JOBS": "0"}, True), ((3, 0), [(5, 0)], [], 3, {"RT_JOBS": ""}, True),
-                ((3, 0), [(5, 0)], [], 1, {}, False), ((3, 0), [(5, 0)], [], 3, {"RT_JOBS": "3"}, False),
-                ((3, 0), [(5, 0)], [], 3, {"CI": "true"}, False)):
-            asked, failed = [], of_ci[1] + of_steps[0][1] + len(missing)
-            run.lanes = lambda: lanes
-            run.watched = lambda command, least, note=None: asked.append((command, least)) or places.add(writes()) or (of_ci if note else (0, 1))
-            run.run_steps = lambda given, _, early: asked.append(([words(part) for part in given], early)) or of_steps
-            run.left_out = lambda given, tools: asked.append((words(given), tools)) or missing
-            told = io.StringIO()
-            with tempfile.TemporaryDirectory() as memory, without("CI"), memory_at(memory), contextlib.redirect_stdout(told):
-                os.environ |= said
-                found.append((run.main([]), run.last_line(told.getvalue()), sorted(asked, key=str)))
-            first = [("rt ci a", 1)] * is_first
-            wanted.append((int(failed > 0), f"8 passed, {failed} failed", sorted(first + called(lanes), key=str)))
-        return found == wanted and places == {" in memory" if run.sets_aside_here() and shutil.which("rt") else ""}
-    finally:
-        run.watched, run.run_steps, run.left_out, run.lanes, run.waited_for = real
-        run.build.toolchain = toolchain
+    steps, found, wanted, places = [words(part) for part in run.paragraphs(HERE / "steps")], [], [], set()
+    for of_ci, of_steps, missing, lanes, says, takes_names, is_first in OF_ALL:
+        asked, failed = [], of_ci[1] + of_steps[1] + len(missing)
+        watched = lambda command, least, note=None: asked.append((command, least)) or places.add(writes()) or (of_ci if note else (0, 1))
+        ran = lambda given, _, early: asked.append(([words(part) for part in given], early)) or [of_steps]
+        left = lambda given, tools: asked.append((words(given), tools)) or missing
+        tools = SimpleNamespace(free=lambda: 99e9, processors=lambda: lanes, ci_takes_names=takes_names)
+        with tempfile.TemporaryDirectory() as memory, without("CI"), memory_at(memory), patch.object(run.kit, "toolchain", lambda: tools), \
+                patch.multiple(run, watched=watched, run_steps=ran, left_out=left, waited_for=lambda: "a"):
+            os.environ |= says
+            status, told = said(run.main, [])
+        found.append((status, run.last_line(told), sorted(asked, key=str)))
+        called = [(f"RT_JOBS={lanes} rt ci", run.least_of_ci()), (steps, {}), (sum(steps, []), run.TOP / "tools")]
+        wanted.append((int(failed > 0), f"8 passed, {failed} failed", sorted([("rt ci a", 1)] * is_first + called, key=str)))
+    return is_same(wanted, found) and places == {" in memory" if run.sets_aside_here() and shutil.which("rt") else ""}
 
 
-def knows_the_lanes():
-    """`rt ci` is to run as many checks at once as there are processors and as memory holds, at least one, or as many as
-    RT_JOBS says."""
-    real, said = run.build.toolchain, os.environ.pop("RT_JOBS", None)
-    try:
-        found = []
-        for processors, memory in ((4, 23_000_000_000), (4, 9_000_000_000), (2, 23_000_000_000), (4, 1_000_000_000), (4, 7_900_000_000)):
-            run.build.toolchain = lambda: SimpleNamespace(processors=lambda: processors, free=lambda: memory)
-            found.append(run.lanes())
-        for words in ("7", "0", "many", "\u00b2"):
-            os.environ["RT_JOBS"] = words
-            found.append(run.lanes())
-        return found == [4, 2, 2, 1, 1, 7, 1, 1, 1]
-    finally:
-        run.build.toolchain = real
-        os.environ.pop("RT_JOBS", None)
-        if said is not None:
-            os.environ["RT_JOBS"] = said
+def knows_the_lanes(_):
+    """`rt ci`, builds and edits are to run as many checks at once as there are processors and as memory holds, at least one, or as many
+    as RT_JOBS says."""
+    found = []
+    for processors, memory, says in ((4, 23e9, ""), (4, 9e9, ""), (2, 23e9, ""), (4, 1e9, ""), (4, 7.9e9, ""), (1, 1e9, "7"), (4, 23e9, "7"),
+                                     (1, 1e9, "0"), (4, 23e9, "0"), (4, 23e9, "many"), (1, 1e9, "\u00b2")):
+        with without("RT_JOBS"):
+            os.environ |= {"RT_JOBS": says} if says else {}
+            found.append(kit.lanes(SimpleNamespace(processors=lambda: processors, free=lambda: memory)))
+    return found == [4, 2, 2, 1, 1, 7, 7, 1, 4, 4, 1]
 
 
-def edits_know_the_lanes():
-    """The edits are tried by as many checks at once as there are processors and memory for, at least one, or as RT_JOBS says."""
-    edits = importlib.import_module("edits")
-    real, found = edits.rt, []
-    try:
-        for processors, memory, said in ((4, 23e9, ""), (4, 9e9, ""), (2, 23e9, ""), (4, 1e9, ""), (4, 23e9, "7"), (4, 23e9, "0"), (4, 23e9, "many")):
-            edits.rt = SimpleNamespace(processors=lambda: processors, free=lambda: memory)
-            with without("RT_JOBS"):
-                os.environ |= {"RT_JOBS": said} if said else {}
-                found.append(edits.lanes())
-    finally:
-        edits.rt = real
-    return found == [4, 2, 2, 1, 7, 4, 4]
+def says_what_is_missing(_):
+    """Where there is no `rt`, what needs it says so in one line, and fails; and where its `rt` has another form."""
+    found = []
+    for words in ("gate/run.py", "gate/build.py bin ocadev", "gate/library.py", "tools/edits.py", "tools/only.py oca_types a", "examples/run.py"):
+        ran = subprocess.run([sys.executable, *words.split()], cwd=run.TOP, env=dict(os.environ, PATH="/none"), capture_output=True, text=True, timeout=60)
+        found.append(is_same((1, "", f"{kit.MISSING}\n"), (ran.returncode, ran.stdout, ran.stderr)))
+    with patch.object(kit, "OF_RT", [*kit.OF_RT, "of_no_release"]):
+        found.append("of_no_release" in said(kit.toolchain, False)[0])
+    return all(found)
 
 
-def counts_edits():
+def counts_edits(_):
     """An edit that is not refused has failed, and so has one that tries the tool itself and is judged wrongly."""
-    edits = importlib.import_module("edits")
-    with contextlib.redirect_stdout(io.StringIO()):
-        found = [edits.verdict([{kind: int(kind == one) for kind in edits.KINDS}]) for one in edits.KINDS]
+    found = [said(edits.verdict, [{kind: int(kind == one) for kind in edits.KINDS}])[0] for one in edits.KINDS]
     return found == [(1, 0), (0, 1), (1, 0), (0, 1)]
 
 
-def forgives_no_lateness():
-    """A part of network.py that is late each time has failed, once; one that is late once or twice has not; another fault is not tried again."""
-    network = importlib.import_module("network")
+def forgives_no_lateness(_):
+    """A part that is late each time has failed, once; one that is late once or twice has not; another fault is not tried again."""
     found = []
     for late, wrong in ((0, False), (1, False), (2, False), (3, False), (0, True)):
-        checks, tries = network.Checks("", ""), []
+        counts, tries = checks.Checks(), []
 
-        def part(checks):
+        def part(its):
             tries.append(1)
-            checks.expect("a time", len(tries) > late, is_time=True)
-            checks.expect("a count", not wrong)
+            its.expect("a time", len(tries) > late, is_time=True)
+            its.expect("a count", not wrong)
 
-        with contextlib.redirect_stdout(io.StringIO()):
-            checks.part(part)
-        found.append((len(tries), checks.passed, checks.failed))
+        said(counts.part, part)
+        found.append((len(tries), counts.passed, counts.failed))
     return found == [(1, 2, 0), (2, 2, 0), (3, 2, 0), (3, 1, 1), (1, 1, 1)]
 
 
@@ -321,8 +292,7 @@ def text_of(file):
 
 
 def ends_when_told(folder, number, before=None):
-    """A gate that a signal ends has not passed, and what its steps have started ends with it; not where it was to ignore that one, as one
-    before."""
+    """A gate that a signal ends has not passed, and what its steps have started ends with it; not where it was to ignore that one, as one before."""
     begun, file, seconds = folder / f"begun-{number}", folder / "long-steps", f"{60 + number}.{os.getpid()}"
     file.write_text(f"1 2 touch '{begun}'; sleep {seconds}; echo '1 passed, 0 failed'\n")
     words = [sys.executable, str(HERE / "run.py"), "steps", str(file)]
@@ -343,40 +313,27 @@ def ends_when_told(folder, number, before=None):
     return is_begun and not sleeps() and status == 128 + number
 
 
-def builds_as_asked():
+def builds_as_asked(_):
     """`library.py` compiles the library for the kind and the processor that are asked for, else for every one of that
     kind, where the crates below are built; and it tells how that ended."""
-    library, place = importlib.import_module("library"), Path.cwd()
-    found = []
+    x86, arm, found = "x86_64-unknown-linux-gnu", "aarch64-unknown-linux-gnu", []
 
     def compiled(words, to):
         Path(to).touch()
-        asked = [words[words.index(word) + 1] for word in ("--target", "--cpu")]
-        found.append((*asked, Path(to).parent.name, Path(to).name))
+        found.append((*(words[words.index(word) + 1] for word in ("--target", "--cpu")), *Path(to).parts[-2:]))
         return status
 
-    with tempfile.TemporaryDirectory() as folder:
+    with tempfile.TemporaryDirectory() as folder, within(folder):
         lower = FakeCrate(name="lower", folder=folder, rlib=f"{folder}/none", below=list)
         crate = FakeCrate(name="oca_c", folder=folder, below=lambda: [lower], compile=compiled, stamp=lambda: "sources")
-        tools = SimpleNamespace(crates_below=lambda _: [crate, lower], lock=lambda _: [], files_of=lambda _: [])
-        real = library.build.toolchain, library.build.build_all, sys.argv
-        try:
-            library.build.toolchain = lambda: SimpleNamespace(rtlib=tools, free=lambda: 0, processors=lambda: 1)
-            for status, is_built, words in ((0, True, []), (0, True, ["aarch64-unknown-linux-gnu"]), (7, True, []),
-                                            (0, True, ["x86_64-unknown-linux-gnu", "x86-64-v3"]), (0, False, [])):
-                library.build.build_all = lambda *_, good=is_built: good
-                sys.argv = ["library.py", *words]
+        tools = fake_tools(1, 0, crates_below=lambda _: [crate, lower], lock=lambda _: [], files_of=lambda _: [])
+        for status, is_built, words in ((0, True, []), (0, True, [arm]), (7, True, []), (0, True, [x86, "x86-64-v3"]), (0, False, [])):
+            with patch.object(kit, "toolchain", lambda: tools), patch.object(build, "build_all", lambda *_: is_built), \
+                    patch.object(sys, "argv", ["library.py", *words]):
                 found.append(library.main())
-        finally:
-            library.build.toolchain, library.build.build_all, sys.argv = real
-            os.chdir(place)
-    kinds = "x86_64-unknown-linux-gnu", "aarch64-unknown-linux-gnu"
-    first, arm, later = (kinds[0], "x86-64"), (kinds[1], "generic"), (kinds[0], "x86-64-v3")
-    made = [(*it, it[0], "liboca_c.a") for it in (first, arm, first, later)]
-    wanted = [made[0], 0, made[1], 0, made[2], 7, made[3], 0, 1]
-    if found != wanted:
-        print(f"{found} in place of {wanted}")
-    return found == wanted
+    made = [(x86, "x86-64"), (arm, "generic"), (x86, "x86-64"), (x86, "x86-64-v3")]
+    first, second, third, fourth = [(*it, it[0], "liboca_c.a") for it in made]
+    return is_same([first, 0, second, 0, third, 7, fourth, 0, 1], found)
 
 
 # Lines that stand in a document, what was printed, and whether that is the same.
@@ -400,21 +357,16 @@ PIECES = [
 ]
 
 
-def compares_documents():
+def compares_documents(_):
     """`snippets.py` sees where a session prints otherwise, and where a piece of code is not in its file."""
-    snippets = importlib.import_module("snippets")
     wrong = [it for it in SESSIONS if snippets.is_like(it[0], it[1]) != it[2]]
     wrong += [it for it in PIECES if snippets.is_in(it[0], "\n".join(FILE)) != it[1]]
     blocks = list(snippets.blocks("a\n\n    $ b\n    c\n\nd\n```sh x/y\ne\n```\n"))
-    wrong += [] if blocks == [(3, "", ["$ b", "c"]), (8, "sh x/y", ["e"])] else blocks
-    for it in wrong:
-        print(f"snippets.py: {it}")
-    return not wrong
+    return is_same([], wrong) and is_same([(3, "", ["$ b", "c"]), (8, "sh x/y", ["e"])], blocks)
 
 
-def lists_each_edit():
+def lists_each_edit(_):
     """`edits.py` leaves out no file of a folder but a text about it: what is no edit is tried, and fails."""
-    edits = importlib.import_module("edits")
     with tempfile.TemporaryDirectory() as folder:
         for name in ("a.edit", "b.edits", "c", "README.md"):
             Path(folder, name).touch()
@@ -423,8 +375,8 @@ def lists_each_edit():
     return refused == [("a.edit", False), ("b.edits", True), ("c", True)]
 
 
-# What the prover says of a copy of a crate: its status, its lines, and which of three edits it refuses by that: one of
-# `m::f`, one of `m::g`, which calls it, and one of no function.
+# What the prover says of a copy of a crate: its status, its lines, and which of three edits it refuses by that: one of `m::f`, one of `m::g`, which
+# calls it, and one of no function.
 DIFFERS, GONE = "F.antt:1:2: error: the two sides differ", "error: `x` is not in scope"
 CALLS, END = "fn a::m::g: not proved: it calls a::m::f", "logic=not-proved"
 SAID_OF_EDITS = [
@@ -439,10 +391,9 @@ SAID_OF_EDITS = [
 ]
 
 
-def judges_edits():
+def judges_edits(_):
     """An edit is refused where a goal of its own function fails, and one of no function where any does: not where only
     a name is gone, where a function only calls another, or where the prover was not reached; and why not is told."""
-    edits = importlib.import_module("edits")
     functions = {"f": [edits.Function(["m"], None, "f", 0, 1)], "g": [edits.Function(["m"], None, "g", 2, 3)], " ": []}
     tried = {name: SimpleNamespace(functions=its) for name, its in functions.items()}
     found, told = [], []
@@ -453,8 +404,8 @@ def judges_edits():
     return found == [list(refused) for *_, refused in SAID_OF_EDITS] and all(told)
 
 
-# A crate with a function that two edits change, one that none does, and a method of a trait; the copies that one check
-# has of it, behind that function: as it stands, and with the second edit.
+# A crate with a function that two edits change, one that none does, and a method of a trait; the copies that one check has of it, behind that
+# function: as it stands, and with the second edit.
 SOURCE = """/// Counts.
 #[tactic(auto,
     using(a::b))]
@@ -488,11 +439,9 @@ OF_F = "use Rattle.a.proofs.m.f.Goals as goal\nx : goal.f.proofs.m.fine\n"
 SAID_OF_COPIES = [("f f_edited_1", "a b"), ("f", "a"), ("f_edited_1", "b"), ("f f_edited_1 f_as_it_stands", "a"), ("", "")]
 
 
-def copies_edits():
-    """A further edit of a function is tried in a copy of it, with a copy of its proof and a copy as it stands, which
-    must be proved; a further one of a method of a trait, or of two functions, in another check. Edits that are left are
-    tried without copies."""
-    edits = importlib.import_module("edits")
+def copies_edits(_):
+    """A further edit of a function is tried in a copy of it, with a copy of its proof and a copy as it stands, which must be proved; a further one of
+    a method of a trait, or of two functions, in another check. Edits that are left are tried without copies."""
     with tempfile.TemporaryDirectory() as folder:
         for name, text in (("src/m.rt", SOURCE), ("proofs/m/f/Answers.antt", OF_F)):
             Path(folder, name).parent.mkdir(parents=True)
@@ -511,14 +460,14 @@ def copies_edits():
         names = ["f_as_it_stands", "f_edited_1"]
         proofs = {f"proofs/m/{it}/Answers.antt": OF_F.replace("proofs.m.f.", f"proofs.m.{it}.") for it in names}
         is_copied = texts == {"src/m.rt": behind, **proofs}
-        return is_grouped and is_copied and [judged_copies(edits, crate, of, said) for said, _ in SAID_OF_COPIES] == [
+        return is_grouped and is_copied and [judged_copies(crate, of, told) for told, _ in SAID_OF_COPIES] == [
             refused.split() for _, refused in SAID_OF_COPIES]
 
 
-def judged_copies(edits, crate, of, said):
+def judged_copies(crate, of, told):
     """Which of the two edits of the function are refused where the prover says so."""
     trial, asked = edits.Trial(crate, crate.folder), []
-    lines = [f"fn a::m::{name}: not proved: the search did not prove a goal" for name in said.split()]
+    lines = [f"fn a::m::{name}: not proved: the search did not prove a goal" for name in told.split()]
     ran = SimpleNamespace(returncode=1, stdout="\n".join([*lines, "logic=not-proved"]) + "\n")
     trial.checked = lambda texts, paths, without: asked.append(sorted(paths)) or edits.Answer(ran, texts)
     group = edits.grouped([of["a"], of["b"]], crate, True)[0]
@@ -578,18 +527,17 @@ impl T {
 """
 EMPTY = BODIES.replace("    let m = n;\n    m + 2\n", "    #[tactic(none)] unreachable!();\n\n").replace(
     "        T(n)\n", "        #[tactic(none)] unreachable!();\n")
-# What the prover says of `touched` and others where these are empty, and where they are not; whether the edit of `touched`
-# is refused, and how many checks that takes.
+# What the prover says of `touched` and others where these are empty, and where they are not; whether the edit of `touched` is refused, and how many
+# checks that takes.
 LEMMA = f"proofs/Lemmas.antt:1:2: {GONE}"
 OPEN, ALSO = (f"fn a::m::{it}: no proof: the search did not prove a goal" for it in ("touched", "other"))
 SAID_OF_EMPTY = [([OPEN, ALSO], [], True, 1), ([OPEN, LEMMA], [], False, 2), ([OPEN, LEMMA], [OPEN], True, 2),
                  ([ALSO], [OPEN], False, 1), ([OPEN, "fn a::m::full: no proof: the search did not prove a goal"], [], False, 2)]
 
 
-def empties_functions():
+def empties_functions(_):
     """Functions that no edit touches are checked without their bodies and proofs, but for those of traits, constants,
     cycles and C; where anything else than what was changed fails then, they are checked once more with them."""
-    edits = importlib.import_module("edits")
     with tempfile.TemporaryDirectory() as folder:
         Path(folder, "src").mkdir()
         Path(folder, "src/m.rt").write_text(BODIES)
@@ -613,8 +561,8 @@ def empties_functions():
         return all(found)
 
 
-# Functions with a clause that is wanted of them alone and others; those whose contract is narrowed where `f` and `g` are
-# checked, and where `h`, which calls `g`, is too.
+# Functions with a clause that is wanted of them alone and others; those whose contract is narrowed where `f` and `g` are checked, and where `h`,
+# which calls `g`, is too.
 CONTRACT = """    requires { n < 9 }
     ensures low { result < 9 }
     ensures high {
@@ -631,10 +579,9 @@ SAID_OF_CLAUSES = [("low", ["f"], ["f"], "refused"), ("low", [], ["f"], "FAILED:
                    ("kept", ["f"], ["f"], "FAILED: its function ensures no clause kept")]
 
 
-def narrows_contracts():
+def narrows_contracts(_):
     """Where edits name the clauses that refuse them, their functions ensure those alone, but for a function that other
     code in the check calls, and one whose proof is by hand. An edit that another clause refuses has failed."""
-    edits = importlib.import_module("edits")
     with tempfile.TemporaryDirectory() as folder:
         for name, text in (("src/m.rt", PROMISES), ("proofs/m/by_hand/Answers.antt", ""), ("f.edit", "n + 1"), ("g.edit", "n + f(n)"),
                            ("h.edit", "    g(n)"), ("by_hand.edit", "n + 2")):
@@ -650,12 +597,11 @@ def narrows_contracts():
             wanted = {name: "\n    n: u8,\n) -> u8\n" + (NARROW if name == narrow else CONTRACT) for name in of}
             starts = {name: texts["src/m.rt"].split(f"fn {name}(")[1].startswith(wanted[name]) for name in of}
             found += [len(groups) == 1, paths == ({f"m::{narrow}"} if narrow else set()), all(starts.values())]
-        return all(found) and all(told_of_clause(edits, crate, *row) for row in SAID_OF_CLAUSES)
+        return all(found) and all(told_of_clause(crate, *row) for row in SAID_OF_CLAUSES)
 
 
-def told_of_clause(edits, crate, clause, narrow, whole, wanted):
-    """Whether this is told of the edit of `f` that names this clause, where the prover says so of `f` with that clause
-    alone, and with all."""
+def told_of_clause(crate, clause, narrow, whole, wanted):
+    """Whether this is told of the edit of `f` that names this clause, where the prover says so of `f` with that clause alone, and with all."""
     Path(crate.folder, "wrong").mkdir(exist_ok=True)
     Path(crate.folder, "wrong/f.edit").write_text(f"clause: {clause}\nfile: src/m.rt\nold: n + 1\nnew: n + 3\n")
     trial = edits.Trial(crate, crate.folder)
@@ -668,44 +614,45 @@ def told_of_clause(edits, crate, clause, narrow, whole, wanted):
 
     trial.checked = checked
     trial.run()
-    with contextlib.redirect_stdout(io.StringIO()) as said:
-        trial.told()
-    return said.getvalue().strip().split(": ", 1)[1].startswith(wanted)
+    return said(trial.told)[1].strip().split(": ", 1)[1].startswith(wanted)
 
 
-# The steps, each by its whole command, and the fewest checks that it is to pass: neither a slip in their list nor another
-# word takes some of them away unseen.
-PROGRAMS = "ocadev ocactl ocapanel trials amplifier panel"
-FEWEST = {
-    "python3 gate/selftest.py": 114,
-    f"mkdir -p bin && for name in {PROGRAMS}; do cp crates/$name/out/$name bin/ || exit 1; done": 1,
-    "python3 tools/c_library.py bin": 26750, "python3 examples/run.py bin/ocadev": 4, "python3 tools/runs.py bin": 354,
-    "python3 tools/ctl_runs.py bin": 123, "python3 tools/unreliable.py bin": 3746, "python3 tools/damaged.py bin": 103936,
-    "python3 tools/fuzz.py bin 20": 200, "python3 tools/words.py bin": 812, "python3 tools/hands.py bin": 279,
-    "python3 tools/panel.py bin": 362, "python3 tools/network.py bin": 298, "python3 tools/keep.py bin": 360,
-    "python3 tools/standstill.py bin": 52, "python3 tools/neighbours.py bin": 1, "python3 tools/one_address.py bin": 1,
-    "python3 tools/lossy.py bin 30": 2,
-    "python3 tools/lossy.py bin directed": 2,
-    "python3 tools/world.py bin 8000": 15, "python3 tools/embedded.py bin": 126, "python3 tools/header.py": 2000,
-    "python3 tools/c_store.py": 5156,
-    "python3 tools/law.py bin": 3, "python3 tools/manual.py bin": 259, "python3 tools/snippets.py bin": 85,
-    "python3 tools/python_controller.py bin": 140, "python3 tools/edits.py": 710}
+# What becomes of two steps, how they stand then, and the commands that are lost by it.
+STEPS = "# two\n 3 1  a b\n\n&2 1  c\n"
+OF_STEPS = [
+    ("nothing", STEPS, []), ("another is added", STEPS + "9 9 d\n", []), ("their order changes, and what they may take", "2 5 c\n4 1 a b\n", []),
+    ("one is taken away", " 3 1  a b\n", ["c"]), ("all are taken away", "", ["a b", "c"]), ("one names fewer checks", STEPS.replace("3 1", "2 1"), ["a b"]),
+    ("a word of one changes", STEPS.replace("a b", "a c"), ["a b"]), ("one is made a comment", "# 3 1  a b\n2 1 c\n", ["a b"]),
+    ("one is taken away, and why is told", "2 1 c\n# was: 3 1 a b: of c\n", []), ("and why is left out", "2 1 c\n# was: 3 1 a b\n", ["a b"]),
+    ("and why is told of fewer checks", "2 1 c\n# was: 2 1 a b: of c\n", ["a b"]), ("one names fewer checks, and why is told",
+     STEPS.replace("3 1", "2 1") + "# was: 3 1 a b: less\n", []), ("one stands twice", STEPS + "2 1 c\n", ["c"])]
 
 
-def names_enough():
-    """The steps are these, word by word, each once, and name as many checks as they are to."""
-    steps = [step for part in run.paragraphs(HERE / "steps") for step in part]
-    named = [step.command for step in steps]
-    wrong = [f"no step is: {it}" for it in FEWEST if it not in named]
-    wrong += [f"FEWEST has no step, or it stands twice: {it}" for it in named if it not in FEWEST or named.count(it) > 1]
-    wrong += [f"a step names {step.least} checks, and {FEWEST[step.command]} are the fewest: {step.command}"
-              for step in steps if step.least < FEWEST.get(step.command, 0)]
-    for it in wrong:
-        print(it)
-    return not wrong
+def is_lost(_, now, wanted):
+    """Whether these commands are lost where the two steps stand so."""
+    return is_same(wanted, lost(STEPS, now))
 
 
-def stands_on_its_sources():
+def lost(before, now):
+    """The commands of the steps as they were that no step is any more, or only one that names fewer checks, and those that stand twice; not
+    those of which a line `# was: LEAST MINUTES COMMAND: WHY` says why."""
+    steps, old = ([run.Step(line) for line in text.splitlines() if line.strip() and not line.startswith("#")] for text in (now, before))
+    named = {step.command: step.least for step in steps}
+    why = [re.match(rf"# was: (.*): \S", line) for line in now.splitlines()]
+    given_up = {(step.command, step.least) for step in (run.Step(found[1]) for found in why if found)}
+    gone = [it.command for it in old if named.get(it.command, 0) < it.least and (it.command, it.least) not in given_up]
+    return gone + [it for it in named if sum(step.command == it for step in steps) > 1]
+
+
+def loses_no_step(_):
+    """Each step of the versions before, the last that has landed among them, is still one, word by word, and names as many checks."""
+    git = lambda *words: subprocess.run(["git", "-C", run.TOP, *words], capture_output=True, text=True)
+    before = {git("show", f"{version}:gate/steps").stdout for version in ["HEAD", "origin/main", *git("rev-parse", "HEAD^@").stdout.split()]}
+    found = [it for text in before for it in lost(text, (HERE / "steps").read_text())]
+    return is_same([], found)
+
+
+def stands_on_its_sources(_):
     """`make library` makes the library anew where a source or a definition of its own crates is newer."""
     lines = [line.split("#")[0].split(":") for line in (run.TOP / "crates.txt").read_text().splitlines()]
     below = {line[0].split()[0]: line[1].split() for line in lines if len(line) == 2}
@@ -748,17 +695,14 @@ def compares_examples(folder):
     for text, status, _ in OF_EXAMPLES:
         program.write_text(PRINTS.format(python=sys.executable, examples=str(examples), text=text, status=status))
         program.chmod(0o755)
-        ran = subprocess.run([sys.executable, str(examples / "run.py"), str(program)], capture_output=True, text=True,
-                             timeout=120)
+        ran = subprocess.run([sys.executable, str(examples / "run.py"), str(program)], capture_output=True, text=True, timeout=120)
         found.append((ran.returncode, run.last_line(ran.stdout)))
     ends = {True: (0, f"{count} passed, 0 failed"), False: (1, f"0 passed, {count} failed")}
     return count > 0 and found == [ends[good] for _, _, good in OF_EXAMPLES]
 
 
-def judges_lossy_runs():
+def judges_lossy_runs(_):
     """A run of lossy.py is as promised only where each of its numbers is right: each is made wrong alone."""
-    lossy = importlib.import_module("lossy")
-
     def judged(copies=1, wrong=0, missing=0, status=0, **report):
         made = object.__new__(lossy.Run)
         made.report = {"executed": 5, "old": 1, **report}
@@ -792,10 +736,10 @@ def is_carried_badly(network, waits, order):
     return not wrong
 
 
-def carries_badly():
+def carries_badly(_):
     """The network of lossy.py loses, doubles, delays and reorders datagrams both ways, by its own clock: here one that
     goes on by a millisecond with each datagram, and by a second behind the last."""
-    lossy, count, clock = importlib.import_module("lossy"), 5000, SimpleNamespace(now=0)
+    count, clock = 5000, SimpleNamespace(now=0)
     waits, order, real = [[] for _ in range(count)], [], lossy.time
     try:
         lossy.time = SimpleNamespace(time=lambda: clock.now / 1000)
@@ -813,88 +757,83 @@ def carries_badly():
     return is_carried_badly(network, waits, order) and all(way == (number % 3 == 0) for way, number in order)
 
 
-def counts_what_differs():
-    """What tools without a class `Checks` count by: what ends or prints otherwise, or is not so, has failed."""
-    runs, panel, unreliable = (importlib.import_module(name) for name in ("runs", "panel", "unreliable"))
-    checks, found = runs.Runs(None), []
-    ended = SimpleNamespace(returncode=1, stdout=b"a\n", stderr=b"note: more\nbad words\n")
-    checks.ran = lambda *_: ended
-    before, refused = list(panel.COUNTS), unreliable.Runs("", "")
-    with contextlib.redirect_stdout(io.StringIO()):
-        for status, output, fault in ((1, b"a\n", b"bad words\n"), (0, b"a\n", b"bad words\n"), (1, b"a\n", b""),
-                                      (1, b"a", b"bad words\n"), (1, b"a\nb", b"bad words\n"),
-                                      (1, b"a\n", b"note: more\nbad words\n")):
-            checks.gives(["a"], b"", status, output, fault)
-        found += [panel.check(True, "so") is True, panel.check(False, "not so") is False]
-        refused.expect(True, "so")
-        refused.expect(False, "not so")
+# Runs of programs that end or print otherwise than they must, but for the first.
+DIFFERENT = [(1, b"a\n", b"bad words\n"), (0, b"a\n", b"bad words\n"), (1, b"a\n", b""), (1, b"a", b"bad words\n"), (1, b"a\nb", b"bad words\n"),
+             (1, b"a\n", b"note: more\nbad words\n")]
+
+
+def counts_what_differs(_):
+    """What ends or prints otherwise, or is not so, has failed, also in tools that count in a way of their own."""
+    refused, its = unreliable.Runs("", ""), runs.Runs(None)
+    its.ran = lambda *_: SimpleNamespace(returncode=1, stdout=b"a\n", stderr=b"note: more\nbad words\n")
+    before = list(panel.COUNTS)
+    for row in DIFFERENT:
+        said(its.gives, ["a"], b"", *row)
+    found = [said(panel.check, True, "so")[0] is True, said(panel.check, False, "not so")[0] is False]
+    said(refused.expect, True, "so")
+    said(refused.expect, False, "not so")
     found += [[a - b for a, b in zip(panel.COUNTS, before)] == [1, 1], refused.wrong == 1]
-    return all(found) and (checks.passed, checks.failed) == (1, 5)
+    return all(found) and (its.passed, its.failed) == (1, 5)
 
 
-def sees_differences(tool):
+def sees_differences(_, tool):
     """Whether the tool's checks count what is the same as passed, and any difference as failed, which they tell."""
-    checks = tool.Checks(*[None] * (len(inspect.signature(tool.Checks).parameters)))
-    told = io.StringIO()
-    with contextlib.redirect_stdout(told):
-        checks.same("the same", ("a", 1), ("a", 1))
-        quiet = told.getvalue()
-        for got, wanted in ((("a", 1), ("a", 2)), ("", None), (False, None), ([], [[]]), ("ab", "abc")):
-            checks.same("a difference", got, wanted)
-    return (checks.passed, checks.failed, quiet, told.getvalue().count("a difference")) == (1, 5, "", 5)
+    its = tool.Checks(*[None] * sum(it.default is it.empty for it in inspect.signature(tool.Checks).parameters.values()))
+    quiet = said(its.same, "the same", ("a", 1), ("a", 1))[1]
+    told = "".join(said(its.same, "a difference", got, wanted)[1]
+                   for got, wanted in ((("a", 1), ("a", 2)), ("", None), (False, None), ([], [[]]), ("ab", "abc")))
+    return (its.passed, its.failed, quiet, told.count("a difference")) == (1, 5, "", 5)
+
+
+def tells_a_verdict(_):
+    """The last line and the status of checks: they have passed where some did, and none failed. A run that goes on is ended, and a part that
+    breaks off has failed."""
+    found = []
+    for passed, failed in ((3, 0), (3, 1), (0, 2), (0, 0)):
+        its = checks.Checks()
+        its.passed, its.failed = passed, failed
+        found.append(said(its.verdict))
+    its = checks.Checks("/bin")
+    sleeps = its.start("sleep", 600)
+    said(its.parts, lambda it: it.same("so", 1, 1), lambda _: {}["none"], lambda it: it.same("not so", 1, 2))
+    found += [said(its.verdict), sleeps.poll() is not None]
+    return is_same([(0, "3 passed, 0 failed\n"), (1, "3 passed, 1 failed\n"), (1, "0 passed, 2 failed\n"), (1, "0 passed, 0 failed\n"),
+                    (1, "1 passed, 2 failed\n"), True], found)
 
 
 def tools_with_checks():
-    """The tools that compare by a class of their own."""
-    sys.path.insert(0, str(run.TOP / "tools"))
-    names = [file.stem for file in sorted((run.TOP / "tools").glob("*.py")) if "\nclass Checks:" in file.read_text()]
+    """The tools that compare by a class of their own, and the one that others share."""
+    names = [file.stem for file in sorted((run.TOP / "tools").glob("*.py")) if re.search(r"(?m)^class Checks\b(?!\(checks)", file.read_text())]
     return [(name, importlib.import_module(name)) for name in names]
 
 
+ROWS = [(what, functools.partial(is_as_wanted, steps=steps, passes=passes, last=last)) for what, steps, passes, last in CASES] + [
+    (what, functools.partial(is_counted, command=command, least=least, wanted=wanted)) for what, command, least, wanted in OF_CI] + [
+    (f"a gate that signal {number} ends", functools.partial(ends_when_told, number=number)) for number in (signal.SIGTERM, signal.SIGINT, signal.SIGHUP)] + [
+    ("a gate under nohup goes on", functools.partial(ends_when_told, number=signal.SIGTERM, before=signal.SIGHUP)),
+    ("a tool that no step runs is found", finds_what_is_left_out), ("the least of rt ci", knows_the_least),
+    ("the crate that others wait for", knows_what_is_waited_for), ("what hangs is ended", ends_all_that_hangs),
+    ("what failed is told", tells_what_failed), ("a step goes on beside others", goes_on_beside), ("steps begin beside rt ci", begins_early),
+    ("examples/run.py compares", compares_examples), ("library.py builds as asked", builds_as_asked), ("snippets.py compares", compares_documents),
+    ("edits.py lists each edit", lists_each_edit), ("edits.py judges edits", judges_edits), ("no step is lost", loses_no_step),
+    ("each tool stands in a step", leaves_none_out), ("make library stands on its sources", stands_on_its_sources),
+    ("all that is tried counts", counts_all), ("how many checks run at once", knows_the_lanes), ("a missing kit is told", says_what_is_missing),
+    ("edits.py counts all", counts_edits), ("edits.py waits for proofs", waits_for_proofs), ("edits.py copies functions", copies_edits),
+    ("edits.py empties functions", empties_functions), ("edits.py narrows contracts", narrows_contracts),
+    ("checks.py forgives no lateness", forgives_no_lateness), ("checks.py tells a verdict", tells_a_verdict), ("lossy.py judges runs", judges_lossy_runs),
+    ("lossy.py carries badly", carries_badly), ("tools count what differs", counts_what_differs)] + [
+    (f"of two steps {what}", functools.partial(is_lost, now=now, wanted=wanted)) for what, now, wanted in OF_STEPS] + [
+    (f"{name}.py sees differences", functools.partial(sees_differences, tool=tool)) for name, tool in tools_with_checks()]
+
+
 def main():
-    """Runs the rows with a TMPDIR, as the gate gives its steps one where memory has room."""
+    """Tries each row in a folder of its own, with a TMPDIR, as the gate gives its steps one where memory has room."""
+    its = checks.Checks()
     with tempfile.TemporaryDirectory() as room:
         os.environ["TMPDIR"], tempfile.tempdir = room, None
-        return run_rows()
-
-
-def run_rows():
-    passed = failed = 0
-    with tempfile.TemporaryDirectory() as room:
-        tried = [(what, is_as_wanted(Path(room), *case)) for what, *case in CASES]
-        tried += [(what, is_counted(*case)) for what, *case in OF_CI]
-        tried += [("a tool that no step runs is found", finds_what_is_left_out(Path(room))), ("the least of rt ci", knows_the_least(Path(room))),
-                  ("the crate that others wait for", knows_what_is_waited_for(Path(room))),
-                  ("what hangs is ended", ends_all_that_hangs(Path(room))),
-                  ("what failed is told", tells_what_failed(Path(room))),
-                  ("a step goes on beside others", goes_on_beside(Path(room))),
-                  ("steps begin beside rt ci", begins_early(Path(room))),
-                  ("examples/run.py compares", compares_examples(Path(room)))]
-        tried += [(f"a gate that signal {number} ends", ends_when_told(Path(room), number))
-                  for number in (signal.SIGTERM, signal.SIGINT, signal.SIGHUP)]
-        tried.append(("a gate under nohup goes on", ends_when_told(Path(room), signal.SIGTERM, signal.SIGHUP)))
-    tried += [(f"{name}.py sees differences", sees_differences(tool)) for name, tool in tools_with_checks()]
-    tried += [("library.py builds as asked", builds_as_asked()), ("snippets.py compares", compares_documents()),
-              ("edits.py lists each edit", lists_each_edit()), ("edits.py judges edits", judges_edits()),
-              ("the steps name enough", names_enough()), ("each tool stands in a step", leaves_none_out()),
-              ("make library stands on its sources", stands_on_its_sources())]
-    tried += [("all that is tried counts", counts_all()), ("the lanes of rt ci", knows_the_lanes()), ("edits.py counts all", counts_edits()),
-              ("edits.py knows the lanes", edits_know_the_lanes()),
-              ("edits.py waits for proofs", waits_for_proofs()),
-              ("edits.py copies functions", copies_edits()), ("edits.py empties functions", empties_functions()),
-              ("edits.py narrows contracts", narrows_contracts()),
-              ("network.py forgives no lateness", forgives_no_lateness()),
-              ("lossy.py judges runs", judges_lossy_runs()), ("lossy.py carries badly", carries_badly()),
-              ("tools count what differs", counts_what_differs())]
-    for what, is_so in selftest_builds.ROWS + selftest_tools.ROWS:
-        with tempfile.TemporaryDirectory() as room:
-            tried.append((what, is_so(Path(room))))
-    for what, is_well in tried:
-        passed, failed = passed + is_well, failed + (not is_well)
-        if not is_well:
-            print(f"WRONG: {what}")
-    print(f"{passed} passed, {failed} failed")
-    return 1 if failed else 0
+        for what, is_so in ROWS + selftest_builds.ROWS + selftest_tools.ROWS:
+            its.expect(what, is_so(Path(tempfile.mkdtemp())))
+    return its.verdict()
 
 
 if __name__ == "__main__":

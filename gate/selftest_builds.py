@@ -2,7 +2,6 @@
 and install.sh, each tried over stand-ins of what it runs."""
 import contextlib
 import functools
-import importlib
 import io
 import os
 import shutil
@@ -14,8 +13,33 @@ import threading
 import time
 from pathlib import Path
 from types import SimpleNamespace
+from unittest.mock import patch
 
+import build
+import kit
+import library
 import run
+
+sys.path.insert(0, str(run.TOP / "tools"))
+import edits
+import own_ports
+
+
+def said(call, *given):
+    """What a call answers, or by what it ends the process, and what it prints."""
+    with contextlib.redirect_stdout(io.StringIO()) as told:
+        try:
+            answer = call(*given)
+        except SystemExit as ended:
+            answer = ended.code
+    return answer, told.getvalue()
+
+
+def is_same(wanted, got):
+    """Whether both are the same; where not, they are told."""
+    if got != wanted:
+        print(f"{got} in place of {wanted}")
+    return got == wanted
 
 
 class FakeCrate(SimpleNamespace):
@@ -24,8 +48,7 @@ class FakeCrate(SimpleNamespace):
 
 
 def in_turn(tasks):
-    """What the toolchain's lanes give of tasks, one at a time, each once those that it waits for have ended, else the
-    last first."""
+    """What the toolchain's lanes give of tasks, one at a time, each once those that it waits for have ended, else the last first."""
     given, left = {}, dict(tasks)
     while left:
         key = next(it for it in reversed(left) if all(below in given for below in left[it][0]))
@@ -40,8 +63,18 @@ def sum_of(file):
 
 def fake_tools(processors=2, free=9e9, **more):
     """The toolchain's command, as far as a build asks it."""
-    tools = SimpleNamespace(RATTLE="rattle", sum_of=sum_of, **more)
-    return SimpleNamespace(free=lambda: free, processors=lambda: processors, rtlib=tools)
+    return SimpleNamespace(free=lambda: free, processors=lambda: processors, RATTLE="rattle", sum_of=sum_of, **more)
+
+
+@contextlib.contextmanager
+def within(folder):
+    """While this lasts this process works in the folder, and then again where it did."""
+    place = Path.cwd()
+    os.chdir(folder)
+    try:
+        yield
+    finally:
+        os.chdir(place)
 
 
 @contextlib.contextmanager
@@ -74,33 +107,33 @@ def fake_library(folder, name, below, asked, status=lambda: 0):
     return crate
 
 
-def built(build, crates, **more):
+def built(crates, **more):
     """Whether all are built, and what is printed meanwhile."""
     build.apart(crates)
-    with without("RT_JOBS"), contextlib.redirect_stdout(io.StringIO()) as said:
-        return build.build_all(fake_tools(**more), {*crates}), said.getvalue()
+    with without("RT_JOBS"):
+        return said(build.build_all, fake_tools(**more), {*crates})
 
 
 def proves_each_library(folder):
     """`build.py` has each library checked once, after those below it and not where one of them fails, from nothing and for its statements;
     one is built where its check ends well, and all are where each is."""
-    build, found = importlib.import_module("build"), []
+    found = []
     for at, failing in enumerate(("", "a", "b", "c", "d")):
         asked, top = [], folder / f"libraries-{at}"
         made = lambda name, *below: fake_library(top, name, below, asked, lambda: at * (name == failing))
         a, d = made("a"), made("d")
         b = made("b", a)
         c, e = made("c", a, b), made("e", d, a)
-        is_built, said = built(build, [c, b, e, a, d])
+        is_built, told = built([c, b, e, a, d])
         names = "".join(name for name, *_ in asked)
         in_order = all(names.index(low) < names.index(high) for low, high in ("ab", "bc") if high in names)
         found.append((is_built, "".join(sorted(names)), in_order))
-        found += [(f"said of {it}\n" in said, f": {it} NOT PROVED," in said) == (it == failing,) * 2 for it in "abcd"]
+        found += [(f"said of {it}\n" in told, f": {it} NOT PROVED," in told) == (it == failing,) * 2 for it in "abcd"]
         for name, *words in asked:
             jobs, to = words.pop(3), f"{top}/{name}/out/statements/{name}.rlib"
             found.append(jobs in "12" and words == ["rattle", "build", "--jobs", "keeps=False", "--statements", "-o", to])
     asked = []
-    built(build, [fake_library(folder / "libraries-alone", "a", [], asked)], processors=4, free=99e9)
+    built([fake_library(folder / "libraries-alone", "a", [], asked)], processors=4, free=99e9)
     found.append(len(asked) == 1 and asked[0][3:5] == ("--jobs", "4"))
     wanted = [(True, "abcde", True), (False, "ad", True), (False, "abde", True), (False, "abcde", True), (False, "abcd", True)]
     return [it for it in found if it is not True] == wanted
@@ -110,7 +143,7 @@ def takes_what_stands(folder):
     """`build.py` takes a library that it has built of the same sources over the same libraries; it builds what is gone or another, and what
     stands above it. A crate is not built where its source was changed while it was built, or one of a crate below since that was built, or
     where a library below is not the one that was; nor what stands above it."""
-    build, asked = importlib.import_module("build"), []
+    asked = []
     made = lambda name, *below: fake_library(folder / "standing", name, below, asked)
     a, d = made("a"), made("d")
     b = made("b", a)
@@ -120,8 +153,8 @@ def takes_what_stands(folder):
     def again(change=lambda: None):
         asked.clear()
         change()
-        is_built, said = built(build, crates)
-        found.append((is_built, "".join(sorted(name for name, *_ in asked)), "NOT BUILT, begin again" in said))
+        is_built, told = built(crates)
+        found.append((is_built, "".join(sorted(name for name, *_ in asked)), "NOT BUILT, begin again" in told))
 
     def changed_meanwhile(*words):
         b.stamp = lambda: "third"
@@ -154,8 +187,8 @@ def takes_what_stands(folder):
     return found == [*wanted, (False, "e", True), (True, "abce", False), (False, "e", True), (True, "de", False)]
 
 
-# Which crates are begun, in their order, where so many of so many processors are idle and others wait long for these, of which some run;
-# and with how many processes.
+# Which crates are begun, in their order, where so many of so many processors are idle and others wait long for these, of which some run; and with how
+# many processes.
 SHARES = [("ab", 4, 4, "", "a2 b2"), ("ab", 4, 4, "a", "a3 b1"), ("abcde", 4, 4, "", "a1 b1 c1 d1"), ("abcde", 4, 4, "b", "a1 b3"),
           ("a", 8, 8, "", "a4"), ("a", 8, 8, "a", "a4"), ("ab", 2, 2, "a", "a1 b1"), ("ab", 1, 4, "a", "a1"), ("abc", 0, 4, "", ""),
           ("a", 1, 1, "a", "a1"), ("", 4, 4, "", ""), ("ab", 3, 4, "ab", "a2 b1"), ("abc", 4, 4, "ac", "a2 b1 c1"), ("ab", 3, 4, "az", "a2 b1"),
@@ -166,7 +199,7 @@ SHARES = [("ab", 4, 4, "", "a2 b2"), ("ab", 4, 4, "a", "a3 b1"), ("abcde", 4, 4,
 def begun_with(crates, number, goes_on=None, until=None):
     """With how many processes each of the crates but `d` and `g`, which stand above others, is made, where so many are to be used, and one
     crate is not made until another is begun."""
-    build, given, is_begun = importlib.import_module("build"), {}, threading.Event()
+    given, is_begun = {}, threading.Event()
 
     def make(crate, jobs):
         given[crate.name] = jobs
@@ -188,7 +221,7 @@ def meets(barrier):
 def shares_processors(_):
     """`build.py` begins as many crates as processors are idle, those first that others wait for longest, with processes for the processors
     that no other waits for, and more for the crates that begin long chains; never more in all, nor one before those below it."""
-    build, found = importlib.import_module("build"), []
+    found = []
     for ready, idle, number, long, wanted in SHARES:
         given = build.shares([*ready], idle, number, [*long])
         found.append(" ".join(f"{name}{jobs}" for name, jobs in given) == wanted)
@@ -229,17 +262,11 @@ def shares_processors(_):
     found.append(build.chains(crates) == {"a": 1000, "b": 600, "c": 1100, "d": 900, "e": 100})
     meeting = threading.Barrier(4, timeout=30)
     found.append(build.side_by_side([made("a", 9), *(made(name, 1) for name in "bcd")], 8, lambda *_: meets(meeting)))
-    real, number = build.side_by_side, []
-    try:
-        build.side_by_side = lambda _, most, make: number.append(most)
-        with without("RT_JOBS"):
-            for processors, free in ((4, 9e9), (4, 3e9), (2, 99e9)):
-                build.build_all(fake_tools(processors, free), [])
-            for said in ("3", "0"):
-                os.environ["RT_JOBS"] = said
-                build.build_all(fake_tools(4, 99e9), [])
-    finally:
-        build.side_by_side = real
+    number = []
+    for processors, free, says in ((4, 9e9, ""), (4, 3e9, ""), (2, 99e9, ""), (4, 99e9, "3"), (4, 99e9, "0")):
+        with without("RT_JOBS"), patch.object(build, "side_by_side", lambda _, most, make: number.append(most)):
+            os.environ |= {"RT_JOBS": says} if says else {}
+            build.build_all(fake_tools(processors, free), [])
     named = made("oca_tree", 1)
     return all(found) and number == [2, 1, 2, 3, 4] and build.work(named) == build.SECONDS["oca_tree"] and build.work(a) == 100
 
@@ -248,15 +275,12 @@ def builds_each_program(folder):
     """`build.py` has each program built by a process of its own, which ends with it, once the libraries below it are, with the
     processes that it may use, and not where one of those is not proved; it takes what that process has made, where it ended well, and
     what stands as it would be built: not where its sources, a library below it or itself are others."""
-    build, real = importlib.import_module("build"), importlib.import_module("build").TOP
     top, log, found = folder / "programs", folder / "log-of-programs", []
-    (top / "gate").mkdir(parents=True)
-    for place in (top / "crates/a/out", top / "crates/b/out", folder / "bin-of-both"):
+    for place in (top / "gate", top / "crates/a/out", top / "crates/b/out", folder / "bin-of-both"):
         place.mkdir(parents=True)
 
     def again(status, is_proved=True, stamps="", lost=""):
-        (top / "gate/build.py").write_text(
-            f"import os, sys\nprint(os.getcwd(), *sys.argv[1:], os.environ['ENDS'], file=open({str(log)!r}, 'a'))\n"
+        (top / "gate/build.py").write_text(f"import os, sys\nprint(os.getcwd(), *sys.argv[1:], os.environ['ENDS'], file=open({str(log)!r}, 'a'))\n"
             f"print('said of', sys.argv[2], file=sys.stderr)\nmade = 'crates/' + sys.argv[2] + '/out/' + sys.argv[2]\n"
             f"open(made, 'w').write('made {len(found)}')\nos.chmod(made, 0o755)\nos.utime(made, (1, 1))\nsys.exit({status})\n")
         low = fake_library(top / "crates", "low", [], [], lambda: int(not is_proved))
@@ -266,29 +290,20 @@ def builds_each_program(folder):
         if lost:
             Path(top, "crates", lost).write_text("old")
         log.write_text("")
-        with without("RT_JOBS"), contextlib.redirect_stdout(io.StringIO()) as said, contextlib.ExitStack() as running:
+        with without("RT_JOBS"), patch.object(build, "TOP", top), contextlib.ExitStack() as running:
             held = [(running.enter_context(it.open()), it.read_text()) for it in (folder / "bin-of-both").iterdir()]
             tools = fake_tools(4, 99e9, guarded=lambda: ["env", "ENDS=with it"])
-            is_built = build.build_all(tools, {low}, programs, folder / "bin-of-both")
+            is_built, told = said(build.build_all, tools, {low}, programs, folder / "bin-of-both")
             is_replaced = all(file.read() == text for file, text in held)
         can_run = all(os.access(it, os.X_OK) and it.stat().st_mtime > 1e9 for it in (folder / "bin-of-both").iterdir())
         asked = "".join(sorted(line.removeprefix(f"{top} --one ") for line in log.read_text().split("\n")))
         has = " ".join(sorted(f"{it.name}: {it.read_text()}" for it in (folder / "bin-of-both").iterdir()))
-        is_told = ("said of a\n" in said.getvalue()) == (status != 0)
-        found.append((is_built, asked, has, is_told and is_replaced and can_run))
+        found.append((is_built, asked, has, ("said of a\n" in told) == (status != 0) and is_replaced and can_run))
 
-    try:
-        build.TOP = top
-        again(0)
-        again(0)
-        again(0, stamps="a")
-        again(0, stamps="a", lost="b/out/b")
-        again(0, stamps="a", lost="low/out/statements/low.rlib/format")
-        again(3, stamps="b")
-        again(1, stamps="b")
-        again(0, False, lost="low/out/statements/low.rlib/format")
-    finally:
-        build.TOP = real
+    of_low = "low/out/statements/low.rlib/format"
+    for status, more in ((0, {}), (0, {}), (0, {"stamps": "a"}), (0, {"stamps": "a", "lost": "b/out/b"}), (0, {"stamps": "a", "lost": of_low}),
+                         (3, {"stamps": "b"}), (1, {"stamps": "b"}), (0, {"is_proved": False, "lost": of_low})):
+        again(status, **more)
     a, b = "a 2 with it", "b 2 with it"
     return found == [(True, a + b, "a: made 0 b: made 0", True), (True, "", "a: made 0 b: made 0", True), (True, a, "a: made 2 b: made 0", True),
                      (True, b, "a: made 2 b: made 3", True), (True, a + b, "a: made 4 b: made 4", True),
@@ -299,57 +314,37 @@ def builds_each_program(folder):
 def proves_a_program(folder):
     """What `build.py` runs for a program proves, builds and runs it as `rt run` does, in the program's own folder, with words
     that only print, and ends as that does."""
-    build, place, argv = importlib.import_module("build"), Path.cwd(), sys.argv
     with_words = {"ocadev": ["--help"], "trials": ["calls"], "amplifier": [], "panel": []}
-    asked, found, real, crates = [], [], build.toolchain, []
+    asked, found, crates = [], [], []
     are_apart = lambda: all(it.rlib == f"{it.folder}/out/statements/{it.name}.rlib" for it in crates)
     for name in with_words:
-        here = folder / "alone" / name
-        here.mkdir(parents=True)
+        (folder / name).mkdir(parents=True)
         run_it = lambda *words, it=name: asked.append((are_apart() and Path.cwd().name, *words)) or len(it)
-        crates.append(FakeCrate(name=name, folder=str(here), run=run_it))
-    try:
-        build.toolchain = lambda: SimpleNamespace(rtlib=SimpleNamespace(crates_below=lambda _: crates))
-        for name in with_words:
-            for it in crates:
-                it.rlib = "none"
-            sys.argv = ["build.py", "--one", name, "3"]
+        crates.append(FakeCrate(name=name, folder=str(folder / name), run=run_it))
+    for name in with_words:
+        for it in crates:
+            it.rlib = "none"
+        with patch.object(kit, "toolchain", lambda: fake_tools(crates_below=lambda _: crates)), within(folder), \
+                patch.object(sys, "argv", ["build.py", "--one", name, "3"]):
             found.append(build.main())
-    finally:
-        build.toolchain, sys.argv = real, argv
-        os.chdir(place)
     return found == [*map(len, with_words)] and asked == [(name, ["--jobs", "3"], words) for name, words in with_words.items()]
 
 
 def builds_what_is_named(folder):
     """`build.py` builds all libraries below the programs that are named, and these, with the folders of all of them locked;
     no name, or one that crates.txt has not, is a fault."""
-    build, place, argv = importlib.import_module("build"), Path.cwd(), sys.argv
     x, y, z, other = (FakeCrate(name=name, folder=name, below=list) for name in ("x", "y", "z", "other"))
     a, b = FakeCrate(name="a", folder="a", below=lambda: [x, y]), FakeCrate(name="b", folder="b", below=lambda: [y, z])
-    crates = [x, y, z, other, a, b]
-    real = build.toolchain, build.build_all
-    found, asked = [], []
+    crates, found, asked = [x, y, z, other, a, b], [], []
     named = lambda its: "".join(sorted(it.name for it in its))
-    lock = lambda its: asked.append("locks " + named(its)) or []
-    tools = SimpleNamespace(crates_below=lambda _: crates, lock=lock)
-    try:
-        build.toolchain = lambda: SimpleNamespace(rtlib=tools, free=lambda: 99e9, processors=lambda: 1)
-        for is_proved, names in ((True, "ab"), (True, "b"), (False, "ab"), (True, "ac"), (True, "")):
-            said = lambda low, programs, to: asked.append(f"{named(low)} {named(programs)} to {to.name}" + writes())
-            build.build_all = lambda _, *those, good=is_proved: said(*those) or good
-            sys.argv = ["build.py", str(folder / "named"), *names]
-            try:
-                with memory_at(folder / "memory-of-named"), contextlib.redirect_stdout(io.StringIO()):
-                    status = build.main()
-            except SystemExit as ended:
-                status = int(ended.code not in (None, 0))
-            found.append((status, asked[:]))
-            asked.clear()
-    finally:
-        build.toolchain, build.build_all = real
-        sys.argv = argv
-        os.chdir(place)
+    tools = fake_tools(1, 99e9, crates_below=lambda _: crates, lock=lambda its: asked.append("locks " + named(its)) or [])
+    for is_proved, names in ((True, "ab"), (True, "b"), (False, "ab"), (True, "ac"), (True, "")):
+        of_all = lambda _, low, programs, to: asked.append(f"{named(low)} {named(programs)} to {to.name}" + writes()) or is_proved
+        with patch.object(kit, "toolchain", lambda: tools), patch.object(build, "build_all", of_all), within(folder), \
+                patch.object(sys, "argv", ["build.py", str(folder / "named"), *names]), memory_at(folder / "memory-of-named"):
+            status = said(build.main)[0]
+        found.append((int(status not in (None, 0)), asked[:]))
+        asked.clear()
     is_apart = all(it.rlib == f"{it.name}/out/statements/{it.name}.rlib" for it in crates)
     both = ["locks abxyz", "xyz ab to named in memory"]
     return is_apart and found == [(0, both), (0, ["locks byz", "yz b to named in memory"]), (1, both), (1, []), (1, [])]
@@ -358,29 +353,24 @@ def builds_what_is_named(folder):
 @contextlib.contextmanager
 def memory_at(folder, flags=0, space=7e9):
     """While this lasts the folder is what lies in memory, with so much space, and no TMPDIR is set."""
-    build = importlib.import_module("build")
-    real, folder = (build.MEMORY, os.statvfs, tempfile.tempdir), Path(folder)
+    real, folder = os.statvfs, Path(folder)
     folder.mkdir(parents=True, exist_ok=True)
     folder.chmod(0o755)
-    try:
-        build.MEMORY = folder
-        os.statvfs = lambda place: SimpleNamespace(f_flag=flags, f_bavail=space // 4096, f_frsize=4096) if place == folder else real[1](place)
-        with without("TMPDIR", "RT_JOBS"):
-            tempfile.tempdir = None  # found anew, without TMPDIR
-            yield
-    finally:
-        build.MEMORY, os.statvfs, tempfile.tempdir = real
+    found = SimpleNamespace(f_flag=flags, f_bavail=space // 4096, f_frsize=4096)
+    with patch.object(kit, "MEMORY", folder), patch.object(os, "statvfs", lambda place: found if place == folder else real(place)), \
+            without("TMPDIR", "RT_JOBS"), patch.object(tempfile, "tempdir", None):  # found anew, without TMPDIR
+        yield
 
 
 def writes():
     """Where what is started now would write what it removes again, if in memory."""
-    build, within = importlib.import_module("build"), os.environ.get("TMPDIR", "none")
-    is_there = Path(within).parent == build.MEMORY and tempfile.gettempdir() == within and os.stat(within).st_mode & 0o777 == 0o711
+    within = os.environ.get("TMPDIR", "none")
+    is_there = Path(within).parent == kit.MEMORY and tempfile.gettempdir() == within and os.stat(within).st_mode & 0o777 == 0o711
     return " in memory" if is_there else ""
 
 
-# How many processors, how much free memory, how the folder in memory is mounted, its room and mode, and what RT_JOBS says, where a check
-# takes 4 GB and the folder is to have 6; and whether all is written there.
+# How many processors, how much free memory, how the folder in memory is mounted, its room and mode, and what RT_JOBS says, where a check takes 4 GB
+# and the folder is to have 6; and whether all is written there.
 OF_MEMORY = [(2, 14e9, 0, 7e9, 0o777, "", " in memory"), (2, 13.9e9, 0, 7e9, 0o777, "", ""), (2, 14e9, os.ST_NOEXEC, 7e9, 0o777, "", ""),
              (2, 14e9, 0, 5.9e9, 0o777, "", ""), (2, 14e9, 0, 6e9 + 4096, 0o777, "", " in memory"), (3, 18e9, 0, 7e9, 0o777, "", " in memory"),
              (3, 17.9e9, 0, 7e9, 0o777, "", ""), (4, 10e9, 0, 7e9, 0o777, "1", " in memory"), (1, 13e9, 0, 7e9, 0o777, "2", ""),
@@ -390,29 +380,29 @@ OF_MEMORY = [(2, 14e9, 0, 7e9, 0o777, "", " in memory"), (2, 13.9e9, 0, 7e9, 0o7
 def writes_in_memory(folder):
     """`build.py` has what it starts write into a folder in memory, which is removed at the end, also where it is killed, where memory has
     room for that beside the checks, programs can be run from there, and nobody has said another place."""
-    build, found = importlib.import_module("build"), []
+    found = []
     for at, (processors, free, flags, space, mode, said, wanted) in enumerate(OF_MEMORY):
         with memory_at(folder / f"memory-{at}", flags, space):
             before = tempfile.gettempdir()
-            build.MEMORY.chmod(mode)
+            kit.MEMORY.chmod(mode)
             os.environ |= {"RT_JOBS": said} if said else {}
-            with build.in_memory(fake_tools(processors, free)):
+            with kit.in_memory(fake_tools(processors, free)):
                 found.append(writes() == wanted)
-            found.append("TMPDIR" not in os.environ and tempfile.gettempdir() == before and not [*build.MEMORY.iterdir()])
+            found.append("TMPDIR" not in os.environ and tempfile.gettempdir() == before and not [*kit.MEMORY.iterdir()])
     with memory_at(folder / "memory-said"):
         os.environ["TMPDIR"] = str(folder)
-        with build.in_memory(fake_tools(2, 14e9)):
+        with kit.in_memory(fake_tools(2, 14e9)):
             found.append(os.environ["TMPDIR"] == str(folder))
     with memory_at(folder / "memory-there"):
-        build.MEMORY = folder / "none"
-        with build.in_memory(fake_tools(2, 14e9)):
+        kit.MEMORY = folder / "none"
+        with kit.in_memory(fake_tools(2, 14e9)):
             found.append("TMPDIR" not in os.environ)
     place = folder / "memory-of-a-killed"
     place.mkdir()
     place.chmod(0o755)
-    text = (f"import os, signal, sys\nfrom pathlib import Path\nfrom types import SimpleNamespace\nsys.path.insert(0, {str(run.HERE)!r})\nimport build\n"
-            f"build.MEMORY, build.ROOM = Path({str(place)!r}), 0\nrt = SimpleNamespace(free=lambda: 99e9, processors=lambda: 1)\n"
-            "with build.in_memory(rt):\n    Path(os.environ['TMPDIR'], 'left').touch()\n    print(os.environ['TMPDIR'], flush=True)\n"
+    text = (f"import os, signal, sys\nfrom pathlib import Path\nfrom types import SimpleNamespace\nsys.path.insert(0, {str(run.HERE)!r})\nimport kit\n"
+            f"kit.MEMORY, kit.ROOM = Path({str(place)!r}), 0\nrt = SimpleNamespace(free=lambda: 99e9, processors=lambda: 1)\n"
+            "with kit.in_memory(rt):\n    Path(os.environ['TMPDIR'], 'left').touch()\n    print(os.environ['TMPDIR'], flush=True)\n"
             "    os.killpg(0, signal.SIGKILL)\n")
     with without("TMPDIR", "RT_JOBS"):
         ran = subprocess.run([sys.executable, "-c", text], timeout=60, start_new_session=True, stdout=subprocess.PIPE, text=True)
@@ -424,35 +414,28 @@ def writes_in_memory(folder):
 
 def writes_where_git_is(folder):
     """The gate has what it starts write into memory where git's folder and the toolchain are here, and else changes nothing."""
-    build, found, real, path = run.build, [], (run.TOP, run.build.toolchain), os.environ["PATH"]
+    found = []
     stand_in(folder / "path/rt", "exit 1")
     (folder / "path/sh").symlink_to("/bin/sh")
-    try:
-        build.toolchain = lambda: fake_tools(2, 99e9)
-        link = lambda place: place.symlink_to(folder / "top-0/.git")
-        for at, (make, has_rt) in enumerate(((Path.mkdir, True), (Path.touch, True), (lambda _: None, True), (Path.mkdir, False), (link, True))):
-            run.TOP = folder / f"top-{at}"
-            run.TOP.mkdir()
-            make(run.TOP / ".git")
-            os.environ["PATH"] = str(folder / "path") if has_rt else str(folder / "none")
-            with memory_at(folder / f"memory-of-top-{at}"), run.writes():
-                found.append(writes())
-    finally:
-        (run.TOP, build.toolchain), os.environ["PATH"] = real, path
+    link = lambda place: place.symlink_to(folder / "top-0/.git")
+    for at, (make, has_rt) in enumerate(((Path.mkdir, True), (Path.touch, True), (lambda _: None, True), (Path.mkdir, False), (link, True))):
+        top = folder / f"top-{at}"
+        top.mkdir()
+        make(top / ".git")
+        with patch.object(run, "TOP", top), patch.object(kit, "toolchain", lambda: fake_tools(2, 99e9)), \
+                patch.dict(os.environ, PATH=str(folder / "path") if has_rt else str(folder / "none")), \
+                memory_at(folder / f"memory-of-top-{at}"), run.writes():
+            found.append(writes())
     return found == [" in memory", "", "", "", ""]
 
 
 def keeps_others_out(folder):
     """What is alone at the ports that `ocactl` takes by turns is so whatever TMPDIR says, and for each user."""
-    own_ports, asked = importlib.import_module("own_ports"), []
-    real = own_ports.fcntl
-    try:
-        own_ports.fcntl = SimpleNamespace(LOCK_EX="alone", flock=lambda file, how: asked.append((file.name, how)))
-        for at in range(2):
-            with memory_at(folder / f"memory-of-ports-{at}"), run.build.in_memory(fake_tools(2, 99e9)), own_ports.alone():
-                pass
-    finally:
-        own_ports.fcntl = real
+    asked = []
+    locks = SimpleNamespace(LOCK_EX="alone", flock=lambda file, how: asked.append((file.name, how)))
+    for at in range(2):
+        with memory_at(folder / f"memory-of-ports-{at}"), kit.in_memory(fake_tools(2, 99e9)), patch.object(own_ports, "fcntl", locks), own_ports.alone():
+            pass
     return len(asked) == 2 and {*asked} == {(f"/tmp/oca-own-ports-{os.getuid()}", "alone")}
 
 
@@ -491,8 +474,7 @@ def without_make():
 
 
 def make_fails_with(goal, folder):
-    """Whether `make` runs for this goal, with its settings, what it is to, in that order, shows what it prints, and
-    fails where one of it does."""
+    """Whether `make` runs for this goal, with its settings, what it is to, in that order, shows what it prints, and fails where one of it does."""
     top, log = folder / "make", folder / "make.log"
     for name in ("python3", "sh"):
         stand_in(top / f"path/{name}", f'echo "$*" >> "{log}"\necho "said by $*"\n[ "$*" != "$FAILS" ]')
@@ -544,8 +526,7 @@ def ci_runs_the_gate(folder):
     return found == [(it, "said\n") for it in (0, 1, 7)] and log.read_text() == f"{top}: test\n" * 3
 
 
-# What is done with the libraries that the gate has left, low below high below the library for C, and whether they are
-# taken as they are.
+# What is done with the libraries that the gate has left, low below high below the library for C, and whether they are taken as they are.
 LEFT = [
     (lambda made: None, True), (lambda made: made("low/src/lib.rt", 200), False),
     (lambda made: made("high/src/lib.rt", 200), False),
@@ -592,52 +573,37 @@ def files_of(folder):
 
 
 def takes_what_the_gate_left(folder):
-    """`library.py` takes the libraries that `rt ci` has left only where each is there, has no stamp of other checks,
-    and is newer than all sources of its crate and of those below; else it builds them. `edits.py` takes them so,
-    too."""
-    library, edits = (importlib.import_module(name) for name in ("library", "edits"))
-    place, argv = Path.cwd(), sys.argv
-    real, found = (library.build.toolchain, library.build.build_all, edits.rtlib), []
-    try:
-        for at, (change, _) in enumerate(LEFT):
-            low, high = left_crates(folder / f"left-{at}", change)
-            crate = FakeCrate(name="oca_c", folder=str(folder / f"left-{at}"), below=lambda: [low, high], stamp=lambda: "sources")
-            crate.compile = lambda words, to: Path(to).touch() or int(writes() != " in memory")
-            tools = SimpleNamespace(crates_below=lambda _: [crate], lock=lambda _: [], files_of=files_of)
-            library.build.toolchain = lambda: SimpleNamespace(rtlib=tools, free=lambda: 99e9, processors=lambda: 1)
-            built, sys.argv, edits.rtlib = [], ["library.py"], tools
+    """`library.py` takes the libraries that `rt ci` has left only where each is there, has no stamp of other checks, and is newer than all sources of
+    its crate and of those below; else it builds them. `edits.py` takes them so, too."""
+    found = []
+    for at, (change, is_taken) in enumerate(LEFT):
+        low, high = left_crates(folder / f"left-{at}", change)
+        crate = FakeCrate(name="oca_c", folder=str(folder / f"left-{at}"), below=lambda: [low, high], stamp=lambda: "sources")
+        crate.compile = lambda words, to: Path(to).touch() or int(writes() != " in memory")
+        tools = fake_tools(1, 99e9, crates_below=lambda _: [crate], lock=lambda _: [], files_of=files_of)
+        made, is_apart = [], lambda: writes() == " in memory" and all("/out/statements/" in it.rlib for it in (low, high))
+        build_all = lambda _, crates: made.append({*crates} == {low, high} and is_apart()) or True
+        with patch.object(kit, "toolchain", lambda: tools), patch.object(edits, "rt", tools), patch.object(build, "build_all", build_all), \
+                patch.object(sys, "argv", ["library.py"]), within(folder), memory_at(folder / "memory-of-library"):
             stand = all(map(edits.stands, (low, high)))
-            is_apart = lambda: writes() == " in memory" and all("/out/statements/" in it.rlib for it in (low, high))
-            library.build.build_all = lambda _, crates, low=low, high=high: built.append({*crates} == {low, high} and is_apart()) or True
-            with memory_at(folder / "memory-of-library"):
-                found.append((library.main(), built, stand and "/out/rlib/" in low.rlib))
-    finally:
-        library.build.toolchain, library.build.build_all, edits.rtlib = real
-        sys.argv = argv
-        os.chdir(place)
-    wanted = [(0, [] if is_taken else [True], is_taken) for _, is_taken in LEFT]
-    wrong = [at for at, (got, it) in enumerate(zip(found, wanted)) if got != it]
-    if wrong:
-        print(f"library.py or edits.py: cases {wrong} of LEFT")
-    return found == wanted
+            got = library.main(), made, stand and "/out/rlib/" in low.rlib
+        found.append(is_same((0, [] if is_taken else [True], is_taken), got))
+    return all(found)
 
 
 def leaves_no_old_library(folder):
     """`library.py` leaves no archive that it has not made, or made while a source was changed: where compiling fails, or ends well and
     makes none, it fails."""
-    library, found = importlib.import_module("library"), []
+    found = []
     for status, makes in ((0, True), (0, False), (5, False), (5, True)):
         to = folder / "old.a"
         to.write_text("old")
         compile_it = lambda _, to: (Path(to).write_text("new") if makes else None, status)[1]
-        with contextlib.redirect_stdout(io.StringIO()):
-            got = library.compiled(SimpleNamespace(compile=compile_it), [], str(to))
-        found.append((got, to.exists() and to.read_text()))
+        found.append((said(library.compiled, SimpleNamespace(compile=compile_it), [], str(to))[0], to.exists() and to.read_text()))
     for status, stamps in ((0, ["first", "second"]), (5, ["first", "second"]), (0, ["first"] * 2)):
         compile_it = lambda _, to: status or Path(to).touch() or 0
         crate = SimpleNamespace(compile=compile_it, stamp=stamps.pop)
-        with contextlib.redirect_stdout(io.StringIO()):
-            found.append((library.compiled_of_one_text(crate, [], str(to)), to.exists()))
+        found.append((said(library.compiled_of_one_text, crate, [], str(to))[0], to.exists()))
     return found == [(0, "new"), (1, False), (5, False), (5, "new"), (1, False), (5, False), (0, True)]
 
 
@@ -649,8 +615,7 @@ INSTALLS = ["", "compile", "link", "archive", "pages", "no library", "no header"
 
 
 def installs_whole(folder):
-    """`install.sh` fails where the compiler, the linker, the archiver or the pages fail, or where a file is missing
-    that it is to install."""
+    """`install.sh` fails where the compiler, the linker, the archiver or the pages fail, or where a file is missing that it is to install."""
     kind, found = f"{os.uname().machine}-unknown-linux-gnu", []
     for at, fails in enumerate(INSTALLS):
         top = folder / f"install-{at}"
@@ -659,8 +624,7 @@ def installs_whole(folder):
         stand_in(top / "path/cc", COMPILER)
         stand_in(top / "path/ar", '[ "$FAILS" != archive ]')
         stand_in(top / "path/python3", '[ "$FAILS" != pages ] && mkdir -p "$2" && echo page > "$2/oca_page.3"')
-        files = {"no library": "made.a", "no header": "include/oca.h", "no program": "bin/ocactl",
-                 "no page": "man/ocapanel.1"}
+        files = {"no library": "made.a", "no header": "include/oca.h", "no program": "bin/ocactl", "no page": "man/ocapanel.1"}
         for name in ("made.a", *(f"bin/{it}" for it in ("ocadev", "ocactl", "ocapanel"))):
             stand_in(top / name, "")
         if fails in files:

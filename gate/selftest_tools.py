@@ -2,24 +2,31 @@
 they try, and that each of their functions is called."""
 import ast
 import contextlib
-import importlib
-import io
 import os
 import re
 import sys
 from collections import Counter
 from pathlib import Path
 from types import SimpleNamespace
+from unittest.mock import patch
 
+import api
 import run
-from selftest_builds import FakeCrate, in_turn, memory_at, stand_in, writes
+from selftest_builds import FakeCrate, edits, in_turn, is_same, memory_at, said, stand_in, within, writes
+
+import checks
+import fuzz
+import keep
+import lossy
+import neighbours
+import snippets
+import unreliable
 
 # What the prover says where a proof names what is no more.
 GONE = "error: `x` is not in scope"
 
-# The functions of a crate of which edits are tried, and the edits: what an edit changes of them and into what, and what
-# is told of it. A body `wrong` is refused by the goal of its own function, `gone` only names what a proof has not, and
-# any other one is proved.
+# The functions of a crate of which edits are tried, and the edits: what an edit changes of them and into what, and what is told of it. A body `wrong`
+# is refused by the goal of its own function, `gone` only names what a proof has not, and any other one is proved.
 BODIES = {"f": "fine\n    more", "g": "good", "h": "hale", "i": "intact"}
 TRIED = {
     "a_f": ("fine", "wrong f", "refused"), "b_f_again": ("fine", "wrong f", "refused"),
@@ -61,30 +68,18 @@ def said_by_the_prover(crate, texts, flags, kept):
 
 
 def told_by_edits(folder, crates, words, most=60):
-    """The status of `edits.py`, what it tells of each edit, and its last line, where these are all crates and a lane
-    tries so many edits at most."""
-    edits, place = importlib.import_module("edits"), Path.cwd()
-    real = edits.ROOT, edits.SELFTEST, edits.rt, edits.rtlib, edits.MOST
-    rtlib = SimpleNamespace(guarded=list, crates_below=lambda _: crates, STALE=real[3].STALE, PARTS=("src", "specs"))
-    told = io.StringIO()
-    try:
-        edits.ROOT, edits.SELFTEST, edits.rtlib, edits.MOST = folder, folder / "none", rtlib, most
-        edits.rt = SimpleNamespace(edited=real[2].edited, unread=real[2].unread, checked=said_by_the_prover,
-                                   in_lanes=in_turn, need=lambda _: 1, free=lambda: 99e9, processors=lambda: 1)
-        with memory_at(folder / "memory"), contextlib.redirect_stdout(told):
-            status = edits.main(words)
-    finally:
-        edits.ROOT, edits.SELFTEST, edits.rt, edits.rtlib, edits.MOST = real
-        os.chdir(place)
-    lines = re.findall(r"(?m)^crates/(\S+)\.edit: (.*)$", told.getvalue())
-    return status, dict(lines), run.last_line(told.getvalue())
+    """The status of `edits.py`, what it tells of each edit, and its last line, where these are all crates and a lane tries so many edits at most."""
+    tools = SimpleNamespace(edited=edits.rt.edited, unread=edits.rt.unread, STALE=edits.rt.STALE, PARTS=("src", "specs"), checked=said_by_the_prover,
+                            in_lanes=in_turn, need=lambda _: 1, free=lambda: 99e9, processors=lambda: 1, guarded=list, crates_below=lambda _: crates)
+    with patch.multiple(edits, ROOT=folder, SELFTEST=folder / "none", rt=tools, MOST=most), memory_at(folder / "memory"), within(folder):
+        status, told = said(edits.main, words)
+    return status, dict(re.findall(r"(?m)^crates/(\S+)\.edit: (.*)$", told)), run.last_line(told)
 
 
 def tries_edits_in_groups(folder):
     """`edits.py` tells of each edit of each crate what the prover says of that one, with whatever others it is tried,
     and fails where one is not refused, names what is gone, or stands no more."""
-    crates = [crate_of_edits(folder, name, edits)
-              for name, edits in (("a", TRIED), ("b", GOOD_ONES), ("c", ["d_h_is_right"]))]
+    crates = [crate_of_edits(folder, name, edits) for name, edits in (("a", TRIED), ("b", GOOD_ONES), ("c", ["d_h_is_right"]))]
     right = True
     every = {"a": TRIED, "b": GOOD_ONES, "c": ["d_h_is_right"]}
     for words, its, most in (([], every, 60), ([], every, 3), (["b"], {"b": GOOD_ONES}, 60), (["a"], {"a": TRIED}, 60),
@@ -108,12 +103,11 @@ def keeps_for_more_groups(folder):
     earlier.mkdir(parents=True)
     (earlier / "work").touch()
     found = []
-    for said in ("", "1"):
+    for says in ("", "1"):
         KEPT.clear()
-        os.environ["EDITS_KEPT"] = said
-        status, *_ = told_by_edits(folder, crates, [])
+        with patch.dict(os.environ, EDITS_KEPT=says):
+            status, *_ = told_by_edits(folder, crates, [])
         found.append((status, sorted(KEPT, key=str)))
-    os.environ.pop("EDITS_KEPT")
     row = lambda name, kept: (name, kept, " in memory")
     others = [row("b", []), row("b", [])]
     return found == [(0, [row("a", False), *others]), (0, [row("a", ["work"]), *others])]
@@ -137,36 +131,30 @@ OF_SCRIPTS = [("cat out; cat err >&2; exit 2", True), ("cat out; cat err >&2", F
 def compares_scripts(folder):
     """`fuzz.py` passes where each of both programs, on each script, with its words, prints just what the reference does,
     with its faults and its status; any difference of one of them is told, and has failed. Each script is drawn anew."""
-    fuzz = importlib.import_module("fuzz")
-    place, real = folder / "fuzzed", (fuzz.device_script, fuzz.link_script, [*fuzz.ROOMS], [*fuzz.CHANNELS], sys.argv)
+    place, found, drawn = folder / "fuzzed", [], []
     place.mkdir()
     (place / "out").write_text("answer\n")
     (place / "err").write_text("fault\n")
-    right = True
-    try:
-        expected = lambda script: (b"answer\n", "fault", 2)
-        fuzz.device_script = lambda r: drawn.append(r.random()) or (["words", "d"], b"a line\nand more\n", expected)
-        fuzz.link_script = lambda r: drawn.append(r.random()) or (["words", "l"], b"a line\nand more\n", expected)
-        sys.argv = ["fuzz.py", str(place), "0.5"]
-        right_one = OF_SCRIPTS[0][0]
-        cases = [(said, right_one, good) for said, good in OF_SCRIPTS]
-        for device, link, good in cases + [(link, device, good) for device, link, good in cases]:
-            for name, said, letter in (("ocadev", device, "d"), ("ocactl", link, "l")):
-                heard = f'[ "$*" = "words {letter}" ] && grep -q line || exit 9'
-                stand_in(place / name, f"{heard}\ncd '{place}'\n{said}")
-            told, drawn = io.StringIO(), []
-            with contextlib.redirect_stdout(told):
-                status = fuzz.main()
-            counts = re.fullmatch(r"(\d+) passed, (\d+) failed", run.last_line(told.getvalue()))
-            passed, failed = map(int, counts.groups())
-            is_tried = (passed > 1 or not good) and len({*drawn}) == len(drawn) > 0
-            seen = (status, failed, "DIFFERENCE" in told.getvalue(), is_tried)
-            if seen != ((0, 0, False, True) if good else (1, 1, True, True)):
-                print(f"fuzz.py: {seen} where ocadev does '{device}' and ocactl '{link}'")
-                right = False
-    finally:
-        fuzz.device_script, fuzz.link_script, fuzz.ROOMS[:], fuzz.CHANNELS[:], sys.argv = real
-    return right
+    script_of = lambda letter: lambda r: drawn.append(r.random()) or (["words", letter], b"a line\nand more\n", lambda _: (b"answer\n", "fault", 2))
+    cases = [(what, OF_SCRIPTS[0][0], good) for what, good in OF_SCRIPTS]
+    for device, link, good in cases + [(link, device, good) for device, link, good in cases]:
+        for name, what, letter in (("ocadev", device, "d"), ("ocactl", link, "l")):
+            heard = f'[ "$*" = "words {letter}" ] && grep -q line || exit 9'
+            stand_in(place / name, f"{heard}\ncd '{place}'\n{what}")
+        drawn.clear()
+        with patch.multiple(fuzz, device_script=script_of("d"), link_script=script_of("l"), ROOMS=[*fuzz.ROOMS], CHANNELS=[*fuzz.CHANNELS]):
+            status, last, told = ran_as(fuzz, str(place), "0.5")
+        passed, failed = map(int, re.fullmatch(r"(\d+) passed, (\d+) failed", last).groups())
+        is_tried = (passed > 1 or not good) and len({*drawn}) == len(drawn) > 0
+        found.append(is_same((0, 0, False, True) if good else (1, 1, True, True), (status, failed, "DIFFERENCE" in told, is_tried)))
+    return all(found)
+
+
+def ran_as(tool, *words):
+    """The status of a tool that is run with these words, its last line, and all that it tells."""
+    with patch.object(sys, "argv", [f"{tool.__name__}.py", *words]):
+        status, told = said(tool.main)
+    return status, run.last_line(told), told
 
 
 # A document whose sessions and pieces of code are as they stand, and what of it is changed so that one of them is not.
@@ -198,45 +186,29 @@ CHANGED = [("", ""), ("    one", "    other"), ("says two\n    ...", "says two\n
 
 
 def runs_what_documents_say(folder):
-    """`snippets.py` finds each session and piece of code of each of its documents, and fails where one of them is not
-    so."""
-    snippets = importlib.import_module("snippets")
-    top, real, found = folder / "documents", (snippets.TOP, snippets.DOCUMENTS, sys.argv), []
+    """`snippets.py` finds each session and piece of code of each of its documents, and fails where one of them is not so."""
+    top, found = folder / "documents", []
     stand_in(folder / "says-bin/says", 'echo "$*"')
     (top / "code").mkdir(parents=True)
     (top / "code/of.txt").write_text("first\nsecond\n")
-    try:
-        snippets.TOP, snippets.DOCUMENTS, sys.argv = top, ["A.md", "B.md"], ["snippets.py", str(folder / "says-bin")]
-        for old, new in CHANGED:
-            (top / "A.md").write_text(DOCUMENT)
-            (top / "B.md").write_text(DOCUMENT.replace(old, new, 1))
-            told = io.StringIO()
-            with contextlib.redirect_stdout(told):
-                status = snippets.main()
-            found.append((status, run.last_line(told.getvalue())))
-    finally:
-        snippets.TOP, snippets.DOCUMENTS, sys.argv = real
-    wrong = [it for it, got in zip(CHANGED[1:], found[1:]) if got != (1, "5 passed, 1 failed")]
-    for it in wrong:
-        print(f"snippets.py: {it[0]!r} was made {it[1]!r}: {found[CHANGED.index(it)]}")
-    return found[0] == (0, "6 passed, 0 failed") and not wrong
+    for old, new in CHANGED:
+        (top / "A.md").write_text(DOCUMENT)
+        (top / "B.md").write_text(DOCUMENT.replace(old, new, 1))
+        with patch.multiple(snippets, TOP=top, DOCUMENTS=["A.md", "B.md"]):
+            found.append(ran_as(snippets, str(folder / "says-bin"))[:2])
+    return is_same([(0, "6 passed, 0 failed")] + [(1, "5 passed, 1 failed")] * len(CHANGED[1:]), found)
 
 
 def finds_what_documents_say(_):
-    """`snippets.py` comes to each session, with each of its commands, and each block of code with a path of README.md
-    and of all of docs/."""
-    snippets = importlib.import_module("snippets")
-    wanted, found, real = [], [], (snippets.fault_of_session, snippets.is_in)
+    """`snippets.py` comes to each session, with each of its commands, and each block of code with a path of README.md and of all of docs/."""
+    wanted, found = [], []
     for file in [run.TOP / "README.md", *sorted((run.TOP / "docs").glob("*.md"))]:
         name, lines = str(file.relative_to(run.TOP)), file.read_text().splitlines()
         wanted += [it.strip()[2:] for it in lines if re.match(r"(    )?\$ ", it)]
         wanted += [f"{name}:{at + 2}" for at, it in enumerate(lines) if re.match(r"``` ?\w+ +\S+/\S+", it)]
-    try:
-        snippets.fault_of_session = lambda lines, _: found.extend(it for it, _ in snippets.commands_of(lines))
-        snippets.is_in = lambda *_: True
-        found += [where for name in snippets.DOCUMENTS for where, fault in snippets.checks_of(name, "none") if not fault]
-    finally:
-        snippets.fault_of_session, snippets.is_in = real
+    noted = lambda lines, _: found.extend(it for it, _ in snippets.commands_of(lines))
+    with patch.multiple(snippets, fault_of_session=noted, is_in=lambda *_: True):
+        said(lambda: found.extend(where for name in snippets.DOCUMENTS for where, fault in snippets.checks_of(name, "none") if not fault))
     missing = [it for it in wanted if found.count(it) < wanted.count(it)]
     for it in missing:
         print(f"snippets.py does not come to: {it}")
@@ -250,21 +222,14 @@ WITH_IT = "#[test]\nfn it() {\n    let a = of(1)?;\n    if a { b() }\n}\n"
 
 def finds_examples(folder):
     """`snippets.py` finds each example of a doc comment, and fails where no test has it as it stands."""
-    snippets = importlib.import_module("snippets")
-    top, real, found = folder / "documented", (snippets.TOP, snippets.DOCUMENTS, sys.argv), []
+    top, found = folder / "documented", []
     for name in ("a", "a_tests"):
         (top / f"crates/{name}/src/in").mkdir(parents=True)
-    try:
-        snippets.TOP, snippets.DOCUMENTS, sys.argv = top, [], ["snippets.py", "none"]
-        for old, new in (("", ""), ("of(1)?", "of(2)?"), ("    if a { b() }\n", ""), ("let a", "let b"), (WITH_IT, "")):
-            (top / "crates/a/src/in/lib.rt").write_text(DOCUMENTED)
-            (top / "crates/a_tests/src/in/tests.rt").write_text(WITH_IT.replace(old, new, 1))
-            told = io.StringIO()
-            with contextlib.redirect_stdout(told):
-                status = snippets.main()
-            found.append((status, run.last_line(told.getvalue())))
-    finally:
-        snippets.TOP, snippets.DOCUMENTS, sys.argv = real
+    for old, new in (("", ""), ("of(1)?", "of(2)?"), ("    if a { b() }\n", ""), ("let a", "let b"), (WITH_IT, "")):
+        (top / "crates/a/src/in/lib.rt").write_text(DOCUMENTED)
+        (top / "crates/a_tests/src/in/tests.rt").write_text(WITH_IT.replace(old, new, 1))
+        with patch.multiple(snippets, TOP=top, DOCUMENTS=[]):
+            found.append(ran_as(snippets, "none")[:2])
     return found == [(0, "1 passed, 0 failed")] + [(1, "0 passed, 1 failed")] * 4
 
 
@@ -281,26 +246,18 @@ TABLES = [
 
 def refuses_broken_tables(folder):
     """`snippets.py` fails where the table of a document is broken, and says where."""
-    snippets, right = importlib.import_module("snippets"), True
-    top, real = folder / "tables", (snippets.TOP, snippets.DOCUMENTS, sys.argv)
+    top, found = folder / "tables", []
     (top / "docs").mkdir(parents=True)
-    try:
-        snippets.TOP, snippets.DOCUMENTS, sys.argv = top, [], ["snippets.py", "none"]
-        for name in ("README.md", "docs/A.md"):
-            for text, wrong in TABLES:
-                (top / name).write_text(text)
-                told = io.StringIO()
-                with contextlib.redirect_stdout(told):
-                    status = snippets.main()
-                said = [line.split(": ")[0] for line in told.getvalue().splitlines() if not line.endswith(": as it stands")]
-                count = run.last_line(told.getvalue()).split(" ")[0]
-                if (status, said[:-1]) != (int(bool(wrong)), [f"{name}:{line}" for line in wrong]) or not wrong and count != "1":
-                    print(f"snippets.py: {text!r}: {status}, {said}")
-                    right = False
-            (top / name).unlink()
-    finally:
-        snippets.TOP, snippets.DOCUMENTS, sys.argv = real
-    return right
+    for name in ("README.md", "docs/A.md"):
+        for text, wrong in TABLES:
+            (top / name).write_text(text)
+            with patch.multiple(snippets, TOP=top, DOCUMENTS=[]):
+                status, last, told = ran_as(snippets, "none")
+            places = [line.split(": ")[0] for line in told.splitlines() if not line.endswith(": as it stands")]
+            is_well = (status, places[:-1]) == (int(bool(wrong)), [f"{name}:{line}" for line in wrong]) and (wrong or last.split(" ")[0] == "1")
+            found.append(is_well or print(f"snippets.py: {text!r}: {status}, {places}"))
+        (top / name).unlink()
+    return all(found)
 
 
 # The sources of a library, and the rows of what is public of it.
@@ -393,23 +350,17 @@ LISTED = [
 
 def lists_what_is_public(folder):
     """`api.py` lists each public item of a library, and no other, with the first sentence of its comment."""
-    api = importlib.import_module("api")
-    source, real = folder / "crates/a/src", api.TOP
+    source = folder / "crates/a/src"
     source.mkdir(parents=True)
     for name, text in LIBRARY.items():
         (source / name).write_text(text)
-    try:
-        api.TOP = folder
+    with patch.object(api, "TOP", folder):
         rows, about = api.listed("a"), api.about("a")
-    finally:
-        api.TOP = real
-    for it in [it for it in rows if it not in LISTED] + [it for it in LISTED if it not in rows]:
-        print(f"api.py: {it} in one of both alone")
-    return (rows, about) == (LISTED, "What it is: a sample.")
+    return is_same(([], [], LISTED, "What it is: a sample."), ([it for it in rows if it not in LISTED], [it for it in LISTED if it not in rows], rows, about))
 
 
-# What a peer says of its questions beside silent hosts, and alone: asked, answered, the slowest in ms, how many
-# datagrams came; and how many checks of these two pass and fail (alone, all being well is no check of its own).
+# What a peer says of its questions beside silent hosts, and alone: asked, answered, the slowest in ms, how many datagrams came; and how many checks
+# of these two pass and fail (alone, all being well is no check of its own).
 OF_NEIGHBOURS = [
     ((20, 20, 5, 4000), (20, 20, 3, 0), 1, 0), ((20, 20, 103, 2000), (20, 20, 3, 0), 1, 0),
     ((20, 20, 104, 4000), (20, 20, 3, 0), 0, 1), ((20, 19, 5, 4000), (20, 20, 3, 0), 0, 1),
@@ -418,46 +369,33 @@ OF_NEIGHBOURS = [
     ((20, 20, 5, 1999), (20, 20, 3, 0), 0, 1), ((20, 20, 5, 4000), (20, 19, 3, 0), 1, 1)]
 
 
-def judged_neighbours(neighbours, said, alone):
+def judged_neighbours(told, alone):
     """How `neighbours.py` ends, and beside whom it runs, where a peer says this beside the last of the silent hosts,
     and this alone; beside all others all is well."""
-    names, argv, beside = ("Namespaces", "run", "os", "shutil"), sys.argv, set()
-    real = {name: getattr(neighbours, name) for name in names}
+    beside = set()
 
     def ran(room, folder, silent, seconds):
         beside.add(silent)
-        return alone if silent is None else said if silent == neighbours.RUNS[-1] else (20, 20, alone[2], 4000)
+        return alone if silent is None else told if silent == neighbours.RUNS[-1] else (20, 20, alone[2], 4000)
 
-    neighbours.Namespaces, neighbours.run = contextlib.nullcontext, ran
-    neighbours.os = SimpleNamespace(geteuid=lambda: 0, path=os.path)
-    neighbours.shutil, sys.argv = SimpleNamespace(which=lambda _: "ip"), ["neighbours.py", "bin", "4"]
-    told = io.StringIO()
-    try:
-        with contextlib.redirect_stdout(told):
-            status = neighbours.main()
-    finally:
-        vars(neighbours).update(real)
-        sys.argv = argv
-    return status, run.last_line(told.getvalue()), beside == {None, *neighbours.RUNS}
+    is_able = SimpleNamespace(is_able=lambda _: True, Machines=lambda *_: contextlib.nullcontext())
+    with patch.multiple(neighbours, namespaces=is_able, run=ran):
+        return (*ran_as(neighbours, "bin", "4")[:2], beside == {None, *neighbours.RUNS})
 
 
 def judges_neighbours(_):
     """`neighbours.py` counts a run as failed where what is asked is not answered, or late, each time that it is tried,
     and tries each of its runs, and one where no host is silent."""
-    neighbours = importlib.import_module("neighbours")
     count = len(neighbours.RUNS)
     sent = neighbours.forged("10.91.0.100", 9000, b"abc")
     head, udp = sent[:20], sent[20:]
     total = sum(int.from_bytes(head[at:at + 2], "big") for at in range(0, 20, 2))
-    wrong = [] if (total & 0xffff) + (total >> 16) == 0xffff and len(sent) == 31 else ["what it forges"]
-    wrong += [] if (head[:4], head[8:10]) == (b"\x45\0\0\x1f", b"\x40\x11") else [head]
-    wrong += [] if (head[12:], udp) == (b"\x0a\x5b\0\x64\x0a\x5b\0\1", b"\x23\x28\xfd\xe8\0\x0b\0\0abc") else [udp]
-    for said, alone, passed, failed in OF_NEIGHBOURS:
+    found = [is_same((0xffff, 31), ((total & 0xffff) + (total >> 16), len(sent))), is_same((b"\x45\0\0\x1f", b"\x40\x11"), (head[:4], head[8:10])),
+             is_same((b"\x0a\x5b\0\x64\x0a\x5b\0\1", b"\x23\x28\xfd\xe8\0\x0b\0\0abc"), (head[12:], udp))]
+    for told, alone, passed, failed in OF_NEIGHBOURS:
         ends = (int(failed > 0), f"{count - 1 + passed} passed, {failed} failed", True)
-        wrong += [(said, alone)] if judged_neighbours(neighbours, said, alone) != ends else []
-    for it in wrong:
-        print(f"neighbours.py: {it}")
-    return count > 1 and not wrong
+        found.append(is_same(ends, judged_neighbours(told, alone)))
+    return count > 1 and all(found)
 
 
 SCOPES = (ast.FunctionDef, ast.Lambda, ast.ListComp, ast.SetComp, ast.DictComp, ast.GeneratorExp)
@@ -466,8 +404,7 @@ SCOPES = (ast.FunctionDef, ast.Lambda, ast.ListComp, ast.SetComp, ast.DictComp, 
 def own_names(tree):
     """The names that a piece of code gives to values of its own."""
     nodes = list(ast.walk(tree))
-    return {it.arg for it in nodes if isinstance(it, ast.arg)} | {
-        it.id for it in nodes if isinstance(it, ast.Name) and isinstance(it.ctx, ast.Store)}
+    return {it.arg for it in nodes if isinstance(it, ast.arg)} | {it.id for it in nodes if isinstance(it, ast.Name) and isinstance(it.ctx, ast.Store)}
 
 
 def named_in(tree, modules):
@@ -490,8 +427,7 @@ def named_in(tree, modules):
 
 
 def imported(tree):
-    """The modules that a piece of code imports, by what they are called there; those of which it imports names, by
-    theirs."""
+    """The modules that a piece of code imports, by what they are called there; those of which it imports names, by theirs."""
     found = {}
     for it in ast.walk(tree):
         if isinstance(it, ast.Import):
@@ -514,9 +450,8 @@ def looks_up(tree):
 
 
 def uncalled(folders):
-    """The functions and methods of the modules of these folders that nothing names but they themselves: neither their
-    own module nor one that imports it. What a decorator takes is named by that, and what has a name of Python's by
-    Python."""
+    """The functions and methods of the modules of these folders that nothing names but they themselves: neither their own module nor one that imports
+    it. What a decorator takes is named by that, and what has a name of Python's by Python."""
     trees = {file: ast.parse(file.read_text()) for folder in folders for file in sorted(folder.glob("*.py"))}
     modules = {file: imported(tree) for file, tree in trees.items()}
     names = {file: named_in(tree, modules[file]) for file, tree in trees.items()}
@@ -593,8 +528,7 @@ def d():
 
 TABLE = [used]
 """}
-UNCALLED = ["alone.py:1: left", "alone.py:8: d", "lib.py:18: c", "lib.py:21: d", "lib.py:4: left",
-            "table.py:8: not_done"]
+UNCALLED = ["alone.py:1: left", "alone.py:8: d", "lib.py:18: c", "lib.py:21: d", "lib.py:4: left", "table.py:8: not_done"]
 
 
 def calls_all_that_it_has(folder):
@@ -655,16 +589,16 @@ def run_with(slip):
 def fails_each_in_turn(_):
     """`unreliable.py` makes each request for memory, each read and each write of a run fail, from the first to the last,
     and finds the one that the run passes over, whichever it is."""
-    unreliable, wrong = importlib.import_module("unreliable"), []
+    wrong = []
     slips = [("REFUSE", n) for n in range(1, 6)] + [("FAIL_READ", n) for n in range(1, 4)] + [
         ("FAIL_WRITE", n) for n in range(1, 6)] + [("PIECE", n) for n in (1, 7, 100)] + [("REFUSE_FROM", 5)]
     for slip in [("", 0), *slips]:
         runs = unreliable.Runs("", "")
         runs.run = run_with(slip)
-        with contextlib.redirect_stdout(io.StringIO()):
-            runs.after_building(["a"], b"", runs.memory(["a"], b"")[0])
-            runs.failing_ends(["a"], b"", 1)
-            runs.pieces_of(["a"], b"")
+        requests = said(runs.memory, ["a"], b"")[0][0]
+        said(runs.after_building, ["a"], b"", requests)
+        said(runs.failing_ends, ["a"], b"", 1)
+        said(runs.pieces_of, ["a"], b"")
         wanted = (slip != ("", 0), 4 - (slip in slips[:4]), 8, 3)
         wrong += [slip] if (runs.wrong > 0, runs.refused, runs.ends, runs.pieces) != wanted else []
     for it in wrong:
@@ -698,26 +632,17 @@ OF_KEEPERS = [("{value}", True), ("0", False), ("{value - 3}", False), ("{value 
 
 
 def sees_what_is_not_kept(folder):
-    """`keep.py` kills a device, and finds one that comes back with less than was answered, with more than was set, or
-    not at all."""
-    keep, found = importlib.import_module("keep"), []
-    real = keep.KILLS, keep.random
-    try:
-        keep.KILLS, keep.random = 3, SimpleNamespace(uniform=lambda *_: 0.15)
-        for at, (kept, _) in enumerate(OF_KEEPERS):
-            place = folder / f"keeper-{at}"
-            stand_in(place / "ocadev", f"exec '{sys.executable}' '{place}/device.py' \"$@\"")
-            (place / "device.py").write_text(KEEPER.replace("{KEPT}", kept))
-            checks = keep.Checks(str(place))
-            with contextlib.redirect_stdout(io.StringIO()):
-                keep.kills(checks, str(place))
-            found.append((checks.passed == 3, checks.failed == 0))
-    finally:
-        keep.KILLS, keep.random = real
-    wrong = [it for it, got in zip(OF_KEEPERS, found) if got != (it[1], it[1])]
-    for it in wrong:
-        print(f"keep.py: of a device that keeps {it[0]!r}: {found[OF_KEEPERS.index(it)]}")
-    return not wrong
+    """`keep.py` kills a device, and finds one that comes back with less than was answered, with more than was set, or not at all."""
+    found = []
+    for at, (kept, is_well) in enumerate(OF_KEEPERS):
+        place = folder / f"keeper-{at}"
+        stand_in(place / "ocadev", f"exec '{sys.executable}' '{place}/device.py' \"$@\"")
+        (place / "device.py").write_text(KEEPER.replace("{KEPT}", kept))
+        its = keep.Checks(str(place))
+        with patch.multiple(keep, KILLS=3, random=SimpleNamespace(uniform=lambda *_: 0.15)):
+            said(keep.kills, its, str(place))
+        found.append(is_same((is_well, is_well), (its.passed == 3, its.failed == 0)))
+    return all(found)
 
 
 # What is tried, each in a folder of its own.

@@ -8,11 +8,11 @@ write fails by the system. The last line is 'N passed, M failed'."""
 import contextlib
 import os
 import select
-import socket
 import subprocess
 import sys
 import time
 
+from own_ports import at, bound, free_port
 from runs import MOST, Runs, comments, cut_input, fails_to_write, refuses_no_word
 
 REPLAY = ["ocactl", "replay", "--device", "127.0.0.1:65000", "--first-handle"]
@@ -118,94 +118,32 @@ LONG_LINES = [
     ([(b"#", 4095)], 0, b"", b""),
 ]
 
-# Lines, and the words for their faults: each stands as the third of a script, and ends it.
-FAULTS = [
-    (b"take", b"form"),
-    (b"take due", b"number"),
-    (b"take 4294967296", b"number"),
-    (b"take +1", b"number"),
-    (b"take ", b"number"),
-    (b"take 1 2", b"form"),
-    (b"take 1\r", b"number"),
-    (b"0", b"form"),
-    (b"0 take 1", b"form"),
-    (b"0 Due", b"form"),
-    (b"0 due ", b"form"),
-    (b" 0 due", b"form"),
-    (b"x due", b"moment"),
-    (b" due", b"moment"),
-    (b"18446744073709551616 due", b"moment"),
-    (b"000000000000000000000 due", b"moment"),
-    (b"0 submit 4097 4 1 0", b"form"),
-    (b"0 submit 4097 4 1 0 - -", b"form"),
-    (b"x submit y 4 1 0 z", b"moment"),
-    (b"0 submit 4294967296 4 1 0 z", b"number"),
-    (b"0 submit 4097 65536 1 0 z", b"number"),
-    (b"0 submit 4097 4 65536 0 z", b"number"),
-    (b"0 submit 4097 4 1 256 z", b"number"),
-    (b"0 submit 4097 4 1 0000 -", b"number"),
-    (b"0 submit 4097 4 1 0 z", b"hex"),
-    (b"0 submit 4097 4 1 0 ", b"hex"),
-    (b"0 submit 4097 4 1 0 012", b"hex"),
-    (b"0 from 127.0.0.1:65000", b"form"),
-    (b"0 from 127.0.0.1:65000 - -", b"form"),
-    (b"x from y z", b"moment"),
-    (b"0 from 127.0.0.256:1 z", b"peer"),
-    (b"0 from 127.0.0.1:65536 -", b"peer"),
-    (b"0 from 127.0.0.1:65000 0", b"hex"),
-    (b"0 du\xe9", b"form"),
-]
+# Lines, by the words for their faults: each stands as the third of a script, and ends it.
+FAULTS = {
+    b"form": [b"take", b"take 1 2", b"0", b"0 take 1", b"0 Due", b"0 due ", b" 0 due", b"0 submit 4097 4 1 0", b"0 submit 4097 4 1 0 - -",
+        b"0 from 127.0.0.1:65000", b"0 from 127.0.0.1:65000 - -", b"0 du\xe9"],
+    b"number": [b"take due", b"take 4294967296", b"take +1", b"take ", b"take 1\r", b"0 submit 4294967296 4 1 0 z", b"0 submit 4097 65536 1 0 z",
+        b"0 submit 4097 4 65536 0 z", b"0 submit 4097 4 1 256 z", b"0 submit 4097 4 1 0000 -"],
+    b"moment": [b"x due", b" due", b"18446744073709551616 due", b"000000000000000000000 due", b"x submit y 4 1 0 z", b"x from y z"],
+    b"hex": [b"0 submit 4097 4 1 0 z", b"0 submit 4097 4 1 0 ", b"0 submit 4097 4 1 0 012", b"0 from 127.0.0.1:65000 0"],
+    b"peer": [b"0 from 127.0.0.256:1 z", b"0 from 127.0.0.1:65536 -"]}
 
-# A line that `run --ahead 1` reads alone, and the word for its fault.
-BAD_LINES = [
-    (b"4097 4 1 0", b"form"),
-    (b"4097 4 1 0 - -", b"form"),
-    (b"x 4 1 0 z", b"number"),
-    (b"4097 65536 1 0 -", b"number"),
-    (b"4097 4 65536 0 -", b"number"),
-    (b"4097 4 1 256 -", b"number"),
-    (b"4097 4 1 0 z", b"hex"),
-    (b"take 1", b"form"),
-    (b"wait 1", b"form"),
-    (b"Wait", b"form"),
-]
+# Lines that `run --ahead 1` reads alone, by the word for their fault.
+BAD_LINES = {b"form": [b"4097 4 1 0", b"4097 4 1 0 - -", b"take 1", b"wait 1", b"Wait"],
+    b"number": [b"x 4 1 0 z", b"4097 65536 1 0 -", b"4097 4 65536 0 -", b"4097 4 1 256 -"], b"hex": [b"4097 4 1 0 z"]}
 
-# Words that ask for nothing: those of a program, of a replay and of `send`.
-BAD_WORDS = [
-    ["ocactl"],
-    ["ocactl", "Replay"],
-    ["ocactl", "--versions"],
-    ["ocactl", "replay"],
-    ["ocactl", "replay", "--device", "127.0.0.1:65000"],
-    ["ocactl", "replay", "--first-handle", "1"],
-    ["ocactl", "replay", "--device", "127.0.0.1:65000", "--first-handle"],
-    ["ocactl", "replay", "--device", "127.0.0.256:1", "--first-handle", "1"],
-    ["ocactl", "replay", "--device", "127.0.0.1:65536", "--first-handle", "1"],
-    ["ocactl", "replay", "--device", "127.0.0.1:1", "--first-handle", "4294967296"],
-    ["ocactl", "replay", "--device", "127.0.0.1:1", "--first-handle", "1", "x"],
-    [*REPLAY_1, "--span", "0"],
-    [*REPLAY_1, "--span", "33"],
-    [*REPLAY_1, "--span", "0016"],
-    [*REPLAY_1, "--span", "+1"],
-    [*REPLAY_1, "--span", ""],
-    [*REPLAY_1, "--span", "x"],
-    [*SEND, "127.0.0.256:1"],
-    [*SEND, "0.0.0.0:65000"],
-    [*SEND, "255.255.255.255:65000"],
-    [*SEND, "127.0.0.1:65000", "--ip", "127.0.0"],
-    [*SEND, "127.0.0.1:65000", "--ahead", "1"],
-    [*SEND, "127.0.0.1:65000", "--port", "65536"],
-    [*SEND, "127.0.0.1:65000", "--port", "+1"],
-    [*SEND, "127.0.0.1:65000", "--params", "012"],
-    [*SEND, "127.0.0.1:65000", "--params", ""],
-    [*SEND, "127.0.0.1:65000", "--span", "33"],
-    [*SEND, "127.0.0.1:65000", "--turns", "1"],
-    [*SEND, "127.0.0.1:65000", "x"],
-    ["ocactl", "send", "--device", "127.0.0.1:1", "--first-handle", "1"],
-    ["ocactl", "run", "--port", "1"],
-    # One byte of parameters more than a command has room for.
-    [*SEND, "127.0.0.1:65000", "--params", "00" * 1446],
-]
+# Words that ask for nothing, by what they begin with: those of a program, of a replay and of `send`. The last have one byte of parameters more than a
+# command has room for.
+BAD_WORDS = {
+    "ocactl": ["", " Replay", " --versions", " replay", " replay --device 127.0.0.1:65000", " replay --first-handle 1",
+        " replay --device 127.0.0.1:65000 --first-handle", " replay --device 127.0.0.256:1 --first-handle 1",
+        " replay --device 127.0.0.1:65536 --first-handle 1", " replay --device 127.0.0.1:1 --first-handle 4294967296",
+        " replay --device 127.0.0.1:1 --first-handle 1 x", " send --device 127.0.0.1:1 --first-handle 1", " run --port 1"],
+    " ".join(REPLAY_1): [" --span 0", " --span 33", " --span 0016", " --span +1", " --span ", " --span x"],
+    " ".join(SEND): [" 127.0.0.256:1", " 0.0.0.0:65000", " 255.255.255.255:65000", " 127.0.0.1:65000 --ip 127.0.0", " 127.0.0.1:65000 --ahead 1",
+        " 127.0.0.1:65000 --port 65536", " 127.0.0.1:65000 --port +1", " 127.0.0.1:65000 --params 012", " 127.0.0.1:65000 --params ",
+        " 127.0.0.1:65000 --span 33", " 127.0.0.1:65000 --turns 1", " 127.0.0.1:65000 x",
+        f" 127.0.0.1:65000 --params {'00' * 1446}"]}
 
 # Words that are answered by a text, and read nothing.
 HELP = ["ocactl --help", "ocactl help", "ocactl help send", "ocactl replay --help", "ocactl run -h"]
@@ -225,17 +163,6 @@ AHEAD = [
     ("255.255.255.255", "", None),
 ]
 
-def silent():
-    """A socket of this machine where nobody answers."""
-    end = socket.socket(socket.AF_INET, socket.SOCK_DGRAM)
-    end.bind(("127.0.0.1", 0))
-    return end
-
-
-def at(end):
-    return f"127.0.0.1:{end.getsockname()[1]}"
-
-
 def replays(runs):
     """Scripts that are replayed, to their end and to a line with a fault."""
     for more, script, output in PRINTS:
@@ -244,15 +171,15 @@ def replays(runs):
     for lines, status, output, fault in LONG_LINES:
         script = b"".join(before + b"0" * digits + b"\n" for before, digits in lines)
         runs.gives(REPLAY_1, script, status, output, fault)
-    for line, fault in FAULTS:
+    for line, fault in ((line, fault) for fault, lines in FAULTS.items() for line in lines):
         runs.gives(REPLAY_1, b"0 due\n# line 2\n" + line + b"\n0 due\n", 2, b"nothing\n", b"line 3: " + fault + b"\n")
     runs.gives(REPLAY_1, comments(64, MOST + 1), 1, b"", b"too much input\n")
 
 
 def asks_for_nothing(runs):
     """Words that are refused, and those that are answered by a text."""
-    for words in BAD_WORDS:
-        runs.gives(words, b"0 due\n", 2, b"", b"bad words\n")
+    for words in (begin + more for begin, all_more in BAD_WORDS.items() for more in all_more):
+        runs.gives(words.split(" "), b"0 due\n", 2, b"", b"bad words\n")
     refuses_no_word(runs, "ocactl", b"0 due\n")
     for words in HELP:
         unread = os.open("/", os.O_RDONLY)
@@ -274,10 +201,10 @@ def fails_to_read(runs):
 
 def sends(runs):
     """`send` to a socket that never answers, and from a port that is taken."""
-    with silent() as end:
+    with bound() as end:
         for more, output in (["--turns", "2"], b"no answer\n"), (["--turns", "0"], b"no answer\n"), ([], b"lost\n"):
             runs.gives([*SENT, "--device", at(end), *more], b"", 3, output)
-    with silent() as end:
+    with bound() as end:
         runs.gives([*SENT, "--device", "127.0.0.1:65000", "--port", str(end.getsockname()[1])], b"", 1, b"", b"socket failed\n")
 
 
@@ -299,8 +226,8 @@ def handles_heard(end, run, least):
 
 def lets_ahead(runs, host, more, ahead):
     """As many commands are under way as the words say, of more than that."""
-    with silent() as end:
-        words = ["ocactl", "run", "--device", f"{host}:{end.getsockname()[1]}", *more.split(), "--first-handle", "1", "--port", str(own_port())]
+    with bound() as end:
+        words = ["ocactl", "run", "--device", f"{host}:{end.getsockname()[1]}", *more.split(), "--first-handle", "1", "--port", str(free_port())]
         if ahead is None:
             runs.gives(words, b"", 2, b"", b"bad words\n")
             return
@@ -314,17 +241,11 @@ def lets_ahead(runs, host, more, ahead):
         runs.check(words, len(handles) == ahead, (sorted(handles), said))
 
 
-def own_port():
-    """A port of this machine that nobody has just now."""
-    with silent() as own:
-        return own.getsockname()[1]
-
-
 def refuses_lines(runs):
     """Lines of `run` that have a fault: nothing is sent."""
-    for line, fault in BAD_LINES:
-        with silent() as end:
-            words = ["ocactl", "run", "--device", at(end), "--ahead", "1", "--first-handle", "1", "--port", str(own_port())]
+    for line, fault in ((line, fault) for fault, lines in BAD_LINES.items() for line in lines):
+        with bound() as end:
+            words = ["ocactl", "run", "--device", at(end), "--ahead", "1", "--first-handle", "1", "--port", str(free_port())]
             runs.gives(words, line, 2, b"", b"line 1: " + fault + b"\n")
             runs.check(words, not select.select([end], [], [], 0)[0], f"{line!r} is sent")
 
@@ -340,8 +261,7 @@ def main(folder):
     sends(runs)
     for host, more, ahead in AHEAD:
         lets_ahead(runs, host, more, ahead)
-    print(f"{runs.passed} passed, {runs.failed} failed")
-    return 1 if runs.failed else 0
+    return runs.verdict()
 
 
 if __name__ == "__main__":

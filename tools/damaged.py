@@ -3,21 +3,19 @@
 
 Usage: damaged.py BIN     BIN is the folder with `trials`
 
-Each byte of 16 messages is replaced by each other value, each of them is cut off behind each of its bytes, and each is
-followed by each. `trials events` says of each datagram what the checks find and, where it is one command or one
-keep-alive, which bytes the writer writes for that; both are as the second implementation has them (oca_profile.py).
+Each byte of 16 messages is replaced by each other value, each of them is cut off behind each of its bytes, and each is followed by each. `trials
+events` says of each datagram what the checks find and, where it is one command or one keep-alive, which bytes the writer writes for that; both are as
+the second implementation has them (oca_profile.py).
 
-A datagram that is refused comes to a device from a peer with a session and from one without. Then another peer reads
-what no line of objects shows (labels, enabled flags, names and flags of positions), and the peer with a session sends
-again each command for which a reply is retained. A second device hears all but the damaged datagrams: both answer alike,
-and have the same objects, locks and number of sessions."""
-import subprocess
+A datagram that is refused comes to a device from a peer with a session and from one without. Then another peer reads what no line of objects shows
+(labels, enabled flags, names and flags of positions), and the peer with a session sends again each command for which a reply is retained. A second
+device hears all but the damaged datagrams: both answer alike, and have the same objects, locks and number of sessions."""
 import sys
 
 import oca_profile as oca
+from comparing import runs_of
 
-# the examples of docs/PROTOCOL.md and some more: commands of all sizes, responses, keep-alives of both forms, two
-# commands in a PDU
+# the examples of docs/PROTOCOL.md and some more: commands of all sizes, responses, keep-alives of both forms, two commands in a PDU
 MESSAGES = [bytes.fromhex(text) for text in (
     "3b00010000001a01000100000011000000010000100100040001"
     "00",
@@ -39,8 +37,7 @@ MESSAGES = [bytes.fromhex(text) for text in (
 SENDER, STRANGER, READER = "127.0.0.1:9001", "127.0.0.1:9002", "127.0.0.1:9003"
 BEFORE, AGAIN = (2, 4, 10, 12), (2, 4, 10)  # what the sender sends first, and of that what is sent again
 # GetEnabled and GetLabel of each object of the bench, and GetPositionNames and GetPositionEnableds of its switch
-READINGS = [(ono, level, index) for ono in (100, *range(4096, 4103))
-            for level, index in ((2, 1), (2, 8)) + (((4, 5), (4, 9)) if ono == 4099 else ())]
+READINGS = [(ono, level, index) for ono in (100, *range(4096, 4103)) for level, index in ((2, 1), (2, 8)) + (((4, 5), (4, 9)) if ono == 4099 else ())]
 
 
 def damaged(message):
@@ -83,15 +80,13 @@ def found(data):
 
 def blocks(folder, events):
     """What `trials events` says of each event of a history: its lines but the last two, and those."""
-    text = "".join(line + "\n" for line in ["history 32 16 0", *events])
-    done = subprocess.run([f"{folder}/trials", "events"], input=text.encode(), capture_output=True, timeout=300)
-    said = done.stdout.decode().removeprefix("history\n").split("\nobjects")
-    if done.returncode != 0 or len(said) != len(events) + 1:
-        raise RuntimeError(f"status {done.returncode}: {done.stderr.decode()!r}")
+    (lines,) = runs_of(f"{folder}/trials", "events", "history", [["history 32 16 0", *events]])
+    said = "".join(f"{line}\n" for line in lines[1:]).split("\nobjects")
+    if len(said) != len(events) + 1:
+        raise RuntimeError(f"{len(said) - 1} of {len(events)} events")
     heads = [said[0]] + [part.partition("\n")[2] for part in said[1:-1]]
     states = [part.partition("\n")[0] for part in said[1:]]
-    return [(head.rpartition("\nsessions ")[0], head.rpartition("\nsessions ")[2] + state)
-            for head, state in zip(heads, states)]
+    return [(head.rpartition("\nsessions ")[0], head.rpartition("\nsessions ")[2] + state) for head, state in zip(heads, states)]
 
 
 class Trial:

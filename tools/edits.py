@@ -3,36 +3,31 @@
 
   edits.py [CRATE ..]      the edits of all crates of crates.txt, or of those alone
 
-An edit has the form of a must-fail edit: a line 'file: src/lib.rt', then pairs of lines 'old: TEXT' and 'new: TEXT',
-each old text standing once in that file. Edits are checked together, one check of a copy of the crate for each group, of
-the functions that they touch and what these call: `rt ci` has proved the crate itself. The first edit of a function is
-made in its place; a further one in a copy of that function, which stands behind it under another name, with its contract
-and a copy of its proof files; one more copy, as the function stands, must be proved beside them. A function that no edit
-touches has no body there, since what calls it needs its contract alone (but methods of traits, constants, calls from C
-and cycles of calls keep theirs); where anything fails then that was not changed, the check is made once more with all.
+An edit has the form of a must-fail edit: a line 'file: src/lib.rt', then pairs of lines 'old: TEXT' and 'new: TEXT', each old text standing once in
+that file. Edits are checked together, one check of a copy of the crate for each group, of the functions that they touch and what these call: `rt ci`
+has proved the crate itself. The first edit of a function is made in its place; a further one in a copy of that function, which stands behind it under
+another name, with its contract and a copy of its proof files; one more copy, as the function stands, must be proved beside them. A function that no
+edit touches has no body there, since what calls it needs its contract alone (but methods of traits, constants, calls from C and cycles of calls keep
+theirs); where anything fails then that was not changed, the check is made once more with all.
 
-A line 'clause: NAME' says which clause of the function's contract refuses the edit. The function, or its copy, then ensures
-that one alone in this check, since a search that fails takes long and each clause that the edit breaks has one; not where
-other code that is checked calls it, and relies on the others, or where its proof is by hand and may name their goals.
+A line 'clause: NAME' says which clause of the function's contract refuses the edit. The function, or its copy, then ensures that one alone in this
+check, since a search that fails takes long and each clause that the edit breaks has one; not where other code that is checked calls it, and relies on
+the others, or where its proof is by hand and may name their goals.
 
-An edit is refused where a goal of a function that it touches fails: not where that function only calls one that is not
-proved, and not only since a proof file names what the edit took away. What is not refused in its group is tried in
-smaller ones without copies and with all bodies, and at last alone; what is not refused there has failed. An edit that
-touches no function, but a definition or a number, is alone; a line 'of: PATH' has the function whose proof it must
-break, and only that one and the lemmas that it cites are checked.
+An edit is refused where a goal of a function that it touches fails: not where that function only calls one that is not proved, and not only since a
+proof file names what the edit took away. What is not refused in its group is tried in smaller ones without copies and with all bodies, and at last
+alone; what is not refused there has failed. An edit that touches no function, but a definition or a number, is alone; a line 'of: PATH' has the
+function whose proof it must break, and only that one and the lemmas that it cites are checked.
 
 The edits of tools/edits_selftest/CRATE/ must not be refused, and for what their line 'says: ' has: they try this tool.
 
-Crates run side by side, as many as there are processors and memory for, or as many as RT_JOBS says. The libraries below
-a crate are taken from out/rlib as `rt ci` left them, and are built where they are not there. Beside the gate's `rt ci`,
-which notes the crates that it has proved in the file GATE_PROVED, each crate waits for the libraries below it; and until
-that has ended, for a processor that is idle. Only half as many run side by side then, since `rt ci` takes memory too, and
-checks slow each other down. With EDITS_KEPT=1 a check begins with what earlier checks of the crate kept in
-out/incremental, which is faster while edits are written.
-The last line is 'N passed, M failed', and the exit status 1 where anything failed."""
+Crates run side by side, as many as there are processors and memory for, or as many as RT_JOBS says. The libraries below a crate are taken from
+out/rlib as `rt ci` left them, and are built where they are not there. Beside the gate's `rt ci`, which notes the crates that it has proved in the
+file GATE_PROVED, each crate waits for the libraries below it; and until that has ended, for a processor that is idle. Only half as many run side by
+side then, since `rt ci` takes memory too, and checks slow each other down. With EDITS_KEPT=1 a check begins with what earlier checks of the crate
+kept in out/incremental, which is faster while edits are written. The last line is 'N passed, M failed', and the exit status 1 where anything
+failed."""
 import copy
-import importlib.machinery
-import importlib.util
 import itertools
 import os
 import re
@@ -47,7 +42,7 @@ from pathlib import Path
 
 ROOT = Path(__file__).resolve().parent.parent
 sys.path.insert(0, str(ROOT / "gate"))
-import build
+import kit
 
 SELFTEST = ROOT / "tools" / "edits_selftest"
 FLAGS = ["--jobs", "1"]
@@ -60,23 +55,11 @@ BLOCK = re.compile(r"( *)(?:unsafe )?(?:pub(?:\([a-z: ]+\))? )?(impl|trait)\b(.*
 GONE = re.compile(r"has no field|is not in scope|has no `|was not admitted|is no name")
 # What is counted: whether an edit must not be refused, and whether all is well with it.
 KINDS = [(False, True), (False, False), (True, True), (True, False)]
-NEEDS = 4_000_000_000  # bytes for a check, beside others of which only some take so much
 PRINTING = threading.Lock()
 ENDED = "(ended)"  # the last line of GATE_PROVED
 
 
-def loaded(name):
-    """The toolchain's own command, as a module."""
-    sys.dont_write_bytecode = True
-    path = os.path.realpath(shutil.which(name) or sys.exit(f"edits: there is no {name}"))
-    spec = importlib.util.spec_from_loader(name, importlib.machinery.SourceFileLoader(name, path))
-    module = importlib.util.module_from_spec(spec)
-    spec.loader.exec_module(module)
-    return module
-
-
-rt = loaded("rt")
-rtlib = rt.rtlib
+rt = kit.toolchain(builds=False)
 
 
 def say(text):
@@ -133,8 +116,7 @@ def declares(text, name):
 
 
 def at_its_type(function, folder, text):
-    """The function, in the module of the type that it belongs to, which may be another than that of its impl: so the
-    prover names it."""
+    """The function, in the module of the type that it belongs to, which may be another than that of its impl: so the prover names it."""
     if function.of and not declares(text, function.of):
         for file in sorted(Path(folder, "src").rglob("*.rt")):
             if declares(file.read_text(), function.of):
@@ -408,8 +390,7 @@ class Group:
 
 
 def grouped(edits, crate, with_copies=False):
-    """Puts the edits into groups that touch no function twice, but for copies of it; what touches no function, or must
-    pass, is alone."""
+    """Puts the edits into groups that touch no function twice, but for copies of it; what touches no function, or must pass, is alone."""
     groups = []
     for edit in edits:
         if not any(group.take(edit, crate, with_copies) for group in groups):
@@ -426,7 +407,7 @@ class Answer:
         bad = next((it for it in lines if rt.unread(it, texts)), "")
         if bad:
             self.why = f"the edited text cannot be read: {bad[:200]}"
-        elif rtlib.STALE.search(ran.stdout):
+        elif rt.STALE.search(ran.stdout):
             self.why = "the kept work of a library could not be used"
         elif not self.is_proved and not (ran.returncode == 1 and lines[-1].startswith(("logic=not-proved", "only="))):
             self.why = f"it did not reach the prover: {' '.join(lines[:3])[:300]}"
@@ -502,7 +483,7 @@ class Trial:
         with tempfile.TemporaryDirectory(prefix="edits-") as room:
             crate = copy.copy(self.crate)
             crate.folder = room
-            for part in rtlib.PARTS:
+            for part in rt.PARTS:
                 if os.path.isdir(f"{self.crate.folder}/{part}"):
                     shutil.copytree(f"{self.crate.folder}/{part}", f"{room}/{part}")
             for file in itertools.chain(*(proofs_of(crate, it) for it in without)):
@@ -592,12 +573,11 @@ def tried(crate, part, parts):
 
 
 def stands(library):
-    """Whether the library is built as it stands: its stamp says so, or it is newer than its sources, as `rt ci` leaves
-    it, which writes no stamp."""
+    """Whether the library is built as it stands: its stamp says so, or it is newer than its sources, as `rt ci` leaves it, which writes no stamp."""
     if os.path.isfile(f"{library.folder}/out/rlib/stamp"):
         return library.is_built()
     made = os.path.getmtime(library.rlib) if os.path.isdir(library.rlib) else 0
-    files = [file for it in [library, *library.below()] for file in rtlib.files_of(it.folder)]
+    files = [file for it in [library, *library.below()] for file in rt.files_of(it.folder)]
     return all(os.path.getmtime(file) < made for file in files)
 
 
@@ -606,11 +586,6 @@ def proved_beside():
     file = Path(os.environ.get("GATE_PROVED") or os.devnull)
     names = file.read_text().splitlines() if file.is_file() else [ENDED]
     return None if ENDED in names else {*names}
-
-
-def lanes():
-    """How many checks run at once at most: as many as there are processors, and as memory holds, or as RT_JOBS says."""
-    return build.said_lanes() or max(1, min(rt.processors(), rt.free() // NEEDS))
 
 
 def is_idle(number):
@@ -649,8 +624,8 @@ def verdict(counts):
 
 def main(names):
     os.chdir(ROOT)
-    rtlib.guarded()
-    listed_crates = rtlib.crates_below(str(ROOT))
+    rt.guarded()
+    listed_crates = rt.crates_below(str(ROOT))
     unknown = {*names} - {it.name for it in listed_crates}
     if unknown:
         sys.exit(f"edits: crates.txt has no {', '.join(sorted(unknown))}")
@@ -666,13 +641,13 @@ def main(names):
         number = len(listed(Path(crate.folder, "wrong"))) + len(listed(SELFTEST / crate.name))
         parts = -(-number // MOST)
         work = (crate.count(rb"\n") + 30 * number) // parts
-        # Half of what the kit reckons: the most that was taken, measured, is 0.2 to 0.4 of it (oca_web 2.8 GB of 7.3,
-        # ocactl_cli 2.7 of 9.1, oca_tree 1.7 of 6.8, oca_c 1.3 of 7.4), since a group checks few functions.
+        # Half of what the kit reckons: the most that was taken, measured, is 0.2 to 0.4 of it (oca_web 2.8 GB of 7.3, ocactl_cli 2.7 of 9.1, oca_tree
+        # 1.7 of 6.8, oca_c 1.3 of 7.4), since a group checks few functions.
         memory = rt.need(crate) // 2
         for part in range(parts):
             tasks[crate.name, "edits", part] = ([], work, memory, lambda given, jobs, of=(crate, part, parts): tried(*of))
-    with build.in_memory(rt):
-        given = beside_proofs(tasks, {it.name: it for it in crates}, lanes()) if is_beside else rt.in_lanes(tasks)
+    with kit.in_memory(rt):
+        given = beside_proofs(tasks, {it.name: it for it in crates}, kit.lanes(rt)) if is_beside else rt.in_lanes(tasks)
     passed, failed = verdict(given.values())
     print(f"{passed} passed, {failed} failed")
     return 1 if failed else 0

@@ -1,12 +1,11 @@
 #!/usr/bin/env python3
-"""Compares `ocadev replay` and `ocactl replay` with the second implementation of the profile (oca_profile.py) on random
-scripts.
+"""Compares `ocadev replay` and `ocactl replay` with the second implementation of the profile (oca_profile.py) on random scripts.
 
 Usage: fuzz.py BIN SECONDS [SEED]     BIN is the folder with the two programs
 
-Scripts have well-formed and damaged datagrams, duplicates, overtaking, differing commands under a handle, many peers,
-moments that jump and run backwards, every window and span, and bad lines. At the first difference the script is made as
-small as it can be, printed, and the exit status is 1."""
+Scripts have well-formed and damaged datagrams, duplicates, overtaking, differing commands under a handle, many peers, moments that jump and run
+backwards, every window and span, and bad lines. At the first difference the script is made as small as it can be, printed, and the exit status is
+1."""
 import random
 import subprocess
 import sys
@@ -55,8 +54,7 @@ def text(r):
 
 
 class Panel:
-    """What one peer sends: commands whose handles rise, with copies, gaps, overtaking and reuse; to objects of the
-    bench and of channel strips."""
+    """What one peer sends: commands whose handles rise, with copies, gaps, overtaking and reuse; to objects of the bench and of channel strips."""
 
     def __init__(self, r, channels=0):
         self.r, self.next, self.sent = r, r.choice([1, 1, 5, 1000, oca.U32 - 40]), []
@@ -198,8 +196,7 @@ def link_script(r):
             lines.append("{} from {}.{}.{}.{}:{} {}".format(now, *sender, hexed(r, data)))
             link.datagram(sender, data, now)
         else:
-            handle = r.choice([u[0].handle
-                               for u in link.untaken]) if link.untaken and r.randrange(4) else r.randrange(40)
+            handle = r.choice([u[0].handle for u in link.untaken]) if link.untaken and r.randrange(4) else r.randrange(40)
             lines.append(f"take {handle}")
             link.take(handle)
     words = ["replay", "--device", "127.0.0.1:65000", "--first-handle", str(first), "--span", str(span)]

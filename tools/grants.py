@@ -1,5 +1,4 @@
-"""What the system grants `ocadev serve` for datagrams that have not left, and its note where that is little. Other tools use it; it has
-no `main`."""
+"""What the system grants `ocadev serve` for datagrams that have not left, and its note where that is little. Other tools use it; it has no `main`."""
 from pathlib import Path
 
 NOTE = "note: the system grants "

@@ -12,13 +12,12 @@ import pty
 import re
 import select
 import signal
-import socket
-import subprocess
 import sys
 import tempfile
 import threading
 import time
 
+import checks
 import oca_profile as oca
 import own_ports
 from own_ports import free_port
@@ -75,49 +74,49 @@ def stagebox():
     return tree
 
 
-class Strange:
+def commands_in(data):
+    """The commands of a datagram, each with its method."""
+    return [(message[2], (message[2].level, message[2].index)) for message in oca.check(data) if message[0] == "command"]
+
+
+class Other(Served):
+    """The second implementation's device, which hears and answers otherwise: a `datagram` of its own calls `answers` where it is like it."""
+
+    def __init__(self, tree=None, window=32):
+        super().__init__(tree, window=window)
+        self.answers, self.device.datagram = self.device.datagram, self.datagram
+
+
+class Strange(Other):
     """A device that answers each command by a function of (target, (level, index)): a status and parameters."""
 
-    def __init__(self, answers):
-        self.answers, self.heard = answers, []
-        self.served = Served()
-        self.served.device.datagram = self.datagram
-        self.port = self.served.port
+    def __init__(self, answer):
+        super().__init__()
+        self.answer = answer
 
     def datagram(self, peer, data, now):
         packets = []
         for message in oca.check(data):
             if message[0] == "command":
-                command = message[2]
-                self.heard.append((command.target, (command.level, command.index), command.params))
-                status, params = self.answers(command.target, (command.level, command.index))
-                packets.append(oca.pdu(3, [oca.response_body(command.handle, status, 1 if params else 0, params)]))
+                status, params = self.answer(message[2].target, (message[2].level, message[2].index))
+                packets.append(oca.response(message[2].handle, status, 1 if params else 0, params))
             else:
                 packets.append(oca.pdu(4, [message[1]]))
         return "", packets
 
-    def __enter__(self):
-        self.served.__enter__()
-        return self
 
-    def __exit__(self, *_):
-        self.served.__exit__()
-
-
-class Holding(Served):
-    """The second implementation's device, which keeps its answers to set commands back until those to so many are kept, and then gives
-    the last one's first."""
+class Holding(Other):
+    """A device that keeps its answers to set commands back until those to so many are kept, and then gives the last one's first."""
 
     def __init__(self, tree, count):
         super().__init__(tree)
-        self.count, self.held, self.answers, self.kept = count, {}, self.device.datagram, []
-        self.device.datagram = self.datagram
+        self.count, self.held, self.kept = count, {}, []
 
     def datagram(self, peer, data, now):
         said, packets = self.answers(peer, data, now)
-        for message in oca.check(data):
-            if message[0] == "command" and (message[2].level, message[2].index) in SETS:
-                self.held[message[2].handle] = packets
+        for command, method in commands_in(data):
+            if method in SETS:
+                self.held[command.handle] = packets
                 packets = []
         if len(self.held) == self.count:
             packets = [packet for handle in reversed(self.held) for packet in self.held[handle]]
@@ -126,51 +125,93 @@ class Holding(Served):
         return said, packets
 
 
-class Late(Served):
-    """The second implementation's device, which hears no set command but the first until it is told to go on."""
+class Late(Other):
+    """A device that hears no set command but the first until it is told to go on."""
 
     def __init__(self, tree):
         super().__init__(tree)
-        self.answers, self.first, self.goes_on = self.device.datagram, None, threading.Event()
-        self.device.datagram = self.datagram
+        self.first, self.goes_on = None, threading.Event()
 
     def datagram(self, peer, data, now):
-        for message in oca.check(data):
-            if message[0] == "command" and (message[2].level, message[2].index) in SETS and not self.goes_on.is_set():
-                self.first = self.first or message[2].handle
-                if message[2].handle != self.first:
+        for command, method in commands_in(data):
+            if method in SETS and not self.goes_on.is_set():
+                self.first = self.first or command.handle
+                if command.handle != self.first:
                     return "", []
         return self.answers(peer, data, now)
 
 
+class Deaf(Other):
+    """A device that answers keep-alives, and no command of these methods (None: of any)."""
+
+    def __init__(self, tree, methods):
+        super().__init__(tree)
+        self.methods = methods
+
+    def datagram(self, peer, data, now):
+        if any(self.methods is None or method in self.methods for _, method in commands_in(data)):
+            return "", []
+        return self.answers(peer, data, now)
+
+
+class Faint(Deaf):
+    """The same, which of three keep-alives hears the last alone."""
+
+    beats = 0
+
+    def datagram(self, peer, data, now):
+        if any(message[0] == "keep-alive" for message in oca.check(data)):
+            self.beats += 1
+            if self.beats % 3:
+                return "", []
+        return super().datagram(peer, data, now)
+
+
+class Missing(Other):
+    """A device that misses the first copy of each command."""
+
+    missed = frozenset()
+
+    def datagram(self, peer, data, now):
+        came = {(peer, command.handle) for command, _ in commands_in(data)}
+        if not came <= self.missed:
+            self.missed |= came
+            return "", []
+        return self.answers(peer, data, now)
+
+
+class OldSession(Served):
+    """The second implementation's device, with a session of the program's own ports that is ahead of the clock."""
+
+    def __init__(self, tree, ports):
+        super().__init__(tree, window=1)
+        for port in ports:
+            for handle in (oca.U32 - 1, oca.U32):
+                self.device.datagram((127, 0, 0, 1, port), oca.command(handle, 100, 1, 1), 0)
+
+
+@contextlib.contextmanager
+def silent(port=0):
+    """The port of a socket that hears, and never answers."""
+    with own_ports.bound(port=port) as s:
+        yield s.getsockname()[1]
+
+
 def asked(device):
     """The commands that were heard, each once: target, method and parameters."""
-    found = {}
-    for data, _ in device.heard:
-        for message in oca.check(data):
-            if message[0] == "command":
-                found[message[2].handle] = (message[2].target, (message[2].level, message[2].index), message[2].params)
+    found = {command.handle: (command.target, method, command.params) for data, _ in device.heard for command, method in commands_in(data)}
     return list(found.values())
 
 
-class Checks:
+class Checks(checks.Checks):
     def __init__(self, folder):
-        self.folder, self.passed, self.failed = folder, 0, 0
+        super().__init__(folder)
         self.port = free_port()  # one for all calls: one session at each device
 
-    def same(self, what, got, expected):
-        if got == expected:
-            self.passed += 1
-        else:
-            self.failed += 1
-            print(f"{what}: {got!r} in place of {expected!r}")
-
-    def run(self, device, command, *words):
-        port = getattr(device, "port", device)
-        own = [] if "--port" in words else ["--port", self.port]
-        done = subprocess.run([f"{self.folder}/ocactl", command, "--device", f"127.0.0.1:{port}", *map(str, [*own, *words])],
-                              capture_output=True, text=True, timeout=60)
-        return done.stdout, done.stderr, done.returncode
+    def run(self, device, command, *words, own=True, given=""):
+        """What `ocactl` prints of this device, what it says of faults, and its status; at the port of all calls, or at its own."""
+        port = ["--port", self.port] if own and "--port" not in words else []
+        return self.ran("ocactl", command, "--device", f"127.0.0.1:{getattr(device, 'port', device)}", *port, *words, given=given)
 
     def prints(self, what, device, words, printed, status, said=""):
         """The words print just that, and this on standard error: nothing unless given. So many milliseconds ago is not before the run;
@@ -248,8 +289,7 @@ def sets(checks):
                     checks.same(f"set {ono} {text}: the device", at[ono].state, state)
     with Served(stagebox()) as device:
         checks.prints("set by a name", device, ["set", 4099, "Mic"], "4099 1\n", 0)
-        checks.same("set by a name: what it asks", asked(device),
-                    [(4099, CLASS, b""), (4099, NAMES, b""), (4099, SET["switch"], b"\0\1")])
+        checks.same("set by a name: what it asks", asked(device), [(4099, CLASS, b""), (4099, NAMES, b""), (4099, SET["switch"], b"\0\1")])
     with Served(stagebox()) as device:
         checks.prints("set by a name as it is printed", device, ["set", 5008, oca.escaped(HIDING)], "5008 1\n", 0)
         checks.prints("set by a name as it is not printed", device, ["set", 5008, HIDING], "5008 no such value\n", 2)
@@ -258,8 +298,7 @@ def sets(checks):
 
 
 # What is told of a span that a device's window of 32 does not bear.
-OF_SPAN_32 = ("note: --span 32: the device needs a window of 63 commands or more; "
-              "its default of 32 is enough for a span of 16\n")
+OF_SPAN_32 = ("note: --span 32: the device needs a window of 63 commands or more; " "its default of 32 is enough for a span of 16\n")
 
 
 def sets_at_once(checks):
@@ -290,13 +329,12 @@ def sets_at_once(checks):
 def tells_at_once(checks):
     """`set --ahead 2`, and `get` and `lock`: a line is printed as soon as its outcome and those before it are known."""
     with Late(stagebox()) as device:
-        words = ["set", "--ahead", "2", "--device", f"127.0.0.1:{device.port}", "--port", str(checks.port), "4097", "muted", "4098", "inverted"]
-        with subprocess.Popen([f"{checks.folder}/ocactl", *words], stdout=subprocess.PIPE, text=True, bufsize=1) as run:
-            there = bool(select.select([run.stdout], [], [], 4)[0])
-            checks.same("set --ahead: the first line while the second command waits", there and run.stdout.readline(), "4097 muted\n")
-            device.goes_on.set()
-            checks.same("set --ahead: the rest", run.stdout.read(), "4098 inverted\n")
-            checks.same("set --ahead: the status", run.wait(10), 0)
+        run = checks.start("ocactl", *f"set --ahead 2 --device 127.0.0.1:{device.port} --port {checks.port} 4097 muted 4098 inverted".split())
+        there = bool(select.select([run.stdout], [], [], 4)[0])
+        checks.same("set --ahead: the first line while the second command waits", there and run.stdout.readline(), "4097 muted\n")
+        device.goes_on.set()
+        checks.same("set --ahead: the rest", run.stdout.read(), "4098 inverted\n")
+        checks.same("set --ahead: the status", run.wait(10), 0)
 
 
 def refusals(checks):
@@ -339,30 +377,24 @@ def bad_words(checks):
         checks.same("bad words: what is heard", device.heard, [])
 
 
-def ran(checks, program, *words):
-    """What a program prints for these words, what it says of faults, and its status."""
-    done = subprocess.run([f"{checks.folder}/{program}", *words], capture_output=True, text=True, timeout=60)
-    return done.stdout, done.stderr, done.returncode
-
-
 def long_words(checks):
     """The note on a word that is not valid has the word, where that has 200 bytes at most."""
     form = "A.B.C.D:PORT, the address of one host (1.0.0.0 to 223.255.255.255) and a port from 1 to 65535"
     for count in (199, 200, 201, 900, 2000):
         shown = "x" * count + " " if count <= 200 else ""
         said = f"note: --device {shown}is not valid: it must be {form}\nbad words\n"
-        got = ran(checks, "ocactl", "get", "--device", "x" * count, "4097")
+        got = checks.ran("ocactl", "get", "--device", "x" * count, "4097")
         checks.same(f"get: a word of {count} bytes", got, ("", said, 2))
 
 
 def helps(checks):
     """The help of each command has the name of its own program and command, in its form and in its examples."""
     for program in ("ocactl", "ocadev"):
-        text = ran(checks, program, "--help")[0]
+        text = checks.ran(program, "--help")[0]
         checks.same(f"{program} --help: its form", re.findall(r"^Usage: (.*)", text, re.M), [f"{program} <COMMAND>"])
         commands = [name for name in re.findall(r"^  (\w+)  ", text.split("Options:")[0], re.M) if name != "help"]
         for name in [f"{program} {command}" for command in commands]:
-            text = ran(checks, *name.split(), "--help")[0]
+            text = checks.ran(*name.split(), "--help")[0]
             checks.same(f"{name} --help: its form", re.findall(r"^Usage: (\S+ \S+)", text, re.M), [name])
             shown = [line.split(":", 1)[1] for line in re.findall(r"^Example.*", text, re.M)]
             named = [re.findall(r"\boca\w+ \w+", line) for line in shown]
@@ -370,8 +402,7 @@ def helps(checks):
 
 
 SEND = ["--level", "4", "--index", "1", "--count", "0", "--target"]
-# Where a command ends with a status, in the words of its help: whether a device answers, the words behind the command,
-# and the lines of its input.
+# Where a command ends with a status, in the words of its help: whether a device answers, the words behind the command, and the lines of its input.
 ENDS = {
     "get": {"if all values were read": (True, ["4097"], ""), "if something was refused": (True, ["4097", "77"], ""),
             "if an answer did not come": (False, ["--turns", "2", "4097"], "")},
@@ -385,10 +416,10 @@ ENDS = {
 
 def ends_as_told(checks):
     """The exit statuses that the help of a command tells are those with which it ends where the help says so."""
-    text = ran(checks, "ocactl", "--help")[0]
+    text = checks.ran("ocactl", "--help")[0]
     commands = [name for name in re.findall(r"^  (\w+)  ", text.split("Options:")[0], re.M) if name != "help"]
     for command in commands:
-        told = re.search(r"^Exit status: (.*?)\.\s", ran(checks, "ocactl", command, "--help")[0], re.M | re.S)
+        told = re.search(r"^Exit status: (.*?)\.\s", checks.ran("ocactl", command, "--help")[0], re.M | re.S)
         parts = re.split(r", (?=\d )", " ".join(told[1].split())) if told else []
         said = {condition: int(status) for status, condition in (part.split(" ", 1) for part in parts)}
         ends = {condition: ended(checks, command, *how) for condition, how in ENDS.get(command, {}).items()}
@@ -397,16 +428,8 @@ def ends_as_told(checks):
 
 def ended(checks, command, answers, words, lines):
     """The status with which a command ends at a device that answers, or at one that is silent."""
-    with contextlib.ExitStack() as parts:
-        if answers:
-            port = parts.enter_context(Served(stagebox())).port
-        else:
-            silent = parts.enter_context(socket.socket(socket.AF_INET, socket.SOCK_DGRAM))
-            silent.bind(("127.0.0.1", 0))
-            port = silent.getsockname()[1]
-        done = subprocess.run([f"{checks.folder}/ocactl", command, "--device", f"127.0.0.1:{port}", "--port", str(checks.port), *words],
-                              input=lines, capture_output=True, text=True, timeout=60)
-    return done.returncode
+    with Served(stagebox()) if answers else silent() as device:
+        return checks.run(device, command, *words, given=lines)[2]
 
 
 def locks(checks):
@@ -474,9 +497,7 @@ def silence(checks):
     port = own_ports.free_port()
     note = f"note: nothing was heard from 127.0.0.1:{port}: its host says that no program has this port\n"
     checks.prints("get: nobody has the port", port, ["get", "--turns", 2, 4097], "4097 no answer\n", 3, note)
-    with socket.socket(socket.AF_INET, socket.SOCK_DGRAM) as s:
-        s.bind(("127.0.0.1", 0))  # hears, and never answers
-        port = s.getsockname()[1]
+    with silent() as port:
         note = f"note: nothing was heard from 127.0.0.1:{port}\n"
         checks.prints("get: no answer", port, ["get", "--turns", 2, 4097, 4098], "4097 no answer\n4098 no answer\n", 3, note)
         checks.prints("set: no answer", port, ["set", "--turns", 2, 4097, "on"], "4097 no answer\n", 3, note)
@@ -502,93 +523,35 @@ def silence(checks):
 
 def is_deaf(device, own):
     """The note on a device that is heard and answers no command."""
-    return f"note: 127.0.0.1:{device} is heard, but answers no command from port {own}: wait two minutes, or give " \
-        "another --port\n"
+    return f"note: 127.0.0.1:{device} is heard, but answers no command from port {own}: wait two minutes, or give " "another --port\n"
 
 
 def silence_of_a_run(checks):
     """`run`, which nobody answers: its line, the note and the status, as for the commands above."""
-    def runs(what, port, note):
-        done = subprocess.run([f"{checks.folder}/ocactl", "run", "--device", f"127.0.0.1:{port}", "--port",
-                               str(checks.port), "--first-handle", "1"], input="4097 4 1 0 -\n", capture_output=True,
-                              text=True, timeout=60)
-        checks.same(f"run: {what}", (done.stdout, done.stderr, done.returncode), ("lost\n", note, 3))
-
-    port = own_ports.free_port()
-    unheard = "note: nothing was heard from 127.0.0.1:{}"
+    runs = lambda what, device, note: checks.same(f"run: {what}", checks.run(device, "run", "--first-handle", 1, given="4097 4 1 0 -\n"), ("lost\n", note, 3))
+    port, unheard = own_ports.free_port(), "note: nothing was heard from 127.0.0.1:{}"
     runs("nobody has the port", port, f"{unheard.format(port)}: its host says that no program has this port\n")
-    with socket.socket(socket.AF_INET, socket.SOCK_DGRAM) as s:
-        s.bind(("127.0.0.1", 0))
-        port = s.getsockname()[1]
+    with silent() as port:
         runs("a device that is silent", port, f"{unheard.format(port)}\n")
     with Deaf(stagebox(), None) as device:
-        runs("a device that is deaf", device.port, is_deaf(device.port, checks.port))
+        runs("a device that is deaf", device, is_deaf(device.port, checks.port))
 
 
 def failed_sends(checks):
     """Sends that the system refuses, from 127.0.0.1 to another machine: a note says why the last of them failed."""
     said = "note: a send failed: Invalid argument (os error 22)\nnote: nothing was heard from 192.0.2.1:65000\n"
-    for command, words, printed in (("get", ["4097"], "4097 no answer\n"),
-                                    ("send", ["--target", "4097", "--level", "4", "--index", "1", "--count", "0"], "no answer\n")):
-        run = subprocess.run([f"{checks.folder}/ocactl", command, "--ip", "127.0.0.1", "--device", "192.0.2.1:65000", "--port", str(checks.port),
-                              "--turns", "1", *words], capture_output=True, text=True, timeout=60)
-        checks.same(f"{command}: a send failed", (run.stdout, run.stderr, run.returncode), (printed, said, 3))
-
-
-class Deaf(Served):
-    """The second implementation's device, which answers keep-alives, and no command of these methods (None: of any)."""
-
-    def __init__(self, tree, methods):
-        super().__init__(tree)
-        self.answers, self.methods = self.device.datagram, methods
-        self.device.datagram = self.datagram
-
-    def datagram(self, peer, data, now):
-        for message in oca.check(data):
-            if message[0] == "command" and (self.methods is None or (message[2].level, message[2].index) in self.methods):
-                return "", []
-        return self.answers(peer, data, now)
-
-
-class Faint(Deaf):
-    """The same, which of three keep-alives hears the last alone."""
-
-    def __init__(self, tree, methods):
-        super().__init__(tree, methods)
-        self.beats = 0
-
-    def datagram(self, peer, data, now):
-        if any(message[0] == "keep-alive" for message in oca.check(data)):
-            self.beats += 1
-            if self.beats % 3:
-                return "", []
-        return super().datagram(peer, data, now)
-
-
-class Missing(Served):
-    """The second implementation's device, which misses the first copy of each command."""
-
-    def __init__(self, tree):
-        super().__init__(tree)
-        self.answers, self.missed = self.device.datagram, set()
-        self.device.datagram = self.datagram
-
-    def datagram(self, peer, data, now):
-        for message in oca.check(data):
-            if message[0] == "command" and (peer, message[2].handle) not in self.missed:
-                self.missed.add((peer, message[2].handle))
-                return "", []
-        return self.answers(peer, data, now)
+    for words, printed in (("get --ip 127.0.0.1 4097", "4097 no answer\n"),
+                           ("send --ip 127.0.0.1 --target 4097 --level 4 --index 1 --count 0", "no answer\n")):
+        got = checks.ran("ocactl", *words.split(), "--device", "192.0.2.1:65000", "--port", checks.port, "--turns", 1)
+        checks.same(f"{words}: a send failed", got, (printed, said, 3))
 
 
 def missed_first(checks):
     """One datagram that is lost does not make the program take its other port."""
-    for command, words, printed in (("lock", (4097,), "4097 locked\n"), ("get", (4097,), "4097 muted\n")):
+    for command, printed in (("lock", "4097 locked\n"), ("get", "4097 muted\n")):
         with Missing(stagebox()) as device:
             own = own_ports.by_turns()[0]
-            run = subprocess.run([f"{checks.folder}/ocactl", command, "--device", f"127.0.0.1:{device.port}", *map(str, words)],
-                                 capture_output=True, text=True, timeout=60)
-            checks.same(f"{command}: the first copy is lost", (run.stdout, run.stderr, run.returncode), (printed, "", 0))
+            checks.same(f"{command}: the first copy is lost", checks.run(device, command, 4097, own=False), (printed, "", 0))
             if command == "lock":
                 checks.same("lock: the holder, where the first copy is lost", [o.lock for o in device.tree if o.ono == 4097], [("total", (127, 0, 0, 1, own))])
 
@@ -654,8 +617,7 @@ def at_a_terminal(checks):
 
 
 def at_a_terminal_alone(checks):
-    """A terminal is known by the input alone: lines that are typed there are read where the output goes to a file, and
-    Ctrl-D ends the run."""
+    """A terminal is known by the input alone: lines that are typed there are read where the output goes to a file, and Ctrl-D ends the run."""
     with Served(stagebox()) as device, tempfile.TemporaryDirectory() as place:
         words = [f"{checks.folder}/ocactl", "run", "--device", f"127.0.0.1:{device.port}", "--port", str(free_port())]
         run = Terminal("sh", "-c", f"{' '.join(words)} > {place}/said 2>&1; exit $?")
@@ -678,9 +640,8 @@ def says_in(path, wanted, seconds=10):
         time.sleep(0.02)
 
 
-# Runs a command in the background of its terminal, prints its number, waits for it and prints its status. Of the words
-# before the command the first is its input, in place of the terminal, and the second the file of its output: each where
-# there is one.
+# Runs a command in the background of its terminal, prints its number, waits for it and prints its status. Of the words before the command the first
+# is its input, in place of the terminal, and the second the file of its output: each where there is one.
 IN_THE_BACKGROUND = """import os, subprocess, sys
 given, place, *words = sys.argv[1:]
 run = subprocess.Popen(words, preexec_fn=os.setpgrp, stdin=subprocess.PIPE if given else None,
@@ -699,8 +660,7 @@ def in_the_background(checks, device, *words, given="", place=""):
 
 
 def behind_a_terminal(checks):
-    """In the background of a terminal `lock --hold` reads nothing that is typed there, and is not stopped by it: it
-    keeps its lock."""
+    """In the background of a terminal `lock --hold` reads nothing that is typed there, and is not stopped by it: it keeps its lock."""
     with Served(stagebox()) as device:
         run = in_the_background(checks, device, "lock", "--hold", "4097")
         checks.same("lock --hold in the background", (run.says(b" is there"), run.says(b"4097 locked")), (True, True))
@@ -744,75 +704,47 @@ def behind_a_terminal_alone(checks):
         checks.same(f"{name}: its end", run.ends(), 0)
 
 
-class OldSession(Served):
-    """The second implementation's device, with a session of the program's own port that is ahead of the clock."""
-
-    def __init__(self, tree, ports):
-        super().__init__(tree, window=1)
-        for port in ports:
-            for handle in (oca.U32 - 1, oca.U32):
-                self.device.datagram((127, 0, 0, 1, port), oca.pdu(1, [oca.Command(handle, 100, 1, 1, 0, b"").body()]), 0)
-
-
 def old_sessions(checks):
     """A session that is ahead of the clock, as behind a clock that was set back: the other port is taken before anything is set."""
     own, other = own_ports.by_turns()
-    folder = checks.folder
-    for command, words, printed, done in (("set", (4097, "unmuted"), "4097 unmuted\n", lambda o: o.state == 2),
-                                          ("lock", (4097,), "4097 locked\n", lambda o: o.lock == ("total", (127, 0, 0, 1, other)))):
+    used = "note: 127.0.0.1:{} answers no command from port {}: port {} is used instead\n"
+    for words, printed, done in ((("set", 4097, "unmuted"), "4097 unmuted\n", lambda o: o.state == 2),
+                                 (("lock", 4097), "4097 locked\n", lambda o: o.lock == ("total", (127, 0, 0, 1, other)))):
         with OldSession(stagebox(), [own]) as device:
-            run = subprocess.run([f"{folder}/ocactl", command, "--device", f"127.0.0.1:{device.port}", *map(str, words)],
-                                 capture_output=True, text=True, timeout=60)
-            checks.same(f"{command}: an old session", (run.stdout, run.stderr, run.returncode),
-                        (printed, f"note: 127.0.0.1:{device.port} answers no command from port {own}: "
-                                  f"port {other} is used instead\n", 0))
-            checks.same(f"{command}: an old session: the device", done(next(o for o in device.tree if o.ono == 4097)), True)
+            checks.same(f"{words[0]}: an old session", checks.run(device, *words, own=False), (printed, used.format(device.port, own, other), 0))
+            checks.same(f"{words[0]}: an old session: the device", done(next(o for o in device.tree if o.ono == 4097)), True)
     with OldSession(stagebox(), [own, other]) as device:
-        run = subprocess.run([f"{folder}/ocactl", "get", "--turns", "2", "--device", f"127.0.0.1:{device.port}", "4097"],
-                             capture_output=True, text=True, timeout=60)
-        said = [f"note: 127.0.0.1:{device.port} answers no command from port {own}: port {other} is used instead",
-                f"note: 127.0.0.1:{device.port} is heard, but answers no command from port {other}: "
-                "wait two minutes, or give another --port"]
-        checks.same("two old sessions", (run.stdout, run.stderr.splitlines(), run.returncode), ("4097 no answer\n", said, 3))
+        got = checks.run(device, "get", "--turns", 2, 4097, own=False)
+        checks.same("two old sessions", got, ("4097 no answer\n", used.format(device.port, own, other) + is_deaf(device.port, other), 3))
 
 
 def no_other_port(checks):
     """A session that is ahead of the clock, while the other port is in use: the command goes on from its own port, and
     what is told is that the device is heard there and answers nothing."""
     own, other = own_ports.by_turns()
-    with OldSession(stagebox(), [own]) as device, socket.socket(socket.AF_INET, socket.SOCK_DGRAM) as taken:
-        taken.bind(("127.0.0.1", other))
-        got = ran(checks, "ocactl", "get", "--turns", "2", "--device", f"127.0.0.1:{device.port}", "4097")
+    with OldSession(stagebox(), [own]) as device, silent(other):
+        got = checks.run(device, "get", "--turns", 2, 4097, own=False)
         checks.same("an old session, and no other port", got, ("4097 no answer\n", is_deaf(device.port, own), 3))
 
 
 def own_port_in_use(checks):
     """`lock` and `unlock` take no other port than the program's own, and neither of its two may be in use; `get` takes another."""
-    for used in own_ports.by_turns():
-        with Served(stagebox()) as device, socket.socket(socket.AF_INET, socket.SOCK_DGRAM) as taken:
-            taken.bind(("127.0.0.1", used))
+    first, second = own_ports.by_turns()
+    for used in (first, second):
+        with Served(stagebox()) as device, silent(used):
             for command in ("lock", "unlock"):
-                run = subprocess.run([f"{checks.folder}/ocactl", command, "--device", f"127.0.0.1:{device.port}", "4097"],
-                                     capture_output=True, text=True, timeout=60)
                 said = f"note: port {used}: Address already in use (os error 98)\nsocket failed\n"
-                got = (run.stdout, run.stderr, run.returncode)
-                checks.same(f"{command}: port {used} is in use", got, ("", said, 1))
+                checks.same(f"{command}: port {used} is in use", checks.run(device, command, 4097, own=False), ("", said, 1))
             checks.same("a port in use: what is heard", device.heard, [])
-            run = subprocess.run([f"{checks.folder}/ocactl", "get", "--device", f"127.0.0.1:{device.port}", "4097"],
-                                 capture_output=True, text=True, timeout=60)
-            checks.same(f"get: port {used} is in use", (run.stdout, run.stderr, run.returncode), ("4097 muted\n", "", 0))
-    with Served(stagebox()) as device, contextlib.ExitStack() as taken:
-        for used in own_ports.by_turns():
-            taken.enter_context(socket.socket(socket.AF_INET, socket.SOCK_DGRAM)).bind(("127.0.0.1", used))
-        got = ran(checks, "ocactl", "get", "--device", f"127.0.0.1:{device.port}", "4097")
-        checks.same("get: both ports are in use", got, ("4097 muted\n", "", 0))
+            checks.same(f"get: port {used} is in use", checks.run(device, "get", 4097, own=False), ("4097 muted\n", "", 0))
+    with Served(stagebox()) as device, silent(first), silent(second):
+        checks.same("get: both ports are in use", checks.run(device, "get", 4097, own=False), ("4097 muted\n", "", 0))
 
 
 def held(checks):
     """`lock --hold`: the locks stay until the input ends, and are then taken off; 15 seconds behind a kill they lapse."""
     def start(device, *words):
-        return subprocess.Popen([f"{checks.folder}/ocactl", "lock", "--hold", "--device", f"127.0.0.1:{device.port}", "--port", str(free_port()),
-                                 *map(str, words)], stdin=subprocess.PIPE, stdout=subprocess.PIPE, stderr=subprocess.PIPE, text=True)
+        return checks.start("ocactl", "lock", "--hold", "--device", f"127.0.0.1:{device.port}", "--port", free_port(), *words)
 
     with Served(stagebox()) as first, Served(stagebox()) as second:
         runs = start(first, 4097, 77, 4098), start(second, 4097)
@@ -845,18 +777,11 @@ ALONE = (old_sessions, no_other_port, own_port_in_use, missed_first)
 
 
 def main():
-    checks = Checks(sys.argv[1])
-    for part in (trees, gets, sets, sets_at_once, tells_at_once, refusals, bad_words, long_words, helps, ends_as_told, locks,
-                 strange_answers, silence, silence_of_a_run, failed_sends, old_sessions, no_other_port, own_port_in_use,
-                 missed_first, at_a_terminal, at_a_terminal_alone, behind_a_terminal, behind_a_terminal_alone, held):
-        try:
-            with own_ports.alone() if part in ALONE else contextlib.nullcontext():
-                part(checks)
-        except (OSError, KeyError, subprocess.TimeoutExpired) as fault:
-            checks.failed += 1
-            print(f"{part.__name__}: {fault!r}")
-    print(f"{checks.passed} passed, {checks.failed} failed")
-    return 1 if checks.failed else 0
+    counts = Checks(sys.argv[1])
+    counts.parts(trees, gets, sets, sets_at_once, tells_at_once, refusals, bad_words, long_words, helps, ends_as_told, locks, strange_answers, silence,
+                 silence_of_a_run, failed_sends, old_sessions, no_other_port, own_port_in_use, missed_first, at_a_terminal, at_a_terminal_alone,
+                 behind_a_terminal, behind_a_terminal_alone, held, alone=ALONE)
+    return counts.verdict()
 
 
 if __name__ == "__main__":

@@ -22,6 +22,8 @@ import sys
 import tempfile
 import time
 
+import checks
+
 MUTE, INPUT, TRIM, LAMP = 4097, 4099, 4100, 4101
 KILLS, STOPS = 30, 20
 
@@ -79,16 +81,10 @@ def limit_files(most):
     resource.setrlimit(resource.RLIMIT_FSIZE, (most, resource.RLIM_INFINITY))
 
 
-class Checks:
+class Checks(checks.Checks):
     def __init__(self, folder, layer=None):
-        self.folder, self.layer, self.passed, self.failed = folder, layer, 0, 0
-
-    def same(self, what, got, expected):
-        if got == expected:
-            self.passed += 1
-        else:
-            self.failed += 1
-            print(f"WRONG: {what}: {got!r:.300} in place of {expected!r:.300}")
+        super().__init__(folder)
+        self.layer = layer
 
     def serve(self, keep, *words, most=None, refusing=False):
         """A device at a port that the system chooses, what it says before it listens, and a peer of it; beside the file there

@@ -11,14 +11,15 @@ Usage: law.py BIN [HISTORIES] [SEED]     BIN is the folder with `trials`
 
 The last line is 'N passed, M failed'."""
 import collections
-import multiprocessing
 import random
 import subprocess
 import sys
+from unittest.mock import patch
 
 import oca_profile as oca
+from comparing import broken, in_processes, runs_of, verdict
 from fuzz import Panel, datagram
-from oca_law import LARGEST_DATAGRAM, Break, Datagram, Local, Tick, Told, shown_objects, walk
+from oca_law import LARGEST_DATAGRAM, Datagram, Local, Tick, Told, shown_objects, walk
 from wrong_devices import RULES
 
 # ---- histories
@@ -86,8 +87,7 @@ def beat(ms):
 
 
 def lapses(r):
-    """A lock, and moments about three heartbeats after its peer was last heard, of heartbeats in and outside their
-    limits."""
+    """A lock, and moments about three heartbeats after its peer was last heard, of heartbeats in and outside their limits."""
     h = History(r.choice([1, 8, 32]))
     ms = r.choice([None, 0, 100, 249, 250, 251, 1500, 1999, 29999, 30000, 30001, 100000, 2**32 - 1])
     kept = 5000 if ms is None else max(250, min(ms, 30000))
@@ -112,7 +112,7 @@ def lapses(r):
 
 def start_of_noise(r):
     """A datagram that is malformed, or that holds what is not served."""
-    return r.choice([b"\0", b"", get(1)[:-1], get(1) + b"\0", oca.pdu(3, [oca.response_body(1, 0, 0, b"")]), get(1)])
+    return r.choice([b"\0", b"", get(1)[:-1], get(1) + b"\0", oca.response(1), get(1)])
 
 
 def forgetting(r):
@@ -149,8 +149,7 @@ def crowds(r):
 
 
 def windows(r):
-    """A window filled, with handles in another order, copies of what is in it and behind it, other commands and types
-    under a handle."""
+    """A window filled, with handles in another order, copies of what is in it and behind it, other commands and types under a handle."""
     w = r.choice([1, 2, 3, 4, 5, 8, 16, 31, 32, 33, 63, 64])
     h = History(w)
     handles = [r.choice([1, 1000, oca.U32 - 3 * w - 9]) + k for k in range(2 * w + 4)]
@@ -165,21 +164,18 @@ def windows(r):
         sent += made
         h.says(0, *made)
         if r.randrange(3):
-            copies = [r.choice(sent[-w - 2:]) for _ in range(3)] + [sent[max(0, len(sent) - w - 1)],
-                                                                    sent[-min(w, len(sent))]]
+            copies = [r.choice(sent[-w - 2:]) for _ in range(3)] + [sent[max(0, len(sent) - w - 1)], sent[-min(w, len(sent))]]
             h.says(0, *r.sample(copies, r.choice([1, 3, 5])))
         if r.randrange(4) == 0:
             x = r.choice(handles[:k][-w - 1:])
-            h.says(0, r.choice([trim(x, 1), get(x, False), trim(x, x % 1300 - 650, False), ask(x, 4097, 1, 5),
-                                ask(x, 4097, 4, 1, 1)]))
+            h.says(0, r.choice([trim(x, 1), get(x, False), trim(x, x % 1300 - 650, False), ask(x, 4097, 1, 5), ask(x, 4097, 4, 1, 1)]))
         if r.randrange(6) == 0:
             h.says(0, get(max(0, min(handles[:k]) - 1)))
     return h.says(1, ask(1, 4100, 5, 1))
 
 
 def packings(r):
-    """Many answers in one datagram, of lengths about the limit, with keep-alives, borders of PDUs and messages without
-    an answer between."""
+    """Many answers in one datagram, of lengths about the limit, with keep-alives, borders of PDUs and messages without an answer between."""
     h = History(r.choice([1, 8, 64]))
     for n, size in enumerate(r.choice([[64] * 3, [60, 64, 1], [0, 64, 33]])):
         h.says(0, ask(n + 1, 4099, 4, 4, 2, oca.u16(n) + oca.text_bytes("x" * size)))
@@ -191,9 +187,7 @@ def packings(r):
         for _ in range(r.choice([2, 4, 20])):
             body = [oca.Command(at + i, *r.choice(kinds), 0, b"").body() for i in range(r.choice([1, 2, 7]))]
             at += len(body)
-            part = r.choice([oca.pdu(1, body)] * 5
-                + [oca.pdu(0, body), beat(5000), oca.pdu(4, [oca.u16(3)]),
-                   oca.pdu(3, [oca.response_body(1, 0, 0, b"")]), get(at - 1)])
+            part = r.choice([oca.pdu(1, body)] * 5 + [oca.pdu(0, body), beat(5000), oca.pdu(4, [oca.u16(3)]), oca.response(1), get(at - 1)])
             if size + len(part) <= LARGEST_DATAGRAM:
                 parts.append(part)
                 size += len(part)
@@ -218,8 +212,7 @@ def fronts(r):
     for n in range(12):
         ono = r.choice([100, 4096, 4097, 4098, 4099, 4100, 4101, 4102, 5000])
         kind = r.choice(["mute", "polarity", "switch", "boolean", *oca.WIDTHS])
-        value = {"mute": r.choice([1, 2]), "polarity": r.choice([1, 2]), "switch": r.choice([0, 1, 2, 3, 65535]),
-                 "boolean": r.randrange(2)}.get(kind)
+        value = {"mute": r.choice([1, 2]), "polarity": r.choice([1, 2]), "switch": r.choice([0, 1, 2, 3, 65535]), "boolean": r.randrange(2)}.get(kind)
         if value is None:
             size, signed = oca.WIDTHS[kind]
             low, high = (-1 << 8 * size - 1, (1 << 8 * size - 1) - 1) if signed else (0, (1 << 8 * size) - 1)
@@ -238,8 +231,7 @@ def fronts(r):
 def reading(h, number, handle):
     """What a panel asks that reads every object."""
     h.says(number, *(ask(handle + k, *wanted) for k, wanted in enumerate(
-        [(4097, 4, 1), (4098, 4, 1), (4099, 4, 1), (4100, 5, 1), (4101, 5, 1), (4102, 5, 1), (4097, 2, 8),
-         (4099, 4, 5), (4099, 4, 9)])))
+        [(4097, 4, 1), (4098, 4, 1), (4099, 4, 1), (4100, 5, 1), (4101, 5, 1), (4102, 5, 1), (4097, 2, 8), (4099, 4, 5), (4099, 4, 9)])))
 
 
 def wander(r):
@@ -249,8 +241,7 @@ def wander(r):
     panels, handle = {n: Panel(r, h.channels) for n in numbers}, 1
     for _ in range(r.choice([20, 40, 60, 100])):
         kind = r.randrange(12)
-        step = r.choice([0, 0, 1, 5, 100, 251, 750, 2500, 3001, 7500, 15001, 90001, 119999, 120000, 120001, -50, -5000,
-                         -130000])
+        step = r.choice([0, 0, 1, 5, 100, 251, 750, 2500, 3001, 7500, 15001, 90001, 119999, 120000, 120001, -50, -5000, -130000])
         h.at(max(0, h.now + (step if r.randrange(3) == 0 or step < 3000 else 1)))
         if kind == 0:
             h.tick(h.now)
@@ -258,12 +249,10 @@ def wander(r):
             reading(h, 40, handle)
             handle += 9
         elif kind == 2:
-            h.sets(*r.choice([(4097, "mute", 1 + r.randrange(2)), (4100, "int16", r.randrange(-601, 602)),
-                              (4099, "switch", r.randrange(4))]))
+            h.sets(*r.choice([(4097, "mute", 1 + r.randrange(2)), (4100, "int16", r.randrange(-601, 602)), (4099, "switch", r.randrange(4))]))
         elif kind == 3:
             n = r.choice(numbers)
-            h.says(n, ask(min(oca.U32, r.choice([panels[n].next + 1, 1])), r.choice([4097, 4098, 4100]), 1,
-                          r.choice([3, 3, 6, 4])))
+            h.says(n, ask(min(oca.U32, r.choice([panels[n].next + 1, 1])), r.choice([4097, 4098, 4100]), 1, r.choice([3, 3, 6, 4])))
         else:
             h.says(r.choice(numbers), data=datagram(r, panels[r.choice(numbers)]))
     reading(h.at(h.now + 1), 41, 1)
@@ -346,22 +335,16 @@ def tale_in(lines):
 
 def tales(folder, histories):
     """What the built program says of each history."""
-    text = "".join(line + "\n" for h in histories for line in h.text())
-    done = subprocess.run([f"{folder}/trials", "events"], input=text.encode(), capture_output=True, timeout=300)
-    lines = done.stdout.decode().splitlines()
-    begins = [i for i, line in enumerate(lines) if line == "history"] + [len(lines)]
-    if done.returncode != 0 or len(begins) != len(histories) + 1:
-        raise RuntimeError(f"status {done.returncode}: {done.stderr.decode()!r}")
-    return [tale_in(lines[first + 1:end]) for first, end in zip(begins, begins[1:])]
+    return [tale_in(lines[1:]) for lines in runs_of(f"{folder}/trials", "events", "history", [history.text() for history in histories])]
 
 
 def shown(history, tale, fault):
     """A history to where it breaks, with what was said."""
     lines = history.text()
     out = lines[:1]
-    for line, told in list(zip(lines[1:], tale))[:fault.number + 1]:
+    for line, told in list(zip(lines[1:], tale))[:fault.at + 1]:
         out += [line, f"    {' '.join(map(str, told.verdict))}"] + [f"    > {packet.hex()}" for packet in told.packets]
-    return "\n".join(out + [f"BREAK of '{fault.sentence}' at event {fault.number}: {fault.what}"])
+    return "\n".join(out + [f"BREAK of '{fault.law}' at event {fault.at}: {fault.what}"])
 
 
 # ---- altered transcripts
@@ -394,8 +377,7 @@ def altered(r, history, tale):
     elif kind == 7 and told.objects:
         k = r.randrange(len(told.objects))
         ono, setting, held = told.objects[k]
-        one = (ono, setting, None if held else ("total", peer(0))) if setting is None or r.randrange(2) else (ono,
-            setting ^ 1, held)
+        one = (ono, setting, None if held else ("total", peer(0))) if setting is None or r.randrange(2) else (ono, setting ^ 1, held)
         new = "objects_are", told._replace(objects=told.objects[:k] + (one,) + told.objects[k + 1:])
     elif kind == 8:
         new = "sessions_are", told._replace(sessions=told.sessions + r.choice([-1, 1]))
@@ -421,20 +403,14 @@ def refuses(job):
     """Whether the law refuses a history of the wrong device of this name by its sentence, that sentence, and how."""
     seed, name = job
     sentence, owner, method, body = RULES[name]
-    kept = getattr(owner, method)
-    setattr(owner, method, body)
     first = None
-    try:
+    with patch.object(owner, method, body):
         for number in range(WRONG_HISTORIES):
             history = made(f"{seed} {name}", number)
-            try:
-                walk(history, tale_of(history, oca.Device(oca.bench(history.channels), history.window, history.peers)))
-            except Break as fault:
-                first = first or fault.sentence
-                if fault.sentence == sentence:
-                    return True, sentence, f"{name}: '{sentence}' refuses history {number}, at event {fault.number}"
-    finally:
-        setattr(owner, method, kept)
+            fault = broken(walk, history, tale_of(history, oca.Device(oca.bench(history.channels), history.window, history.peers)))
+            if fault and fault.law == sentence:
+                return True, sentence, f"{name}: '{sentence}' refuses history {number}, at event {fault.at}"
+            first = first or fault and fault.law
     return False, sentence, f"{name}: no break of '{sentence}'" + (f", but of '{first}'" if first else "")
 
 
@@ -458,16 +434,12 @@ def count_of(tale):
 def alterations(r, history, tale):
     """Of some lines altered, how many were refused where they stand, by the sentence that they belong to."""
     total = collections.Counter()
-    for change in filter(None, (altered(r, history, tale) for _ in range(3))):
-        sentence, at, other = change
-        total["altered"] += 1
-        try:
-            walk(history, other)
-            print(f"altered for '{sentence}' at event {at}, not refused")
-        except Break as fault:
-            total["altered, refused"] += (fault.sentence, fault.number) == (sentence, at)
-            if (fault.sentence, fault.number) != (sentence, at):
-                print(f"altered for '{sentence}' at event {at}, refused by '{fault.sentence}' at {fault.number}")
+    for sentence, at, other in filter(None, (altered(r, history, tale) for _ in range(3))):
+        fault = broken(walk, history, other)
+        is_refused = fault is not None and (fault.law, fault.at) == (sentence, at)
+        total += collections.Counter({"altered": 1, "altered, refused": int(is_refused)})
+        if not is_refused:
+            print(f"altered for '{sentence}' at event {at}, " + (f"refused by '{fault.law}' at {fault.at}" if fault else "not refused"))
     return total
 
 
@@ -477,9 +449,8 @@ def work(job):
     histories, total = [made(seed, n) for n in numbers], collections.Counter()
     r = random.Random(f"{seed} {numbers[0]} altered")
     for history, tale in zip(histories, tales(folder, histories), strict=True):
-        try:
-            walk(history, tale)
-        except Break as fault:
+        fault = broken(walk, history, tale)
+        if fault:
             return total, shown(history, tale, fault)
         total["histories"] += 1
         total += count_of(tale) + alterations(r, history, tale)
@@ -488,18 +459,15 @@ def work(job):
 
 def summary(seed, total, wrong):
     print(f"law: seed {seed}: {total['histories']} histories of {total['events']} events: "
-          f"{total['executed']} executed, {total['duplicates']} duplicates, {total['old']} old, "
-          f"{total['reused']} reused, "
+          f"{total['executed']} executed, {total['duplicates']} duplicates, {total['old']} old, " f"{total['reused']} reused, "
           f"{total['said malformed']} malformed, {total['said no-room']} without room, {total['packets']} packets")
     print(f"room for {sorted(set(SIZES))} peers, {sorted(set(CHANNELS))} channels")
-    print(f"changes at the front: {total['said set']}, refused {total['said refused']}; "
-          f"objects written: {total['writes']}; 0 breaks")
+    print(f"changes at the front: {total['said set']}, refused {total['said refused']}; " f"objects written: {total['writes']}; 0 breaks")
     sentences = collections.Counter(sentence for _, sentence, _ in wrong)
     refused = sum(found for found, _, _ in wrong)
     print(f"wrong devices refused by the sentence that they break: {refused} of {len(wrong)} "
           f"({', '.join(f'{name} {n}' for name, n in sorted(sentences.items()))})")
-    print(f"altered lines refused where they stand, by the sentence that they belong to: "
-          f"{total['altered, refused']} of {total['altered']}")
+    print(f"altered lines refused where they stand, by the sentence that they belong to: " f"{total['altered, refused']} of {total['altered']}")
 
 
 def learn(folder):
@@ -512,8 +480,7 @@ def learn(folder):
     CHANNELS.extend([0, 0, 1, 2, 9])
     TOLD.append(())
     sets = ask(1, 4097, 4, 2, 1, b"\1").hex().encode()
-    return knows(b"history 1 2 0\n") and knows(b"history 1 16 1\n") and \
-        knows(b"history 1 16 0\n0 127.0.0.1:9001 " + sets + b"\n", b"written 4097\n")
+    return knows(b"history 1 2 0\n") and knows(b"history 1 16 1\n") and knows(b"history 1 16 0\n0 127.0.0.1:9001 " + sets + b"\n", b"written 4097\n")
 
 
 def main():
@@ -522,27 +489,18 @@ def main():
         sys.exit("law: trials does not know the sizes that are tried, or does not tell what was written")
     count = int(sys.argv[2]) if len(sys.argv) > 2 else 300
     seed = int(sys.argv[3]) if len(sys.argv) > 3 else 1
-    total = collections.Counter()
     jobs = [(folder, seed, range(first, min(first + 9, count))) for first in range(0, count, 9)]
-    with multiprocessing.Pool(min(4, multiprocessing.cpu_count())) as pool:
-        for counts, fault in pool.imap(work, jobs):
-            total += counts
-            if fault:
-                print(fault)
-                print(f"law: seed {seed}: a break after {total['histories']} histories without one")
-                print("0 passed, 1 failed")
-                return 1
-        wrong = pool.map(refuses, [(seed, name) for name in RULES], chunksize=1)
+    total, fault, wrong = in_processes(work, jobs, refuses, [(seed, name) for name in RULES])
+    if fault:
+        print(f"{fault}\nlaw: seed {seed}: a break after {total['histories']} histories without one")
+        return verdict({"law": False})
     for found, _, said in wrong:
         if not found:
             print(f"FAILED: {said}")
     summary(seed, total, wrong)
-    met = ["executed", "duplicates", "old", "reused", "said malformed", "said no-room", "packets",
-           "said set", "said refused"]
-    checks = [total["histories"] == count and all(total[name] for name in met), all(found for found, _, _ in wrong),
-              total["altered"] > count and total["altered, refused"] == total["altered"]]
-    print(f"{sum(map(bool, checks))} passed, {sum(not passed for passed in checks)} failed")
-    return 0 if all(checks) else 1
+    met = ["executed", "duplicates", "old", "reused", "said malformed", "said no-room", "packets", "said set", "said refused"]
+    return verdict({"law": total["histories"] == count and all(total[name] for name in met), "wrong": all(found for found, _, _ in wrong),
+                    "altered": total["altered"] > count and total["altered, refused"] == total["altered"]})
 
 
 if __name__ == "__main__":

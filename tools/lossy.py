@@ -1,6 +1,5 @@
 #!/usr/bin/env python3
-"""`ocadev serve` and `ocactl run` on 127.0.0.1, with a network between them that loses, doubles, delays and reorders
-datagrams.
+"""`ocadev serve` and `ocactl run` on 127.0.0.1, with a network between them that loses, doubles, delays and reorders datagrams.
 
 Usage: lossy.py BIN [COMMANDS] [SEED]     so many commands one at a time, with a window of 32; four times as many with
                                           16 under way, with a window of 31. BIN is the folder with the programs
@@ -10,23 +9,21 @@ Usage: lossy.py BIN [COMMANDS] [SEED]     so many commands one at a time, with a
 In the gate: lossy.py bin 30
 In the gate: lossy.py bin directed
 
-Of each run it prints a table, and at the end 'N passed, M failed' over the runs. One at a time, each answer must be
-what the second implementation of the profile says, and the last two commands read back what was set. With 16 under way
-the commands may be executed in any order, so they are such whose answers tell them apart in every order. The exit
-status is 1 if a command was executed twice, a copy was too old whose command's answer had not been carried yet, an
-answer was wrong, or one is missing; of `directed`, if with a window of 31 or more the copy is not answered from the
-window, or with a smaller one is not too old."""
+Of each run it prints a table, and at the end 'N passed, M failed' over the runs. One at a time, each answer must be what the second implementation of
+the profile says, and the last two commands read back what was set. With 16 under way the commands may be executed in any order, so they are such
+whose answers tell them apart in every order. The exit status is 1 if a command was executed twice, a copy was too old whose command's answer had not
+been carried yet, an answer was wrong, or one is missing; of `directed`, if with a window of 31 or more the copy is not answered from the window, or
+with a smaller one is not too old."""
 import heapq
 import random
 import re
 import select
-import socket
 import subprocess
 import sys
 import time
 
 import oca_profile as oca
-from own_ports import free_port
+from own_ports import bound, free_port
 
 LOSS, DOUBLING, SLOW = 0.2, 0.2, 0.15
 TURNS = 20000
@@ -50,21 +47,16 @@ class Behind:
 class Network:
     """Carries datagrams between one controller and one device, as badly as the seed says."""
 
-    def __init__(self, device, seed):
+    def __init__(self, device, seed, back="127.0.0.1"):
         self.random = random.Random(seed)
-        self.front = self.bound()  # the controller takes this for the device
-        self.back = self.bound()
-        self.device, self.controller = device, None
-        self.due, self.number = [], 0
-        self.latest = {True: -1, False: -1}
+        self.front, self.back = bound(), bound(back)  # the controller takes the front for the device
+        self.device, self.controller, self.behind = device, None, Behind()
+        self.due, self.number, self.latest = [], 0, {True: -1, False: -1}
         self.lost = self.doubled = self.overtaken = self.carried = 0
-        self.behind = Behind()
 
-    @staticmethod
-    def bound():
-        s = socket.socket(socket.AF_INET, socket.SOCK_DGRAM)
-        s.bind(("127.0.0.1", 0))
-        return s
+    def wait(self):
+        """For how many seconds a datagram is held."""
+        return self.random.uniform(0, 0.7) if self.random.random() < SLOW else self.random.uniform(0, 0.02)
 
     def accept(self, inward, data):
         """A datagram that was sent: it will be delivered not at all, once or twice, after a while."""
@@ -75,8 +67,7 @@ class Network:
         copies = 2 if self.random.random() < DOUBLING else 1
         self.doubled += copies - 1
         for _ in range(copies):
-            wait = self.random.uniform(0, 0.7) if self.random.random() < SLOW else self.random.uniform(0, 0.02)
-            heapq.heappush(self.due, (time.time() + wait, self.number, inward, data))
+            heapq.heappush(self.due, (time.time() + self.wait(), self.number, inward, data))
         self.number += 1
 
     def carry(self, inward, data):
@@ -95,13 +86,21 @@ class Network:
             self.carry(inward, data)
 
     def step(self):
-        wait = min(0.02, max(0, self.due[0][0] - time.time())) if self.due else 0.02
-        for s in select.select([self.front, self.back], [], [], wait)[0]:
-            data, sender = s.recvfrom(65535)
-            if s is self.front:
-                self.controller = sender
-            self.accept(s is self.front, data)
-        self.deliver()
+        step(self)
+
+
+def step(*networks):
+    """Takes what comes within 20 ms or until the next delivery is due, and delivers what is."""
+    due = min((network.due[0][0] for network in networks if network.due), default=time.time() + 0.02)
+    ways = {end: network for network in networks for end in (network.front, network.back)}
+    for end in select.select(list(ways), [], [], min(0.02, max(0, due - time.time())))[0]:
+        network = ways[end]
+        data, sender = end.recvfrom(65535)
+        if end is network.front:
+            network.controller = sender
+        network.accept(end is network.front, data)
+    for network in networks:
+        network.deliver()
 
 
 class Directed(Network):
@@ -169,6 +168,15 @@ def told_apart(r, count):
     return made
 
 
+def answers_of(made):
+    """What `ocactl run` prints where each command is executed once, in this order."""
+    tree, printed = oca.bench(), []
+    for _, command in made:
+        status, items, params = oca.execute(tree, "the panel", command)
+        printed.append(f"answer {status} {items} {oca.hex_text(params)}")
+    return printed
+
+
 def line_of(c):
     return f"{c.target} {c.level} {c.index} {c.count} {oca.hex_text(c.params)}"
 
@@ -186,13 +194,11 @@ class Run:
     """A run of the two programs over a network: the answers, the controller's status, and the device's report."""
 
     def __init__(self, folder, made, window, network_of, words):
-        device = subprocess.Popen(
-            [f"{folder}/ocadev", "serve", "--port", "0", "--turns", str(TURNS), "--window", str(window)],
+        device = subprocess.Popen([f"{folder}/ocadev", "serve", "--port", "0", "--turns", str(TURNS), "--window", str(window)],
             stdout=subprocess.PIPE, stderr=subprocess.PIPE)
         self.network = network = network_of(listening(device))
         host, port = network.front.getsockname()
-        panel = subprocess.Popen(
-            [f"{folder}/ocactl", "run", "--device", f"{host}:{port}", "--first-handle", "1", "--port", str(free_port()), *words],
+        panel = subprocess.Popen([f"{folder}/ocactl", "run", "--device", f"{host}:{port}", "--first-handle", "1", "--port", str(free_port()), *words],
             stdin=subprocess.PIPE, stdout=subprocess.PIPE)
         panel.stdin.write("".join(line + "\n" for line, _ in made).encode())
         panel.stdin.close()
@@ -209,11 +215,7 @@ class Run:
         device.kill()
         self.answers, self.status = panel.stdout.read().decode().splitlines(), panel.wait()
         self.report = {name: int(n) for name, n in re.findall(r"([a-z-]+) ([0-9]+)", device.stdout.read().decode())}
-        tree, self.expected = oca.bench(), []
-        for _, c in made:
-            status, items, params = oca.execute(tree, "the panel", c)
-            self.expected.append(f"answer {status} {items} {oca.hex_text(params)}")
-        self.wrong = sum(1 for a, b in zip(self.answers, self.expected) if a != b)
+        self.wrong = sum(a != b for a, b in zip(self.answers, answers_of(made)))
         self.missing = len(made) - len(self.answers)
 
     def is_as_promised(self, count):

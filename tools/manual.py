@@ -1,17 +1,16 @@
 #!/usr/bin/env python3
-"""Compares man/ocadev.1, man/ocactl.1 and man/ocapanel.1 with `--help`: the same commands, and for each command the
-same options with the same values and the same defaults (`[default: N]` in the help, `The default is N` in the page). A
-program without commands has one of its own name. What the help says of each option and each command is more than a
-word, and not what it says of another one.
+"""Compares man/ocadev.1, man/ocactl.1 and man/ocapanel.1 with `--help`: the same commands, and for each command the same options with the same values
+and the same defaults (`[default: N]` in the help, `The default is N` in the page). A program without commands has one of its own name. What the help
+says of each option and each command is more than a word, and not what it says of another one.
 
 Usage: manual.py BIN     BIN is the folder with the programs
 
-In a page a command is a `.SS` of the section COMMANDS, and an option of it, behind a `.TP`, a `.BI \\-\\-NAME " VALUE"`
-or, without a value, a `.B \\-\\-NAME`. Options that several commands have are in the section COMMON OPTIONS, where a
-`.SS` lists the commands: `replay and serve`, or `All commands`, or `All commands but replay`.
+In a page a command is a `.SS` of the section COMMANDS, and an option of it, behind a `.TP`, a `.BI \\-\\-NAME " VALUE"` or, without a value, a `.B
+\\-\\-NAME`. Options that several commands have are in the section COMMON OPTIONS, where a `.SS` lists the commands: `replay and serve`, or `All
+commands`, or `All commands but replay`.
 
-Where groff is installed, it must find nothing to warn of. The step is tried itself, by pages that are wrong. The last
-line is 'N passed, M failed'."""
+Where groff is installed, it must find nothing to warn of. The step is tried itself, by pages that are wrong. The last line is 'N passed, M
+failed'."""
 import re
 import shutil
 import subprocess
@@ -124,11 +123,9 @@ def said_in_help(text):
 
 
 def unexplained(text):
-    """The options and commands of which a help text says nothing: no sentence of more than one word, or what it says of
-    another one."""
+    """The options and commands of which a help text says nothing: no sentence of more than one word, or what it says of another one."""
     said = said_in_help(text)
-    return [name for name, words in said.items()
-            if not re.match(r"[A-Z]\S* \S", words) or list(said.values()).count(words) > 1]
+    return [name for name, words in said.items() if not re.match(r"[A-Z]\S* \S", words) or list(said.values()).count(words) > 1]
 
 
 # Help texts that are wrong: what stands in the place of what is said of an option.
@@ -136,8 +133,7 @@ WRONG_HELP = ["", "window", "W", "Help", "Print help"]
 
 
 def explanations(folder):
-    """Which options and commands are not explained, a line each, and how many there are; and texts that are wrong are
-    found."""
+    """Which options and commands are not explained, a line each, and how many there are; and texts that are wrong are found."""
     faults, count = [], 0
     for name in ("ocadev", "ocactl", "ocapanel"):
         program = f"{folder}/{name}"
@@ -154,9 +150,9 @@ def explanations(folder):
     return faults, count
 
 
-# Pages that are wrong: the program, a text of its page, and another text in its place: a command that is missing, one
-# that is none, an option that is missing, one that is none, one of another value or without one, another default or
-# none, options that fewer or more commands have, an option that stands twice, and another exit status.
+# Pages that are wrong: the program, a text of its page, and another text in its place: a command that is missing, one that is none, an option that is
+# missing, one that is none, one of another value or without one, another default or none, options that fewer or more commands have, an option that
+# stands twice, and another exit status.
 WRONG = [
     ("ocadev", ".SS show\nPrints", ".SS shows\nPrints"), ("ocactl", ".SS unlock\n", ".PP\n"),
     ("ocadev", '.BI \\-\\-stats " SECONDS"\n', ".PP\n"), ("ocactl", ".B \\-\\-hold\n", ".B \\-\\-held\n"),

@@ -10,13 +10,13 @@ within 100 ms longer than where no host is silent; and at least half of the data
 and `ip` (iproute2); without them it says so, and tries nothing. The last line is 'N passed, M failed'."""
 import os
 import re
-import shutil
 import socket
-import subprocess
 import sys
 import time
 
+import namespaces
 import oca_profile as oca
+from own_ports import bound
 
 DEVICE, PEER, SILENT = "10.91.0.1", "10.91.0.2", "10.91.0.{}"
 PORT = 65000
@@ -56,16 +56,15 @@ def flood(hosts, rate, alive, seconds):
 
 def ask(seconds):
     """Asks for a state twenty times a second: prints how many were asked, how many answered at the first sending, and the slowest in ms."""
-    peer = socket.socket(socket.AF_INET, socket.SOCK_DGRAM)
-    peer.bind((PEER, 0))
+    peer = bound(PEER)
     asked = answered = slowest = 0
     begun = time.monotonic()
     while time.monotonic() < begun + seconds:
         asked += 1
         peer.settimeout(1)
         sent = time.monotonic()
-        peer.sendto(oca.pdu(1, [oca.Command(asked, 4097, 4, 1, 0, b"").body()]), (DEVICE, PORT))
-        wanted = oca.pdu(3, [oca.response_body(asked, 0, 1, b"\1")])
+        peer.sendto(oca.command(asked, 4097, 4, 1), (DEVICE, PORT))
+        wanted = oca.response(asked, 0, 1, b"\1")
         try:
             while peer.recv(2000) != wanted:
                 pass
@@ -75,27 +74,6 @@ def ask(seconds):
         slowest = max(slowest, 1000 * (time.monotonic() - sent))
         time.sleep(0.05)
     print(asked, answered, round(slowest))
-
-
-class Namespaces:
-    """A namespace for the device and one for its peers, with a link between them."""
-
-    def __enter__(self):
-        self.device, self.peers = f"oca-d{os.getpid()}", f"oca-p{os.getpid()}"
-        for line in (f"netns add {self.device}", f"netns add {self.peers}",
-                     f"-n {self.device} link add link0 type veth peer name link0 netns {self.peers}",
-                     f"-n {self.device} addr add {DEVICE}/24 dev link0", f"-n {self.peers} addr add {PEER}/24 dev link0",
-                     f"-n {self.device} link set link0 up", f"-n {self.peers} link set link0 up"):
-            subprocess.run(["ip", *line.split()], check=True)
-        return self
-
-    def __exit__(self, *_):
-        for name in (self.device, self.peers):
-            subprocess.run(["ip", "netns", "del", name], check=False)
-
-    def start(self, name, *words):
-        return subprocess.Popen(["ip", "netns", "exec", name, *map(str, words)], stdin=subprocess.DEVNULL, stdout=subprocess.PIPE,
-                                stderr=subprocess.PIPE, text=True)
 
 
 def run(room, folder, silent, seconds):
@@ -135,12 +113,11 @@ def main():
         return flood(*map(int, sys.argv[2:6]))
     if sys.argv[1] == "ask":
         return ask(int(sys.argv[2]))
-    if os.geteuid() or not shutil.which("ip"):
-        print("neighbours: NOT TRIED: it needs root and `ip`\n1 passed, 0 failed")
+    if not namespaces.is_able("neighbours"):
         return 0
     folder, seconds = os.path.abspath(sys.argv[1]), int(sys.argv[2]) if len(sys.argv) > 2 else 4
     passed = failed = 0
-    with Namespaces() as room:
+    with namespaces.Machines((PEER, DEVICE)) as room:
         alone, good = tried(room, folder, None, seconds)
         if not good:
             print(f"alone: FAILED: {alone[1]} of {alone[0]} answered")

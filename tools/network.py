@@ -3,8 +3,7 @@
 
 Usage: network.py BIN     BIN is the folder with `ocadev` and `ocactl`
 
-Signals and failing calls come from the layer of `unreliable.c`, and what a send buffer is granted from that of
-`granted.c`. What the programs print and how long they take is compared. What is timed is held against waits of the same
+Signals, failing calls and what a send buffer is granted come from the layer of `unreliable.c`. What the programs print and how long they take is compared. What is timed is held against waits of the same
 length that this script makes meanwhile, and tried again while it is too long, since a machine may be busy: a part is
 repeated only where nothing but times was wrong, and how often one was stands before the last line.
 The last line is 'N passed, M failed'."""
@@ -23,39 +22,31 @@ import threading
 import time
 from pathlib import Path
 
+import checks
 import grants
 import oca_profile as oca
-from own_ports import free_port
+from checks import ended, layered, write
+from own_ports import at, bound, free_port, heard
 
-HERE = Path(__file__).resolve().parent
-GET = (4097, 4, 1, 0, b"")
+GET, ASKS = (4097, 4, 1), ("--target", 4097, "--level", 4, "--index", 1, "--count", 0)
 WAIT_MS = 50
 # Linux's option by which the system tells when a datagram came
 SO_TIMESTAMPNS = 35
 TRIES = 12
-LAYERS = ("unreliable", "granted")
 # so many turns that no run comes to their end by waiting: it is ended by datagrams, each of which is a turn
 TURNS_OF_A_COPY = 4000
 
 
-def bound(ip="127.0.0.1", port=0):
-    s = socket.socket(socket.AF_INET, socket.SOCK_DGRAM)
-    s.bind((ip, port))
-    s.settimeout(10)
-    return s
-
-
 def get_command(handle):
-    return oca.pdu(1, [oca.Command(handle, *GET).body()])
+    return oca.command(handle, *GET)
 
 
 def response(handle, params=b"\1"):
-    return oca.pdu(3, [oca.response_body(handle, 0, 1, params)])
+    return oca.response(handle, 0, 1, params)
 
 
 def next_command(device):
-    """The next command that comes, and from where; nothing where none comes in ten seconds. Keep-alives are passed
-    over."""
+    """The next command that comes, and from where; nothing where none comes in ten seconds. Keep-alives are passed over."""
     with contextlib.suppress(TimeoutError):
         while True:
             data, sender = device.recvfrom(2000)
@@ -86,46 +77,16 @@ def answer(peer, handle, to):
     return None, None
 
 
-class Checks:
+class Checks(checks.Checks):
     def __init__(self, folder, layer):
-        self.folder, self.layer, self.passed, self.failed, self.runs = folder, layer, 0, 0, []
-        self.late, self.repeated = 0, []
+        super().__init__(folder)
+        self.layer = layer
 
-    def part(self, part):
-        """Runs a part. Where times alone were wrong it is tried twice more, since a machine that stands still for a second or two is no
-        fault of the programs; whatever else is wrong, events and counts, has failed at once."""
-        for left in (2, 1, 0):
-            passed, failed, self.late = self.passed, self.failed, 0
-            part(self)
-            if self.failed == failed or self.failed > failed + self.late or not left:
-                return
-            print(f"once more: {part.__name__}: {self.late} times were too long", flush=True)
-            self.repeated.append(part.__name__)
-            self.passed, self.failed = passed, failed
-
-    def expect(self, what, good, told="", is_time=False):
-        """A check; `is_time` where it is wrong only since something took too long."""
-        if good:
-            self.passed += 1
-        else:
-            self.failed += 1
-            self.late += is_time
-            print(f"{'LATE' if is_time else 'WRONG'}: {what}: {told}")
-
-    def same(self, what, got, expected, is_time=False):
-        self.expect(what, got == expected, f"{got!r:.300} in place of {expected!r:.300}", is_time)
-
-    def start(self, *words, stdin=subprocess.DEVNULL, stdout=subprocess.PIPE, stderr=subprocess.PIPE, close=(),
-              cwd=None, **settings):
-        """A run in this folder, with these descriptors closed and this done by the layers."""
-        env = dict(os.environ, **{name: str(value) for name, value in settings.items()})
-        if settings:
-            env["LD_PRELOAD"] = self.layer
-        run = subprocess.Popen([f"{self.folder}/{words[0]}", *map(str, words[1:])], stdin=stdin, stdout=stdout,
-                               stderr=stderr, text=True, env=env, cwd=cwd,
-                               preexec_fn=lambda: [os.close(fd) for fd in close])
-        self.runs.append(run)
-        return run
+    def start(self, *words, close=(), **how):
+        """A run in this folder, with these descriptors closed and what is written in capitals done by the layer."""
+        settings = {name: str(how.pop(name)) for name in list(how) if name.isupper()}
+        env = {**os.environ, **settings, **({"LD_PRELOAD": self.layer} if settings else {})}
+        return super().start(*words, env=env, preexec_fn=lambda: [os.close(fd) for fd in close], **{"stdin": subprocess.DEVNULL, **how})
 
     def serve(self, turns, *words, **settings):
         """A device, and its port."""
@@ -136,10 +97,7 @@ class Checks:
 
     def send(self, device, handle, *words, **settings):
         """One command of `ocactl send`: what it prints, what it says of faults, and its status."""
-        target, level, index, count, params = GET
-        run = self.start("ocactl", "send", "--device", device, "--first-handle", handle, "--target", target, "--level", level,
-                         "--index", index, "--count", count, *words, **settings)
-        return (*run.communicate(timeout=60), run.returncode)
+        return ended(self.start("ocactl", "send", "--device", device, "--first-handle", handle, *ASKS, *words, **settings))
 
 
 class Waits:
@@ -169,7 +127,7 @@ def report(run):
     return {name: int(value) for name, value in zip(words[::2], words[1::2])}
 
 
-def ended(run, port):
+def flooded(run, port):
     """What a run of `serve` printed that is ended by datagrams of no bytes, each of which is a turn: its report, and what it said of faults."""
     def flood():
         with bound() as peer:
@@ -187,8 +145,7 @@ def quiet_turns(checks):
     """A turn without a datagram waits 50 ms, with signals too; each failing receive waits as long and is counted."""
     turns = 20
     for failing, settings in ((0, {}), (0, {"SIGNALS": 30}), (0, {"SIGNALS": 1000}), (0, {"INTERRUPT": 5}),
-                              (7, {"FAIL_RECEIVE": 7, "ERRNO": errno.ENETDOWN}),
-                              (20, {"FAIL_RECEIVE": 99, "ERRNO": errno.ENOBUFS, "SIGNALS": 1000})):
+                              (7, {"FAIL_RECEIVE": 7, "ERRNO": errno.ENETDOWN}), (20, {"FAIL_RECEIVE": 99, "ERRNO": errno.ENOBUFS, "SIGNALS": 1000})):
         took, short = [], False
         for _ in range(TRIES):
             begun = time.monotonic()
@@ -222,13 +179,11 @@ def signals(checks):
 
 
 def runs_under_signals(checks):
-    """`ocactl run` whose input stays open, while signals come: each line is answered, nothing else is said, and it ends
-    with its input."""
+    """`ocactl run` whose input stays open, while signals come: each line is answered, nothing else is said, and it ends with its input."""
     run, port = checks.serve(100000)
     reader, writer = os.pipe()
     os.write(writer, b"4097 4 1 0 -\n")
-    asks = checks.start("ocactl", "run", "--device", f"127.0.0.1:{port}", "--first-handle", 1, "--port", free_port(),
-                        stdin=reader, SIGNALS=1000)
+    asks = checks.start("ocactl", "run", "--device", f"127.0.0.1:{port}", "--first-handle", 1, "--port", free_port(), stdin=reader, SIGNALS=1000)
     os.close(reader)
     for count in (1, 2, 3):
         is_there = bool(select.select([asks.stdout], [], [], 10)[0])
@@ -237,7 +192,7 @@ def runs_under_signals(checks):
         with contextlib.suppress(BrokenPipeError):
             os.write(writer, b"4097 4 1 0 -\n" if count < 3 else b"")
     os.close(writer)
-    checks.same("`run` under signals: its end", (*asks.communicate(timeout=60), asks.returncode), ("", "", 0))
+    checks.same("`run` under signals: its end", ended(asks), ("", "", 0))
     run.kill()
 
 
@@ -248,7 +203,7 @@ def refused_sends(checks):
         run, port = checks.serve(TURNS_OF_A_COPY, *words, FAIL_SEND=count, ERRNO=number)
         with bound() as peer:
             checks.same(f"error {number}: the answer to a copy", answer(peer, 5, ("127.0.0.1", port))[0], response(5))
-        out, told = ended(run, port)
+        out, told = flooded(run, port)
         counts, lines = dict(zip(out.split()[::2], map(int, out.split()[1::2]))), told.splitlines()
         counted = [counts.get("executed"), counts.get("kept", 0) >= count, counts.get("failed-sends")]
         checks.same(f"error {number} {words}: executed, kept, failed sends", counted, [1, True, count])
@@ -264,22 +219,12 @@ def refused_sends(checks):
 SENT = ("--target", 1, "--level", 1, "--index", 1, "--count", 0)
 
 
-def ended_so(run):
-    """What a run printed, what it said of faults, and its status; that it did not end, where it does not in a minute."""
-    try:
-        return (*run.communicate(timeout=60), run.returncode)
-    except subprocess.TimeoutExpired:
-        run.kill()
-        return ("it did not end", *run.communicate(timeout=60))
-
-
 def refused_sockets(checks):
-    """A socket that the system refuses: a note has the system's reason, with the port where the program chose one or
-    was given one for objects."""
+    """A socket that the system refuses: a note has the system's reason, with the port where the program chose one or was given one for objects."""
     in_use = "Address already in use (os error 98)"
     nowhere = "Cannot assign requested address (os error 99)"
     with bound() as taken, bound() as device:
-        port, to = taken.getsockname()[1], ("--device", f"127.0.0.1:{device.getsockname()[1]}")
+        port, to = taken.getsockname()[1], ("--device", at(device))
         # 192.0.2.1 is an address of no machine
         for words, why in ((("ocadev", "serve", "--port", port), in_use),
                            (("ocadev", "serve", "--ip", "192.0.2.1", "--port", 0), nowhere),
@@ -288,8 +233,7 @@ def refused_sockets(checks):
                            (("ocactl", "run", *to, "--port", port), f"port {port}: {in_use}"),
                            (("ocactl", "get", *to, "--port", port, 4097), f"port {port}: {in_use}"),
                            (("ocactl", "lock", *to, "--port", port, 4097), f"port {port}: {in_use}")):
-            checks.same(f"a refused socket of {words}", ended_so(checks.start(*words)),
-                        ("", f"note: {why}\nsocket failed\n", 1))
+            checks.same(f"a refused socket of {words}", ended(checks.start(*words)), ("", f"note: {why}\nsocket failed\n", 1))
 
 
 def with_a_buffer(checks, granted, *words):
@@ -310,7 +254,7 @@ def send_buffers(checks):
         wanted = ([note] * is_said, 0, "4000000\n")
         checks.same(f"{granted} bytes are granted: notes, status, what is asked", got, wanted)
     with bound() as device:
-        to = ("--device", f"127.0.0.1:{device.getsockname()[1]}")
+        to = ("--device", at(device))
         got = with_a_buffer(checks, 1, "ocactl", "send", *to, *SENT, "--turns", 0)
         checks.same("`send`: notes, status, what is asked", got, ([], 3, "4000000\n"))
 
@@ -328,12 +272,11 @@ def arrivals(device):
 
 
 def asks_the_host(checks):
-    """A run of `ocactl get` at 127.0.0.2 that no device answers: what the host is asked last, from which address, and
-    whether from a port of its own; for how many milliseconds that is awaited; and how long a wait of 50 ms is
-    meanwhile."""
+    """A run of `ocactl get` at 127.0.0.2 that no device answers: what the host is asked last, from which address, and whether from a port of its own;
+    for how many milliseconds that is awaited; and how long a wait of 50 ms is meanwhile."""
     with bound() as device:
         device.setsockopt(socket.SOL_SOCKET, SO_TIMESTAMPNS, 1)
-        own, to = free_port(), f"127.0.0.1:{device.getsockname()[1]}"
+        own, to = free_port(), at(device)
         run = checks.start("ocactl", "get", "--ip", "127.0.0.2", "--port", own, "--device", to, "--turns", 1, 4097)
         with Waits() as waits:
             run.communicate(timeout=60)
@@ -343,9 +286,8 @@ def asks_the_host(checks):
 
 
 def is_a_program_there(checks):
-    """Where a device is not heard, its host is asked whether a program has its port: by an empty datagram, from the
-    address that the words give and a port of its own, for 200 ms: as long as four waits that this script makes
-    meanwhile."""
+    """Where a device is not heard, its host is asked whether a program has its port: by an empty datagram, from the address that the words give and a
+    port of its own, for 200 ms: as long as four waits that this script makes meanwhile."""
     asked, took = set(), []
     for _ in range(TRIES):
         what, ms, wait = asks_the_host(checks)
@@ -368,13 +310,12 @@ def sends_lines(checks, device, count):
     """A run of `ocactl run` whose input stays open, and which is given so many lines, each 60 ms behind the answer to
     the one before: a program that looks for input each 50 ms has not looked for 10 ms then. How long each line took to
     be sent, in milliseconds, up to the first that was not sent and answered."""
-    words = ("--device", f"127.0.0.1:{device.getsockname()[1]}", "--first-handle", 1, "--port", free_port())
+    words = ("--device", at(device), "--first-handle", 1, "--port", free_port())
     run = checks.start("ocactl", "run", *words, stdin=subprocess.PIPE)
     took, given = [], []
     for handle in range(1, count + 1):
         begun = time.monotonic()
-        run.stdin.write("4097 4 1 0 -\n")
-        run.stdin.flush()
+        write(run, "4097 4 1 0 -\n", ends=False)
         data, sender = next_command(device)
         took.append((time.monotonic() - begun) * 1000)
         if sender:
@@ -384,13 +325,12 @@ def sends_lines(checks, device, count):
             break
         time.sleep(1.2 * WAIT_MS / 1000)
     checks.same("`run`: its lines", given, [(get_command(handle), "answer 0 1 01\n") for handle in range(1, count + 1)])
-    checks.same("`run`: its end", ended_so(run), ("", "", 0))
+    checks.same("`run`: its end", ended(run), ("", "", 0))
     return took
 
 
 def lines_at_once(checks):
-    """A line of `ocactl run` is sent at once where nothing is under way: the fourth of seven sooner than half a wait of
-    50 ms ends."""
+    """A line of `ocactl run` is sent at once where nothing is under way: the fourth of seven sooner than half a wait of 50 ms ends."""
     fourth = []
     for _ in range(TRIES):
         with bound() as device, Waits() as waits:
@@ -400,8 +340,7 @@ def lines_at_once(checks):
         fourth.append(sorted(took[1:])[3] / waits.one)  # the first line waits for the program to begin
         if fourth[-1] < 0.5:
             break
-    checks.expect("`run`: a line is sent sooner than half a wait of 50 ms ends", fourth[-1] < 0.5,
-                  f"{fourth} of such a wait", is_time=True)
+    checks.expect("`run`: a line is sent sooner than half a wait of 50 ms ends", fourth[-1] < 0.5, f"{fourth} of such a wait", is_time=True)
 
 
 def copies_behind_a_pause(checks):
@@ -409,13 +348,12 @@ def copies_behind_a_pause(checks):
     50 ms behind its command: how often that command came."""
     with bound() as device:
         device.setsockopt(socket.SOL_SOCKET, SO_TIMESTAMPNS, 1)
-        to = ("--device", f"127.0.0.1:{device.getsockname()[1]}")
+        to = ("--device", at(device))
         run = checks.start("ocactl", "run", *to, "--first-handle", 1, "--port", free_port(), stdin=subprocess.PIPE)
         printed, heard = [], []
         for handle, pause in ((1, 0), (2, 1)):
             time.sleep(pause)
-            run.stdin.write("4097 4 1 0 -\n")
-            run.stdin.flush()
+            write(run, "4097 4 1 0 -\n", ends=False)
             data, sender = next_command(device)
             time.sleep(WAIT_MS / 1000)
             heard = [data, *(more for more, _, _ in arrivals(device))]
@@ -424,7 +362,7 @@ def copies_behind_a_pause(checks):
                 device.sendto(response(handle), sender)
             printed.append(sender and line_of(run))
         checks.same("`run` with a pause: its lines", printed, ["answer 0 1 01\n"] * 2)
-        checks.same("`run` with a pause: its end", ended_so(run), ("", "", 0))
+        checks.same("`run` with a pause: its end", ended(run), ("", "", 0))
     return heard.count(get_command(2))
 
 
@@ -467,30 +405,20 @@ def closed_descriptors(checks):
             while run.poll() is None:
                 stranger.sendto(b"4097 4 1 0 -\n", ("127.0.0.1", port))
                 time.sleep(0.01)
-        checks.same("`run` without an input", (*run.communicate(timeout=60), run.returncode), ("", "", 0))
-        device.settimeout(0.1)
-        try:
-            checks.same("a stranger's line is sent", device.recv(2000), None)
-        except TimeoutError:
-            checks.passed += 1
-    run = checks.start("ocadev", "serve", "--port", 0, "--turns", 2, close=(1,))
-    err, status = run.communicate(timeout=60)[1], run.returncode
-    checks.same("`serve` without an output", (err.splitlines()[-1:], status), (["write failed"], 1))
-    run = checks.start("ocadev", "serve", "--port", 0, "--turns", 2, close=(2,))
-    out, status = run.communicate(timeout=60)[0], run.returncode
-    checks.same("`serve` without a place for faults", (out[:8], status), ("turns 2 ", 0))
-    run = checks.start("ocadev", "serve", "--port", 0, "--turns", 2, close=(0, 1, 2))
-    run.communicate(timeout=60)
-    checks.same("`serve` without any of the three", run.returncode, 1)
+        checks.same("`run` without an input", ended(run), ("", "", 0))
+        time.sleep(0.1)
+        checks.same("a stranger's line is not sent", heard(device), [])
+    for closed, last, begins, status in (((1,), ["write failed"], "", 1), ((2,), [], "turns 2 ", 0), ((0, 1, 2), [], "", 1)):
+        out, told, code = ended(checks.start("ocadev", "serve", "--port", 0, "--turns", 2, close=closed))
+        checks.same(f"`serve` with {closed} closed", (told.splitlines()[-1:], out[:8], code), (last, begins, status))
 
 
 def broken_pipes(checks):
-    """A pipe that nobody reads does not end a program: an output that can't be written is a fault, and a place for
-    faults that can't be is none."""
+    """A pipe that nobody reads does not end a program: an output that can't be written is a fault, and a place for faults that can't be is none."""
     reader, writer = os.pipe()
     os.close(reader)
     with bound() as silent:
-        to = ("--device", f"127.0.0.1:{silent.getsockname()[1]}")
+        to = ("--device", at(silent))
         send, serve = ("ocactl", "send", *to, *SENT, "--turns", 0), ("ocadev", "serve", "--port", 0, "--turns", 2)
         for words in (("ocadev", "show"), serve, send):
             run = checks.start(*words, stdout=writer)
@@ -504,8 +432,7 @@ def broken_pipes(checks):
 
 
 def nulls_of(run):
-    """The descriptors of a run at which the null device stands, once it has a socket; nothing where it has none in ten
-    seconds."""
+    """The descriptors of a run at which the null device stands, once it has a socket; nothing where it has none in ten seconds."""
     place, until = f"/proc/{run.pid}/fd", time.monotonic() + 10
     while run.poll() is None and time.monotonic() < until:
         try:
@@ -528,8 +455,7 @@ def null_at_closed(checks):
                       ("ocapanel", "--device", f"127.0.0.1:{to}", "--listen", "127.0.0.1:0"), ("amplifier", 0, 1000), ("panel", to)):
             for closed in (of for count in (0, 1, 2, 3) for of in itertools.combinations((0, 1, 2), count)):
                 run = checks.start(*words, close=closed)
-                checks.same(f"{words[0]}: {closed} closed: where the null device stands", nulls_of(run),
-                            sorted({0, *closed}))
+                checks.same(f"{words[0]}: {closed} closed: where the null device stands", nulls_of(run), sorted({0, *closed}))
                 run.kill()
                 run.communicate(timeout=60)
 
@@ -537,19 +463,19 @@ def null_at_closed(checks):
 def asleep(checks):
     """A machine that sleeps: its sleep counts. A lock whose holder was silent meanwhile is released, and a command is not given out again
     more than 15 seconds after its submit; with no sleep, or one that is too short, neither is so."""
-    lock = oca.pdu(1, [oca.Command(1, 4097, 1, 3, 0, b"").body()])
+    lock = oca.command(1, 4097, 1, 3)
     for seconds, status in ((20, 0), (10, 3), (0, 3)):
         run, port = checks.serve(100000, SLEPT=seconds)
         with bound() as holder, bound() as other:
             holder.sendto(lock, ("127.0.0.1", port))
-            checks.same(f"a sleep of {seconds} seconds: the lock", holder.recv(2000), oca.pdu(3, [oca.response_body(1, 0, 0, b"")]))
+            checks.same(f"a sleep of {seconds} seconds: the lock", holder.recv(2000), oca.response(1))
             got = answer(other, 1, ("127.0.0.1", port))[0]
             checks.same(f"a sleep of {seconds} seconds: what another peer gets", got and got[18], status)
         run.kill()
     run, port = checks.serve(100000, UNBOOTED=1000)
     with bound() as holder, bound() as other:
         holder.sendto(lock, ("127.0.0.1", port))
-        checks.same("no clock that counts sleep: the lock", holder.recv(2000), oca.pdu(3, [oca.response_body(1, 0, 0, b"")]))
+        checks.same("no clock that counts sleep: the lock", holder.recv(2000), oca.response(1))
         got = answer(other, 1, ("127.0.0.1", port))[0]
         checks.same("no clock that counts sleep, and the date is set: another peer", got and got[18], 3)
         beat = oca.pdu(4, [(1).to_bytes(2, "big")])
@@ -561,14 +487,9 @@ def asleep(checks):
     run.kill()
     for seconds, copies in ((16, 1), (5, 20)):
         with bound() as silent:
-            got = checks.send(f"127.0.0.1:{silent.getsockname()[1]}", 1, SLEPT=seconds)
+            got = checks.send(at(silent), 1, SLEPT=seconds)
             checks.same(f"a sleep of {seconds} seconds: `send`", (got[0], got[2]), ("lost\n", 3))
-            silent.setblocking(False)
-            heard = []
-            with contextlib.suppress(BlockingIOError):
-                while True:
-                    heard.append(silent.recv(2000))
-            checks.same(f"a sleep of {seconds} seconds: how often it was sent", heard, [get_command(1)] * copies)
+            checks.same(f"a sleep of {seconds} seconds: how often it was sent", heard(silent), [get_command(1)] * copies)
 
 
 def kept_safely(checks):
@@ -581,9 +502,8 @@ def kept_safely(checks):
             run, port = checks.serve(100000, "--keep", state, cwd=place, CALLS=f"{place}/calls")
             wanted = []
             for handle, value in ((1, b"\2"), (2, b"\1")):
-                peer.sendto(oca.pdu(1, [oca.Command(handle, 4097, 4, 2, 1, value).body()]), ("127.0.0.1", port))
-                checks.same(f"--keep {state}: the answer to {handle}", peer.recv(2000),
-                            oca.pdu(3, [oca.response_body(handle, 0, 0, b"")]))
+                peer.sendto(oca.command(handle, 4097, 4, 2, 1, value), ("127.0.0.1", port))
+                checks.same(f"--keep {state}: the answer to {handle}", peer.recv(2000), oca.response(handle))
                 wanted += [f"fsync {place}/state.new", f"rename {state}.new {state}", f"fsync {place}"]
                 until = time.monotonic() + 30
                 while time.monotonic() < until and (said := calls_in(place)) != wanted:
@@ -598,17 +518,11 @@ def a_failed_receive(checks):
     """Behind a receive that failed the next one comes soon: an answer that is there is taken, and its command not sent again."""
     for _ in range(3):
         with bound() as device:
-            run = checks.start("ocactl", "send", "--device", f"127.0.0.1:{device.getsockname()[1]}", "--first-handle", 1, "--target", 4097, "--level", 4,
-                               "--index", 1, "--count", 0, FAIL_RECEIVE=1, ERRNO=errno.ENETDOWN)
+            run = checks.start("ocactl", "send", "--device", at(device), "--first-handle", 1, *ASKS, FAIL_RECEIVE=1, ERRNO=errno.ENETDOWN)
             data, sender = device.recvfrom(2000)
             device.sendto(response(1), sender)
-            out = run.communicate(timeout=60)
-            checks.same("a receive that failed: the answer", (*out, run.returncode), ("answer 0 1 01\n", "", 0))
-            device.setblocking(False)
-            copies = []
-            with contextlib.suppress(BlockingIOError):
-                while True:
-                    copies.append(device.recv(2000))
+            checks.same("a receive that failed: the answer", ended(run), ("answer 0 1 01\n", "", 0))
+            copies = heard(device)
         if not copies:
             break
     checks.expect("a receive that failed: the command is not sent again", not copies, copies, is_time=True)
@@ -651,30 +565,16 @@ def other_addresses(checks):
     run.kill()
 
 
-def layers(place):
-    """The layers, built in this folder, as LD_PRELOAD names them."""
-    for name in LAYERS:
-        subprocess.run(["gcc", "-O1", "-Wall", "-shared", "-fPIC", "-o", f"{place}/{name}.so", str(HERE / f"{name}.c"),
-                        "-ldl"], check=True)
-    return ":".join(f"{place}/{name}.so" for name in LAYERS)
+PARTS = (closed_descriptors, broken_pipes, null_at_closed, quiet_turns, signals, runs_under_signals, refused_sends, refused_sockets, send_buffers,
+         is_a_program_there, lines_at_once, a_line_behind_a_pause, a_stalled_neighbour, asleep, a_failed_receive, reports_behind_a_sleep, kept_safely,
+         calls_in_a_row, other_addresses)
 
 
 def main():
     with tempfile.TemporaryDirectory() as made:
-        checks = Checks(os.path.abspath(sys.argv[1]), layers(made))
-        try:
-            for part in (closed_descriptors, broken_pipes, null_at_closed, quiet_turns, signals, runs_under_signals,
-                         refused_sends, refused_sockets, send_buffers, is_a_program_there, lines_at_once,
-                         a_line_behind_a_pause, a_stalled_neighbour, asleep, a_failed_receive, reports_behind_a_sleep, kept_safely,
-                         calls_in_a_row, other_addresses):
-                checks.part(part)
-        finally:
-            for run in checks.runs:
-                if run.poll() is None:
-                    run.kill()
-    print(f"network: parts that were repeated since times were too long: {', '.join(checks.repeated) or 'none'}")
-    print(f"{checks.passed} passed, {checks.failed} failed")
-    return 1 if checks.failed else 0
+        counts = Checks(sys.argv[1], layered(made, "unreliable"))
+        counts.parts(*PARTS)
+        return counts.verdict()
 
 
 if __name__ == "__main__":

@@ -1,15 +1,12 @@
-"""The law of a device by what happened to it, transcribed from crates/oca_device/specs (LawByEvents.antt, Groups.antt)
-and
-crates/oca_pdu/specs (Messages.antt, Encoding.antt, FirstFault.antt): each definition a function of the same name, by
-what happened alone
-and nothing that a device stores. In a `Late` the latest stands first, and what stands behind it is `before`. What
-executing one command
-gives, and what a change at the front does, is the second implementation's (oca_profile.py). tools/law.py holds
-transcripts against it."""
+"""The law of a device by what happened to it, transcribed from crates/oca_device/specs (LawByEvents.antt, Groups.antt) and crates/oca_pdu/specs
+(Messages.antt, Encoding.antt, FirstFault.antt): each definition a function of the same name, by what happened alone and nothing that a device stores.
+In a `Late` the latest stands first, and what stands behind it is `before`. What executing one command gives, and what a change at the front does, is
+the second implementation's (oca_profile.py). tools/law.py holds transcripts against it."""
 import functools
 from typing import NamedTuple
 
 import oca_profile as oca
+from comparing import Break
 
 # ---- messages and PDUs (Messages.antt), their encodings (Encoding.antt)
 
@@ -73,14 +70,12 @@ def unsigned_encoding(width, n):
 
 
 def command_encoding(c):
-    return (unsigned_encoding(32, COMMAND_HEAD + len(c.params)) + unsigned_encoding(32, c.handle)
-            + unsigned_encoding(32, c.target)
+    return (unsigned_encoding(32, COMMAND_HEAD + len(c.params)) + unsigned_encoding(32, c.handle) + unsigned_encoding(32, c.target)
             + unsigned_encoding(16, c.level) + unsigned_encoding(16, c.index) + bytes([c.count]) + c.params)
 
 
 def response_encoding(r):
-    return unsigned_encoding(32, RESPONSE_HEAD + len(r.params)) + unsigned_encoding(32,
-        r.handle) + bytes([r.status, r.count]) + r.params
+    return unsigned_encoding(32, RESPONSE_HEAD + len(r.params)) + unsigned_encoding(32, r.handle) + bytes([r.status, r.count]) + r.params
 
 
 def keep_alive_encoding(form):
@@ -88,8 +83,7 @@ def keep_alive_encoding(form):
 
 
 def pdu_frame(kind, count, body):
-    return bytes([SYNC_VALUE]) + unsigned_encoding(16, 1) + unsigned_encoding(32,
-        9 + len(body)) + bytes([kind]) + unsigned_encoding(16, count) + body
+    return bytes([SYNC_VALUE]) + unsigned_encoding(16, 1) + unsigned_encoding(32, 9 + len(body)) + bytes([kind]) + unsigned_encoding(16, count) + body
 
 
 def pdu_encoding(p):
@@ -122,8 +116,7 @@ def unsigned(data):
 
 
 def command_in(body):
-    return CommandFields(unsigned(body[4:8]), unsigned(body[8:12]), unsigned(body[12:14]), unsigned(body[14:16]),
-                         body[16], body[17:])
+    return CommandFields(unsigned(body[4:8]), unsigned(body[8:12]), unsigned(body[12:14]), unsigned(body[14:16]), body[16], body[17:])
 
 
 def response_in(body):
@@ -131,8 +124,7 @@ def response_in(body):
 
 
 def holds_up_to(front, rest):
-    """HoldsUpTo: what the bytes begin with, as long as it holds, and the rest; `front` gives what rest begins with and
-    its encoding, or None."""
+    """HoldsUpTo: what the bytes begin with, as long as it holds, and the rest; `front` gives what rest begins with and its encoding, or None."""
     before, found = [], front(rest)
     while found:
         before.append(found[0])
@@ -142,8 +134,7 @@ def holds_up_to(front, rest):
 
 
 def message_front(kind):
-    least, read, encoding = (RESPONSE_HEAD, response_in, response_encoding) if kind == 3 else (COMMAND_HEAD,
-        command_in, command_encoding)
+    least, read, encoding = (RESPONSE_HEAD, response_in, response_encoding) if kind == 3 else (COMMAND_HEAD, command_in, command_encoding)
 
     def front(rest):
         size = unsigned(rest[:4])
@@ -202,28 +193,20 @@ def messages_fail(kind, count, p, body):
     before = before[:count]
     at = sum(len(encoding(m)) for m in before)
     rest, here = body[at:], p + 10 + at
-    return [
-        (not rest and len(before) < count, COUNT, p + 8),
-        (len(before) < count and 0 < len(rest) < 4, MESSAGE_SIZE, here),
-        (len(before) < count and len(rest) >= 4 and (unsigned(rest[:4]) < least or len(rest) < unsigned(rest[:4])),
-         MESSAGE_SIZE, here),
-        (len(before) == count and len(rest) > 0, COUNT, p + 8),
-    ]
+    return [(not rest and len(before) < count, COUNT, p + 8), (len(before) < count and 0 < len(rest) < 4, MESSAGE_SIZE, here),
+        (len(before) < count and len(rest) >= 4 and (unsigned(rest[:4]) < least or len(rest) < unsigned(rest[:4])), MESSAGE_SIZE, here),
+        (len(before) == count and len(rest) > 0, COUNT, p + 8)]
 
 
 def pdu_fails(p, rest):
     """PduFails."""
     version, size, frame = rest[1:3], rest[3:7], frame_of(rest)
     is_version = len(version) == 2 and version == b"\0\1"
-    rules = [
-        (rest[0] != SYNC_VALUE, SYNC, p),
-        (rest[0] == SYNC_VALUE and len(version) < 2, TRUNCATED, p + 1),
+    rules = [(rest[0] != SYNC_VALUE, SYNC, p), (rest[0] == SYNC_VALUE and len(version) < 2, TRUNCATED, p + 1),
         (rest[0] == SYNC_VALUE and len(version) == 2 and not is_version, VERSION, p + 1),
         (rest[0] == SYNC_VALUE and is_version and len(size) < 4, TRUNCATED, p + 3),
         (rest[0] == SYNC_VALUE and is_version and len(size) == 4 and unsigned(size) < 11, PDU_SIZE, p + 3),
-        (rest[0] == SYNC_VALUE and is_version and len(size) == 4 and unsigned(size) >= 11 and len(rest) < 1
-         + unsigned(size), TRUNCATED, p + 3),
-    ]
+        (rest[0] == SYNC_VALUE and is_version and len(size) == 4 and unsigned(size) >= 11 and len(rest) < 1 + unsigned(size), TRUNCATED, p + 3)]
     if frame:
         kind, count, body, _ = frame
         rules += [
@@ -251,14 +234,11 @@ def is_first_fault(data, fault):
 
 
 def is_group(p):
-    return isinstance(p,
-        OneKeepAlive) or (isinstance(p, Responses) and 0 < len(p.responses)
-                          and len(pdu_encoding(p)) <= LARGEST_DATAGRAM)
+    return isinstance(p, OneKeepAlive) or (isinstance(p, Responses) and 0 < len(p.responses) and len(pdu_encoding(p)) <= LARGEST_DATAGRAM)
 
 
 def has_no_room(rs, p):
-    return not isinstance(p,
-        Responses) or not p.responses or LARGEST_DATAGRAM < len(pdu_encoding(Responses(rs + p.responses[:1])))
+    return not isinstance(p, Responses) or not p.responses or LARGEST_DATAGRAM < len(pdu_encoding(Responses(rs + p.responses[:1])))
 
 
 def is_full_before(p, following):
@@ -614,8 +594,7 @@ class Law:
         if H is None or not isinstance(H.latest, Says):
             return []
         (p, messages), before = H.latest, H.before
-        return replies(self.w, lambda h: self.reply(p, h, H),
-                       self.accepted_by(self.clock(before), p, self.admitted(before)),
+        return replies(self.w, lambda h: self.reply(p, h, H), self.accepted_by(self.clock(before), p, self.admitted(before)),
                        self.served_of(p, messages, before))
 
     def is_verdict(self, data, verdict, H):
@@ -624,8 +603,7 @@ class Law:
         (p, messages), before = H.latest, H.before
         if not self.has_room(self.clock(before), p, self.admitted(before)):
             return verdict == ("no-room",)
-        return verdict == ("served",
-            *all_counted(self.w, self.accepted_by(self.clock(before), p, self.admitted(before)), messages))
+        return verdict == ("served", *all_counted(self.w, self.accepted_by(self.clock(before), p, self.admitted(before)), messages))
 
 
 # ---- a transcript held against the law
@@ -639,12 +617,6 @@ class Told(NamedTuple):
     written: tuple
     sessions: int
     objects: tuple
-
-
-class Break(Exception):
-    def __init__(self, sentence, number, what):
-        super().__init__(sentence, number, what)
-        self.sentence, self.number, self.what = sentence, number, what
 
 
 def shown_objects(objects):
@@ -671,11 +643,9 @@ class Walk:
         if isinstance(event, Datagram):
             self.expect(law.is_verdict(event.data, told.verdict, self.H), "verdict_is", f"the verdict {told.verdict}")
             answers, groups = law.answers(self.H), [pdus_of(packet) for packet in told.packets]
-            self.expect(all(g is not None and len(g) == 1 for g in groups), "packets_are",
-                        "a packet that is not one PDU")
+            self.expect(all(g is not None and len(g) == 1 for g in groups), "packets_are", "a packet that is not one PDU")
             groups = [g[0] for g in groups]
-            self.expect([m for g in groups for m in messages_of(g)] == answers, "answers_are",
-                        f"the answers to be are {answers}")
+            self.expect([m for g in groups for m in messages_of(g)] == answers, "answers_are", f"the answers to be are {answers}")
             self.expect(are_groups(answers, groups), "packets_are", "the grouping")
             written = law.written(self.H)
             self.expect(told.written in (None, written), "written_are", f"{told.written}, where {written} were written")

@@ -1,8 +1,6 @@
-"""A second, plain implementation of the profile in docs/PROTOCOL.md: a device, a controller, both over a network, and
-the texts of
-`ocadev replay`, `ocactl replay` and `trials world`. It is written from the rules of the profile and not from the
-programs' code, to compare them with it.
-It favours plain lists over speed. Python 3, standard library only."""
+"""A second, plain implementation of the profile in docs/PROTOCOL.md: a device, a controller, both over a network, and the texts of `ocadev replay`,
+`ocactl replay` and `trials world`. It is written from the rules of the profile and not from the programs' code, to compare them with it. It favours
+plain lists over speed. Python 3, standard library only."""
 
 import copy
 import re
@@ -73,8 +71,7 @@ def check(data):
                 if kind == 3:
                     messages.append(("response", number(body[4:8]), body[8], body[9], body[10:]))
                 else:
-                    command = Command(number(body[4:8]), number(body[8:12]), number(body[12:14]),
-                                      number(body[14:16]), body[16], body[17:])
+                    command = Command(number(body[4:8]), number(body[8:12]), number(body[12:14]), number(body[14:16]), body[16], body[17:])
                     messages.append(("command", kind == 1, command))
                 m += length
             if m < e:
@@ -93,7 +90,7 @@ def response_body(handle, status, count, params):
 
 
 class Command:
-    def __init__(self, handle, target, level, index, count, params):
+    def __init__(self, handle, target, level, index, count=0, params=b""):
         self.handle, self.target, self.level, self.index = handle, target, level, index
         self.count, self.params = count, bytes(params)
 
@@ -102,8 +99,17 @@ class Command:
 
     def body(self):
         return ((17 + len(self.params)).to_bytes(4, "big") + self.handle.to_bytes(4, "big")
-                + self.target.to_bytes(4, "big") + self.level.to_bytes(2, "big") + self.index.to_bytes(2, "big")
-                + bytes([self.count]) + self.params)
+                + self.target.to_bytes(4, "big") + self.level.to_bytes(2, "big") + self.index.to_bytes(2, "big") + bytes([self.count]) + self.params)
+
+
+def command(*fields):
+    """A datagram of one command that asks for a response."""
+    return pdu(1, [Command(*fields).body()])
+
+
+def response(handle, status=0, count=0, params=b""):
+    """A datagram of one response."""
+    return pdu(3, [response_body(handle, status, count, params)])
 
 
 # ---- objects
@@ -137,28 +143,17 @@ class Object:
 
 def bench(channels=0):
     """The bench device's objects, and behind them so many channel strips."""
-    own = [
-        Object(100, "block", 0, "root"),
-        Object(4096, "block", 100, "desk"),
-        Object(4097, "mute", 4096, "mute", state=1),
-        Object(4098, "polarity", 4096, "polarity", state=1),
-        Object(4099, "switch", 4096, "input", state=0, names=["Line", "Mic", "Off"]),
-        Object(4100, "int16", 4096, "trim", state=0, low=-600, high=600),
-        Object(4101, "boolean", 4096, "lamp", state=False),
-        Object(4102, "uint8", 4096, "dim", lockable=False, state=10, low=0, high=100),
-    ]
+    own = [Object(100, "block", 0, "root"), Object(4096, "block", 100, "desk"), Object(4097, "mute", 4096, "mute", state=1),
+        Object(4098, "polarity", 4096, "polarity", state=1), Object(4099, "switch", 4096, "input", state=0, names=["Line", "Mic", "Off"]),
+        Object(4100, "int16", 4096, "trim", state=0, low=-600, high=600), Object(4101, "boolean", 4096, "lamp", state=False),
+        Object(4102, "uint8", 4096, "dim", lockable=False, state=10, low=0, high=100)]
     for first in range(4103, 4103 + 4 * channels, 4):
-        own += [
-            Object(first, "block", 100, "strip"),
-            Object(first + 1, "mute", first, "mute", state=1),
-            Object(first + 2, "polarity", first, "polarity", state=1),
-            Object(first + 3, "int16", first, "trim", state=0, low=-600, high=600),
-        ]
+        own += [Object(first, "block", 100, "strip"), Object(first + 1, "mute", first, "mute", state=1),
+            Object(first + 2, "polarity", first, "polarity", state=1), Object(first + 3, "int16", first, "trim", state=0, low=-600, high=600)]
     return own
 
 
-WORDS = {"mute": {"muted": 1, "unmuted": 2}, "polarity": {"non-inverted": 1, "inverted": 2},
-         "boolean": {"on": True, "off": False}}
+WORDS = {"mute": {"muted": 1, "unmuted": 2}, "polarity": {"non-inverted": 1, "inverted": 2}, "boolean": {"on": True, "off": False}}
 
 
 class ObjectFault(Exception):
@@ -267,8 +262,7 @@ def refuse(tree, new):
     while at is not None and at.ono != 100:
         deep, at = deep + 1, next(o for o in tree if o.ono == at.container)
     texts = [new.role] + (new.names or [])
-    for fault, holds in (
-            ("full", len(tree) >= 4096), ("reserved", new.ono < 4096), ("taken", any(o.ono == new.ono for o in tree)),
+    for fault, holds in (("full", len(tree) >= 4096), ("reserved", new.ono < 4096), ("taken", any(o.ono == new.ono for o in tree)),
             ("container", block is None), ("depth", deep >= 8), ("text", not new.role or any(len(t.encode()) > 64 for t in texts)),
             ("range", new.low is not None and not new.low <= new.state <= new.high)):
         if holds:
@@ -315,6 +309,11 @@ class Reader:
                 return text
         raise Bad
 
+    def listed(self, obj, read):
+        if self.unsigned(2) != len(obj.names):
+            raise Bad
+        return [read() for _ in obj.names]
+
     def finish(self):
         if self.data:
             raise Bad
@@ -345,59 +344,85 @@ def descendants(tree, ono):
     return [o for o in tree if o.container in inside]
 
 
+def flag(is_so):
+    return bytes([1 if is_so else 0])
+
+
+def listed_bytes(items):
+    return u16(len(items)) + b"".join(items)
+
+
+def identification(obj, with_container=False):
+    return obj.ono.to_bytes(4, "big") + class_bytes(obj) + (obj.container.to_bytes(4, "big") if with_container else b"")
+
+
+def number_bytes(obj):
+    size, signed = WIDTHS[obj.kind]
+    return [value.to_bytes(size, "big", signed=signed) for value in (obj.state, obj.low, obj.high)]
+
+
+def puts(name):
+    """What sets this of an object, of a list one of its items."""
+    def put(obj, peer, *args):
+        if len(args) == 2:
+            getattr(obj, name)[args[0]] = args[1]
+        else:
+            setattr(obj, name, args[0])
+    return put
+
+
+def locks(value):
+    def lock(obj, peer):
+        obj.lock = value and (value, peer)
+    return lock
+
+
+def nothing(*_):
+    return []
+
+
+# How parameters are read, a letter each: a truth, a text, an integer of one or two bytes, the value of the object's class, and a list of as many
+# truths or texts as a switch has positions.
+READERS = {"b": lambda r, _: r.boolean(), "t": lambda r, _: r.text(), "1": lambda r, _: r.unsigned(1), "2": lambda r, _: r.unsigned(2),
+           "v": lambda r, obj: r.boolean() if obj.kind == "boolean" else (r.signed if WIDTHS[obj.kind][1] else r.unsigned)(WIDTHS[obj.kind][0]),
+           "B": lambda r, obj: r.listed(obj, r.boolean), "T": lambda r, obj: r.listed(obj, r.text)}
+# The methods of all classes and of each, by DefLevel and MethodIndex: what they need of a lock (R: read, W: write, L: lock), how their parameters are
+# read, what they answer, and what they change.
+OF_ALL = {
+    (1, 1): ("R", "", lambda tree, obj: [class_bytes(obj)], nothing), (1, 2): ("R", "", lambda tree, obj: [flag(obj.lockable)], nothing),
+    (1, 3): ("L", "", nothing, locks("total")), (1, 4): ("L", "", nothing, locks(None)), (1, 6): ("L", "", nothing, locks("read-only")),
+    (1, 5): ("R", "", lambda tree, obj: [text_bytes(obj.role)], nothing),
+    (2, 1): ("R", "", lambda tree, obj: [flag(obj.enabled)], nothing), (2, 2): ("W", "b", nothing, puts("enabled")),
+    (2, 8): ("R", "", lambda tree, obj: [text_bytes(obj.label)], nothing), (2, 9): ("W", "t", nothing, puts("label")),
+    (2, 10): ("R", "", lambda tree, obj: [obj.container.to_bytes(4, "big")], nothing)}
+OF_BLOCK = {(3, 5): ("R", "", lambda tree, obj: [listed_bytes([identification(o) for o in members(tree, obj.ono)])], nothing),
+    (3, 6): ("R", "", lambda tree, obj: [listed_bytes([identification(o, True) for o in descendants(tree, obj.ono)])], nothing)}
+OF_STATE = {(4, 1): ("R", "", lambda tree, obj: [bytes([obj.state])], nothing), (4, 2): ("W", "1", nothing, puts("state"))}
+OF_SWITCH = {
+    (4, 1): ("R", "", lambda tree, obj: [u16(obj.state), u16(0), u16(len(obj.names) - 1)], nothing), (4, 2): ("W", "2", nothing, puts("state")),
+    (4, 3): ("R", "2", lambda tree, obj, at: [text_bytes(obj.names[at])], nothing), (4, 4): ("W", "2t", nothing, puts("names")),
+    (4, 5): ("R", "", lambda tree, obj: [listed_bytes([text_bytes(name) for name in obj.names])], nothing), (4, 6): ("W", "T", nothing, puts("names")),
+    (4, 7): ("R", "2", lambda tree, obj, at: [flag(obj.enableds[at])], nothing), (4, 8): ("W", "2b", nothing, puts("enableds")),
+    (4, 9): ("R", "", lambda tree, obj: [listed_bytes([flag(it) for it in obj.enableds])], nothing), (4, 10): ("W", "B", nothing, puts("enableds"))}
+OF_VALUE = {(5, 1): ("R", "", lambda tree, obj: [flag(obj.state)] if obj.kind == "boolean" else number_bytes(obj), nothing),
+            (5, 2): ("W", "v", nothing, puts("state"))}
+METHODS = {kind: OF_ALL | {"block": OF_BLOCK, "mute": OF_STATE, "polarity": OF_STATE, "switch": OF_SWITCH}.get(kind, OF_VALUE) for kind in CLASSES}
+
+
 def method(obj, level, index):
-    """(access, number of parameters, name), "left out", or None."""
-    common = {(1, 1): ("R", 0), (1, 2): ("R", 0), (1, 3): ("L", 0), (1, 4): ("L", 0), (1, 5): ("R", 0),
-              (1, 6): ("L", 0),
-              (2, 1): ("R", 0), (2, 2): ("W", 1), (2, 8): ("R", 0), (2, 9): ("W", 1), (2, 10): ("R", 0)}
-    if (level, index) in common:
-        return common[(level, index)]
-    if level == 2 and index in (3, 4, 5, 6, 7, 11, 12, 13):
-        return "left out"
-    if obj.kind == "block" and level == 3:
-        if index in (5, 6):
-            return ("R", 0)
-        return "left out" if 1 <= index <= 20 else None
-    if obj.kind in ("mute", "polarity") and level == 4:
-        return {1: ("R", 0), 2: ("W", 1)}.get(index)
-    if obj.kind == "switch" and level == 4:
-        return {1: ("R", 0), 2: ("W", 1), 3: ("R", 1), 4: ("W", 2), 5: ("R", 0), 6: ("W", 1), 7: ("R", 1), 8: ("W", 2),
-                9: ("R", 0), 10: ("W", 1)}.get(index)
-    if level == 5 and (obj.kind == "boolean" or obj.kind in WIDTHS):
-        return {1: ("R", 0), 2: ("W", 1)}.get(index)
-    return None
+    """(access, number of parameters), "left out", or None."""
+    if (level, index) in METHODS[obj.kind]:
+        access, letters, *_ = METHODS[obj.kind][level, index]
+        return access, len(letters)
+    is_left_out = level == 2 and 3 <= index <= 13 or obj.kind == "block" and level == 3 and 1 <= index <= 20
+    return "left out" if is_left_out else None
 
 
 def read_parameters(obj, key, params):
     r = Reader(params)
-    level, index = key
-    out = []
-    if key == (2, 2):
-        out = [r.boolean()]
-    elif key == (2, 9):
-        out = [r.text()]
-    elif level == 4 and obj.kind in ("mute", "polarity") and index == 2:
-        out = [r.unsigned(1)]
-    elif level == 4 and obj.kind == "switch":
-        if index in (2, 3, 7):
-            out = [r.unsigned(2)]
-        elif index == 4:
-            out = [r.unsigned(2), r.text()]
-        elif index == 8:
-            out = [r.unsigned(2), r.boolean()]
-        elif index in (6, 10):
-            count = r.unsigned(2)
-            if count != len(obj.names):
-                raise Bad
-            out = [[r.text() if index == 6 else r.boolean() for _ in range(count)]]
-    elif level == 5 and index == 2:
-        if obj.kind == "boolean":
-            out = [r.boolean()]
-        else:
-            size, signed = WIDTHS[obj.kind]
-            out = [r.signed(size) if signed else r.unsigned(size)]
+    args = [READERS[letter](r, obj) for letter in METHODS[obj.kind][key][1]]
     r.finish()
-    return out
+    return args
 
 
 def execute(tree, peer, c):
@@ -447,73 +472,11 @@ def writes(tree, c, reply):
 
 
 def answer(tree, obj, key, args):
-    level, index = key
-    flag = lambda b: bytes([1 if b else 0])
-    if key == (1, 1):
-        return [class_bytes(obj)]
-    if key == (1, 2):
-        return [flag(obj.lockable)]
-    if key == (1, 5):
-        return [text_bytes(obj.role)]
-    if key == (2, 1):
-        return [flag(obj.enabled)]
-    if key == (2, 8):
-        return [text_bytes(obj.label)]
-    if key == (2, 10):
-        return [obj.container.to_bytes(4, "big")]
-    if level == 3 and index == 5:
-        own = members(tree, obj.ono)
-        return [u16(len(own)) + b"".join(o.ono.to_bytes(4, "big") + class_bytes(o) for o in own)]
-    if level == 3 and index == 6:
-        own = descendants(tree, obj.ono)
-        return [u16(len(own))
-                + b"".join(o.ono.to_bytes(4, "big") + class_bytes(o) + o.container.to_bytes(4, "big") for o in own)]
-    if level == 4 and obj.kind in ("mute", "polarity") and index == 1:
-        return [bytes([obj.state])]
-    if level == 4 and obj.kind == "switch":
-        if index == 1:
-            return [u16(obj.state), u16(0), u16(len(obj.names) - 1)]
-        if index == 3:
-            return [text_bytes(obj.names[args[0]])]
-        if index == 5:
-            return [u16(len(obj.names)) + b"".join(text_bytes(t) for t in obj.names)]
-        if index == 7:
-            return [flag(obj.enableds[args[0]])]
-        if index == 9:
-            return [u16(len(obj.names)) + b"".join(flag(b) for b in obj.enableds)]
-    if level == 5 and index == 1:
-        if obj.kind == "boolean":
-            return [flag(obj.state)]
-        size, signed = WIDTHS[obj.kind]
-        return [v.to_bytes(size, "big", signed=signed) for v in (obj.state, obj.low, obj.high)]
-    return []
+    return METHODS[obj.kind][key][2](tree, obj, *args)
 
 
 def change(obj, peer, key, args):
-    level, index = key
-    if key == (1, 3):
-        obj.lock = ("total", peer)
-    elif key == (1, 6):
-        obj.lock = ("read-only", peer)
-    elif key == (1, 4):
-        obj.lock = None
-    elif key == (2, 2):
-        obj.enabled = args[0]
-    elif key == (2, 9):
-        obj.label = args[0]
-    elif level == 4 and obj.kind == "switch":
-        if index == 2:
-            obj.state = args[0]
-        elif index == 4:
-            obj.names[args[0]] = args[1]
-        elif index == 6:
-            obj.names = list(args[0])
-        elif index == 8:
-            obj.enableds[args[0]] = args[1]
-        elif index == 10:
-            obj.enableds = list(args[0])
-    elif level in (4, 5) and index == 2:
-        obj.state = args[0]
+    METHODS[obj.kind][key][3](obj, peer, *args)
 
 
 # ---- changes at the front
@@ -522,8 +485,7 @@ NO_OBJECT, NO_SETTING, OTHER_KIND, TOO_FAR = 1, 2, 3, 4
 
 
 def set_local(tree, ono, kind, value):
-    """Sets an object as its class's set method would, whoever has locked it. The number of the fault, which changes
-    nothing, or None."""
+    """Sets an object as its class's set method would, whoever has locked it. The number of the fault, which changes nothing, or None."""
     obj = next((o for o in tree if o.ono == ono), None)
     if obj is None:
         return NO_OBJECT
@@ -531,8 +493,7 @@ def set_local(tree, ono, kind, value):
         return NO_SETTING
     if obj.kind != kind:
         return OTHER_KIND
-    if (kind in WIDTHS and not obj.low <= value <= obj.high) \
-            or (kind == "switch" and not (value < len(obj.names) and obj.enableds[value])):
+    if (kind in WIDTHS and not obj.low <= value <= obj.high) or (kind == "switch" and not (value < len(obj.names) and obj.enableds[value])):
         return TOO_FAR
     obj.state = bool(value) if kind == "boolean" else value
     return None
@@ -638,8 +599,7 @@ def packets(answers):
     """Neighbouring responses share one PDU while the datagram has at most 1,472 bytes; each keep-alive is alone."""
     groups = []
     for kind, body in answers:
-        if kind == "response" and groups and groups[-1][0] == "response" and len(pdu(3,
-            groups[-1][1] + [body])) <= LARGEST:
+        if kind == "response" and groups and groups[-1][0] == "response" and len(pdu(3, groups[-1][1] + [body])) <= LARGEST:
             groups[-1][1].append(body)
         else:
             groups.append((kind, [body]))
@@ -716,10 +676,8 @@ DEVICE = (127, 0, 0, 1, 65000)
 
 
 class Network:
-    """A device at 127.0.0.1:65000, a link for each start (a peer and a first handle), and two lists of datagrams that
-    only grow: those
-    sent to the device and those sent to links, each a pair of the link's peer and the bytes. A step is a tuple, as
-    `step_line` writes it."""
+    """A device at 127.0.0.1:65000, a link for each start (a peer and a first handle), and two lists of datagrams that only grow: those sent to the
+    device and those sent to links, each a pair of the link's peer and the bytes. A step is a tuple, as `step_line` writes it."""
 
     def __init__(self, window, span, starts, peers=16):
         self.device = Device(window=window, peers=peers)
@@ -854,16 +812,14 @@ def link_line(link, fields):
     if keyword == "from":
         peer = need(peer_of(fields[2]), "peer")
         return [link.datagram(peer, need(hex_of(fields[3]), "hex"), now)]
-    numbers = [digits(fields[2], 10, U32), digits(fields[3], 5, 65535), digits(fields[4], 5, 65535),
-               digits(fields[5], 3, 255)]
+    numbers = [digits(fields[2], 10, U32), digits(fields[3], 5, 65535), digits(fields[4], 5, 65535), digits(fields[5], 3, 255)]
     if None in numbers:
         raise LineFault("number")
     return [link.submit(*numbers, need(hex_of(fields[6]), "hex"), now)]
 
 
 def replay(script, serve):
-    """(standard output, the fault's line or None, the exit status) of a script's bytes; serve answers a line's
-    fields."""
+    """(standard output, the fault's line or None, the exit status) of a script's bytes; serve answers a line's fields."""
     limit = 16777216
     over = len(script) > limit
     lines = script[:limit].split(b"\n")

@@ -15,13 +15,14 @@ import json
 import os
 import re
 import select
-import shutil
 import socket
 import subprocess
 import sys
 import time
 
+import namespaces
 import oca_profile as oca
+from checks import Checks, ended, write
 
 DEVICE, PORT, OWN_PORT, MUTE = "10.98.9.9", 65000, 20001, 4097
 # the links: the panel's address at each, and the device's
@@ -32,43 +33,24 @@ BY_OCACTL = [(("set", MUTE, "muted"), ""), (("run",), f"{MUTE} 4 2 1 01\n"),
               (("send", "--target", MUTE, "--level", 4, "--index", 2, "--count", 1, "--params", "01"), "")]
 
 
-class Machines:
-    """The two namespaces. The device's machine hands on nothing that the panel's does not send to it."""
+class Machines(namespaces.Machines):
+    """The two machines. The device's hands on nothing that the panel's does not send to it."""
+
+    def __init__(self):
+        super().__init__(FIRST, SECOND)
 
     def __enter__(self):
-        self.device, self.panel = f"oca-d{os.getpid()}", f"oca-p{os.getpid()}"
-        self.ip(f"netns add {self.device}")
-        self.ip(f"netns add {self.panel}")
-        for name, (near, far) in (("first", FIRST), ("second", SECOND)):
-            self.ip(f"-n {self.panel} link add {name} type veth peer name {name} netns {self.device}")
-            self.ip(f"-n {self.panel} addr add {near}/24 dev {name}")
-            self.ip(f"-n {self.device} addr add {far}/24 dev {name}")
-            self.ip(f"-n {self.device} link set {name} up")
-            self.ip(f"-n {self.panel} link set {name} up")
-        self.ip(f"-n {self.device} link set lo up")
-        self.ip(f"-n {self.panel} link set lo up")
+        super().__enter__()
         self.ip(f"-n {self.device} addr add {DEVICE}/32 dev lo")
-        self.ip(f"-n {self.panel} route add {DEVICE}/32 via {FIRST[1]} metric 10")
-        self.ip(f"-n {self.panel} route add {DEVICE}/32 via {SECOND[1]} metric 20")
+        for metric, (_, far) in ((10, FIRST), (20, SECOND)):
+            self.ip(f"-n {self.peers} route add {DEVICE}/32 via {far} metric {metric}")
         return self
-
-    def __exit__(self, *_):
-        for name in (self.device, self.panel):
-            subprocess.run(["ip", "netns", "del", name], check=False)
-
-    @staticmethod
-    def ip(line):
-        subprocess.run(["ip", *line.split()], check=True)
-
-    def start(self, name, *words):
-        return subprocess.Popen(["ip", "netns", "exec", name, *map(str, words)], stdin=subprocess.PIPE, stdout=subprocess.PIPE,
-                                stderr=subprocess.PIPE, text=True)
 
     def cut(self, keeps_address):
         """The first link goes, with its address or without. What is for that address goes by the second link."""
         if not keeps_address:
-            self.ip(f"-n {self.panel} addr del {FIRST[0]}/24 dev first")
-        self.ip(f"-n {self.panel} link set first down")
+            self.ip(f"-n {self.peers} addr del {FIRST[0]}/24 dev link0")
+        self.ip(f"-n {self.peers} link set link0 down")
         self.ip(f"-n {self.device} route replace {FIRST[0]}/32 via {SECOND[0]}")
 
 
@@ -81,7 +63,7 @@ def sets_mute(data):
 
 def asked(peer, handle, command):
     """What the device answers this peer."""
-    peer.send(oca.pdu(1, [oca.Command(handle, *command).body()]))
+    peer.send(oca.command(handle, *command))
     peer.settimeout(10)
     return peer.recv(2000)
 
@@ -131,8 +113,7 @@ class Relay:
             self.front.sendto(self.peers[sender].recv(2000), sender)
 
     def serve(self):
-        """Until the input says that the program has ended: then prints how the mute is set, and from how many peers a command came that
-        sets it."""
+        """Until the input says that the program has ended: then prints how the mute is set, and from how many peers a command came that sets it."""
         print("listening", flush=True)
         while True:
             ways = {back: sender for sender, back in self.peers.items()}
@@ -167,23 +148,11 @@ def order(host):
     return print("not told")
 
 
-class Checks:
-    def __init__(self):
-        self.passed = self.failed = 0
-
-    def same(self, what, got, wanted):
-        good = got == wanted
-        self.passed, self.failed = self.passed + good, self.failed + (not good)
-        if not good:
-            print(f"WRONG: {what}: {got} in place of {wanted}", flush=True)
-
-
 def cut_between(machines, relay, keeps_address):
     """Cuts the first link once the mute is executed, and lets what comes pass."""
     executed = bool(select.select([relay.stdout], [], [], 30)[0]) and relay.stdout.readline() == "executed\n"
     machines.cut(keeps_address)
-    relay.stdin.write("gone\n")
-    relay.stdin.flush()
+    write(relay, "gone\n", ends=False)
     return executed
 
 
@@ -194,7 +163,7 @@ def told_by(relay):
 
 def relayed(machines, folder):
     """A relay with its device."""
-    relay = machines.start(machines.device, sys.executable, os.path.abspath(__file__), "relay", folder)
+    relay = machines.start(machines.device, sys.executable, os.path.abspath(__file__), "relay", folder, stdin=subprocess.PIPE)
     if relay.stdout.readline() != "listening\n":
         sys.exit(f"one_address: no relay: {relay.communicate()[1]}")
     return relay
@@ -203,17 +172,15 @@ def relayed(machines, folder):
 def by_ocactl(checks, folder, words, lines, keeps_address):
     with Machines() as machines:
         relay = relayed(machines, folder)
-        run = machines.start(machines.panel, f"{folder}/ocactl", words[0], "--device", f"{DEVICE}:{PORT}", "--port", OWN_PORT,
-                             "--first-handle", 1, *words[1:])
-        run.stdin.write(lines)
-        run.stdin.close()
-        run.stdin = None
+        run = machines.start(machines.peers, f"{folder}/ocactl", words[0], "--device", f"{DEVICE}:{PORT}", "--port", OWN_PORT,
+                             "--first-handle", 1, *words[1:], stdin=subprocess.PIPE)
+        write(run, lines)
         executed = cut_between(machines, relay, keeps_address)
-        out, told = run.communicate(timeout=60)
+        out, told, status = ended(run)
         what = f"`{words[0]}`, {'the link' if keeps_address else 'the address'} goes"
         checks.same(f"{what}: executed, then set back, by one peer", (executed, told_by(relay)), (True, ["unmuted", "1"]))
         gone = f"note: the address {FIRST[0]} is gone\n" in told
-        checks.same(f"{what}: status, whether it is lost, whether the address is said to be gone", (run.returncode, "lost" in out, gone),
+        checks.same(f"{what}: status, whether it is lost, whether the address is said to be gone", (status, "lost" in out, gone),
                     (0, False, False) if keeps_address else (3, True, True))
 
 
@@ -231,9 +198,9 @@ def told_so_far(run, wanted, seconds):
 def by_ocapanel(checks, folder, keeps_address):
     with Machines() as machines:
         relay = relayed(machines, folder)
-        panel = machines.start(machines.panel, f"{folder}/ocapanel", "--device", f"{DEVICE}:{PORT}", "--listen", "127.0.0.1:0", "--verbose")
+        panel = machines.start(machines.peers, f"{folder}/ocapanel", "--device", f"{DEVICE}:{PORT}", "--listen", "127.0.0.1:0", "--verbose")
         host = re.search(r"http://([\d.:]+)/", panel.stderr.readline())[1]
-        page = machines.start(machines.panel, sys.executable, os.path.abspath(__file__), "order", host)
+        page = machines.start(machines.peers, sys.executable, os.path.abspath(__file__), "order", host)
         executed = cut_between(machines, relay, keeps_address)
         fared = page.communicate(timeout=60)[0]
         what = f"`ocapanel`, {'the link' if keeps_address else 'the address'} goes"
@@ -251,16 +218,14 @@ def main():
         return Relay(sys.argv[2]).serve()
     if sys.argv[1] == "order":
         return order(sys.argv[2])
-    if os.geteuid() or not shutil.which("ip"):
-        print("one_address: NOT TRIED: it needs root and `ip`\n1 passed, 0 failed")
+    if not namespaces.is_able("one_address"):
         return 0
     folder, checks = os.path.abspath(sys.argv[1]), Checks()
     for keeps_address in (False, True):
         for words, lines in BY_OCACTL:
             by_ocactl(checks, folder, words, lines, keeps_address)
         by_ocapanel(checks, folder, keeps_address)
-    print(f"{checks.passed} passed, {checks.failed} failed")
-    return 1 if checks.failed else 0
+    return checks.verdict()
 
 
 if __name__ == "__main__":

@@ -15,16 +15,16 @@ from pathlib import Path
 TOP = Path(__file__).resolve().parent.parent
 sys.path.insert(0, str(TOP / "gate"))
 
-import build
+import kit
 
 
 def main(name, paths):
     """Checks the functions with these paths of a crate, and gives the exit status of the check."""
-    rt = build.toolchain()
-    crate = {it.name: it for it in rt.rtlib.crates_below(str(TOP))}[name]
+    rt = kit.toolchain()
+    crate = kit.crates(rt)[name]
     words = crate.words(["--jobs", "1"] + [word for path in paths for word in ("--only", path)], as_source=True)
     os.chdir(crate.folder)
-    return subprocess.call([rt.rtlib.RATTLE, "check", *words])
+    return subprocess.call([rt.RATTLE, "check", *words])
 
 
 if __name__ == "__main__":

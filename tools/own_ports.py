@@ -1,4 +1,4 @@
-"""Ports of steps that run side by side: the two that `ocactl` takes by turns where it is given none, for which who runs `ocactl` at its own
+"""Sockets and ports of steps that run side by side: the two that `ocactl` takes by turns where it is given none, for which who runs `ocactl` at its own
 ports, or holds one of them, is alone; and ports to give it, which the system chooses for nobody.
 
 No step of the gate."""
@@ -33,3 +33,26 @@ def free_port():
         with socket.socket(socket.AF_INET, socket.SOCK_DGRAM) as s, contextlib.suppress(OSError):
             s.bind(("0.0.0.0", port))
             return port
+
+
+def bound(ip="127.0.0.1", port=0):
+    """A socket at this address, which waits for ten seconds for what comes."""
+    s = socket.socket(socket.AF_INET, socket.SOCK_DGRAM)
+    s.bind((ip, port))
+    s.settimeout(10)
+    return s
+
+
+def at(end):
+    """Where a socket is, as the programs' options have it."""
+    return "{}:{}".format(*end.getsockname())
+
+
+def heard(end):
+    """The datagrams that lie at a socket."""
+    end.setblocking(False)
+    found = []
+    with contextlib.suppress(BlockingIOError):
+        while True:
+            found.append(end.recv(2000))
+    return found

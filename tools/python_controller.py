@@ -1,18 +1,15 @@
 #!/usr/bin/env python3
-"""The controller in Python that stands in examples/python, and the worked bytes of docs/PROTOCOL.md, from which it is
-written.
+"""The controller in Python that stands in examples/python, and the worked bytes of docs/PROTOCOL.md, from which it is written.
 
 Usage: python_controller.py BIN     BIN is the folder with `ocadev` and `ocactl`
 
-Its link is asked at moments that are handed in, and must send and take what the rules of PROTOCOL say; links that are
-wrong must be found. Then it runs
-against `ocadev serve` with examples/stagebox.tree, first alone, then over the network of lossy.py, which loses a fifth
-of the datagrams each way, and doubles and reorders others. `ocactl` must read and be refused what it set and locked;
-each command must be executed once, and what leaves its socket keep to the rules: one address and port, one command a
-datagram, handles that rise by one, unchanged copies, at most 20 of them, at most 16 commands in flight.
+Its link is asked at moments that are handed in, and must send and take what the rules of PROTOCOL say; links that are wrong must be found. Then it
+runs against `ocadev serve` with examples/stagebox.tree, first alone, then over the network of lossy.py, which loses a fifth of the datagrams each
+way, and doubles and reorders others. `ocactl` must read and be refused what it set and locked; each command must be executed once, and what leaves
+its socket keep to the rules: one address and port, one command a datagram, handles that rise by one, unchanged copies, at most 20 of them, at most 16
+commands in flight.
 
-Each row of the table of worked bytes is a command to `ocadev replay`, which must answer what stands there. The last
-line is 'N passed, M failed'."""
+Each row of the table of worked bytes is a command to `ocadev replay`, which must answer what stands there. The last line is 'N passed, M failed'."""
 import contextlib
 import io
 import re
@@ -25,6 +22,7 @@ from pathlib import Path
 from types import ModuleType
 
 import oca_profile as oca
+from checks import Checks
 from lossy import Network
 from own_ports import free_port
 
@@ -48,20 +46,6 @@ WRONG = [
 ROW = r"\| [^|]+ \| `([0-9A-F ]+)` \| `([0-9A-F .]+)`[^|]* \|"
 
 
-class Checks:
-    """What was compared."""
-
-    def __init__(self):
-        self.passed, self.failed = 0, 0
-
-    def same(self, name, got, wanted):
-        if got == wanted:
-            self.passed += 1
-        else:
-            self.failed += 1
-            print(f"python_controller: {name}: FAILED: {got!r} where {wanted!r} is right")
-
-
 def example(old="", new=""):
     """The example as a module, or with another text in the place of one that stands once."""
     text = EXAMPLE.read_text()
@@ -74,7 +58,7 @@ def example(old="", new=""):
 
 def answer(handle, status=0):
     """A response without parameters."""
-    return oca.pdu(3, [oca.response_body(handle, status, 0, b"")])
+    return oca.response(handle, status, 0, b"")
 
 
 def what_is_due(its, link, now):
@@ -101,8 +85,7 @@ def rules(checks, its):
     checks.same("an answer still comes in", [it.handle for it in link.heard(answer(1))], [1])
 
     link = its.Link(1, last_sent=0.0)
-    checks.same("keep-alives", [what_is_due(its, link, now) for now in (2.25, 2.5, 2.5, 4.75, 5.0)],
-                [[], ["alive"], [], [], ["alive"]])
+    checks.same("keep-alives", [what_is_due(its, link, now) for now in (2.25, 2.5, 2.5, 4.75, 5.0)], [[], ["alive"], [], [], ["alive"]])
     link.submit(get, 5.25)
     checks.same("none beside a command", [what_is_due(its, link, now) for now in (5.25, 7.75)], [[1], [1]])
     checks.same("its bytes", link.due(99.0) if link.heard(answer(1)) else None, bytes.fromhex("3B00010000000B0400010005"))
@@ -340,8 +323,7 @@ def main():
         runs(checks, folder, device)
         watches = at_a_loss(checks, device)
     executed_once(checks, device, watches)
-    print(f"{checks.passed} passed, {checks.failed} failed")
-    return 1 if checks.failed else 0
+    return checks.verdict()
 
 
 if __name__ == "__main__":

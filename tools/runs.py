@@ -21,6 +21,7 @@ import termios
 import time
 
 import tree_texts
+from checks import Checks
 
 # GetState of 4097 under handle 1.
 GET_1 = b"0 127.0.0.1:9001 3b00010000001a0100010000001100000001000010010004000100\n"
@@ -78,15 +79,7 @@ object 4100 4096 int16 -600 600 0 lockable "trim" on ""
 object 4101 4096 boolean off lockable "lamp" on ""
 object 4102 4096 uint8 0 100 10 no-lock "dim" on ""
 """
-STRIPS = b"""\
-100 1.1.3 0 root
-4096 1.1.3 100 desk
-4097 1.1.1.2 4096 mute
-4098 1.1.1.3 4096 polarity
-4099 1.1.1.4 4096 input
-4100 1.1.1.1.3 4096 trim
-4101 1.1.1.1.1 4096 lamp
-4102 1.1.1.1.6 4096 dim
+STRIPS = OBJECTS + b"""\
 4103 1.1.3 100 strip
 4104 1.1.1.2 4103 mute
 4105 1.1.1.3 4103 polarity
@@ -105,14 +98,7 @@ THREE_PEERS = b"""\
 # GetState of the mute of the second strip.
 GET_STRIP = b"0 127.0.0.1:9001 3b00010000001a0100010000001100000001000010080004000100\n"
 # Commands under the handles 5, 6, 6, 5, 4 and 7.
-SIX_COMMANDS = b"""\
-0 127.0.0.1:9001 3b00010000001a0000010000001100000005000010010004000100
-0 127.0.0.1:9001 3b00010000001a0000010000001100000006000010010004000100
-0 127.0.0.1:9001 3b00010000001a0000010000001100000006000010010004000100
-0 127.0.0.1:9001 3b00010000001a0000010000001100000005000010010004000100
-0 127.0.0.1:9001 3b00010000001a0000010000001100000004000010010004000100
-0 127.0.0.1:9001 3b00010000001a0000010000001100000007000010010004000100
-"""
+SIX_COMMANDS = b"".join(b"0 127.0.0.1:9001 3b00010000001a000001000000110000000%d000010010004000100\n" % handle for handle in (5, 6, 6, 5, 4, 7))
 
 # What a run of `ocadev` on these words and this input prints, without a fault.
 DEVICE_PRINTS = [
@@ -166,8 +152,7 @@ served 0 0 0
     ("ocadev show --channels 2", b"", STRIPS),
     ("ocadev replay --channels 2", GET_STRIP, b"served 1 0 0\n> 3b0001000000140300010000000b00000001000101\n"),
     ("ocadev replay", GET_STRIP, b"served 1 0 0\n> 3b0001000000130300010000000a000000010500\n"),
-    # Two responses leave in one PDU; a command that asks something else under a kept handle is counted, and its copy of no
-    # response is not answered.
+    # Two responses leave in one PDU; a command that asks something else under a kept handle is counted, and its copy of no response is not answered.
     ("ocadev replay",
      b"""\
 0 127.0.0.1:9001 3b00010000002b01000200000011000000010000100100040001000000001100000002000010020004000100
@@ -297,8 +282,8 @@ ALL_BELOW = bytes.fromhex("""
     00001004 0005 0001 0001 0001 0001 0003 0002 00001000
     00001005 0005 0001 0001 0001 0001 0001 0002 00001000
     00001006 0005 0001 0001 0001 0001 0006 0002 00001000""")
-# Block 4096 and mute 4097 in the root, and mute 4098 in the block; what is told of the root's members, of all below the root and of all
-# below the block.
+# Block 4096 and mute 4097 in the root, and mute 4098 in the block; what is told of the root's members, of all below the root and of all below the
+# block.
 TWO_LEVELS = b"""\
 root on ""
 object 4096 100 block lockable "block" on ""
@@ -319,8 +304,8 @@ def actuators(end):
 # What is told of 65 actuators, under handle 1, in 1,452 bytes.
 SIXTY_FIVE = bytes.fromhex("3b00010000 05ab 030001 000005a2 00000001 00 01 0041") + b"".join(
     struct.pack(">I", number) + bytes.fromhex("0005 0001 0001 0001 0001 0003 0002 00000064") for number in range(4096, 4161))
-# Nine times the members of the root with all below, under the handles 1 to 9 (156 bytes of response each), three times the position of the
-# switch, under 10 to 12 (16 bytes each), and the state set, under 13 (10 bytes); the responses, 1,472 bytes with their header.
+# Nine times the members of the root with all below, under the handles 1 to 9 (156 bytes of response each), three times the position of the switch,
+# under 10 to 12 (16 bytes each), and the state set, under 13 (10 bytes); the responses, 1,472 bytes with their header.
 THIRTEEN = [*(asked(handle, 100, (3, 6)) for handle in range(1, 10)), *(asked(handle, 4099, (4, 1)) for handle in range(10, 13)),
             asked(13, 4097, (4, 2), b"\1")]
 OF_THIRTEEN = pdu(3, *(told(handle, 0, 1, ALL_BELOW) for handle in range(1, 10)),
@@ -332,8 +317,8 @@ def muted(first, end):
     return [(0, A, get_state(handle), EXECUTED, [state(handle, 1)]) for handle in range(first, end)]
 
 
-# What a device makes of datagrams: its options, the text of its objects, or none of the bench's, and for each datagram the moment, the port
-# of its peer, its bytes, the verdict and the packets that leave.
+# What a device makes of datagrams: its options, the text of its objects, or none of the bench's, and for each datagram the moment, the port of its
+# peer, its bytes, the verdict and the packets that leave.
 DEVICE_SCRIPTS = {
     # Settings from -600 to 600 are taken, 601 is refused, and the setting stays.
     "refuses_out_of_range": ("", None, [
@@ -351,8 +336,8 @@ DEVICE_SCRIPTS = {
         (0, A, set_state(3, 1), EXECUTED, [done(3)]),
         (0, A, get_state(5), EXECUTED, [state(5, 1)]),
     ]),
-    # A locks an object at 0. A malformed datagram of B at 3,001 raises the moment past three heartbeats of A, so that the lock is off for
-    # what B sends after it, though that is marked with an earlier moment.
+    # A locks an object at 0. A malformed datagram of B at 3,001 raises the moment past three heartbeats of A, so that the lock is off for what B
+    # sends after it, though that is marked with an earlier moment.
     "malformed_datagrams_move_the_clock": ("", None, [
         (0, A, ONE_SECOND, NOTHING, [ONE_SECOND]),
         (0, A, lock(1), EXECUTED, [done(1)]),
@@ -463,39 +448,17 @@ DEVICE_SCRIPTS = {
 # How many bytes these have.
 LENGTHS = [(FULL_OF_GETS, 1472), (FULL_OF_STATES, 956), (FULL_OF_RESPONSES, 1470), (TWICE, 32), (SIXTY_FIVE, 1452), (OF_THIRTEEN, 1472)]
 
-# A script for `ocadev replay` with a line that has a fault: what is printed before, and the fault.
-DEVICE_LINES = [
-    (b"0 127.0.0.1:9001 3b0", b"", b"line 1: hex\n"),
-    (b"quiet", b"", b"line 1: form\n"),
-    (b"0", b"", b"line 1: form\n"),
-    (b"0 ", b"", b"line 1: form\n"),
-    (b"0 quiet ", b"", b"line 1: form\n"),
-    (b"0 quiet -", b"", b"line 1: form\n"),
-    (b"0 quiet\r\n", b"", b"line 1: form\n"),
-    (b"0 Quiet", b"", b"line 1: form\n"),
-    (b"quiet 0", b"", b"line 1: form\n"),
-    (b"x 127.0.0.256:1 3b0 ", b"", b"line 1: form\n"),
-    (b"0 127.0.0.1:1 - \xc3\xbc", b"", b"line 1: form\n"),
-    (b"x 127.0.0.256:1 \xff", b"", b"line 1: form\n"),
-    (b"quiet quiet", b"", b"line 1: moment\n"),
-    (b" 0 quiet", b"", b"line 1: moment\n"),
-    (b" quiet", b"", b"line 1: moment\n"),
-    (b"+1 quiet", b"", b"line 1: moment\n"),
-    (b"18446744073709551616 quiet", b"", b"line 1: moment\n"),
-    (b"000000000000000000000 quiet", b"", b"line 1: moment\n"),
-    (b"x 127.0.0.256:1 3b0", b"", b"line 1: moment\n"),
-    (b"0  quiet", b"", b"line 1: peer\n"),
-    (b"0 127.0.0.256:1 3b0", b"", b"line 1: peer\n"),
-    (b"0 127.0.0.1:65536 -", b"", b"line 1: peer\n"),
-    (b"0 127.0.0.1 -", b"", b"line 1: peer\n"),
-    (b"0 127.0.0.1:1 ", b"", b"line 1: hex\n"),
-    (b"0 127.0.0.1:1 -\r\n", b"", b"line 1: hex\n"),
-    (b"0 127.0.0.1:1 3g", b"", b"line 1: hex\n"),
-    (b"0 127.0.0.1:1 3", b"", b"line 1: hex\n"),
-    (b"#\n\n\n0 127.0.0.1:1 3b0\nx", b"", b"line 4: hex\n"),
-    (b"# \xff\n\r\n", b"", b"line 2: form\n"),
-    (b"0 quiet\n#\nx quiet\n0 quiet\n", b"quiet\n", b"line 3: moment\n"),
-]
+# Scripts for `ocadev replay` with a line that has a fault, by the fault; behind the last one `quiet` is printed.
+DEVICE_LINES = {
+    b"line 1: hex\n": [b"0 127.0.0.1:9001 3b0", b"0 127.0.0.1:1 ", b"0 127.0.0.1:1 -\r\n", b"0 127.0.0.1:1 3g", b"0 127.0.0.1:1 3"],
+    b"line 1: form\n": [b"quiet", b"0", b"0 ", b"0 quiet ", b"0 quiet -", b"0 quiet\r\n", b"0 Quiet", b"quiet 0", b"x 127.0.0.256:1 3b0 ",
+        b"0 127.0.0.1:1 - \xc3\xbc", b"x 127.0.0.256:1 \xff"],
+    b"line 1: moment\n": [b"quiet quiet", b" 0 quiet", b" quiet", b"+1 quiet", b"18446744073709551616 quiet", b"000000000000000000000 quiet",
+        b"x 127.0.0.256:1 3b0"],
+    b"line 1: peer\n": [b"0  quiet", b"0 127.0.0.256:1 3b0", b"0 127.0.0.1:65536 -", b"0 127.0.0.1 -"],
+    b"line 4: hex\n": [b"#\n\n\n0 127.0.0.1:1 3b0\nx"],
+    b"line 2: form\n": [b"# \xff\n\r\n"]}
+BEHIND_A_TURN = b"0 quiet\n#\nx quiet\n0 quiet\n", b"quiet\n", b"line 3: moment\n"
 
 # A line of so many bytes, `a` behind its head: the status, the text, the fault.
 DEVICE_LONG_LINES = [
@@ -508,65 +471,24 @@ DEVICE_LONG_LINES = [
     (b"# 127.0.0.1:1 ", 4097, 2, b"", b"line 1: too long\n"),
 ]
 
-# What can't be done: no file is there, and the address is of no machine. The words, and the fault.
-DEVICE_FAILS = [
-    ("ocadev show --tree /nowhere/objects.tree", b"read failed\n"),
-    ("ocadev replay --tree /nowhere/objects.tree", b"read failed\n"),
-    ("ocadev serve --port 0 --turns 1 --tree /nowhere/objects.tree", b"read failed\n"),
-    ("ocadev serve --port 0 --turns 2 --ip 192.0.2.1", b"socket failed\n"),
-]
+# What can't be done: no file is there, and the address is of no machine. The words by the fault.
+DEVICE_FAILS = {b"read failed\n": ["ocadev show --tree /nowhere/objects.tree", "ocadev replay --tree /nowhere/objects.tree",
+        "ocadev serve --port 0 --turns 1 --tree /nowhere/objects.tree"], b"socket failed\n": ["ocadev serve --port 0 --turns 2 --ip 192.0.2.1"]}
 
-# Words that ask `ocadev` for nothing.
-DEVICE_BAD_WORDS = [
-    "ocadev serve",
-    "ocadev serve --turns 1",
-    "ocadev serve --port 65536 --turns 1",
-    "ocadev serve --port +1 --turns 1",
-    "ocadev serve --port 000000 --turns 1",
-    "ocadev serve --port 0 --turns 4294967296",
-    "ocadev serve --port 0 --turns 1 --ip 127.0.0.256",
-    "ocadev serve --port 0 --turns 1 --ip 127.0.0.1:1",
-    "ocadev serve --port 0 --turns 1 --window 65",
-    "ocadev serve --port 0 --turns 1 --peers 65",
-    "ocadev serve --port 0 --turns 1 --channels 1023",
-    "ocadev serve --port 0 --turns 1 --verbose 1",
-    "ocadev serve --port 0 --port 0 --turns 1",
-    "ocadev replay --window 0",
-    "ocadev replay --window 65",
-    "ocadev replay --window 0032",
-    "ocadev replay --window -1",
-    "ocadev replay --window",
-    "ocadev replay --peers 0",
-    "ocadev replay --peers 65",
-    "ocadev replay --peers 0016",
-    "ocadev replay --peers x",
-    "ocadev replay --channels 1023",
-    "ocadev replay --channels 00001",
-    "ocadev replay --channels -1",
-    "ocadev replay --verbose",
-    "ocadev show --window 1",
-    "ocadev show --peers 1",
-    "ocadev show --channels 1023",
-    "ocadev show --tree x --channels 0",
-    "ocadev replay --tree x --channels 1",
-    "ocadev show --tree",
-    "ocadev",
-    "ocadev Replay",
-    "ocadev replay x",
-    "ocadev replay replay",
-    "ocadev replay --port 1",
-    "ocadev show --all",
-    "ocadev --versions",
-    "ocadev replay --version",
-    # a word of nothing
-    "ocadev ",
-]
+# Words that ask `ocadev` for nothing, by what they begin with; one is a word of nothing.
+DEVICE_BAD_WORDS = {
+    "ocadev serve": ["", " --turns 1", " --port 65536 --turns 1", " --port +1 --turns 1", " --port 000000 --turns 1",
+        " --port 0 --turns 4294967296", " --port 0 --turns 1 --ip 127.0.0.256", " --port 0 --turns 1 --ip 127.0.0.1:1",
+        " --port 0 --turns 1 --window 65", " --port 0 --turns 1 --peers 65", " --port 0 --turns 1 --channels 1023",
+        " --port 0 --turns 1 --verbose 1", " --port 0 --port 0 --turns 1"],
+    "ocadev replay": [" --window 0", " --window 65", " --window 0032", " --window -1", " --window", " --peers 0", " --peers 65", " --peers 0016",
+        " --peers x", " --channels 1023", " --channels 00001", " --channels -1", " --verbose", " --tree x --channels 1", " x", " replay",
+        " --port 1", " --version"],
+    "ocadev show": [" --window 1", " --peers 1", " --channels 1023", " --tree x --channels 0", " --tree", " --all"],
+    "ocadev": ["", " Replay", " --versions", " "]}
 
 # Words that `ocadev` answers by a text.
-DEVICE_HELP = [
-    "ocadev --help",
-    "ocadev replay --help",
-]
+DEVICE_HELP = ["ocadev --help", "ocadev replay --help"]
 
 MOST = 16_777_216  # bytes that a script may have
 
@@ -574,19 +496,14 @@ MOST = 16_777_216  # bytes that a script may have
 WITHOUT_WORDS = "import ctypes, sys; none = (ctypes.c_char_p * 1)(); ctypes.CDLL(None).execve(sys.argv[1].encode(), none, none)"
 
 
-class Runs:
+class Runs(Checks):
     """Runs programs of a folder, and counts what comes out as it must."""
-
-    def __init__(self, folder):
-        self.folder, self.passed, self.failed = folder, 0, 0
 
     def ran(self, words, given=b""):
         return subprocess.run([f"{self.folder}/{words[0]}", *words[1:]], input=given, capture_output=True, timeout=120, check=False)
 
-    def check(self, words, is_well, said):
-        self.passed, self.failed = self.passed + is_well, self.failed + (not is_well)
-        if not is_well:
-            print(f"{' '.join(words)[:200]}: {said!s:.600}")
+    def check(self, words, is_well, told):
+        self.expect(" ".join(words)[:200], is_well, f"{told!s:.600}")
 
     def gives(self, words, given, status, output, fault=b""):
         """The run has this status, and prints just that, the fault behind notes."""
@@ -668,13 +585,13 @@ def device(runs):
     for words, given, output in DEVICE_PRINTS:
         runs.gives(words.split(), given, 0, output)
     device_scripts(runs)
-    for script, output, fault in DEVICE_LINES:
+    for script, output, fault in [*((script, b"", fault) for fault, scripts in DEVICE_LINES.items() for script in scripts), BEHIND_A_TURN]:
         runs.gives(["ocadev", "replay"], script, 2, output, fault)
     for head, length, status, output, fault in DEVICE_LONG_LINES:
         runs.gives(["ocadev", "replay"], head + b"a" * (length - len(head)), status, output, fault)
-    for words, fault in DEVICE_FAILS:
+    for words, fault in ((words, fault) for fault, all_words in DEVICE_FAILS.items() for words in all_words):
         runs.gives(words.split(), GET_1, 1, b"", fault)
-    for words in DEVICE_BAD_WORDS:
+    for words in (begin + more for begin, all_more in DEVICE_BAD_WORDS.items() for more in all_more):
         runs.gives(words.split(" "), GET_1, 2, b"", b"bad words\n")
     for words in DEVICE_HELP:
         run = runs.ran(words.split(), GET_1)
@@ -732,12 +649,10 @@ def objects(runs, path):
         with open(path, "wb") as file:
             file.write(text)
         return ["ocadev", *words, "--tree", path]
-    for text, wanted in tree_texts.LISTED:
-        lists(runs, on(text, "show"), wanted)
-    for line, fault in tree_texts.FOURTH:
-        lists(runs, on(tree_texts.FRONT + line, "show"), f"line 4: {fault}")
-    for line, fault in tree_texts.STORED_FAULTS:
-        lists(runs, on(line, "show"), f"line 1: {fault}")
+    for front, rows, wanted in ((b"", tree_texts.LISTED, "{}"), (tree_texts.FRONT, tree_texts.FOURTH, "line 4: {}"),
+                                (b"", tree_texts.STORED_FAULTS, "line 1: {}")):
+        for of, text in ((of, text) for of, texts in rows.items() for text in texts):
+            lists(runs, on(front + text, "show"), of if isinstance(of, int) else wanted.format(of))
     lists(runs, on(tree_texts.most_objects(), "show"), 4096)
     lists(runs, on(tree_texts.most_objects() + b"9000 100 block lockable a", "show"), "line 4096: full")
     for text, output in tree_texts.REWRITTEN:
@@ -772,8 +687,7 @@ def comments(length, count):
 def main(folder):
     runs = Runs(folder)
     device(runs)
-    print(f"{runs.passed} passed, {runs.failed} failed")
-    return 1 if runs.failed else 0
+    return runs.verdict()
 
 
 if __name__ == "__main__":

@@ -8,8 +8,7 @@ PAIRS = [(w, s) for s in range(1, 33) for w in range(2 * s - 1, 65)]
 
 
 class Schedule:
-    """A schedule in the making. Each step is taken by the second implementation at once, so that the next can name what
-    is there."""
+    """A schedule in the making. Each step is taken by the second implementation at once, so that the next can name what is there."""
 
     def __init__(self, window, span, starts, peers=16):
         self.window, self.span, self.starts, self.peers = window, span, starts, peers
@@ -41,8 +40,7 @@ class Schedule:
     def refused(self, r):
         """With one more step that names what is not there, or two starts of one peer or one of the device's."""
         sent, kind = self.network, r.randrange(6)
-        step = [("to-device", self.now, len(sent.to_device)), ("to-link", self.now, len(sent.to_links)),
-                ("take", len(self.starts), 1),
+        step = [("to-device", self.now, len(sent.to_device)), ("to-link", self.now, len(sent.to_links)), ("take", len(self.starts), 1),
                 ("due", self.now, len(self.starts)), ("other", self.now, self.starts[-1][0], b""), None][kind]
         if step is None:
             self.starts, self.refusal = self.starts + [r.choice([(oca.DEVICE, 1), self.starts[0]])], "same peer"
@@ -97,9 +95,7 @@ def submit(r, schedule, link):
 
 def others_bytes(r):
     c = oca.Command(r.randrange(5), 4097, 1, r.choice([3, 4, 5, 6]), 0, b"")
-    return r.choice([oca.pdu(1, [c.body()]), oca.pdu(4, [oca.u16(1)]), b"", b"\x3b\x00",
-                     oca.pdu(3, [oca.response_body(1, 0, 0, b"")]),
-                     oca.pdu(1, [c.body(), c.body()])])
+    return r.choice([oca.pdu(1, [c.body()]), oca.pdu(4, [oca.u16(1)]), b"", b"\x3b\x00", oca.response(1), oca.pdu(1, [c.body(), c.body()])])
 
 
 def wander(r, window, span):
@@ -108,8 +104,7 @@ def wander(r, window, span):
     network, pace = schedule.network, r.choice([CALM, CALM, WILD])
     length, links = r.choice([10, 16, 24, 40, 80, 150, 250]), len(network.links)
     strangers = [peer(n) for n in range(16, 16 + r.choice([0, 0, 1, 3, 20]))]
-    kinds = ["submit", "due", "to-device", "to-link",
-             "take"] + ["tick"] * r.randrange(2) + ["other"] * (len(strangers) > 0) \
+    kinds = ["submit", "due", "to-device", "to-link", "take"] + ["tick"] * r.randrange(2) + ["other"] * (len(strangers) > 0) \
         + ["set"] * (r.randrange(3) == 0)
     weights = [r.choice([2, 3, 5]) for _ in kinds[:5]] + [1] * (len(kinds) - 5)
     heard = {"to-device": set(), "to-link": set()}
@@ -164,8 +159,7 @@ def noise(r, schedule):
 
 
 def crowd(r, window, span):
-    """Others have all the room when a link's first datagrams come; later they are forgotten, and its commands are
-    executed."""
+    """Others have all the room when a link's first datagrams come; later they are forgotten, and its commands are executed."""
     schedule = Schedule(window, span, starts(r, r.choice([1, 1, 2])), r.choice(PEERS))
     links = range(len(schedule.starts))
     for n in range(schedule.peers):

@@ -1,13 +1,12 @@
 #!/usr/bin/env python3
-"""The second implementation's device (oca_profile.py) behind a UDP socket, for what is tried against an independent
-device.
+"""The second implementation's device (oca_profile.py) behind a UDP socket, for what is tried against an independent device.
 
 Usage: served.py PORT [CHANNELS]     serves the bench device, until it is stopped; at port 0 the system chooses one
 
 No step of the gate.
 
-As a module: `with Served(tree) as device:` serves in a thread; `device.port`, `device.tree` and `device.heard`, each
-datagram that came with what was said of it."""
+As a module: `with Served(tree) as device:` serves in a thread; `device.port`, `device.tree` and `device.heard`, each datagram that came with what was
+said of it."""
 import socket
 import sys
 import threading

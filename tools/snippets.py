@@ -1,24 +1,22 @@
 #!/usr/bin/env python3
-"""Runs the sessions of README.md and docs/EMBEDDING.md and compares what is printed, finds their pieces of code in the
-files that they are of, and the examples of doc comments in tests and samples, and looks at the tables of all documents.
+"""Runs the sessions of README.md and docs/EMBEDDING.md and compares what is printed, finds their pieces of code in the files that they are of, and
+the examples of doc comments in tests and samples, and looks at the tables of all documents.
 
 Usage: snippets.py BIN     BIN is the folder with the programs, which sessions call `bin/`
 
-A session is an indented block, or a fenced one whose first word is `sh`, that begins with `$ `. Its commands are run in
-order in a folder of their own with the repository's files; the lines behind a command are what it must print. One that
-ends in ` &` goes on beside the others: as many lines as stand behind it are waited for. `$ kill %1` ends the first of
-these, and the others are waited for at the end of the block, where the rest of what they print must stand. In an
-expected line `...` stands for any text, alone for any lines; a number behind `quiet`, which is of time, is not
-compared, nor is the note of a system that grants a socket little room. A session with a command of `make` is not run.
+A session is an indented block, or a fenced one whose first word is `sh`, that begins with `$ `. Its commands are run in order in a folder of their
+own with the repository's files; the lines behind a command are what it must print. One that ends in ` &` goes on beside the others: as many lines as
+stand behind it are waited for. `$ kill %1` ends the first of these, and the others are waited for at the end of the block, where the rest of what
+they print must stand. In an expected line `...` stands for any text, alone for any lines; a number behind `quiet`, which is of time, is not compared,
+nor is the note of a system that grants a socket little room. A session with a command of `make` is not run.
 
-A fenced block whose info string has a path behind its first word, as `rust crates/panel/src/main.rt`, must stand in
-that file line by line, but for its indentation; `...` alone on a line, or in a comment, stands for any lines.
+A fenced block whose info string has a path behind its first word, as `rust crates/panel/src/main.rt`, must stand in that file line by line, but for
+its indentation; `...` alone on a line, or in a comment, stands for any lines.
 
-A fenced block in a doc comment of crates/ must stand so in a file of the tests' crates or of the samples, which the gate
-runs.
+A fenced block in a doc comment of crates/ must stand so in a file of the tests' crates or of the samples, which the gate runs.
 
-A table of a document at the top (README.md, CHANGELOG.md) or in docs/ is lines that begin with a bar. Its second line
-is its rule (`|---|`), which stands nowhere else, and each line ends with a bar and has as many cells as the first.
+A table of a document at the top (README.md, CHANGELOG.md) or in docs/ is lines that begin with a bar. Its second line is its rule (`|---|`), which
+stands nowhere else, and each line ends with a bar and has as many cells as the first.
 
 The last line is 'N passed, M failed'."""
 import os
@@ -69,8 +67,7 @@ class Session:
 
     def run(self, command, expected):
         if command.endswith(" &"):
-            process = subprocess.Popen(
-                ["bash", "-c", f"exec {command[:-2]}"], cwd=self.folder, stdin=subprocess.DEVNULL,
+            process = subprocess.Popen(["bash", "-c", f"exec {command[:-2]}"], cwd=self.folder, stdin=subprocess.DEVNULL,
                 stdout=subprocess.PIPE, stderr=subprocess.STDOUT, text=True)
             self.beside.append(process)
             self.printed += [process.stdout.readline().rstrip("\n") for _ in expected]

@@ -3,10 +3,9 @@
 
 Usage: standstill.py BIN     BIN is the folder with `ocadev` and `ocactl`
 
-Between the controller and the device lies a relay that loses what the row says. All clocks of both programs are set forward by the layer
-of `ahead.c` while the controller stands still, so that minutes pass in no time. Another controller changes the same object
-meanwhile: what the first one was asked for before must not be done behind that, and is told as lost.
-The last line is 'N passed, M failed'."""
+Between the controller and the device lies a relay that loses what the row says. All clocks of both programs are set forward by the layer of `ahead.c`
+while the controller stands still, so that minutes pass in no time. Another controller changes the same object meanwhile: what the first one was asked
+for before must not be done behind that, and is told as lost. The last line is 'N passed, M failed'."""
 import contextlib
 import fcntl
 import os
@@ -21,10 +20,10 @@ import threading
 import time
 from pathlib import Path
 
+import checks
 import oca_profile as oca
 from own_ports import free_port
 
-HERE = Path(__file__).resolve().parent
 HOST = "127.0.0.1"
 MUTE, MUTED, UNMUTED = 4097, 1, 2
 GET_LINE, MUTE_LINE = b"4097 4 1 0 -\n", b"4097 4 2 1 01\n"
@@ -126,7 +125,7 @@ class Peer:
 
     def ask(self, index, count=0, params=b""):
         self.handle += 1
-        command = oca.pdu(1, [oca.Command(self.handle, MUTE, 4, index, count, params).body()])
+        command = oca.command(self.handle, MUTE, 4, index, count, params)
         for _ in range(PATIENCE):
             with contextlib.suppress(TimeoutError):
                 self.socket.send(command)
@@ -161,7 +160,7 @@ class Scene:
 
     def start(self, *words, **streams):
         env = dict(os.environ, LD_PRELOAD=self.checks.layer, AHEAD=f"{self.folder.name}/time")
-        run = subprocess.Popen([f"{self.checks.programs}/{words[0]}", *words[1:]], env=env, **streams)
+        run = subprocess.Popen([f"{self.checks.folder}/{words[0]}", *words[1:]], env=env, **streams)
         self.runs.append(run)
         return run
 
@@ -180,16 +179,10 @@ class Scene:
         self.folder.cleanup()
 
 
-class Checks:
+class Checks(checks.Checks):
     def __init__(self, programs, layer):
-        self.programs, self.layer, self.passed, self.failed = programs, layer, 0, 0
-
-    def same(self, what, got, expected):
-        if got == expected:
-            self.passed += 1
-        else:
-            self.failed += 1
-            print(f"WRONG: {what}: {got!r:.300} in place of {expected!r:.300}")
+        super().__init__(programs)
+        self.layer = layer
 
     @contextlib.contextmanager
     def scene(self):
@@ -407,15 +400,11 @@ def in_time(checks):
 
 
 def main():
-    programs = os.path.abspath(sys.argv[1])
     with tempfile.TemporaryDirectory() as folder:
-        layer = f"{folder}/ahead.so"
-        subprocess.run(["gcc", "-O1", "-Wall", "-shared", "-fPIC", "-o", layer, f"{HERE}/ahead.c"], check=True)
-        checks = Checks(programs, layer)
+        counts = Checks(sys.argv[1], checks.layered(folder, "ahead"))
         for part in (stopped, stopped_between, read_between, read_rarely, waits_behind, in_time):
-            part(checks)
-    print(f"{checks.passed} passed, {checks.failed} failed")
-    return 1 if checks.failed else 0
+            part(counts)
+    return counts.verdict()
 
 
 if __name__ == "__main__":

@@ -3,121 +3,54 @@
 No step of the gate."""
 import oca_profile as oca
 
-# A text in a file, and how many lines `ocadev show --tree` prints for it, one for each object with the root; or its fault.
-LISTED = [
-    # Nothing.
-    (b"", 1),
-    (b"\n", 1),
-    (b"# \xff\x01", 1),
-    (b"\n\n#\n", 1),
-    # Forms.
-    (b"4096", "line 1: form"),
-    (b"4096 ", "line 1: number"),
-    (b"4096 100", "line 1: form"),
-    (b"4096 100 block", "line 1: form"),
-    (b"4096 100 block lockable", "line 1: form"),
-    (b"4096 100 block lockable a b", "line 1: form"),
-    (b'4096 100 block lockable "a', "line 1: form"),
-    (b'4096 100 block lockable "a"b', "line 1: form"),
-    (b"4096 100 block lockable a\r", "line 1: form"),
-    (b"4096 100 block lockable a\t", "line 1: form"),
-    (b"4096 100 mute muted", "line 1: form"),
-    (b"4096 100 switch a", "line 1: form"),
-    (b"4096 100 int8 0 1", "line 1: form"),
-    # Numbers, classes and values.
-    (b"x 100 block lockable a", "line 1: number"),
-    (b"4294967296 100 block lockable a", "line 1: number"),
-    (b"00000004096 100 block lockable a", "line 1: number"),
-    (b"4096  100 block lockable a", "line 1: number"),
-    (b"4096 -1 block lockable a", "line 1: number"),
-    (b"4096 100 gain lockable a", "line 1: class"),
-    (b"4096 100 Block lockable a", "line 1: class"),
-    (b"4096 100 mute on lockable a", "line 1: value"),
-    (b"4096 100 polarity muted lockable a", "line 1: value"),
-    (b"4096 100 boolean 1 lockable a", "line 1: value"),
-    (b"4096 100 switch a,b c lockable a", "line 1: value"),
-    (b"4096 100 switch a,b 1 lockable a", "line 1: value"),
-    (b"4096 100 int8 -129 127 0 lockable a", "line 1: number"),
-    # Fields.
-    (b"4096 100 int8 -128 128 0 lockable a", "line 1: number"),
-    (b"4096 100 uint8 -1 1 0 lockable a", "line 1: number"),
-    (b"4096 100 uint8 0 256 0 lockable a", "line 1: number"),
-    (b"4096 100 int16 +1 2 1 lockable a", "line 1: number"),
-    (b"4096 100 int16 - 2 1 lockable a", "line 1: number"),
-    (b"4096 100 block yes a", "line 1: lockable"),
-    (b"4096 100 block lockable \xff", "line 1: text"),
-    (b"4096 100 block lockable a\x7f", "line 1: text"),
-    (b"4096 100 block lockable \xc2\x9b", "line 1: text"),
-    (b"4096 100 block lockable a\xe2\x80\xa8b", "line 1: text"),
-    (b"4096 100 switch a,\xe2\x80\xaeb a lockable a", "line 1: text"),
-    (b"4096 100 block lockable a\\n\xc2\xa0", 2),
-    (b"4096 100 switch a,\xff a lockable a", "line 1: text"),
-    # A role of 64 bytes, and one of 65.
-    (b"4096 100 block lockable " + 64 * b"a", 2),
-    (b"4096 100 block lockable " + 65 * b"a", "line 1: text"),
-    # Blocks within blocks, down to depth 8, and one more.
-    (b"""\
-4096 100 block lockable a
-4097 4096 block lockable a
-4098 4097 block lockable a
-4099 4098 block lockable a
-4100 4099 block lockable a
-4101 4100 block lockable a
-4102 4101 block lockable a
-4103 4102 block lockable a""", "line 8: depth"),
-    (b"""\
-4096 100 block lockable a
-4097 4096 block lockable a
-4098 4097 block lockable a
-4099 4098 block lockable a
-4100 4099 block lockable a
-4101 4100 block lockable a
-4102 4101 block lockable a
-""", 8),
-    # The root's line behind another one is none.
-    (b'# first\nroot on ""\n', "line 2: number"),
-]
+# Texts in a file, by how many lines `ocadev show --tree` prints for each, one for each object with the root, or by its fault. Blocks within blocks go
+# down to depth 8; a role has 64 bytes.
+BLOCKS = b"".join(b"%d %d block lockable a\n" % (4096 + depth, 4095 + depth if depth else 100) for depth in range(8))
+LISTED = {
+    1: [b"", b"\n", b"# \xff\x01", b"\n\n#\n"],
+    "line 1: form": [b"4096", b"4096 100", b"4096 100 block", b"4096 100 block lockable", b"4096 100 block lockable a b",
+        b'4096 100 block lockable "a', b'4096 100 block lockable "a"b', b"4096 100 block lockable a\r", b"4096 100 block lockable a\t",
+        b"4096 100 mute muted", b"4096 100 switch a", b"4096 100 int8 0 1"],
+    "line 1: number": [b"4096 ", b"x 100 block lockable a", b"4294967296 100 block lockable a", b"00000004096 100 block lockable a",
+        b"4096  100 block lockable a", b"4096 -1 block lockable a", b"4096 100 int8 -129 127 0 lockable a", b"4096 100 int8 -128 128 0 lockable a",
+        b"4096 100 uint8 -1 1 0 lockable a", b"4096 100 uint8 0 256 0 lockable a", b"4096 100 int16 +1 2 1 lockable a",
+        b"4096 100 int16 - 2 1 lockable a"],
+    "line 1: class": [b"4096 100 gain lockable a", b"4096 100 Block lockable a"],
+    "line 1: value": [b"4096 100 mute on lockable a", b"4096 100 polarity muted lockable a", b"4096 100 boolean 1 lockable a",
+        b"4096 100 switch a,b c lockable a", b"4096 100 switch a,b 1 lockable a"],
+    "line 1: lockable": [b"4096 100 block yes a"],
+    "line 1: text": [b"4096 100 block lockable \xff", b"4096 100 block lockable a\x7f", b"4096 100 block lockable \xc2\x9b",
+        b"4096 100 block lockable a\xe2\x80\xa8b", b"4096 100 switch a,\xe2\x80\xaeb a lockable a", b"4096 100 switch a,\xff a lockable a",
+        b"4096 100 block lockable " + 65 * b"a"],
+    2: [b"4096 100 block lockable a\\n\xc2\xa0", b"4096 100 block lockable " + 64 * b"a"],
+    "line 8: depth": [BLOCKS[:-1]],
+    8: [b"".join(BLOCKS.splitlines(True)[:7])],
+    "line 2: number": [b'# first\nroot on ""\n']}
 
 # Behind these three lines each of the next ones is the first with a fault, and this is its fault.
 FRONT = b"# two\n4096 100 block lockable desk\n4097 4096 mute muted lockable a\n"
-FOURTH = [
-    (b"4095 100 block lockable a", "reserved"),
-    (b"4097 100 mute muted lockable a", "taken"),
-    (b"4098 4099 mute muted lockable a", "container"),
-    (b"4098 4097 mute muted lockable a", "container"),
-    (b"4098 0 mute muted lockable a", "container"),
-    (b"4098 100 mute muted lockable ", "text"),
-    (b'4098 100 mute muted lockable ""', "text"),
-    (b"4098 100 int8 1 0 0 lockable a", "range"),
-    (b"4098 100 int8 0 1 2 lockable a", "range"),
-    (b"4098 100 switch 1,2,3,4,5,6,7,8,9,10,11,12,13,14,15,16,17 1 lockable a", "range"),
-]
+FOURTH = {
+    "reserved": [b"4095 100 block lockable a"],
+    "taken": [b"4097 100 mute muted lockable a"],
+    "container": [b"4098 4099 mute muted lockable a", b"4098 4097 mute muted lockable a", b"4098 0 mute muted lockable a"],
+    "text": [b"4098 100 mute muted lockable ", b'4098 100 mute muted lockable ""'],
+    "range": [b"4098 100 int8 1 0 0 lockable a", b"4098 100 int8 0 1 2 lockable a",
+        b"4098 100 switch 1,2,3,4,5,6,7,8,9,10,11,12,13,14,15,16,17 1 lockable a"]}
 
-# Lines that also say what was stored, and the root's, each alone: its fault.
-STORED_FAULTS = [
-    (b'object 4096 100 block lockable "a"', "form"),
-    (b'object 4096 100 block lockable "a" on', "form"),
-    (b'object 4096 100 block lockable "a" on "" ', "form"),
-    (b'object x 100 block lockable "a" on ""', "number"),
-    (b'object 4096 100 gain lockable "a" on ""', "class"),
-    (b'object 4096 100 block yes "a" on ""', "lockable"),
-    (b'object 4096 100 block lockable a on ""', "text"),
-    (b'object 4096 100 block lockable ff on ""', "text"),
-    (b'object 4096 100 block lockable - on ""', "text"),
-    (b'object 4096 100 block lockable "a\x7f" on ""', "text"),
-    (b'object 4096 100 block lockable "a" yes ""', "value"),
-    (b'object 4096 100 switch 10 "a" 0 lockable "a" on ""', "value"),
-    (b'object 4096 100 switch 2 "a" 0 lockable "a" on ""', "value"),
-    (b'object 4096 100 switch 1 "a" x lockable "a" on ""', "number"),
-    (b'object 4096 100 switch 1 "a" 1 lockable "a" on ""', "range"),
-    (b'object 4096 100 switch 1 a,b 0 lockable "a" on ""', "text"),
-    (b'object 4095 100 block lockable "a" on ""', "reserved"),
-    (b'object 4096 4096 block lockable "a" on ""', "container"),
-    (b"root on", "form"),
-    (b"root on a", "text"),
-    (b'root yes ""', "value"),
-    (b'root on "\t"', "form"),
-]
+# Lines that also say what was stored, and the root's, each alone, by its fault.
+STORED_FAULTS = {
+    "form": [b'object 4096 100 block lockable "a"', b'object 4096 100 block lockable "a" on', b'object 4096 100 block lockable "a" on "" ',
+        b"root on", b'root on "\t"'],
+    "number": [b'object x 100 block lockable "a" on ""', b'object 4096 100 switch 1 "a" x lockable "a" on ""'],
+    "class": [b'object 4096 100 gain lockable "a" on ""'],
+    "lockable": [b'object 4096 100 block yes "a" on ""'],
+    "text": [b'object 4096 100 block lockable a on ""', b'object 4096 100 block lockable ff on ""', b'object 4096 100 block lockable - on ""',
+        b'object 4096 100 block lockable "a\x7f" on ""', b'object 4096 100 switch 1 a,b 0 lockable "a" on ""', b"root on a"],
+    "value": [b'object 4096 100 block lockable "a" yes ""', b'object 4096 100 switch 10 "a" 0 lockable "a" on ""',
+        b'object 4096 100 switch 2 "a" 0 lockable "a" on ""', b'root yes ""'],
+    "range": [b'object 4096 100 switch 1 "a" 1 lockable "a" on ""'],
+    "reserved": [b'object 4095 100 block lockable "a" on ""'],
+    "container": [b'object 4096 4096 block lockable "a" on ""']}
 
 # A text with all that can be stored.
 STORED = b"""\
@@ -179,9 +112,8 @@ PLACES = [
     (13, b"4294967295 1.1.1.1.9 100 B\xc3\xbchne"),
 ]
 
-# An object of that text, the DefLevel of its class (the method that reads its value has the index 1 there), and the
-# parameters of the answer: a state; a position, the first and the last one; a truth; and of a number its setting, its least
-# and its greatest value, each of its bytes.
+# An object of that text, the DefLevel of its class (the method that reads its value has the index 1 there), and the parameters of the answer: a
+# state; a position, the first and the last one; a truth; and of a number its setting, its least and its greatest value, each of its bytes.
 READ = [
     (4097, 4, [(2, 1)]),
     (4098, 4, [(2, 1)]),
@@ -203,12 +135,12 @@ def most_objects():
 
 def asks(ono, level, index):
     """A line of `ocadev replay`: a command without parameters for an object, under handle 1."""
-    return b"0 127.0.0.1:9001 " + oca.pdu(1, [oca.Command(1, ono, level, index, 0, b"").body()]).hex().encode() + b"\n"
+    return b"0 127.0.0.1:9001 " + oca.command(1, ono, level, index).hex().encode() + b"\n"
 
 
 def answered(parameters):
     """What it prints where the command is answered by these parameters."""
-    return b"served 1 0 0\n> " + oca.pdu(3, [oca.response_body(1, 0, len(parameters), b"".join(parameters))]).hex().encode() + b"\n"
+    return b"served 1 0 0\n> " + oca.response(1, 0, len(parameters), b"".join(parameters)).hex().encode() + b"\n"
 
 
 def read(values):

@@ -13,6 +13,8 @@
  *   UNBOOTED=N       the clock that counts sleep can't be read, and the date is so many seconds ahead behind the first send that is taken
  *   CALLS=FILE       a line goes to this file for each fsync and each rename, as it is made, with the names of the files
  *   SLOW=N           each fsync takes N milliseconds more              FAIL_SYNC=N    the fsync number N fails
+ *   ASKED=FILE       a line goes to this file for each time that a send buffer is asked for, with the number of bytes
+ *   GRANTED=N        the system says that it grants a send buffer of N bytes, where it was asked for one; below 0 it does not tell
  *   FULL=N           the write number N to what is no standard stream finds no room: the one before it takes half */
 #define _GNU_SOURCE
 #include <dlfcn.h>
@@ -28,38 +30,27 @@
 #include <time.h>
 #include <unistd.h>
 
-static void *(*real_malloc)(size_t);
-static void *(*real_realloc)(void *, size_t);
-static ssize_t (*real_read)(int, void *, size_t);
-static ssize_t (*real_write)(int, const void *, size_t);
-static ssize_t (*real_recvfrom)(int, void *, size_t, int, struct sockaddr *, socklen_t *);
-static ssize_t (*real_sendto)(int, const void *, size_t, int, const struct sockaddr *, socklen_t);
-static long requests, reads, writes, refuse, refuse_from, fail_read, fail_write, piece;
-static int (*real_clock_gettime)(clockid_t, struct timespec *);
-static int (*real_fsync)(int);
-static int (*real_rename)(const char *, const char *);
-static int (*real_renameat)(int, const char *, int, const char *);
-static long receives, sends, interrupt, interrupted, fail_receive, fail_send, with, stall, slept, unbooted;
-static long syncs, fail_sync, kept_writes, full;
-static int started, has_sent;
+/* The calls that this layer stands before, and what is set by a number. */
+#define CALLS(OF) OF(malloc) OF(realloc) OF(read) OF(write) OF(recvfrom) OF(sendto) OF(clock_gettime) OF(fsync) OF(rename) OF(renameat) \
+    OF(setsockopt) OF(getsockopt)
+#define SETTINGS(OF) OF(REFUSE) OF(REFUSE_FROM) OF(FAIL_READ) OF(FAIL_WRITE) OF(PIECE) OF(INTERRUPT) OF(FAIL_RECEIVE) OF(FAIL_SEND) OF(ERRNO) OF(STALL) \
+    OF(SLEPT) OF(UNBOOTED) OF(FAIL_SYNC) OF(FULL)
+#define DECLARE_CALL(name) static __typeof__(name) *real_##name;
+#define FIND_CALL(name) real_##name = dlsym(RTLD_NEXT, #name);
+#define DECLARE_SETTING(name) static long name;
+#define READ_SETTING(name) name = set(#name);
+
+CALLS(DECLARE_CALL)
+SETTINGS(DECLARE_SETTING)
+static long requests, reads, writes, receives, sends, interrupted, syncs, kept_writes;
+static int started, has_sent, asked = -1; /* the socket for which a send buffer was asked last */
 
 static long set(const char *name) {
     const char *text = getenv(name);
     return text ? atol(text) : 0;
 }
 
-static void find(void) {
-    real_malloc = dlsym(RTLD_NEXT, "malloc");
-    real_realloc = dlsym(RTLD_NEXT, "realloc");
-    real_read = dlsym(RTLD_NEXT, "read");
-    real_write = dlsym(RTLD_NEXT, "write");
-    real_recvfrom = dlsym(RTLD_NEXT, "recvfrom");
-    real_sendto = dlsym(RTLD_NEXT, "sendto");
-    real_clock_gettime = dlsym(RTLD_NEXT, "clock_gettime");
-    real_fsync = dlsym(RTLD_NEXT, "fsync");
-    real_rename = dlsym(RTLD_NEXT, "rename");
-    real_renameat = dlsym(RTLD_NEXT, "renameat");
-}
+static void find(void) { CALLS(FIND_CALL) }
 
 static void on_signal(int number) { (void)number; }
 
@@ -73,20 +64,7 @@ static void send_signals(long a_second) {
 
 __attribute__((constructor)) static void start(void) {
     find();
-    refuse = set("REFUSE");
-    refuse_from = set("REFUSE_FROM");
-    fail_read = set("FAIL_READ");
-    fail_write = set("FAIL_WRITE");
-    piece = set("PIECE");
-    interrupt = set("INTERRUPT");
-    fail_receive = set("FAIL_RECEIVE");
-    fail_send = set("FAIL_SEND");
-    with = set("ERRNO");
-    stall = set("STALL");
-    slept = set("SLEPT");
-    unbooted = set("UNBOOTED");
-    fail_sync = set("FAIL_SYNC");
-    full = set("FULL");
+    SETTINGS(READ_SETTING)
     if (set("SIGNALS")) send_signals(set("SIGNALS"));
     started = 1;
 }
@@ -94,7 +72,7 @@ __attribute__((constructor)) static void start(void) {
 static int is_refused(void) {
     if (!started) return 0;
     requests++;
-    return requests == refuse || (refuse_from && requests >= refuse_from);
+    return requests == REFUSE || (REFUSE_FROM && requests >= REFUSE_FROM);
 }
 
 void *malloc(size_t size) {
@@ -112,8 +90,8 @@ void *realloc(void *old, size_t size) {
 ssize_t read(int file, void *bytes, size_t size) {
     if (!real_read) find();
     if (file == 0) {
-        if (++reads == fail_read) { errno = EIO; return -1; }
-        if (piece && size > (size_t)piece) size = piece;
+        if (++reads == FAIL_READ) { errno = EIO; return -1; }
+        if (PIECE && size > (size_t)PIECE) size = PIECE;
     }
     return real_read(file, bytes, size);
 }
@@ -121,24 +99,24 @@ ssize_t read(int file, void *bytes, size_t size) {
 ssize_t write(int file, const void *bytes, size_t size) {
     if (!real_write) find();
     if (file == 1) {
-        if (++writes == fail_write) { errno = EIO; return -1; }
-        if (piece && size > (size_t)piece) size = piece;
+        if (++writes == FAIL_WRITE) { errno = EIO; return -1; }
+        if (PIECE && size > (size_t)PIECE) size = PIECE;
     }
-    if (file > 2 && ++kept_writes == full) { errno = ENOSPC; return -1; }
-    if (file > 2 && kept_writes + 1 == full) size = size / 2;
+    if (file > 2 && ++kept_writes == FULL) { errno = ENOSPC; return -1; }
+    if (file > 2 && kept_writes + 1 == FULL) size = size / 2;
     return real_write(file, bytes, size);
 }
 
 /* Whether a signal comes in place of the call. */
 static int is_interrupted(void) {
-    if (interrupted < interrupt) { interrupted++; errno = EINTR; return 1; }
+    if (interrupted < INTERRUPT) { interrupted++; errno = EINTR; return 1; }
     interrupted = 0;
     return 0;
 }
 
 ssize_t recvfrom(int file, void *bytes, size_t size, int flags, struct sockaddr *from, socklen_t *length) {
     if (is_interrupted()) return -1;
-    if (++receives <= fail_receive) { errno = with; return -1; }
+    if (++receives <= FAIL_RECEIVE) { errno = ERRNO; return -1; }
     return real_recvfrom(file, bytes, size, flags, from, length);
 }
 
@@ -157,8 +135,8 @@ static ssize_t wait_for_room(int file, int flags) {
 
 ssize_t sendto(int file, const void *bytes, size_t size, int flags, const struct sockaddr *to, socklen_t length) {
     if (is_interrupted()) return -1;
-    if (++sends <= fail_send) { errno = with; return -1; }
-    if (stall && ntohs(((const struct sockaddr_in *)to)->sin_port) == stall) return wait_for_room(file, flags);
+    if (++sends <= FAIL_SEND) { errno = ERRNO; return -1; }
+    if (STALL && ntohs(((const struct sockaddr_in *)to)->sin_port) == STALL) return wait_for_room(file, flags);
     ssize_t taken = real_sendto(file, bytes, size, flags, to, length);
     has_sent = has_sent || taken >= 0;
     return taken;
@@ -166,15 +144,15 @@ ssize_t sendto(int file, const void *bytes, size_t size, int flags, const struct
 
 int clock_gettime(clockid_t clock, struct timespec *time) {
     if (!real_clock_gettime) find();
-    if (clock == CLOCK_BOOTTIME && unbooted) { errno = EINVAL; return -1; }
+    if (clock == CLOCK_BOOTTIME && UNBOOTED) { errno = EINVAL; return -1; }
     int status = real_clock_gettime(clock, time);
-    if (status == 0 && clock == CLOCK_REALTIME && has_sent) time->tv_sec += unbooted;
-    if (status == 0 && clock == CLOCK_BOOTTIME && has_sent) time->tv_sec += slept;
+    if (status == 0 && clock == CLOCK_REALTIME && has_sent) time->tv_sec += UNBOOTED;
+    if (status == 0 && clock == CLOCK_BOOTTIME && has_sent) time->tv_sec += SLEPT;
     return status;
 }
 
-static void tell_call(const char *line) {
-    const char *path = getenv("CALLS");
+static void tell(const char *setting, const char *line) {
+    const char *path = getenv(setting);
     int file = path ? open(path, O_WRONLY | O_CREAT | O_APPEND, 0600) : -1;
     if (file < 0) return;
     if (real_write(file, line, strlen(line)) < 0) abort();
@@ -188,25 +166,45 @@ int fsync(int file) {
     ssize_t length = readlink(at, name, sizeof name - 1);
     name[length > 0 ? length : 0] = 0;
     snprintf(line, sizeof line, "fsync %s\n", name);
-    tell_call(line);
+    tell("CALLS", line);
     struct timespec time = {set("SLOW") / 1000, set("SLOW") % 1000 * 1000000};
     if (time.tv_sec || time.tv_nsec) nanosleep(&time, NULL);
-    if (++syncs == fail_sync) { errno = EIO; return -1; }
+    if (++syncs == FAIL_SYNC) { errno = EIO; return -1; }
     return real_fsync(file);
 }
 
-int rename(const char *from, const char *to) {
+static void tell_rename(const char *from, const char *to) {
     char line[8300];
     snprintf(line, sizeof line, "rename %.4000s %.4000s\n", from, to);
-    tell_call(line);
+    tell("CALLS", line);
+}
+
+int rename(const char *from, const char *to) {
+    tell_rename(from, to);
     return real_rename(from, to);
 }
 
 int renameat(int from_folder, const char *from, int to_folder, const char *to) {
-    char line[8300];
-    snprintf(line, sizeof line, "rename %.4000s %.4000s\n", from, to);
-    tell_call(line);
+    tell_rename(from, to);
     return real_renameat(from_folder, from, to_folder, to);
+}
+
+int setsockopt(int file, int level, int name, const void *value, socklen_t length) {
+    char line[32];
+    if (level == SOL_SOCKET && name == SO_SNDBUF) {
+        asked = file;
+        snprintf(line, sizeof line, "%d\n", *(const int *)value);
+        tell("ASKED", line);
+    }
+    return real_setsockopt(file, level, name, value, length);
+}
+
+int getsockopt(int file, int level, int name, void *value, socklen_t *length) {
+    const char *granted = getenv("GRANTED");
+    if (!granted || level != SOL_SOCKET || name != SO_SNDBUF || file != asked) return real_getsockopt(file, level, name, value, length);
+    if (atoi(granted) < 0) { errno = ENOBUFS; return -1; }
+    *(int *)value = atoi(granted);
+    return 0;
 }
 
 ssize_t __write(int file, const void *bytes, size_t size) { return write(file, bytes, size); }

@@ -20,6 +20,7 @@ import sys
 import tempfile
 
 import oca_profile as oca
+from checks import layered
 from damaged import MESSAGES
 
 PEERS = ["127.0.0.1:9001", "127.0.0.1:9002"]
@@ -48,13 +49,11 @@ def device_scripts():
 def link_scripts():
     """An idle link, and a command that is given out until the link is lost."""
     yield b"2499 due\n2500 due\n"
-    yield ("0 submit 4097 4 1 0 -\n0 due\n249 due\n" + "".join(f"{t} due\n" for t in range(250, 5001, 250))
-           + "5000 submit 4097 4 1 0 -\n").encode()
+    yield ("0 submit 4097 4 1 0 -\n0 due\n249 due\n" + "".join(f"{t} due\n" for t in range(250, 5001, 250)) + "5000 submit 4097 4 1 0 -\n").encode()
 
 
-# the messages of damaged.py by their numbers: what a device is sent by three peers in turn, reads, writes, a duplicate, a reuse and
-# keep-alives, and silence at the end; what a link is sent behind a silence, answers to 1, again to 1, to 2, a keep-alive, answers to 5
-# and to 9
+# the messages of damaged.py by their numbers: what a device is sent by three peers in turn, reads, writes, a duplicate, a reuse and keep-alives, and
+# silence at the end; what a link is sent behind a silence, answers to 1, again to 1, to 2, a keep-alive, answers to 5 and to 9
 TO_DEVICE = [(9001, 0), (9002, 2), (9003, 4), (9001, 0), (9002, 10), (9003, 12), (9001, 6), (9002, 14), (9003, 2), (9001, 13), None]
 TO_LINK = [None, (65000, 1), (65000, 8), (65000, 3), (65000, 15), (65000, 7), (65000, 5)]
 NO_SEND = 1000  # the number of a send that no run has
@@ -78,11 +77,9 @@ def link_run(failed, send):
     return ["history 32 16 0", *entries(TO_LINK, [0, 0, 1, 2, 3, 4, 5], failed), f"drive {send}"]
 
 
-# of a kind of run: the script's length, how many sends it has, and what a failed receive and a failed send change in the report, by
-# the places of its numbers (`ends.rt` of trials has their order). A failed receive is a turn more; of a device a failed send is a packet
-# less that is taken.
-IN_MEMORY = {"a device": (device_run, len(TO_DEVICE), 9, {0: 1, 9: 1}, {10: 1, 11: -1}),
-             "a link": (link_run, len(TO_LINK), 9, {0: 1, 4: 1}, {5: 1})}
+# of a kind of run: the script's length, how many sends it has, and what a failed receive and a failed send change in the report, by the places of its
+# numbers (`ends.rt` of trials has their order). A failed receive is a turn more; of a device a failed send is a packet less that is taken.
+IN_MEMORY = {"a device": (device_run, len(TO_DEVICE), 9, {0: 1, 9: 1}, {10: 1, 11: -1}), "a link": (link_run, len(TO_LINK), 9, {0: 1, 4: 1}, {5: 1})}
 
 
 class Runs:
@@ -169,10 +166,9 @@ TREES = {"tree-builder-new", "tree-builder-with-room", "bench", "device-new", "d
 
 def main():
     folder = os.path.abspath(sys.argv[1])
-    here = os.path.dirname(os.path.abspath(__file__))
     device, link = ["ocadev", "replay"], ["ocactl", "replay", "--device", "127.0.0.1:65000", "--first-handle", "1"]
     with tempfile.TemporaryDirectory() as layer:
-        subprocess.run(["gcc", "-O1", "-Wall", "-shared", "-fPIC", "-o", f"{layer}/unreliable.so", f"{here}/unreliable.c", "-ldl"], check=True)
+        layered(layer, "unreliable")
         runs = Runs(folder, layer)
         for words in (["ocadev", "show"], ["ocadev", "--help"], ["ocadev", "serve", "--help"], ["ocactl", "--help"], ["ocactl", "send", "--help"]):
             runs.memory(words, b"")

@@ -22,137 +22,93 @@ from pathlib import Path
 import grants
 import oca_profile as oca
 import own_ports
-from own_ports import free_port
+from checks import Checks, ended, write
+from own_ports import at, bound, free_port, heard
 
 TURNS = 80
-KEEP_ALIVE = oca.pdu(4, [(5).to_bytes(2, "big")])
+ALIVE = oca.pdu(4, [b"\0\5"])  # a keep-alive of five seconds
 EXAMPLES = Path(__file__).resolve().parent.parent / "examples"
 
 
-def bound(port=0):
-    s = socket.socket(socket.AF_INET, socket.SOCK_DGRAM)
-    s.bind(("127.0.0.1", port))
-    s.settimeout(10)
-    return s
+def controls(checks, device, command, *words, given=None, first=1):
+    """A run of `ocactl` at a port of its own, with this input; without one it stays open."""
+    return checks.start("ocactl", command, "--device", at(device), "--first-handle", first, "--port", free_port(), *words, given=given)
 
 
-def response(handle, status, count, params):
-    return oca.pdu(3, [oca.response_body(handle, status, count, params)])
-
-
-class Checks:
-    def __init__(self, folder):
-        self.folder, self.passed, self.failed, self.started = folder, 0, 0, []
-
-    def same(self, what, got, expected):
-        if got == expected:
-            self.passed += 1
-        else:
-            self.failed += 1
-            print(f"{what}: {got!r} in place of {expected!r}")
-
-    def start(self, *words):
-        run = subprocess.Popen([f"{self.folder}/{words[0]}", *map(str, words[1:])], stdin=subprocess.PIPE, stdout=subprocess.PIPE,
-                               stderr=subprocess.PIPE, text=True)
-        self.started.append(run)
-        return run
+def answers(device, handle, status=0, count=0, params=b"", wanted=None):
+    """Takes the next datagram, or the next one that is wanted, and answers it under this handle: what came, and from where."""
+    data, sender = device.recvfrom(2000)
+    while wanted and data != wanted:
+        data, sender = device.recvfrom(2000)
+    device.sendto(oca.response(handle, status, count, params), sender)
+    return data, sender
 
 
 def sends(checks):
-    """`send`: its bytes, its port, what it prints and its status."""
-    for status, count, params, printed, code in ((0, 2, b"\1\xfe", "answer 0 2 01fe\n", 0), (7, 0, b"", "answer 7 0 -\n", 4)):
+    """`send` and `run`: their bytes, their port, what they print and their status; the second line of `run` finds no handle left."""
+    asks = ("--target", 65537, "--level", 258, "--index", 515, "--count", 3, "--params", "00fF10")
+    lines = "65537 258 515 3 00ff10\n1 2 3 0 -\n"
+    for command, words, given, answer, printed, code in (
+            ("send", asks, "", (70001, 0, 2, b"\1\xfe"), "answer 0 2 01fe\n", 0), ("send", asks, "", (70001, 7), "answer 7 0 -\n", 4),
+            ("run", (), lines, (oca.U32, 7), "answer 7 0 -\nrefused 2 handles-spent\n", 3)):
         with bound() as device:
             port = free_port()
-            run = checks.start("ocactl", "send", "--device", f"127.0.0.1:{device.getsockname()[1]}", "--first-handle", 70001, "--target", 65537,
-                               "--level", 258, "--index", 515, "--count", 3, "--params", "00fF10", "--port", port)
-            data, sender = device.recvfrom(2000)
-            device.sendto(response(70001, status, count, params), sender)
-            out = run.communicate(timeout=30)
-            checks.same("send: its bytes", data, oca.pdu(1, [oca.Command(70001, 65537, 258, 515, 3, b"\0\xff\x10").body()]))
-            checks.same("send: its port", sender, ("127.0.0.1", port))
-            checks.same(f"send: an answer with status {status}", (*out, run.returncode), (printed, "", code))
-
-
-def runs(checks):
-    """`run`: the same of two lines, of which the second finds no handle left."""
-    with bound() as device:
-        port = free_port()
-        run = checks.start("ocactl", "run", "--device", f"127.0.0.1:{device.getsockname()[1]}", "--first-handle", oca.U32, "--port", port)
-        run.stdin.write("65537 258 515 3 00ff10\n1 2 3 0 -\n")
-        run.stdin.close()
-        run.stdin = None
-        data, sender = device.recvfrom(2000)
-        device.sendto(response(oca.U32, 7, 0, b""), sender)
-        out = run.communicate(timeout=30)
-        checks.same("run: its bytes", data, oca.pdu(1, [oca.Command(oca.U32, 65537, 258, 515, 3, b"\0\xff\x10").body()]))
-        checks.same("run: its port", sender, ("127.0.0.1", port))
-        checks.same("run: an answer and a refusal", (*out, run.returncode), ("answer 7 0 -\nrefused 2 handles-spent\n", "", 3))
+            run = checks.start("ocactl", command, "--device", at(device), "--first-handle", answer[0], *words, "--port", port, given=given)
+            data, sender = answers(device, *answer)
+            checks.same(f"{command}: its bytes", data, oca.command(answer[0], 65537, 258, 515, 3, b"\0\xff\x10"))
+            checks.same(f"{command}: its port", sender, ("127.0.0.1", port))
+            checks.same(f"{command}: an answer with status {answer[1]}", ended(run), (printed, "", code))
 
 
 def runs_ahead(checks):
     """`run --ahead`: three commands leave before an answer is there; answers that come the other way round are printed in order."""
     with bound() as device:
-        run = checks.start("ocactl", "run", "--device", f"127.0.0.1:{device.getsockname()[1]}", "--first-handle", 1, "--ahead", 3, "--port", free_port())
-        run.stdin.write("1 2 3 0 -\n" * 3)
-        run.stdin.close()
-        run.stdin = None
-        wanted = [oca.pdu(1, [oca.Command(handle, 1, 2, 3, 0, b"").body()]) for handle in (1, 2, 3)]
-        heard = []
-        for _ in wanted:
-            data, sender = device.recvfrom(2000)
-            heard.append(data)
-        checks.same("run --ahead: its bytes", heard, wanted)
+        run = controls(checks, device, "run", "--ahead", 3, given="1 2 3 0 -\n" * 3)
+        came = [device.recvfrom(2000) for _ in range(3)]
+        checks.same("run --ahead: its bytes", [data for data, _ in came], [oca.command(handle, 1, 2, 3) for handle in (1, 2, 3)])
         for handle in (3, 2, 1):
-            device.sendto(response(handle, handle, 0, b""), sender)
-        out = run.communicate(timeout=30)
-        checks.same("run --ahead: its answers", (*out, run.returncode), ("answer 1 0 -\nanswer 2 0 -\nanswer 3 0 -\n", "", 0))
+            device.sendto(oca.response(handle, handle), came[-1][1])
+        checks.same("run --ahead: its answers", ended(run), ("answer 1 0 -\nanswer 2 0 -\nanswer 3 0 -\n", "", 0))
+
+
+def heard_until(device, holds):
+    """The datagrams that come until this holds of them, or for ten seconds none does."""
+    found = []
+    with contextlib.suppress(TimeoutError):
+        while not holds(found):
+            found.append(device.recvfrom(2000)[0])
+    return found
 
 
 def drives_while_it_waits(checks):
     """`run --ahead` with an input that comes in pieces and is kept open: commands that came one after another are under way together, each is
     sent again until it is answered, its answer is printed, and keep-alives go out then, all before more comes. What stands behind the last
     command is no command yet, or none."""
+    wanted = [oca.command(handle, 1, 2, 3) for handle in (1, 2, 3)]
     for behind, rest in (("", ""), ("# done\n", ""), ("\n", ""), ("\n# a comment without an end", "\n"), ("1 2 3 0", " -\n")):
         name = f"run --ahead, {behind!r} behind a command"
-        wanted = [oca.pdu(1, [oca.Command(handle, 1, 2, 3, 0, b"").body()]) for handle in (1, 2, 3)]
         with bound() as device:
-            run = checks.start("ocactl", "run", "--device", f"127.0.0.1:{device.getsockname()[1]}", "--first-handle", 1, "--ahead", 16, "--port", free_port())
-            heard = []
+            run = controls(checks, device, "run", "--ahead", 16)
             for piece in ("1 2", " 3 0 -", "\n"):
-                run.stdin.write(piece)
-                run.stdin.flush()
+                write(run, piece, ends=False)
                 time.sleep(0.02)
             data, sender = device.recvfrom(2000)
             checks.same(f"{name}: one of a line that came in pieces", data, wanted[0])
-            run.stdin.write(f"1 2 3 0 -\n{behind}")
-            run.stdin.flush()
-            with contextlib.suppress(TimeoutError):
-                while heard.count(wanted[1]) < 3:
-                    heard.append(device.recvfrom(2000)[0])
-            checks.same(f"{name}: it is sent again, and the one before it", (set(heard), heard.count(wanted[0]) >= 2), (set(wanted[:2]), True))
+            write(run, f"1 2 3 0 -\n{behind}", ends=False)
+            came = heard_until(device, lambda found: found.count(wanted[1]) == 3)
+            checks.same(f"{name}: it is sent again, and the one before it", (set(came), came.count(wanted[0]) >= 2), (set(wanted[:2]), True))
             for handle in (1, 2):
-                device.sendto(response(handle, handle, 0, b""), sender)
+                device.sendto(oca.response(handle, handle), sender)
             said = b""
             while said.count(b"\n") < 2 and select.select([run.stdout], [], [], 10)[0]:
                 said += os.read(run.stdout.fileno(), 4096) or b"\n" * 9
             checks.same(f"{name}: its answer is printed", said, b"answer 1 0 -\nanswer 2 0 -\n")
-            heard = []
-            with contextlib.suppress(TimeoutError):
-                while heard.count(KEEP_ALIVE) < 2:
-                    heard.append(device.recvfrom(2000)[0])
-            checks.same(f"{name}: keep-alives while nothing is under way", (set(heard) <= {KEEP_ALIVE, *wanted[:2]}, heard.count(KEEP_ALIVE)), (True, 2))
-            run.stdin.write(rest or "1 2 3 0 -\n")
-            run.stdin.close()
-            run.stdin = None
+            came = heard_until(device, lambda found: found.count(ALIVE) == 2)
+            checks.same(f"{name}: keep-alives while nothing is under way", (set(came) <= {ALIVE, *wanted[:2]}, came.count(ALIVE)), (True, 2))
+            write(run, rest or "1 2 3 0 -\n")
             if rest != "\n":
-                while data != wanted[2]:
-                    data = device.recvfrom(2000)[0]
-                device.sendto(response(3, 0, 0, b""), sender)
-            out = run.communicate(timeout=30)
-            checks.same(f"{name}: what comes then", (*out, run.returncode), ("" if rest == "\n" else "answer 0 0 -\n", "", 0))
-
-
-ALIVE = oca.pdu(4, [b"\0\5"])  # a keep-alive of five seconds
+                answers(device, 3, wanted=wanted[2])
+            checks.same(f"{name}: what comes then", ended(run), ("" if rest == "\n" else "answer 0 0 -\n", "", 0))
 
 
 def next_command(device, before=b""):
@@ -168,38 +124,30 @@ def next_command(device, before=b""):
 def at_own_ports(checks):
     """`run` and `lock` without a port are at 65001 or 65002, by turns of the clock, and ask first whether the device answers; where the
     port is in use, `run` is at another, and `lock` is refused. The first handle is the clock's."""
-    root = (100, 1, 1, 0, b"")
     own = own_ports.by_turns()[0]
     for taken in (False, True):
-        with bound() as device, contextlib.ExitStack() as more:
-            if taken:
-                more.enter_context(bound(own))
-            for words, written, command, printed in ((["run"], "1 2 3 0 -\n", (1, 2, 3, 0, b""), "answer 0 0 -\n"),
-                                                     (["lock", 4097], "", (4097, 1, 3, 0, b""), "4097 locked\n")):
-                run = checks.start("ocactl", words[0], "--device", f"127.0.0.1:{device.getsockname()[1]}", *words[1:])
-                run.stdin.write(written)
-                run.stdin.close()
-                run.stdin = None
+        with bound() as device, bound(port=own) if taken else contextlib.nullcontext():
+            for words, given, command, printed in ((["run"], "1 2 3 0 -\n", (1, 2, 3), "answer 0 0 -\n"), (["lock", 4097], "", (4097, 1, 3), "4097 locked\n")):
+                run = checks.start("ocactl", words[0], "--device", at(device), *words[1:], given=given)
                 if taken and words[0] == "lock":
-                    out, said = run.communicate(timeout=30)
-                    checks.same("lock: its own port is in use", (out, said[:17], said.splitlines()[1:], run.returncode),
-                                ("", f"note: port {own}:", ["socket failed"], 1))
+                    out, said, status = ended(run)
+                    checks.same("lock: its own port is in use", (out, said[:17], said.splitlines()[1:], status), ("", f"note: port {own}:", ["socket failed"], 1))
                     continue
-                data = b""
+                data, first = b"", 0
                 if not taken:
                     data, sender = next_command(device)
                     first = int.from_bytes(data[14:18], "big")
-                    checks.same(f"{words[0]}: what is asked first", data, oca.pdu(1, [oca.Command(first, *root).body()]))
-                    device.sendto(response(first, 0, 0, b""), sender)
+                    checks.same(f"{words[0]}: what is asked first", data, oca.command(first, 100, 1, 1))
+                    device.sendto(oca.response(first), sender)
                 data, sender = next_command(device, data)
                 handle = int.from_bytes(data[14:18], "big")
-                checks.same(f"{words[0]}: its bytes", data, oca.pdu(1, [oca.Command(handle, *command).body()]))
+                checks.same(f"{words[0]}: its bytes", data, oca.command(handle, *command))
                 checks.same(f"{words[0]}: its own port", sender[1] == own, not taken)
                 checks.same(f"{words[0]}: a handle by the clock", (int(time.time() * 100000) - handle) % 2**31 < 60 * 100000, True)
                 if not taken:
                     checks.same(f"{words[0]}: the handle behind the first", handle, first + 1)
-                device.sendto(response(handle, 0, 0, b""), sender)
-                checks.same(f"{words[0]}: what it prints", (*run.communicate(timeout=30), run.returncode), (printed, "", 0))
+                device.sendto(oca.response(handle), sender)
+                checks.same(f"{words[0]}: what it prints", ended(run), (printed, "", 0))
 
 
 def faults(checks):
@@ -211,42 +159,41 @@ def faults(checks):
                                    (("ocactl", "send", *send, "--turns", "x"), "bad words", 2),
                                    (("ocactl", "send", *send, "--port", port), "socket failed", 1),
                                    (("ocadev", "serve", "--port", port), "socket failed", 1)):
-            run = checks.start(*words)
-            out, said = run.communicate(timeout=30)
+            out, said, status = checks.ran(*words)
             lines = said.splitlines()
-            checks.same(f"faults of {words}", (out, lines[-1:], len(lines), said[:6], run.returncode), ("", [fault], 2, "note: ", code))
+            checks.same(f"faults of {words}", (out, lines[-1:], len(lines), said[:6], status), ("", [fault], 2, "note: ", code))
     for program in ("ocadev", "ocactl", "ocapanel"):
         done = subprocess.run([f"{checks.folder}/{program}".encode(), b"\xff"], capture_output=True, timeout=30)
-        checks.same(f"{program}: words that are no UTF-8", (done.stdout, done.stderr, done.returncode),
-                    (b"", b"note: an argument is not UTF-8\nbad words\n", 2))
+        checks.same(f"{program}: words that are no UTF-8", (done.stdout, done.stderr, done.returncode), (b"", b"note: an argument is not UTF-8\nbad words\n", 2))
+
+
+TO, SENT = "--device 127.0.0.1:65000", "--target 1 --level 1 --index 1 --count 0"
+# Words, and how the note on them begins behind `note: `; and options of `send`, of a device and of `serve` with a value that is not valid, whose note
+# begins with both.
+NOTED = [
+    (f"ocactl run {TO} --ahead 0", "--ahead 0 "), (f"ocactl run {TO} --ahead 33", "--ahead 33 "),
+    (f"ocactl run {TO} --ahead 17", "--ahead is more than the span"), (f"ocactl set {TO} --ahead 3 --span 2 4097 muted", "--ahead is more than the span"),
+    ("ocactl replay --device x --first-handle 1", "--device x "), (f"ocactl replay {TO} --first-handle x", "--first-handle x "),
+    (f"ocactl send {TO} {SENT} --params {'5a' * 1446}", "--params is not valid: "),
+    (f"ocactl send {TO} --target 1", "error: the following required arguments were not provided: --level <L>"),
+    ("ocactl get 4097", "error: the following required arguments were not provided: --device <"),
+    ("ocadev serve", "error: the following required arguments were not provided: --port <PORT>"),
+    ("ocadev show --tree x --channels 3", "--tree and --channels "), ("ocadev show --channels 1023", "--channels 1023 "),
+    ("ocadev serve --port 65536", "--port 65536 ")]
+NOT_VALID = {
+    "ocactl get 4097": "device: 127.0.0.1:0 0.0.0.0:65000 0.1.2.3:65000 224.0.0.1:65000 239.255.255.255:1 255.255.255.255:65000 127.0.0.1:65536 localhost:1 "
+                       "127.0.0.1",
+    f"ocactl send {TO} {SENT}": "ip: 224.0.0.1 255.255.255.255 1.2.3; port: 65536; first-handle: 4294967296; span: 0 33; turns: 4294967296; params: 5 5g",
+    "ocadev serve --port 0": "ip: 224.0.0.1 255.255.255.255; window: 0 65; peers: 0 65; turns: x"}
 
 
 def bad_options(checks):
     """An option whose value is not valid is named with its value; so is one that is missing."""
-    to = ("--device", "127.0.0.1:65000")
-    sent = ("--target", "1", "--level", "1", "--index", "1", "--count", "0")
-    rows = [(("ocactl", "get", "--device", device, "4097"), f"--device {device} ") for device in
-            ("127.0.0.1:0", "0.0.0.0:65000", "0.1.2.3:65000", "224.0.0.1:65000", "239.255.255.255:1", "255.255.255.255:65000", "127.0.0.1:65536", "localhost:1", "127.0.0.1")]
-    rows += [(("ocactl", "send", *to, *sent, f"--{name}", value), f"--{name} {value} ") for name, value in
-             (("ip", "224.0.0.1"), ("ip", "255.255.255.255"), ("ip", "1.2.3"), ("port", "65536"), ("first-handle", "4294967296"),
-              ("span", "0"), ("span", "33"), ("turns", "4294967296"), ("params", "5"), ("params", "5g"))]
-    rows += [(("ocactl", "run", *to, "--ahead", "0"), "--ahead 0 "), (("ocactl", "run", *to, "--ahead", "33"), "--ahead 33 "),
-             (("ocactl", "run", *to, "--ahead", "17"), "--ahead is more than the span"),
-             (("ocactl", "set", *to, "--ahead", "3", "--span", "2", "4097", "muted"), "--ahead is more than the span"),
-             (("ocactl", "replay", "--device", "x", "--first-handle", "1"), "--device x "),
-             (("ocactl", "replay", *to, "--first-handle", "x"), "--first-handle x "),
-             (("ocactl", "send", *to, *sent, "--params", "5a" * 1446), "--params is not valid: "),
-             (("ocactl", "send", *to, "--target", "1"), "error: the following required arguments were not provided: --level <L>"),
-             (("ocactl", "get", "4097"), "error: the following required arguments were not provided: --device <"),
-             (("ocadev", "serve"), "error: the following required arguments were not provided: --port <PORT>"),
-             (("ocadev", "show", "--tree", "x", "--channels", "3"), "--tree and --channels "), (("ocadev", "show", "--channels", "1023"), "--channels 1023 ")]
-    rows += [(("ocadev", "serve", "--port", "0", f"--{name}", value), f"--{name} {value} ") for name, value in
-             (("ip", "224.0.0.1"), ("ip", "255.255.255.255"), ("window", "0"), ("window", "65"), ("peers", "0"), ("peers", "65"), ("turns", "x"))]
-    rows += [(("ocadev", "serve", "--port", "65536"), "--port 65536 ")]
-    for words, note in rows:
-        done = subprocess.run([f"{checks.folder}/{words[0]}", *words[1:]], capture_output=True, text=True, timeout=30)
-        lines = done.stderr.splitlines()
-        checks.same(f"bad option of {words}", (done.stdout, lines[0].startswith(f"note: {note}"), lines[1:], done.returncode), ("", True, ["bad words"], 2))
+    of = [(words, name, value) for words, told in NOT_VALID.items() for name, values in (it.split(": ") for it in told.split("; ")) for value in values.split()]
+    for words, note in [*NOTED, *((f"{words} --{name} {value}", f"--{name} {value} ") for words, name, value in of)]:
+        out, said, status = checks.ran(*words.split())
+        lines = said.splitlines()
+        checks.same(f"bad option of {words}", (out, lines[0].startswith(f"note: {note}"), lines[1:], status), ("", True, ["bad words"], 2))
 
 
 # The forms of options by their names: of a number its most digits, its least and its largest value.
@@ -265,53 +212,55 @@ WANTED = {("ocadev", "serve"): {"port": "0"}, ("ocactl", "replay"): {"device": "
 BEHIND = {"get": ["4097"], "set": ["4097", "muted"], "lock": ["4097"], "unlock": ["4097"]}
 
 
-def commands_of(folder):
+def commands_of(checks):
     """Each command of each program, with its options that take a value, and what its help says of each."""
-    def help_of(program, *words):
-        return subprocess.run([f"{folder}/{program}", *words, "--help"], capture_output=True, text=True, timeout=30).stdout
-
     for program in ("ocadev", "ocactl", "ocapanel"):
-        listed = re.search(r"^Commands:\n((?:.+\n)+)", help_of(program), re.M)
+        listed = re.search(r"^Commands:\n((?:.+\n)+)", checks.ran(program, "--help")[0], re.M)
         names = [name for name in re.findall(r"^  (\w+)", listed[1], re.M) if name != "help"] if listed else [""]
         for name in names:
-            yield program, name, dict(re.findall(r"^ +(?:-\w, )?--([a-z-]+)[ =]<[^>]+> +(.*)", help_of(program, *[name] * bool(name)), re.M))
+            shown = checks.ran(program, *[name] * bool(name), "--help")[0]
+            yield program, name, dict(re.findall(r"^ +(?:-\w, )?--([a-z-]+)[ =]<[^>]+> +(.*)", shown, re.M))
+
+
+def words_of(program, name, options):
+    """The words of a command with these options."""
+    return [program, *[name] * bool(name), *(f"--{option}={value}" for option, value in options.items()), *BEHIND.get(name, [])]
+
+
+def form_of(program, name, option):
+    """The form of an option in words, and values that are not of it; none where any value is."""
+    if option in FREE:
+        return "", []
+    digits, least, largest = NUMBERS.get((program, option), NUMBERS.get(option, (0, 0, 0)))
+    if digits:
+        values = ["x", "-1", str(largest + 1), "0" * digits + "1", *([str(least - 1)] if least else [])]
+        return f"a number from {least} to {largest}, of 1 to {digits} digits", values
+    return TEXTS.get((name, option), TEXTS.get(option, f"no form is known of --{option}")), ["x"]
 
 
 def bad_values(checks):
     """Each option of each command with values that are not valid: the note names it, the value and the form, and
     nothing else is done. Where its help says from what to what it may be, that is the form's."""
-    for program, name, options in commands_of(checks.folder):
+    for program, name, options in commands_of(checks):
         for option, told in options.items():
-            numbers = NUMBERS.get((program, option), NUMBERS.get(option))
-            if numbers:
-                digits, least, largest = numbers
-                for said in re.findall(r"\b(\d+) to (\d+)\b", told):
-                    checks.same(f"{program} {name} --{option}: its help", said, (str(least), str(largest)))
-                form = f"a number from {least} to {largest}, of 1 to {digits} digits"
-                values = ["x", "-1", str(largest + 1), "0" * digits + "1", *([str(least - 1)] if least else [])]
-            elif option in FREE:
-                continue
-            else:
-                form = TEXTS.get((name, option), TEXTS.get(option, f"no form is known of --{option}"))
-                values = ["x"]
+            form, values = form_of(program, name, option)
+            for said in re.findall(r"\b(\d+) to (\d+)\b", told) if form.startswith("a number ") else []:
+                checks.same(f"{program} {name} --{option}: its help", "a number from {} to {}".format(*said), form.split(",")[0])
             for value in values:
-                given = {**WANTED.get((program, name), {}), option: value}
-                words = [program, *[name] * bool(name), *(f"--{which}={that}" for which, that in given.items()), *BEHIND.get(name, [])]
-                done = subprocess.run([f"{checks.folder}/{words[0]}", *words[1:]], stdin=subprocess.DEVNULL, capture_output=True, text=True, timeout=30)
+                words = words_of(program, name, {**WANTED.get((program, name), {}), option: value})
                 note = f"note: --{option} {value} is not valid: it must be {form}\n"
-                checks.same(" ".join(words), (done.stdout, done.stderr, done.returncode), ("", f"{note}bad words\n", 2))
+                checks.same(" ".join(words), checks.ran(*words), ("", f"{note}bad words\n", 2))
 
 
 def missing_options(checks):
     """Each option that a command wants is named, in one line, where it is missing."""
     for (program, name), wanted in WANTED.items():
-        shown = subprocess.run([f"{checks.folder}/{program}", *[name] * bool(name), "--help"], capture_output=True, text=True, timeout=30).stdout
+        shown = checks.ran(program, *[name] * bool(name), "--help")[0]
         for option in wanted:
             kind = re.search(rf"--{option}[ =]<([^>]+)>", shown)[1]
-            words = [program, *[name] * bool(name), *(f"--{which}={that}" for which, that in wanted.items() if which != option), *BEHIND.get(name, [])]
-            done = subprocess.run([f"{checks.folder}/{words[0]}", *words[1:]], stdin=subprocess.DEVNULL, capture_output=True, text=True, timeout=30)
+            words = words_of(program, name, {which: that for which, that in wanted.items() if which != option})
             said = f"note: error: the following required arguments were not provided: --{option} <{kind}>\nbad words\n"
-            checks.same(" ".join(words), (done.stdout, done.stderr, done.returncode), ("", said, 2))
+            checks.same(" ".join(words), checks.ran(*words), ("", said, 2))
 
 
 def versions(checks):
@@ -321,8 +270,7 @@ def versions(checks):
     toolchain = re.search(r"checked with\s+`(rattle-kit-[^`]*)`", (top / "README.md").read_text())[1]
     for program in ("ocadev", "ocactl", "ocapanel"):
         for word in ("--version", "-V"):
-            done = subprocess.run([f"{checks.folder}/{program}", word], capture_output=True, text=True, timeout=30)
-            checks.same(f"{program} {word}", (done.stdout, done.stderr, done.returncode), (f"{program} {number}\nchecked with {toolchain}\n", "", 0))
+            checks.same(f"{program} {word}", checks.ran(program, word), (f"{program} {number}\nchecked with {toolchain}\n", "", 0))
 
 
 def granted():
@@ -342,20 +290,16 @@ def serves(checks):
     checks.same("serve: how many bytes the system grants", few, (grants.NOTE, True) if grants.are_few() else ("", ""))
     device = ("127.0.0.2", int(said[1]))
     first, *others, stranger = [bound() for _ in range(17)]
-
-    def get(handle, level=4):
-        return oca.pdu(1, [oca.Command(handle, 4097, level, 1, 0, b"").body()])
-
+    get = lambda handle, level=4: oca.command(handle, 4097, level, 1)
     # 8 are executed; 2 are duplicates within the window of 2, 3 are old, 4 ask something else under the handle 8
     datagrams = [get(h) for h in range(1, 9)] + [get(7), get(8)] + [get(h) for h in (6, 1, 0)] + [get(8, 1)] * 4
-    answered = 0
     for data in datagrams + [b"\0"] * 5 + [b"\0" * 1473] * 7:
         first.sendto(data, device)
     for peer in others:
-        peer.sendto(oca.pdu(3, [oca.response_body(1, 0, 0, b"")]), device)
+        peer.sendto(oca.response(1), device)
     for _ in range(6):
         stranger.sendto(get(1), device)
-    out, told = run.communicate(timeout=60)
+    out, told, status = ended(run)
     checks.same("serve: what else it tells without --verbose", told, "")
     counts = dict(re.findall(r"([a-z-]+) (\d+)", out))
     quiet = int(counts.pop("quiet", -1))
@@ -363,35 +307,22 @@ def serves(checks):
         "turns": str(TURNS), "executed": "8", "kept": "2", "old": "3", "reused": "4", "malformed": "5", "no-room": "6", "oversize": "7",
         "failed-receives": "0", "failed-sends": "0"})
     checks.same("serve: its quiet turns", quiet, TURNS - len(datagrams) - 5 - 7 - len(others) - 6)
-    checks.same("serve: its status", run.returncode, 0)
-    first.setblocking(False)
-    try:
-        while first.recv(2000):
-            answered += 1
-    except BlockingIOError:
-        pass
-    checks.same("serve: its answers", answered, 10)
+    checks.same("serve: its status", status, 0)
+    checks.same("serve: its answers", len(heard(first)), 10)
 
 
 # What is told of a span of 17.
-WIDE = ["note: --span 17: the device needs a window of 33 commands or more; "
-        "its default of 32 is enough for a span of 16"]
+WIDE = "note: --span 17: the device needs a window of 33 commands or more; its default of 32 is enough for a span of 16"
 
 
 def wide_spans(checks):
     """`send` and `run` with a span of 17, and `send` with one of 16: which window the device needs, where it is not the one that it has."""
-    said = f"{WIDE[0]}\n"
-    for command, span, told in ((["send", "--target", 1, "--level", 1, "--index", 1, "--count", 0], 17, said),
-                                (["send", "--target", 1, "--level", 1, "--index", 1, "--count", 0], 16, ""), (["run"], 17, said)):
+    for words, given, span, told in ((["send", *SENT.split()], "", 17, WIDE + "\n"), (["send", *SENT.split()], "", 16, ""),
+                                     (["run"], "1 1 1 0 -\n", 17, WIDE + "\n")):
         with bound() as device:
-            run = checks.start("ocactl", *command, "--device", f"127.0.0.1:{device.getsockname()[1]}", "--first-handle", 1, "--span", span, "--port", free_port())
-            if command == ["run"]:
-                run.stdin.write("1 1 1 0 -\n")
-                run.stdin.close()
-                run.stdin = None
-            sender = device.recvfrom(2000)[1]
-            device.sendto(response(1, 0, 0, b""), sender)
-            checks.same(f"{command[0]} --span {span}", (*run.communicate(timeout=30), run.returncode), ("answer 0 0 -\n", told, 0))
+            run = controls(checks, device, *words, "--span", span, given=given)
+            answers(device, 1)
+            checks.same(f"{words[0]} --span {span}", ended(run), ("answer 0 0 -\n", told, 0))
 
 
 def spans_of_hands(checks):
@@ -399,32 +330,28 @@ def spans_of_hands(checks):
     for command in ("tree", "get", "set", "lock", "unlock"):
         for span in (16, 17):
             with bound() as device:
-                run = checks.start("ocactl", command, "--device", f"127.0.0.1:{device.getsockname()[1]}", "--span", span, "--turns", 0, "--port", free_port(),
-                                   *BEHIND.get(command, []))
-                said = run.communicate(timeout=30)[1].splitlines()
+                said = ended(controls(checks, device, command, "--span", span, "--turns", 0, *BEHIND.get(command, [])))[1].splitlines()
                 notes = [line for line in said if "needs a window" in line]
-                checks.same(f"{command} --span {span}", (notes, said[:len(notes)]), (WIDE, WIDE) if span > 16 else ([], []))
+                checks.same(f"{command} --span {span}", (notes, said[:len(notes)]), ([WIDE], [WIDE]) if span > 16 else ([], []))
 
 
 def holds(checks):
     """`lock --hold`: its status is the graver of locking and of taking off, and nothing is taken off that was not locked."""
-    for answers, printed, status in (((0, 0), "4097 locked\n4097 unlocked\n", 0), ((0, 3), "4097 locked\n4097 Locked\n", 4), ((3,), "4097 Locked\n", 4)):
+    for statuses, printed, status in (((0, 0), "4097 locked\n4097 unlocked\n", 0), ((0, 3), "4097 locked\n4097 Locked\n", 4), ((3,), "4097 Locked\n", 4)):
         with bound() as device:
-            run = checks.start("ocactl", "lock", "--hold", "--device", f"127.0.0.1:{device.getsockname()[1]}", "--first-handle", 1, "--port", free_port(), 4097)
-            data, heard = b"", []
-            for handle, answer in enumerate(answers, 1):
-                data, sender = next_command(device, data)
-                heard.append(data)
-                device.sendto(response(handle, answer, 0, b""), sender)
+            run, came = controls(checks, device, "lock", "--hold", 4097), [b""]
+            for handle, answer in enumerate(statuses, 1):
+                data, sender = next_command(device, came[-1])
+                came.append(data)
+                device.sendto(oca.response(handle, answer), sender)
                 if handle == 1 and answer == 0:
                     checks.same("lock --hold: it is locked", run.stdout.readline(), "4097 locked\n")
-                    run.stdin.close()
-                    run.stdin = None
-            out = run.communicate(timeout=30)
-            wanted = [oca.pdu(1, [oca.Command(handle, 4097, 1, index, 0, b"").body()]) for handle, index in ((1, 3), (2, 4))]
-            checks.same(f"lock --hold, {answers}: what is asked", heard, wanted[:len(answers)])
-            before = "4097 locked\n" if answers[0] == 0 else ""
-            checks.same(f"lock --hold, {answers}", (before + out[0], out[1], run.returncode), (printed, "", status))
+                    write(run, "")
+            out, said, code = ended(run)
+            wanted = [oca.command(handle, 4097, 1, index) for handle, index in ((1, 3), (2, 4))]
+            checks.same(f"lock --hold, {statuses}: what is asked", came[1:], wanted[:len(statuses)])
+            before = "4097 locked\n" if statuses[0] == 0 else ""
+            checks.same(f"lock --hold, {statuses}", (before + out, said, code), (printed, "", status))
 
 
 def typed(checks):
@@ -432,23 +359,17 @@ def typed(checks):
     may be under way, the fastest of eight sooner than the command would be sent again, which is 250 ms behind it."""
     for more in ([], ["--ahead", 4]):
         with bound() as device:
-            run = checks.start("ocactl", "run", "--device", f"127.0.0.1:{device.getsockname()[1]}", "--first-handle", 1,
-                               "--port", free_port(), *more)
-            took = []
+            run, took = controls(checks, device, "run", *more), []
             for handle in range(1, 9):
-                run.stdin.write("1 2 3 0 -\n")
-                run.stdin.flush()
-                data, sender = device.recvfrom(2000)
-                wanted = oca.pdu(1, [oca.Command(handle, 1, 2, 3, 0, b"").body()])
-                checks.same(f"run {more}, typed: its bytes", data, wanted)
-                device.sendto(response(handle, handle, 0, b""), sender)
+                write(run, "1 2 3 0 -\n", ends=False)
+                data, _ = answers(device, handle, handle)
+                checks.same(f"run {more}, typed: its bytes", data, oca.command(handle, 1, 2, 3))
                 begun = time.monotonic()
                 ready = select.select([run.stdout], [], [], 10)[0]
                 took.append(time.monotonic() - begun)
                 checks.same(f"run {more}, typed: its answer", ready and run.stdout.readline(), f"answer {handle} 0 -\n")
             checks.same(f"run {more}, typed: the fastest answer, {1000 * min(took):.0f} ms", min(took) < 0.2, True)
-            out = run.communicate(timeout=30)
-            checks.same(f"run {more}, typed: its end", (*out, run.returncode), ("", "", 0))
+            checks.same(f"run {more}, typed: its end", ended(run), ("", "", 0))
 
 
 def one_by_one(checks):
@@ -456,229 +377,167 @@ def one_by_one(checks):
     the next line, nor for more lines."""
     for more in ([], ["--ahead", 2]):
         with bound() as device:
-            to = f"127.0.0.1:{device.getsockname()[1]}"
-            run = checks.start("ocactl", "run", "--device", to, "--first-handle", 1, "--port", free_port(), *more)
-            run.stdin.write("1 2 3 0 -\n" * 5)
-            run.stdin.flush()
+            run = controls(checks, device, "run", *more)
+            write(run, "1 2 3 0 -\n" * 5, ends=False)
             for handle in range(1, 6):
-                data, wanted = b"", oca.pdu(1, [oca.Command(handle, 1, 2, 3, 0, b"").body()])
-                while data != wanted:
-                    data, sender = device.recvfrom(2000)
-                device.sendto(response(handle, handle, 0, b""), sender)
+                answers(device, handle, handle, wanted=oca.command(handle, 1, 2, 3))
                 ready = select.select([run.stdout], [], [], 4)[0]
-                answered = ready and run.stdout.readline()
-                checks.same(f"run {more}, lines at once: answer {handle}", answered, f"answer {handle} 0 -\n")
+                checks.same(f"run {more}, lines at once: answer {handle}", ready and run.stdout.readline(), f"answer {handle} 0 -\n")
                 if not ready:
                     run.kill()
                     break
-            out = run.communicate(timeout=30)
-            checks.same(f"run {more}, lines at once: its end", (*out, run.returncode), ("", "", 0))
+            checks.same(f"run {more}, lines at once: its end", ended(run), ("", "", 0))
 
 
 def limits(checks):
     """`send`: the greatest value of each option is sent, and one more is bad words and sends nothing."""
-    most = {"target": oca.U32, "level": 65535, "index": 65535, "count": 255, "params": "5a" * 1445, "turns": oca.U32, "port": 65535}
-    wanted = oca.pdu(1, [oca.Command(oca.U32, oca.U32, 65535, 65535, 255, b"\x5a" * 1445).body()])
+    most = {"first-handle": oca.U32, "target": oca.U32, "level": 65535, "index": 65535, "count": 255, "params": "5a" * 1445, "turns": oca.U32, "port": 65535}
     with bound() as device:
-        to = ("--device", f"127.0.0.1:{device.getsockname()[1]}", "--first-handle", oca.U32)
-        words = [word for name, value in most.items() for word in (f"--{name}", value)]
-        run = checks.start("ocactl", "send", *to, *words)
-        data, sender = device.recvfrom(2000)
-        device.sendto(response(oca.U32, 0, 0, b""), sender)
-        out = run.communicate(timeout=30)
-        checks.same("send: the greatest of each option", (data, sender[1], *out, run.returncode), (wanted, 65535, "answer 0 0 -\n", "", 0))
-        device.setblocking(False)
-        for name, value in {**most, "first-handle": oca.U32}.items():
-            more = value + "5a" if name == "params" else value + 1
-            all_but = [word for other, that in most.items() if other != name for word in (f"--{other}", that)]
-            where = to[:2] if name == "first-handle" else to
-            run = checks.start("ocactl", "send", *where, *all_but, f"--{name}", more)
-            out, said = run.communicate(timeout=30)
-            checks.same(f"send: --{name} too great", (out, said.splitlines()[-1:], run.returncode), ("", ["bad words"], 2))
-        try:
-            checks.same("send: bad words send nothing", device.recv(2000), b"")
-        except BlockingIOError:
-            checks.passed += 1
+        send = lambda options: checks.start("ocactl", "send", "--device", at(device), *(it for pair in options.items() for it in (f"--{pair[0]}", pair[1])))
+        run = send(most)
+        data, sender = answers(device, oca.U32)
+        checks.same("send: the greatest of each option", (data, sender[1], *ended(run)),
+                    (oca.command(oca.U32, oca.U32, 65535, 65535, 255, b"\x5a" * 1445), 65535, "answer 0 0 -\n", "", 0))
+        for name, value in most.items():
+            out, said, status = ended(send({**most, name: value + "5a" if name == "params" else value + 1}))
+            checks.same(f"send: --{name} too great", (out, said.splitlines()[-1:], status), ("", ["bad words"], 2))
+        checks.same("send: bad words send nothing", heard(device), [])
 
 
 def defaults(checks):
     """`send` without an answer: 20 sendings of one command, and with `--turns 0` one, for which it does not wait."""
     for turns, sent, said in ((["--turns", 0], 1, "no answer\n"), ([], 20, "lost\n")):
         with bound() as device:
-            run = checks.start("ocactl", "send", "--device", f"127.0.0.1:{device.getsockname()[1]}", "--first-handle", 1, "--target", 1,
-                               "--level", 1, "--index", 1, "--count", 0, *turns)
-            out = run.communicate(timeout=30)
-            note = f"note: nothing was heard from 127.0.0.1:{device.getsockname()[1]}\n"
-            checks.same(f"send {turns}: its end", (*out, run.returncode), (said, note, 3))
-            device.setblocking(False)
-            heard = []
-            with contextlib.suppress(BlockingIOError):
-                while True:
-                    heard.append(device.recv(2000))
-            checks.same(f"send {turns}: its sendings", (len(heard), len(set(heard))), (sent, 1))
+            run = checks.start("ocactl", "send", "--device", at(device), "--first-handle", 1, *SENT.split(), *turns)
+            checks.same(f"send {turns}: its end", ended(run), (said, f"note: nothing was heard from {at(device)}\n", 3))
+            came = heard(device)
+            checks.same(f"send {turns}: its sendings", (len(came), len(set(came))), (sent, 1))
 
 
 def unwritten(checks):
     """What can't be written is a fault, of each command, and of help."""
     with open("/dev/full", "w") as full, bound() as device:
-        to = f"127.0.0.1:{device.getsockname()[1]}"
-        send = ("--target", 1, "--level", 1, "--index", 1, "--count", 0)
-        for words, script in ((("ocadev", "serve", "--port", 0, "--turns", 0), ""), (("ocadev", "show"), ""), (("ocadev", "--help"), ""),
-                              (("ocadev", "replay"), "0 quiet\n"), (("ocactl", "send", "--device", to, "--first-handle", 1, *send), ""),
-                              (("ocactl", "run", "--device", to, "--first-handle", 1), "1 2 3 0 -\n"),
-                              (("ocactl", "send", "--help"), ""), (("ocapanel", "--help"), ""),
-                              (("ocapanel", "--version"), "")):
-            run = subprocess.Popen([f"{checks.folder}/{words[0]}", *map(str, words[1:])], stdin=subprocess.PIPE, stdout=full,
-                                   stderr=subprocess.PIPE, text=True)
-            checks.started.append(run)
-            run.stdin.write(script)
-            run.stdin.close()
-            run.stdin = None
+        to = f"--device {at(device)} --first-handle 1"
+        for words, given in (("ocadev serve --port 0 --turns 0", ""), ("ocadev show", ""), ("ocadev --help", ""), ("ocadev replay", "0 quiet\n"),
+                             (f"ocactl send {to} {SENT}", ""), (f"ocactl run {to}", "1 2 3 0 -\n"), ("ocactl send --help", ""),
+                             ("ocapanel --help", ""), ("ocapanel --version", "")):
+            run = checks.start(*words.split(), given=given, stdout=full)
             if "--device" in words:
-                _, sender = device.recvfrom(2000)
-                device.sendto(response(1, 0, 0, b""), sender)
-            said = run.communicate(timeout=30)[1]
-            checks.same(f"{words}, which can't be written", (said.splitlines()[-1:], run.returncode), (["write failed"], 1))
+                answers(device, 1)
+            _, said, status = ended(run)
+            checks.same(f"{words}, which can't be written", (said.splitlines()[-1:], status), (["write failed"], 1))
 
 
 def without_streams(checks):
-    """Where the standard streams are closed, no socket takes the place of one of them, to which what is printed would
-    go."""
-    def close():
-        for stream in range(3):
-            os.close(stream)
-
+    """Where the standard streams are closed, no socket takes the place of one of them, to which what is printed would go."""
     with bound() as device:
-        to = ("--device", f"127.0.0.1:{device.getsockname()[1]}")
-        command = ("--target", "1", "--level", "1", "--index", "1", "--count", "0")
-        for words in (("ocadev", "serve", "--port", "0"), ("ocactl", "send", *to, *command),
-                      ("ocapanel", *to, "--listen", "127.0.0.1:0")):
-            run = subprocess.Popen([f"{checks.folder}/{words[0]}", *words[1:]], preexec_fn=close)
-            checks.started.append(run)
+        for words in ("ocadev serve --port 0", f"ocactl send --device {at(device)} {SENT}", f"ocapanel --device {at(device)} --listen 127.0.0.1:0"):
+            run = checks.start(*words.split(), stdin=None, stdout=None, stderr=None, preexec_fn=lambda: [os.close(stream) for stream in range(3)])
             files, until = {}, time.monotonic() + 30
             while not any("socket" in name for name in files.values()) and time.monotonic() < until:
                 with contextlib.suppress(OSError):
-                    names = Path(f"/proc/{run.pid}/fd")
-                    files = {int(number.name): os.readlink(number) for number in names.iterdir()}
-            streams = [files.get(number) for number in range(3)]
-            checks.same(f"{words[0]} without standard streams: what they are", streams, ["/dev/null"] * 3)
+                    files = {int(number.name): os.readlink(number) for number in Path(f"/proc/{run.pid}/fd").iterdir()}
+            checks.same(f"{words} without standard streams: what they are", [files.get(number) for number in range(3)], ["/dev/null"] * 3)
             run.kill()
             run.wait()
 
 
+def serving(checks, *words):
+    """A run of `ocadev serve`, and where it listens."""
+    run = checks.start("ocadev", "serve", "--port", 0, *words)
+    port = int(run.stderr.readline().split(":")[1])
+    grants.read_note(run)
+    return run, ("127.0.0.1", port)
+
+
 def serves_until_stopped(checks):
-    """`serve` without `--turns`, of one peer and two channel strips: what it tells of each datagram, and that a signal ends it without a
-    report."""
+    """`serve` without `--turns`, of one peer and two channel strips: what it tells of each datagram, and that a signal ends it without a report."""
     run = checks.start("ocadev", "serve", "--port", 0, "--ip", "0.0.0.0", "--peers", 1, "--channels", 2, "--verbose")
     said = re.fullmatch(r"listening 0\.0\.0\.0:(\d+)\n", run.stderr.readline())
     checks.same("serve at 0.0.0.0: where it listens", said is not None, True)
     checks.same("serve at 0.0.0.0: a note", run.stderr.readline()[:14], "note: 0.0.0.0 ")
     checks.same("serve: a note where little is granted", grants.read_note(run), True)
-    device = ("127.0.0.1", int(said[1]))
+    both = [oca.Command(1, 4108, 4, 2, 1, b"\2").body(), oca.Command(2, 4110, 5, 2, 1, b"\0\5").body()]
     with bound() as first, bound() as second:
         told = []
-        for sender, data in ((first, oca.pdu(1, [oca.Command(1, 4108, 4, 2, 1, b"\2").body(), oca.Command(2, 4110, 5, 2, 1, b"\0\5").body()])),
-                             (first, oca.pdu(1, [oca.Command(1, 4108, 4, 2, 1, b"\2").body()])),
-                             (first, oca.pdu(1, [oca.Command(1, 4108, 4, 1, 0, b"").body()])),
-                             (second, oca.pdu(1, [oca.Command(1, 4108, 4, 1, 0, b"").body()])), (second, b"\x3b"), (second, b"\0" * 1473)):
-            sender.sendto(data, device)
+        for sender, data in ((first, oca.pdu(1, both)), (first, oca.pdu(1, both[:1])), (first, oca.command(1, 4108, 4, 1)),
+                             (second, oca.command(1, 4108, 4, 1)), (second, b"\x3b"), (second, b"\0" * 1473)):
+            sender.sendto(data, ("127.0.0.1", int(said[1])))
             told.append(run.stderr.readline())
-        names = [f"127.0.0.1:{peer.getsockname()[1]}" for peer in (first, second)]
         checks.same("serve --verbose: what it tells", told, [
-            f"{names[0]} served 2 0 0 wrote 4108 4110\n", f"{names[0]} served 0 1 0\n", f"{names[0]} served 0 0 0 reused 1\n",
-            f"{names[1]} no-room\n", f"{names[1]} malformed 9 at 1\n", "oversize\n"])
+            f"{at(first)} served 2 0 0 wrote 4108 4110\n", f"{at(first)} served 0 1 0\n", f"{at(first)} served 0 0 0 reused 1\n",
+            f"{at(second)} no-room\n", f"{at(second)} malformed 9 at 1\n", "oversize\n"])
     run.terminate()
-    out, fault = run.communicate(timeout=30)
-    checks.same("serve: stopped by a signal", (out, fault, run.returncode), ("", "", -15))
-    run = checks.start("ocadev", "serve", "--port", 0, "--window", 1, "--verbose")
-    port = int(run.stderr.readline().split(":")[1])
-    grants.read_note(run)
+    checks.same("serve: stopped by a signal", ended(run), ("", "", -15))
+    run, device = serving(checks, "--window", 1, "--verbose")
     with bound() as peer:
         told = []
         for handle in (1, 2, 1):
-            peer.sendto(oca.pdu(1, [oca.Command(handle, 4097, 4, 1, 0, b"").body()]), ("127.0.0.1", port))
+            peer.sendto(oca.command(handle, 4097, 4, 1), device)
             told.append(run.stderr.readline().split(" ", 1)[1])
         checks.same("serve --verbose: an old command", told, ["served 1 0 0\n", "served 1 0 0\n", "served 0 0 1\n"])
     run.kill()
-    run = checks.start("ocadev", "serve", "--port", 0)
-    port = int(run.stderr.readline().split(":")[1])
-    grants.read_note(run)
+    run, device = serving(checks)
     with bound() as peer:
         for handle in range(1, 3001):
-            peer.sendto(oca.pdu(1, [oca.Command(handle, 4097, 4, 1, 0, b"").body()]), ("127.0.0.1", port))
+            peer.sendto(oca.command(handle, 4097, 4, 1), device)
             checks.failed += not select.select([peer], [], [], 5)[0] or len(peer.recv(2000)) != 21
     checks.same("serve: it goes on after 3,000 turns", run.poll(), None)
     run.terminate()
-    checks.same("serve: stopped by a signal", (*run.communicate(timeout=30), run.returncode), ("", "", -15))
+    checks.same("serve: stopped by a signal", ended(run), ("", "", -15))
     for turns in (0, 3):
-        out, fault = checks.start("ocadev", "serve", "--port", 0, "--turns", turns, "--verbose").communicate(timeout=30)
+        out, fault, _ = checks.ran("ocadev", "serve", "--port", 0, "--turns", turns, "--verbose")
         told = grants.without_note(fault).splitlines()
-        checks.same(f"serve --verbose --turns {turns}", (out.split()[:2], out.split()[16:18], len(told)),
-                    (["turns", str(turns)], ["quiet", str(turns)], 1))
-    tells_stats(checks)
-    tells_locks(checks)
+        checks.same(f"serve --verbose --turns {turns}", (out.split()[:2], out.split()[16:18], len(told)), (["turns", str(turns)], ["quiet", str(turns)], 1))
 
 
 def tells_locks(checks):
     """`serve --verbose`: what was locked, unlocked and refused, by the statuses that answered; nothing of commands that were not
     executed, nor of those that ask for no response; a lock that lapsed."""
-    run = checks.start("ocadev", "serve", "--port", 0, "--verbose")
-    device = ("127.0.0.1", int(run.stderr.readline().split(":")[1]))
-    grants.read_note(run)
+    run, device = serving(checks, "--verbose")
+    lock = lambda handle, target, index=3: oca.Command(handle, target, 1, index).body()
+    put = lambda handle, target: oca.Command(handle, target, 4, 2, 1, b"\1").body()
 
     def told(peer, data):
         peer.sendto(data, device)
-        return run.stderr.readline().split(" ", 1)[-1]
-
-    def lock(handle, target, index=3):
-        return oca.Command(handle, target, 1, index, 0, b"").body()
-
-    def put(handle, target):
-        return oca.Command(handle, target, 4, 2, 1, b"\1").body()
+        return run.stderr.readline().split(" ", 1)[-1].rstrip("\n")
 
     with bound() as first, bound() as second:
         for what, peer, kind, commands, said in (
-                ("a lock", first, 1, [lock(1, 4098)], "served 1 0 0 locked 4098\n"),
-                ("a set under it", second, 1, [put(1, 4098)], "served 1 0 0 refused 4098 Locked\n"),
-                ("an unlock by another peer", second, 1, [lock(2, 4098, 4)], "served 1 0 0 refused 4098 Locked\n"),
-                ("a duplicate of the lock", first, 1, [lock(1, 4098)], "served 0 1 0\n"),
-                ("a duplicate of a refused set", second, 1, [put(1, 4098)], "served 0 1 0\n"),
-                ("a handle used again", second, 1, [lock(2, 4097)], "served 0 0 0 reused 1\n"),
-                ("two locks", first, 1, [lock(2, 4097), lock(3, 4099, 6)], "served 2 0 0 locked 4097 locked 4099\n"),
-                ("two unlocks", first, 1, [lock(4, 4098, 4), lock(5, 4098, 4)],
-                 "served 2 0 0 unlocked 4098 refused 4098 InvalidRequest\n"),
-                ("a set that is done and one that is refused", second, 1, [put(3, 4098), put(4, 4097)],
-                 "served 2 0 0 wrote 4098 refused 4097 Locked\n"),
-                ("no such object", second, 1, [put(5, 5000)], "served 1 0 0 refused 5000 BadONo\n"),
-                ("a duplicate beside a lock", first, 1, [lock(2, 4097), lock(6, 4098)], "served 1 1 0\n"),
-                ("no response asked for", first, 0, [lock(7, 4098, 4)], "served 1 0 0\n"),
-                ("a heartbeat of a second", first, 4, [(1).to_bytes(2, "big")], "served 0 0 0\n")):
+                ("a lock", first, 1, [lock(1, 4098)], "served 1 0 0 locked 4098"),
+                ("a set under it", second, 1, [put(1, 4098)], "served 1 0 0 refused 4098 Locked"),
+                ("an unlock by another peer", second, 1, [lock(2, 4098, 4)], "served 1 0 0 refused 4098 Locked"),
+                ("a duplicate of the lock", first, 1, [lock(1, 4098)], "served 0 1 0"),
+                ("a duplicate of a refused set", second, 1, [put(1, 4098)], "served 0 1 0"),
+                ("a handle used again", second, 1, [lock(2, 4097)], "served 0 0 0 reused 1"),
+                ("two locks", first, 1, [lock(2, 4097), lock(3, 4099, 6)], "served 2 0 0 locked 4097 locked 4099"),
+                ("two unlocks", first, 1, [lock(4, 4098, 4), lock(5, 4098, 4)], "served 2 0 0 unlocked 4098 refused 4098 InvalidRequest"),
+                ("a set that is done and one that is refused", second, 1, [put(3, 4098), put(4, 4097)], "served 2 0 0 wrote 4098 refused 4097 Locked"),
+                ("no such object", second, 1, [put(5, 5000)], "served 1 0 0 refused 5000 BadONo"),
+                ("a duplicate beside a lock", first, 1, [lock(2, 4097), lock(6, 4098)], "served 1 1 0"),
+                ("no response asked for", first, 0, [lock(7, 4098, 4)], "served 1 0 0"),
+                ("a heartbeat of a second", first, 4, [b"\0\1"], "served 0 0 0")):
             checks.same(f"serve --verbose: {what}", told(peer, oca.pdu(kind, commands)), said)
         time.sleep(3.5)
-        checks.same("serve --verbose: a set after the locks lapsed", told(second, oca.pdu(1, [put(6, 4097)])), "served 1 0 0 wrote 4097\n")
+        checks.same("serve --verbose: a set after the locks lapsed", told(second, oca.pdu(1, [put(6, 4097)])), "served 1 0 0 wrote 4097")
     run.kill()
 
 
 def tells_stats(checks):
     """`serve --stats 1`: the report so far, with sessions and locks; a bad number of seconds."""
-    run = checks.start("ocadev", "serve", "--port", 0, "--stats", 1)
-    port = int(run.stderr.readline().split(":")[1])
-    grants.read_note(run)
+    run, device = serving(checks, "--stats", 1)
     with bound() as first, bound() as second:
         for peer, handle, target in ((first, 1, 4097), (first, 2, 4098), (second, 1, 4099)):
-            peer.sendto(oca.pdu(1, [oca.Command(handle, target, 1, 3, 0, b"").body()]), ("127.0.0.1", port))
+            peer.sendto(oca.command(handle, target, 1, 3), device)
             peer.recv(2000)
         told = run.stderr.readline().split()
     said = dict(zip(told[1::2], told[2::2]))
-    checks.same("serve --stats: what it tells", (told[:2], *map(said.get, ("executed", "kept", "sessions", "locks"))),
-                (["note:", "turns"], "3", "0", "2", "3"))
+    checks.same("serve --stats: what it tells", (told[:2], *map(said.get, ("executed", "kept", "sessions", "locks"))), (["note:", "turns"], "3", "0", "2", "3"))
     checks.same("serve --stats: it tells again", run.stderr.readline().startswith("note: turns "), True)
     run.kill()
-    run.communicate(timeout=30)
     for seconds in ("0", "86401", "1s"):
-        out, fault = checks.start("ocadev", "serve", "--port", 0, "--stats", seconds).communicate(timeout=30)
         note = f"note: --stats {seconds} is not valid: it must be a number from 1 to 86400, of 1 to 5 digits\n"
-        checks.same(f"serve --stats {seconds}", (out, fault), ("", f"{note}bad words\n"))
+        checks.same(f"serve --stats {seconds}", checks.ran("ocadev", "serve", "--port", 0, "--stats", seconds), ("", f"{note}bad words\n", 2))
 
 
 def listed_line(r, onos):
@@ -726,49 +585,35 @@ def trees(checks):
                 expected = (oca.show(oca.tree_of_text(text)).encode(), b"", 0)
             except oca.ObjectFault as fault:
                 expected = (b"", f"line {fault.args[0]}: {fault.args[1]}\n".encode(), 2)
-            done = subprocess.run([f"{checks.folder}/ocadev", "show", "--tree", path], capture_output=True, timeout=30)
-            checks.same(f"show --tree of {text!r}", (done.stdout, done.stderr, done.returncode), expected)
+            checks.same(f"show --tree of {text!r}", checks.ran("ocadev", "show", "--tree", path, given=b"", text=False), expected)
         strips = channels_of(oca.tree_of_text(texts[0]))
         checks.same("the example: its channels are alike, muted and at 0", (len(strips), strips), (8, [strips[0]] * 8))
         checks.same("the example: a channel", strips[0], [("mute", "mute", 1), ("polarity", "polarity", 1), ("int16", "trim", 0), ("switch", "source", 0)])
         Path(path).write_bytes(texts[0])
-        get = oca.pdu(1, [oca.Command(1, 4101, 4, 5, 0, b"").body()])
-        done = subprocess.run([f"{checks.folder}/ocadev", "replay", "--tree", path], input=f"0 127.0.0.1:9001 {get.hex()}\n".encode(), capture_output=True,
-                              timeout=30)
+        get = oca.command(1, 4101, 4, 5)
+        out = checks.ran("ocadev", "replay", "--tree", path, given=f"0 127.0.0.1:9001 {get.hex()}\n")[0]
         said, packets = oca.Device(oca.tree_of_text(texts[0])).datagram((127, 0, 0, 1, 9001), get, 0)
-        checks.same("replay --tree", done.stdout.decode(), f"{said}\n> {packets[0].hex()}\n")
+        checks.same("replay --tree", out, f"{said}\n> {packets[0].hex()}\n")
         comments = (b"#" * 127 + b"\n") * (2**24 // 128)
         for text, fault, code in ((comments, "", 0), (comments + b"\n", "too much input\n", 1)):
             Path(path).write_bytes(text)
-            done = subprocess.run([f"{checks.folder}/ocadev", "show", "--tree", path], capture_output=True, text=True, timeout=60)
-            checks.same(f"show --tree of {len(text)} bytes", (done.stdout, done.stderr, done.returncode), ("" if fault else "100 1.1.3 0 root\n", fault, code))
+            checks.same(f"show --tree of {len(text)} bytes", checks.ran("ocadev", "show", "--tree", path), ("" if fault else "100 1.1.3 0 root\n", fault, code))
         for words, fault, code, reason in ((["--tree", path, "--channels", "1"], "bad words", 2, "--channels"),
                                            (["--tree", f"{folder}/none"], "read failed", 1, os.strerror(errno.ENOENT)),
                                            (["--tree", folder], "read failed", 1, os.strerror(errno.EISDIR))):
-            done = subprocess.run([f"{checks.folder}/ocadev", "show", *words], capture_output=True, text=True, timeout=30)
-            checks.same(f"show {words}", (done.stdout, done.stderr.splitlines()[-1:], done.stderr[:6], done.returncode), ("", [fault], "note: ", code))
-            checks.same(f"show {words}: the reason, {reason}", reason in done.stderr.splitlines()[0], True)
+            out, said, status = checks.ran("ocadev", "show", *words)
+            checks.same(f"show {words}", (out, said.splitlines()[-1:], said[:6], status), ("", [fault], "note: ", code))
+            checks.same(f"show {words}: the reason, {reason}", reason in said.splitlines()[0], True)
             if code == 1:
-                names_it = done.stderr.startswith(f"note: {words[1]}: ")
-                checks.same(f"show {words}: {done.stderr!r} begins with the file's name", names_it, True)
+                checks.same(f"show {words}: {said!r} begins with the file's name", said.startswith(f"note: {words[1]}: "), True)
 
 
 def main():
     checks = Checks(sys.argv[1])
-    for part in (sends, runs, runs_ahead, drives_while_it_waits, typed, one_by_one, wide_spans, spans_of_hands, holds, at_own_ports,
-                 limits, defaults, faults, bad_options, bad_values, missing_options, versions, unwritten,
-                 without_streams, serves, serves_until_stopped, trees):
-        try:
-            with own_ports.alone() if part in (at_own_ports, unwritten) else contextlib.nullcontext():
-                part(checks)
-        except (OSError, TypeError, subprocess.TimeoutExpired) as fault:  # nothing came, or other words than those that were waited for
-            checks.failed += 1
-            print(f"{part.__name__}: {fault!r}")
-    for run in checks.started:
-        if run.poll() is None:
-            run.kill()
-    print(f"{checks.passed} passed, {checks.failed} failed")
-    return 1 if checks.failed else 0
+    checks.parts(sends, runs_ahead, drives_while_it_waits, typed, one_by_one, wide_spans, spans_of_hands, holds, at_own_ports, limits, defaults, faults,
+                 bad_options, bad_values, missing_options, versions, unwritten, without_streams, serves, serves_until_stopped, tells_stats, tells_locks,
+                 trees, alone=(at_own_ports, unwritten))
+    return checks.verdict()
 
 
 if __name__ == "__main__":

@@ -43,13 +43,15 @@ Some schedules end in a step that names what is not there, or start two links of
 and by name. At the first break the schedule is printed, and the exit status is 1. The last line is 'N passed, M failed'
 over these checks."""
 import collections
-import multiprocessing
+import functools
 import random
 import subprocess
 import sys
+from unittest.mock import patch
 
 import oca_profile as oca
-from schedules import PAIRS, PEERS, Schedule, crowd, directed, lossy, slow, visitors, wander
+from comparing import Break, broken, in_processes, runs_of, verdict, wrong_rule
+from schedules import PAIRS, PEERS, crowd, directed, lossy, slow, visitors, wander
 
 BATCH = 40
 
@@ -80,16 +82,9 @@ class Waiting:
         self.ms, self.given = 0, []
 
 
-class Break(Exception):
-    def __init__(self, law, step, what):
-        super().__init__(law, step, what)
-        self.law, self.step, self.what = law, step, what
-
-
 class Laws:
-    """Walks along a schedule and what its steps led to, and holds each step against the laws. It knows the lists of
-    datagrams, commands, answers and executions, when datagrams came to the device, and nothing of what a device or a
-    link is inside."""
+    """Walks along a schedule and what its steps led to, and holds each step against the laws. It knows the lists of datagrams, commands, answers and
+    executions, when datagrams came to the device, and nothing of what a device or a link is inside."""
 
     def __init__(self, schedule, lines, fit):
         self.fit, self.window, self.most, self.count = fit, schedule.window, schedule.peers, collections.Counter()
@@ -126,7 +121,7 @@ class Laws:
             try:
                 getattr(self, step[0].replace("-", "_"))(step, said)
             except Break as fault:
-                fault.step = self.number
+                fault.at = self.number
                 raise
             self.count[("front " if step[0] == "set" else "said ") + said.split(" ")[0]] += 1
             self.count["said too old"] += said == "served 0 0 1"
@@ -144,8 +139,7 @@ class Laws:
         return self
 
     def note_delivery(self, way, k):
-        """Counts; an overtaking is a datagram that comes for the first time after a later one that was sent the same
-        way."""
+        """Counts; an overtaking is a datagram that comes for the first time after a later one that was sent the same way."""
         self.count["deliveries"] += 1
         key = (way, self.sent[way][k][0])
         if self.heard[way][k] == 0 and self.latest.get(key, -1) > k:
@@ -154,9 +148,8 @@ class Laws:
         self.latest[key] = max(self.latest.get(key, -1), k)
 
     def came_from(self, p, now, data, said):
-        """A datagram of p came to the device; whether it finds room: it is well-formed, and p is known, or fewer than
-        have room are. It is admitted then; and p does not keep its session where that is more than 120,000 ms after the
-        one before it."""
+        """A datagram of p came to the device; whether it finds room: it is well-formed, and p is known, or fewer than have room are. It is admitted
+        then; and p does not keep its session where that is more than 120,000 ms after the one before it."""
         self.clock = max(self.clock, now)
         self.came.add(p)
         try:
@@ -384,14 +377,7 @@ class Laws:
 
 
 def transcripts(program, schedules):
-    text = "\n".join(line for s in schedules for line in s.text()) + "\n"
-    done = subprocess.run([program, "world"], input=text.encode(), capture_output=True, timeout=300)
-    lines = done.stdout.decode().splitlines()
-    begins = [i for i, line in enumerate(lines) if line == "schedule"] + [len(lines)]
-    runs = [lines[a:b] for a, b in zip(begins, begins[1:])]
-    if done.returncode != 0 or len(runs) != len(schedules):
-        raise RuntimeError(f"status {done.returncode}, {len(runs)} of {len(schedules)} runs, {done.stderr.decode()!r}")
-    return runs
+    return runs_of(program, "world", "schedule", [schedule.text() for schedule in schedules])
 
 
 def fits(window, span):
@@ -401,7 +387,7 @@ def fits(window, span):
 def hold(schedule, lines):
     """The laws' walk along a run in which nothing breaks; None of a refusal."""
     expected = schedule.expected()
-    walk = None if schedule.refusal else Laws(schedule, lines, fits(schedule.window, schedule.span)).walk()
+    walk = None if schedule.refusal else laws(schedule, lines)
     if lines != expected:
         at = next((i for i, (a, b) in enumerate(zip(lines, expected)) if a != b), min(len(lines), len(expected)))
         raise Break("second", min(max(at - 1, 0), len(schedule.steps) - 1),
@@ -412,8 +398,7 @@ def hold(schedule, lines):
 def shown(schedule, lines, fault):
     """A schedule with what its steps led to."""
     text = schedule.text()
-    return [text[0]] + [f"{line:44}{said}" for line,
-        said in zip(text[1:], lines[1:])] + [f"BREAK of '{fault.law}' at step {fault.step}: {fault.what}"]
+    return [text[0]] + [f"{line:44}{said}" for line, said in zip(text[1:], lines[1:])] + [f"BREAK of '{fault.law}' at step {fault.at}: {fault.what}"]
 
 
 def made(seed, number):
@@ -442,8 +427,7 @@ def altered(r, walk, lines):
     law = r.choice(sorted(walk.places))
     at = 1 + r.choice(walk.places[law])
     status, count, params = (lines[at].split(" ") + [""] * 4)[1:4]
-    new = {"answers": f"answer {int(status) ^ 1} {count} {params}" if r.randrange(2) else lines[at].removesuffix("-")
-           + "00",
+    new = {"answers": f"answer {int(status) ^ 1} {count} {params}" if r.randrange(2) else lines[at].removesuffix("-") + "00",
            "untaken": "served 0 0 1", "once": "served 1 0 0", "round trip": "nothing new"}[law]
     return law, lines[:at] + [new] + lines[at + 1:]
 
@@ -469,198 +453,197 @@ def work(job):
         change = altered(r, walk, lines)
         if change:
             total["altered"] += 1
-            try:
-                Laws(schedule, change[1], fits(schedule.window, schedule.span)).walk()
-            except Break as fault:
-                total["altered, refused"] += fault.law == change[0]
+            fault = broken(laws, schedule, change[1])
+            total["altered, refused"] += fault is not None and fault.law == change[0]
     return total, None
+
+
+def laws(schedule, lines, fit=None):
+    """The laws' walk along a run; they hold as for these sizes, or as if they fitted."""
+    return Laws(schedule, lines, fits(schedule.window, schedule.span) if fit is None else fit).walk()
 
 
 # ---- wrong devices and links
 
 
-def wrong_rules():
-    """Devices and links with one rule changed, each with the law that must refuse them and what is changed."""
-    judge, submit_to, serve, hear = oca.Session.judge, oca.Link.submit, oca.Device.datagram, oca.Link.datagram
-    due, advance, execute, answer = oca.Link.due, oca.Device.advance, oca.execute, oca.answer
+JUDGE, SUBMIT, HEAR, DUE = oca.Session.judge, oca.Link.submit, oca.Link.datagram, oca.Link.due
+SERVE, ADVANCE, EXECUTE, ANSWER = oca.Device.datagram, oca.Device.advance, oca.execute, oca.answer
+RULES = {}
+wrong = functools.partial(wrong_rule, RULES)
 
-    def no_floor(session, window, command):
-        kept = [reply for c, reply in session.accepted[-window:] if c.handle == command.handle]
-        return ("duplicate", kept[0]) if kept else ("fresh", None)
+wrong("a window that is one smaller", "untaken", oca.Session, "judge")(lambda session, window, command: JUDGE(session, window - 1, command))
+wrong("copies are executed", "once", oca.Session, "judge")(lambda session, window, command: ("fresh", None))
 
-    def latest_reply(session, window, command):
-        verdict, reply = judge(session, window, command)
-        return verdict, session.accepted[-1][1] if verdict == "duplicate" else reply
 
-    def wider(link, *fields):
-        link.span += 1
-        said = submit_to(link, *fields)
-        link.span -= 1
+@wrong("no handle is too old", "once", oca.Session, "judge")
+def no_floor(session, window, command):
+    kept = [reply for c, reply in session.accepted[-window:] if c.handle == command.handle]
+    return ("duplicate", kept[0]) if kept else ("fresh", None)
+
+
+@wrong("a copy gets the latest reply", "untaken", oca.Session, "judge")
+def latest_reply(session, window, command):
+    verdict, reply = JUDGE(session, window, command)
+    return verdict, session.accepted[-1][1] if verdict == "duplicate" else reply
+
+
+@wrong("a span that is one larger", "untaken", oca.Link, "submit")
+def wider(link, *fields):
+    link.span += 1
+    said = SUBMIT(link, *fields)
+    link.span -= 1
+    return said
+
+
+@wrong("an answer goes to the lowest command", "answers", oca.Link, "datagram")
+def lowest(link, sender, data, now):
+    link.now = max(link.now, now)
+    waiting = [u for u in link.untaken if u[3] is None]
+    given = [m for m in oca.check(data) if m[0] == "response"]
+    if not waiting or not given:
+        return "nothing new"
+    waiting[0][3] = given[0][2:]
+    return "answered 1"
+
+
+@wrong("room for one fewer", "room", oca.Device, "datagram")
+def fewer_sessions(device, sender, data, now):
+    if len(device.sessions) >= device.peers - 1 and all(s.peer != sender for s in device.sessions):
+        return "no-room", []
+    return SERVE(device, sender, data, now)
+
+
+@wrong("a place is never given up", "room", oca.Device, "datagram")
+def never_given_up(device, sender, data, now):
+    device.ever = getattr(device, "ever", set())
+    if sender not in device.ever and len(device.ever) >= device.peers:
+        return "no-room", []
+    said, packets = SERVE(device, sender, data, now)
+    device.ever |= {sender} if said.startswith("served") else set()
+    return said, packets
+
+
+@wrong("where one finds no room a known peer finds none", "untaken", oca.Device, "datagram")
+def shut_for_all(device, sender, data, now):
+    if getattr(device, "shut", None) == max(device.now, now) and any(s.peer == sender for s in device.sessions):
+        return "no-room", []
+    said, packets = SERVE(device, sender, data, now)
+    device.shut = device.now if said == "no-room" else None
+    return said, packets
+
+
+@wrong("who was forgotten is forgotten sooner", "in time", oca.Device, "advance")
+def forgets_sooner(device, now):
+    again, known = getattr(device, "again", set()), {s.peer for s in device.sessions}
+    ADVANCE(device, now)
+    device.again = again | (known - {s.peer for s in device.sessions})
+    device.sessions = [s for s in device.sessions if s.peer not in again or device.now - s.heard < 115000]
+
+
+def without(is_left_out, call):
+    """A call of a link that knows none of its commands of which this is so."""
+    def made(link, *given):
+        left = [u for u in link.untaken if is_left_out(link, u)]
+        link.untaken = [u for u in link.untaken if u not in left]
+        said = call(link, *given)
+        link.untaken = sorted(link.untaken + left, key=lambda u: u[0].handle)
         return said
+    return made
 
-    def lowest(link, sender, data, now):
-        link.now = max(link.now, now)
-        waiting = [u for u in link.untaken if u[3] is None]
-        answers = [m for m in oca.check(data) if m[0] == "response"]
-        if not waiting or not answers:
-            return "nothing new"
-        waiting[0][3] = answers[0][2:]
-        return "answered 1"
 
-    def fewer_sessions(device, sender, data, now):
-        if len(device.sessions) >= device.peers - 1 and all(s.peer != sender for s in device.sessions):
-            return "no-room", []
-        return serve(device, sender, data, now)
+wrong("no answer to what was given out twice", "round trip", oca.Link, "datagram")(without(lambda link, u: u[1] > 1, HEAR))
+wrong("what was given out twice is not given out again", "through", oca.Link, "due")(without(lambda link, u: u[1] == 2, DUE))
+wrong("the lowest command alone is given out", "through", oca.Link, "due")(without(lambda link, u: u is not link.untaken[0], DUE))
 
-    def never_given_up(device, sender, data, now):
-        device.ever = getattr(device, "ever", set())
-        if sender not in device.ever and len(device.ever) >= device.peers:
-            return "no-room", []
-        said, packets = serve(device, sender, data, now)
-        device.ever |= {sender} if said.startswith("served") else set()
-        return said, packets
 
-    def shut_for_all(device, sender, data, now):
-        if getattr(device, "shut", None) == max(device.now, now) and any(s.peer == sender for s in device.sessions):
-            return "no-room", []
-        said, packets = serve(device, sender, data, now)
-        device.shut = device.now if said == "no-room" else None
-        return said, packets
+@wrong("one answer at a time", "round trip", oca.Link, "datagram")
+def one_answer(link, sender, data, now):
+    return "nothing new" if any(u[3] is not None for u in link.untaken) else HEAR(link, sender, data, now)
 
-    def forgets_sooner(device, now):
-        again, known = getattr(device, "again", set()), {s.peer for s in device.sessions}
-        advance(device, now)
-        device.again = again | (known - {s.peer for s in device.sessions})
-        device.sessions = [s for s in device.sessions if s.peer not in again or device.now - s.heard < 115000]
 
-    def hears_once(link, sender, data, now):
-        again = [u for u in link.untaken if u[1] > 1]
-        for u in again:
-            link.untaken.remove(u)
-        said = hear(link, sender, data, now)
-        link.untaken = sorted(link.untaken + again, key=lambda u: u[0].handle)
-        return said
+@wrong("an answer takes the others' place", "round trip", oca.Link, "datagram")
+def last_answer(link, sender, data, now):
+    kept = {u[0].handle: u[3] for u in link.untaken}
+    said = HEAR(link, sender, data, now)
+    for u in link.untaken:
+        if u[3] is not None and kept.get(u[0].handle):
+            u[3] = None if said.startswith("answered") else u[3]
+    return said
 
-    def twice_at_most(link, now):
-        again = [u for u in link.untaken if u[1] == 2]
-        link.untaken = [u for u in link.untaken if u[1] != 2]
-        said = due(link, now)
-        link.untaken = sorted(link.untaken + again, key=lambda u: u[0].handle)
-        return said
 
-    def lowest_alone(link, now):
-        later, link.untaken = link.untaken[1:], link.untaken[:1]
-        said = due(link, now)
-        link.untaken += later
-        return said
+def instead(change):
+    """Objects that give to a get method what they would if this were changed of them."""
+    def answered(tree, o, key, args):
+        seen = o.copy()
+        if key == READS.get(o.kind):
+            change(tree, seen)
+        return ANSWER(tree, seen, key, args)
+    return answered
 
-    def one_answer(link, sender, data, now):
-        return "nothing new" if any(u[3] is not None for u in link.untaken) else hear(link, sender, data, now)
 
-    def last_answer(link, sender, data, now):
-        kept = {u[0].handle: u[3] for u in link.untaken}
-        said = hear(link, sender, data, now)
-        for u in link.untaken:
-            if u[3] is not None and any(kept.values()) and kept.get(u[0].handle):
-                u[3] = None if said.startswith("answered") else u[3]
-        return said
+@instead
+def value_before(tree, o):
+    o.state = getattr(o, "before", o.state)
 
-    def instead(change):
-        """Objects that give to a get method what they would if this were changed of them."""
-        def answered(tree, o, key, args):
-            seen = o.copy()
-            if key == READS.get(o.kind):
-                change(tree, seen)
-            return answer(tree, seen, key, args)
-        return answered
 
-    def value_before(tree, o):
-        o.state = getattr(o, "before", o.state)
+@wrong("a reading is another object's", "said", oca, "answer")
+@instead
+def other_objects(tree, o):
+    other = {"mute": "polarity", "polarity": "mute"}.get(o.kind)
+    o.state = next((x.state for x in tree if x.kind == other), o.state)
 
-    def other_objects(tree, o):
-        other = {"mute": "polarity", "polarity": "mute"}.get(o.kind)
-        o.state = next((x.state for x in tree if x.kind == other), o.state)
 
-    def limits_exchanged(tree, o):
-        o.low, o.high = o.high, o.low
+@wrong("limits are exchanged", "said", oca, "answer")
+@instead
+def limits_exchanged(tree, o):
+    o.low, o.high = o.high, o.low
 
-    def remembers(tree, peer, c):
-        o = next((o for o in tree if o.ono == c.target), None)
-        was = o and o.state
-        done = execute(tree, peer, c)
-        if o and o.state != was:
-            o.before = was
-        return done
 
-    def late_reading(tree, peer, c):
-        oca.answer = instead(value_before)
-        try:
-            return remembers(tree, peer, c)
-        finally:
-            oca.answer = answer
+@wrong("a reading is the one before the last setting", "said", oca, "execute")
+def late_reading(tree, peer, c):
+    o = next((o for o in tree if o.ono == c.target), None)
+    was = o and o.state
+    with patch.object(oca, "answer", value_before):
+        done = EXECUTE(tree, peer, c)
+    if o and o.state != was:
+        o.before = was
+    return done
 
-    def earlier_execution(tree, peer, c):
-        tree[0].given = getattr(tree[0], "given", {})
-        return tree[0].given.setdefault(c.asks(), execute(tree, peer, c))
 
-    def sets_and_refuses(tree, peer, c):
-        done = execute(tree, peer, c)
-        o = next((o for o in tree if o.ono == c.target), None)
-        if done[0] == oca.OUT_OF_RANGE and o.kind in oca.WIDTHS:
-            o.state = o.high
-        return done
+@wrong("an answer is that of an earlier execution", "said", oca, "execute")
+def earlier_execution(tree, peer, c):
+    tree[0].given = getattr(tree[0], "given", {})
+    return tree[0].given.setdefault(c.asks(), EXECUTE(tree, peer, c))
 
-    return {
-        "a reading is the one before the last setting": ("said", oca, "execute", late_reading),
-        "a reading is another object's": ("said", oca, "answer", instead(other_objects)),
-        "limits are exchanged": ("said", oca, "answer", instead(limits_exchanged)),
-        "an answer is that of an earlier execution": ("said", oca, "execute", earlier_execution),
-        "what is refused is set to its limit": ("said", oca, "execute", sets_and_refuses),
-        "a window that is one smaller": ("untaken", oca.Session, "judge", lambda session, window,
-                                         command: judge(session, window - 1, command)),
-        "copies are executed": ("once", oca.Session, "judge", lambda session, window, command: ("fresh", None)),
-        "no handle is too old": ("once", oca.Session, "judge", no_floor),
-        "a copy gets the latest reply": ("untaken", oca.Session, "judge", latest_reply),
-        "a span that is one larger": ("untaken", oca.Link, "submit", wider),
-        "an answer goes to the lowest command": ("answers", oca.Link, "datagram", lowest),
-        "room for one fewer": ("room", oca.Device, "datagram", fewer_sessions),
-        "a place is never given up": ("room", oca.Device, "datagram", never_given_up),
-        "where one finds no room a known peer finds none": ("untaken", oca.Device, "datagram", shut_for_all),
-        "who was forgotten is forgotten sooner": ("in time", oca.Device, "advance", forgets_sooner),
-        "no answer to what was given out twice": ("round trip", oca.Link, "datagram", hears_once),
-        "one answer at a time": ("round trip", oca.Link, "datagram", one_answer),
-        "an answer takes the others' place": ("round trip", oca.Link, "datagram", last_answer),
-        "what was given out twice is not given out again": ("through", oca.Link, "due", twice_at_most),
-        "the lowest command alone is given out": ("through", oca.Link, "due", lowest_alone),
-    }
+
+@wrong("what is refused is set to its limit", "said", oca, "execute")
+def sets_and_refuses(tree, peer, c):
+    done = EXECUTE(tree, peer, c)
+    o = next((o for o in tree if o.ono == c.target), None)
+    if done[0] == oca.OUT_OF_RANGE and o.kind in oca.WIDTHS:
+        o.state = o.high
+    return done
 
 
 def refuses(job):
     """Whether the laws alone refuse a run of the wrong rule of this name, and how."""
     seed, name = job
-    law, owner, method, changed = wrong_rules()[name]
-    kept = getattr(owner, method)
-    setattr(owner, method, changed)
-    try:
+    law, owner, method, changed = RULES[name]
+    with patch.object(owner, method, changed):
         for number in range(len(PAIRS), len(PAIRS) + 4000):
             for schedule in made(seed, number):
-                if schedule.refusal is None:
-                    Laws(schedule, schedule.expected(), fits(schedule.window, schedule.span)).walk()
-    except Break as fault:
-        return fault.law == law, f"{name}: '{fault.law}' breaks at schedule {number}"
-    finally:
-        setattr(owner, method, kept)
+                fault = None if schedule.refusal else broken(laws, schedule, schedule.expected())
+                if fault:
+                    return fault.law == law, f"{name}: '{fault.law}' breaks at schedule {number}"
     return False, f"{name}: no break"
 
 
-def broken(program, window, span, schedules):
+def first_broken(program, schedules):
     """The first of the schedules that breaks 'untaken' for sizes that do not fit, as text, and the break."""
     for schedule, lines in zip(schedules, transcripts(program, schedules)):
-        try:
-            Laws(schedule, lines, True).walk()
-        except Break as fault:
-            if fault.law == "untaken" and lines == schedule.expected():
-                return "\n".join(shown(schedule, lines, fault)), fault
+        fault = broken(laws, schedule, lines, True)
+        if fault and fault.law == "untaken" and lines == schedule.expected():
+            return "\n".join(shown(schedule, lines, fault)), fault
     return None
 
 
@@ -670,7 +653,7 @@ def sizes(program, seed):
     for span in range(2, 33):
         window = 2 * span - 2
         schedule = directed(window, span)
-        result = broken(program, window, span, [schedule])
+        result = first_broken(program, [schedule])
         if result is None:
             print(f"no break with a window of {window} and a span of {span}")
             continue
@@ -683,44 +666,39 @@ def sizes(program, seed):
     for window, span in ((2, 2), (4, 3)):
         r = random.Random(f"{seed} {window}")
         schedules = [wander(r, window, span) if n % 2 else directed(window, span, r) for n in range(400)]
-        result = broken(program, window, span, schedules)
+        result = first_broken(program, schedules)
         if result:
             random_found += 1
-            print(f"window {window}, span {span}: a random schedule breaks too, at step {result[1].step}")
+            print(f"window {window}, span {span}: a random schedule breaks too, at step {result[1].at}")
         else:
             print(f"window {window}, span {span}: none of {len(schedules)} random schedules breaks")
     return found == 31 and random_found == 2
 
 
-# a line that is refused, and the word for it; a step stands behind the line `schedule 1 1 127.0.0.1:1/1`
-BAD_LINES = [
-    ("schedule 0 1", "number"), ("schedule 65 1", "number"), ("schedule 1 33", "number"), ("schedule 1 0",
-        "number"), ("schedule 1", "form"),
-    ("schedule 1 1 127.0.0.1:1", "form"), ("schedule 1 1 127.0.0.1/1", "peer"), ("schedule 1 1 127.0.0.1:1/4294967296",
-        "number"),
-    ("schedule 1 1 ", "form"), ("0 due", "form"), ("0 due x", "number"), ("x due 0", "moment"), ("0 due 0 0",
-        "form"), ("0 jump", "form"),
-    ("18446744073709551616 tick", "moment"), ("0 tick ", "form"), ("0 to-device -1",
-        "number"), ("0 to-link 4294967296", "number"),
-    ("0 other 1.2.3 -", "peer"), ("0 other 1.2.3.4:5 0", "hex"), ("0 other 1.2.3.4:5 zz",
-        "hex"), ("0 other 1.2.3.4:5 ", "hex"),
-    ("0 other 1.2.3.4:5", "form"), ("take 0", "form"), ("take 0 4294967296", "number"), ("0 submit 0 1 1 1 256 -",
-        "number"),
-    ("0 submit 0 1 65536 1 0 -", "number"), ("0 submit 0 1 1 1 0", "form"), ("0  tick", "form"),
-    ("set 4097 mute", "form"), ("set 4097 mute 1 1", "form"), ("set 4097 colour 1", "form"),
-    ("set x mute 1", "number"), ("set 4097 mute 0", "number"), ("set 4097 mute 3", "number"),
-    ("set 4097 polarity 256", "number"), ("set 4101 boolean 2", "number"), ("set 4099 switch 65536", "number"),
-    ("set 4100 int16 32768", "number"), ("set 4100 int8 -129", "number"), ("set 4100 uint64 -1", "number"),
-    ("set 4100 int64 170141183460469231731687303715884105728", "number"), ("set 4294967296 boolean 1", "number")]
+# lines that are refused, by the word for it; a step stands behind the line `schedule 1 1 127.0.0.1:1/1`
+BAD_LINES = {
+    "number": ["schedule 1 1 0 127.0.0.1:1/1", "schedule 1 1 65 127.0.0.1:1/1", "schedule 0 1", "schedule 65 1", "schedule 1 33", "schedule 1 0", "schedule 1 1 127.0.0.1:1/4294967296", "0 due x", "0 to-device -1",
+        "0 to-link 4294967296", "take 0 4294967296", "0 submit 0 1 1 1 256 -", "0 submit 0 1 65536 1 0 -", "set x mute 1", "set 4097 mute 0",
+        "set 4097 mute 3", "set 4097 polarity 256", "set 4101 boolean 2", "set 4099 switch 65536", "set 4100 int16 32768", "set 4100 int8 -129",
+        "set 4100 uint64 -1", "set 4100 int64 170141183460469231731687303715884105728", "set 4294967296 boolean 1"],
+    "form": ["schedule 1", "schedule 1 1 127.0.0.1:1", "schedule 1 1 ", "0 due", "0 due 0 0", "0 jump", "0 tick ", "0 other 1.2.3.4:5", "take 0",
+        "0 submit 0 1 1 1 0", "0  tick", "set 4097 mute", "set 4097 mute 1 1", "set 4097 colour 1"],
+    "peer": ["schedule 1 1 127.0.0.1/1", "0 other 1.2.3 -"],
+    "moment": ["x due 0", "18446744073709551616 tick"],
+    "hex": ["0 other 1.2.3.4:5 0", "0 other 1.2.3.4:5 zz", "0 other 1.2.3.4:5 "]}
+
+
+def bad_lines():
+    """Each bad line with its word; the first one stands alone."""
+    return [("0 tick", "form"), *((line, word) for word, lines in BAD_LINES.items() for line in lines)]
 
 
 def lines_refused(program):
     """How many bad lines are refused with their number and their word, and status 2."""
     refused = 0
-    for line, word in [("0 tick", "form")] + BAD_LINES:
+    for line, word in bad_lines():
         before = [] if line == "0 tick" else ["# a comment", "", "schedule 1 1 127.0.0.1:1/1"]
-        done = subprocess.run([program, "world"], input="\n".join(before + [line]).encode(), capture_output=True,
-                              timeout=60)
+        done = subprocess.run([program, "world"], input="\n".join(before + [line]).encode(), capture_output=True, timeout=60)
         if (done.stderr.decode(), done.returncode) == (f"line {len(before) + 1}: {word}\n", 2):
             refused += 1
         else:
@@ -748,8 +726,7 @@ HELD = [("answers", "answers"), ("only", "answers of an only execution"),
         ("in time, copies to a forgotten peer", "duplicates of such peers"),
         ("said", "answers of links in time"), ("said, of readings", "of these, readings")]
 MET = [("said too old", "old"), ("said no-room", "without room"), ("said refused", "refused submits"),
-       ("said lost", "lost"), ("refused", "refused schedules"), ("front set", "changes at the front"),
-       ("front refused", "refused ones")]
+       ("said lost", "lost"), ("refused", "refused schedules"), ("front set", "changes at the front"), ("front refused", "refused ones")]
 
 
 def summary(total):
@@ -761,20 +738,10 @@ def summary(total):
     print("also met: " + ", ".join(f"{total[name]} {text}" for name, text in MET))
 
 
-def verdicts(checks):
-    """Prints the checks that failed and the last line; answers the exit status."""
-    for name, passed in checks.items():
-        if not passed:
-            print(f"FAILED: {name}")
-    print(f"{sum(map(bool, checks.values()))} passed, {sum(not passed for passed in checks.values())} failed")
-    return 0 if all(checks.values()) else 1
-
-
 def learn_sizes(program):
     """Whether the program knows room for peers: only then is all of it tried."""
     line = b"schedule 1 1 2 127.0.0.1:1/1\n"
     PEERS.extend([16, 16, 16, 16, 1, 2, 15, 17, 64])
-    BAD_LINES.extend([("schedule 1 1 0 127.0.0.1:1/1", "number"), ("schedule 1 1 65 127.0.0.1:1/1", "number")])
     return subprocess.run([program, "world"], input=line, capture_output=True, timeout=60).returncode == 0
 
 
@@ -782,23 +749,17 @@ def main():
     program = f"{sys.argv[1]}/trials"
     if sys.argv[2] == "broken":
         window, span = int(sys.argv[3]), int(sys.argv[4])
-        result = broken(program, window, span, [directed(window, span)])
+        result = first_broken(program, [directed(window, span)])
         print(result[0] if result else "no break")
         return 0
     count, seed = int(sys.argv[2]), int(sys.argv[3]) if len(sys.argv) > 3 else 1
     if not learn_sizes(program):
         sys.exit("world: trials does not know room for peers")
-    total = collections.Counter()
     jobs = [(program, seed, range(first, min(first + BATCH, count))) for first in range(0, count, BATCH)]
-    with multiprocessing.Pool(min(4, multiprocessing.cpu_count())) as pool:
-        for counts, fault in pool.imap(work, jobs):
-            total += counts
-            if fault:
-                print(fault)
-                print(f"world: seed {seed}: a break after {total['schedules']} schedules without one")
-                print("0 passed, 1 failed")
-                return 1
-        wrong = pool.map(refuses, [(seed, name) for name in wrong_rules()], chunksize=1)
+    total, fault, wrong = in_processes(work, jobs, refuses, [(seed, name) for name in RULES])
+    if fault:
+        print(f"{fault}\nworld: seed {seed}: a break after {total['schedules']} schedules without one")
+        return verdict({"laws": False})
     for _, said in wrong:
         print(said)
     good = sizes(program, seed)
@@ -806,9 +767,9 @@ def main():
     print(f"seed {seed}, {fit} of {len(PAIRS)} pairs of sizes that fit")
     summary(total)
     lines, altered_lines = lines_refused(program), (total["altered, refused"], total["altered"])
-    print(f"bad lines refused: {lines} of {len(BAD_LINES) + 1}")
+    print(f"bad lines refused: {lines} of {len(bad_lines())}")
     print("altered transcripts refused by the law that they break: {} of {}".format(*altered_lines))
-    return verdicts({
+    return verdict({
         "answers": total["answers"], "only": total["only"] and total["only, of a peer that found no room before"],
         "untaken": total["untaken, the oldest of a full window"] and total["untaken, of more peers ever"],
         "room": total["room, of more peers ever"], "once": total["once"],
@@ -818,7 +779,7 @@ def main():
         "through": total["waiting, asked so, and given out again"],
         "second": total["schedules"] >= count and total["refused"],
         "premises": total["premises met, with loss, double and overtaking"], "sizes": good,
-        "lines": lines == len(BAD_LINES) + 1, "wrong": all(found for found, _ in wrong),
+        "lines": lines == len(bad_lines()), "wrong": all(found for found, _ in wrong),
         "altered": total["altered"] and altered_lines[0] == altered_lines[1]})
 
 

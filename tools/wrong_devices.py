@@ -1,7 +1,9 @@
-"""Wrong devices: the second implementation (oca_profile.py) with one rule changed, each with the sentence of the law by
-events that must refuse it. tools/law.py holds them against the law. RULES has them by name: the sentence, the class and
-the method, and what stands in its place."""
+"""Wrong devices: the second implementation (oca_profile.py) with one rule changed, each with the sentence of the law by events that must refuse it.
+tools/law.py holds them against the law. RULES has them by name: the sentence, the class and the method, and what stands in its place."""
+import functools
+
 import oca_profile as oca
+from comparing import wrong_rule
 from oca_law import LARGEST_DATAGRAM
 
 D, S = oca.Device, oca.Session
@@ -10,12 +12,7 @@ check, writes = oca.check, oca.writes
 RULES = {}
 
 
-def wrong(name, sentence, owner, method):
-    """Notes that a device with this body in the place of the method is refused by this sentence of the law."""
-    def note(body):
-        RULES[name] = sentence, owner, method, body
-        return body
-    return note
+wrong = functools.partial(wrong_rule, RULES)
 
 
 # ---- the clock, locks, forgetting
@@ -272,12 +269,9 @@ def anew(d, s, respond, c):
     return counted, answer
 
 
-for name, body in {
-        "a reuse is answered from the window":
-            lambda s, asks, c, said, a: kept_by(s, c) if asks and said == "reused" else a,
+for name, body in {"a reuse is answered from the window": lambda s, asks, c, said, a: kept_by(s, c) if asks and said == "reused" else a,
         "an old command is answered": lambda s, asks, c, said, a: answer_ok(c) if asks and said == "old" else a,
-        "commands without response are answered":
-            lambda s, asks, c, said, a: kept_by(s, c) if said in ("fresh", "duplicate") else a,
+        "commands without response are answered": lambda s, asks, c, said, a: kept_by(s, c) if said in ("fresh", "duplicate") else a,
         "duplicates are not answered": lambda s, asks, c, said, a: [] if said == "duplicate" else a,
         "refusals are not answered": lambda s, asks, c, said, a: [] if a and a[0][1][8] else a}.items():
     wrong(name, "answers_are", D, "command")(with_answer(body))
@@ -312,11 +306,8 @@ def refusal_not_retained(d, s, respond, c):
 # ---- what is written
 
 
-for name, body in {
-        "nothing is written": lambda tree, c, reply: False,
-        "what is read is written": lambda tree, c, reply: reply[0] == oca.OK,
-        "what is locked is written": lambda tree, c, reply: writes(tree, c, reply) or (reply[0], c.level) == (oca.OK,
-            1),
+for name, body in {"nothing is written": lambda tree, c, reply: False, "what is read is written": lambda tree, c, reply: reply[0] == oca.OK,
+        "what is locked is written": lambda tree, c, reply: writes(tree, c, reply) or (reply[0], c.level) == (oca.OK, 1),
         "what a refused command asks for is written": lambda tree, c, reply: reply[0] != oca.BAD_ONO}.items():
     wrong(name, "written_are", oca, "writes")(body)
 

@@ -1,0 +1,94 @@
+"""The toolchain: the command `rt` of a kit for Rattle. All that is private to it and that the gate, the builds and the edits use stands here."""
+import contextlib
+import importlib.machinery
+import importlib.util
+import os
+import shutil
+import subprocess
+import sys
+import tempfile
+from pathlib import Path
+from types import SimpleNamespace
+
+TOP = Path(__file__).resolve().parent.parent
+NEEDS = 4_000_000_000  # bytes for a check: the most that one took, measured, is 3.3 GB (ocactl_cli)
+MEMORY = Path("/dev/shm")  # a folder in memory, where the system has one
+ROOM = 6_000_000_000  # bytes there; the most that a run of the gate took, measured, is 1.8 GB
+MISSING = "there is no rt: this needs the toolchain's kit, whose folder bin/ must be in PATH (README.md, Toolchain)"
+# The names that are used of the command, and of its library.
+OF_RT = "checked edited free in_lanes need processors unread".split()
+OF_RTLIB = "PARTS RATTLE STALE crates_below files_of guarded lock sum_of".split()
+
+
+def command():
+    """The path of `rt`. Where there is none one line says so, and this process ends."""
+    return os.path.realpath(shutil.which("rt") or sys.exit(MISSING))
+
+
+def toolchain(builds=True):
+    """What is used of the toolchain, and whether its `rt ci` takes names. Where this process builds, what `rt run` and the library for C
+    keep is taken from other copies, and given to them."""
+    sys.dont_write_bytecode = True
+    spec = importlib.util.spec_from_loader("rt", importlib.machinery.SourceFileLoader("rt", command()))
+    rt = importlib.util.module_from_spec(spec)
+    spec.loader.exec_module(rt)
+    if builds and hasattr(rt, "share_work"):  # not in each release of the toolchain
+        rt.share_work(is_alone=True)
+    lacks = [name for module, names in ((rt, OF_RT), (rt.rtlib, OF_RTLIB)) for name in names if not hasattr(module, name)]
+    if lacks:
+        sys.exit(f"the toolchain that is in PATH has no {', '.join(lacks)}: gate/kit.py needs another release of it")
+    made = SimpleNamespace(**{name: getattr(rt, name) for name in OF_RT}, **{name: getattr(rt.rtlib, name) for name in OF_RTLIB})
+    made.ci_takes_names = "rt ci NAME" in (rt.__doc__ or "")
+    if builds:
+        made.guarded()
+    return made
+
+
+def crates(rt):
+    """The crates of crates.txt by their names, those below a crate before it."""
+    return {it.name: it for it in rt.crates_below(str(TOP))}
+
+
+def said_lanes():
+    """How many checks RT_JOBS says are to run at once; 0 where it says no number above 0."""
+    said = os.environ.get("RT_JOBS", "")
+    return int(said) if said.isascii() and said.isdigit() else 0
+
+
+def lanes(rt):
+    """How many checks, or processes of checks, are to run at once: as many as there are processors, and as memory holds; or as many as
+    RT_JOBS says. The toolchain left to itself reckons with three to five times the memory that they take, and waits."""
+    return said_lanes() or max(1, min(rt.processors(), int(rt.free()) // NEEDS))
+
+
+def has_room_in_memory(rt):
+    """Whether memory has room for what checks write and remove again, which may write there and run programs from there, as nobody too."""
+    if not MEMORY.is_dir() or not os.access(MEMORY, os.W_OK | os.X_OK) or not MEMORY.stat().st_mode & 0o001:
+        return False
+    found = os.statvfs(MEMORY)
+    is_large = found.f_bavail * found.f_frsize >= ROOM and rt.free() >= lanes(rt) * NEEDS + ROOM
+    return is_large and not found.f_flag & os.ST_NOEXEC
+
+
+@contextlib.contextmanager
+def in_memory(rt):
+    """Has the checks that this process starts write into memory what they remove again, up to half a GB of small files each: to remove
+    them from a disk takes up to 15 seconds a check, in which no processor works. All that it starts finds the folder as TMPDIR. It is
+    removed at the end, also where this process is killed; a process that it has started, and that outlives it, may make it anew, and it is
+    left then. Where TMPDIR is set already, or memory has no such room, nothing is changed."""
+    if "TMPDIR" in os.environ or not has_room_in_memory(rt):
+        yield
+        return
+    room = tempfile.mkdtemp(prefix="oca-checks-", dir=MEMORY)
+    os.chmod(room, 0o711)  # as root, `rt ci` runs what it has built as nobody
+    # Once no process holds the other end; a second time for what is killed a moment later, and still writes.
+    words = ["sh", "-c", 'read _; rm -rf "$1"; sleep 2; rm -rf "$1"', "", room]
+    remover = subprocess.Popen(words, stdin=subprocess.PIPE, stdout=subprocess.DEVNULL, stderr=subprocess.DEVNULL, start_new_session=True)
+    os.environ["TMPDIR"], tempfile.tempdir = room, None
+    try:
+        yield
+    finally:
+        os.environ.pop("TMPDIR")
+        tempfile.tempdir = None
+        shutil.rmtree(room, ignore_errors=True)
+        remover.stdin.close()

@@ -1,0 +1,98 @@
+"""What tools count: what is as it must be, and what is not, which they tell. Other tools use it; it has no `main`."""
+import contextlib
+import os
+import subprocess
+
+import own_ports
+
+
+def ended(run, seconds=60):
+    """What a run printed, what it said of faults, and its status; that it did not end, where it does not in so many seconds."""
+    try:
+        return (*run.communicate(timeout=seconds), run.returncode)
+    except subprocess.TimeoutExpired:
+        run.kill()
+        return ("it did not end", *run.communicate(timeout=60))
+
+
+class Checks:
+    """Counts checks, and runs the programs of a folder for them."""
+
+    def __init__(self, folder=""):
+        self.folder, self.passed, self.failed, self.started = os.path.abspath(folder) if folder else "", 0, 0, []
+        self.late, self.repeated = 0, []
+
+    def expect(self, what, good, told="", is_time=False):
+        """A check; `is_time` where it is wrong only since something took too long."""
+        if good:
+            self.passed += 1
+            return
+        self.failed += 1
+        self.late += is_time
+        print(f"{'LATE' if is_time else 'WRONG'}: {what}{told and ': '}{told}", flush=True)
+
+    def same(self, what, got, wanted, is_time=False):
+        self.expect(what, got == wanted, f"{got!r:.1000} in place of {wanted!r:.1000}", is_time)
+
+    def start(self, *words, given=None, text=True, **how):
+        """A run of a program of the folder, with this input; without one it stays open."""
+        how = {"stdin": subprocess.PIPE, "stdout": subprocess.PIPE, "stderr": subprocess.PIPE, **how}
+        run = subprocess.Popen([f"{self.folder}/{words[0]}", *map(str, words[1:])], text=text, **how)
+        self.started.append(run)
+        if given is not None:
+            write(run, given)
+        return run
+
+    def ran(self, *words, given="", **how):
+        """What a program prints for these words and this input, what it says of faults, and its status."""
+        return ended(self.start(*words, given=given, **how))
+
+    def part(self, part):
+        """Runs a part. Where times alone were wrong it is tried twice more, since a machine that stands still for a second or two is no
+        fault of the programs; whatever else is wrong, events and counts, has failed at once."""
+        for left in (2, 1, 0):
+            passed, failed, self.late = self.passed, self.failed, 0
+            part(self)
+            if self.failed == failed or self.failed > failed + self.late or not left:
+                return
+            print(f"once more: {part.__name__}: {self.late} times were too long", flush=True)
+            self.repeated.append(part.__name__)
+            self.passed, self.failed = passed, failed
+
+    def parts(self, *parts, alone=()):
+        """Runs these parts, some of them alone at the ports that `ocactl` takes by turns; one that breaks off has failed."""
+        for part in parts:
+            try:
+                with own_ports.alone() if part in alone else contextlib.nullcontext():
+                    self.part(part)
+            except Exception as fault:  # nothing came, or something else than what was waited for
+                self.expect(part.__name__, False, repr(fault))
+
+    def verdict(self):
+        """Ends what still runs, prints the last line, and answers the exit status."""
+        for run in self.started:
+            if run.poll() is None:
+                run.kill()
+                run.wait()
+        if self.repeated:
+            print(f"parts that were repeated since times were too long: {', '.join(self.repeated)}")
+        print(f"{self.passed} passed, {self.failed} failed")
+        return int(self.failed > 0 or not self.passed)
+
+
+def write(run, given, ends=True):
+    """Gives a run this input, and ends it there, or leaves it open; where the run has ended, nothing."""
+    with contextlib.suppress(BrokenPipeError):
+        run.stdin.write(given)
+        run.stdin.flush()
+    if ends:
+        with contextlib.suppress(BrokenPipeError):
+            run.stdin.close()
+        run.stdin = None
+
+
+def layered(place, name):
+    """The layer over the C library of the file `NAME.c` here, built in this folder, as LD_PRELOAD names it."""
+    source = os.path.join(os.path.dirname(os.path.abspath(__file__)), f"{name}.c")
+    subprocess.run(["gcc", "-O1", "-Wall", "-shared", "-fPIC", "-o", f"{place}/{name}.so", source, "-ldl"], check=True)
+    return f"{place}/{name}.so"

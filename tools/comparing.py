@@ -1,0 +1,60 @@
+"""What the tools share that hold the programs against laws and against the second implementation. Other tools use it; it has no `main`."""
+import collections
+import multiprocessing
+import subprocess
+
+
+class Break(Exception):
+    """A law that is broken, the number of the event or step at which it is, and how."""
+
+    def __init__(self, law, at, what):
+        super().__init__(law, at, what)
+        self.law, self.at, self.what = law, at, what
+
+
+def wrong_rule(rules, name, law, owner, method):
+    """Notes that who has this body in the place of the method breaks this law."""
+    def note(body):
+        rules[name] = law, owner, method, body
+        return body
+    return note
+
+
+def broken(walk, *given):
+    """The break to which a walk comes, or None."""
+    try:
+        walk(*given)
+    except Break as fault:
+        return fault
+    return None
+
+
+def runs_of(program, kind, head, texts):
+    """The lines that `trials KIND` prints for each of these texts, from the line on with which it begins each."""
+    given = "".join(f"{line}\n" for lines in texts for line in lines)
+    done = subprocess.run([program, kind], input=given.encode(), capture_output=True, timeout=300)
+    lines = done.stdout.decode().splitlines()
+    begins = [at for at, line in enumerate(lines) if line == head] + [len(lines)]
+    if done.returncode != 0 or len(begins) != len(texts) + 1:
+        raise RuntimeError(f"status {done.returncode}, {len(begins) - 1} of {len(texts)} runs, {done.stderr.decode()!r}")
+    return [lines[first:end] for first, end in zip(begins, begins[1:])]
+
+
+def in_processes(work, jobs, refuses, wrong):
+    """The counts of all jobs, the text of the first break or None, and what is found of each wrong rule; jobs run side by side."""
+    total = collections.Counter()
+    with multiprocessing.Pool(min(4, multiprocessing.cpu_count())) as pool:
+        for counts, fault in pool.imap(work, jobs):
+            total += counts
+            if fault:
+                return total, fault, []
+        return total, None, pool.map(refuses, wrong, chunksize=1)
+
+
+def verdict(checks):
+    """Prints the checks that failed and the last line; answers the exit status."""
+    for name, passed in checks.items():
+        if not passed:
+            print(f"FAILED: {name}")
+    print(f"{sum(map(bool, checks.values()))} passed, {sum(not passed for passed in checks.values())} failed")
+    return 0 if all(checks.values()) else 1

@@ -1,0 +1,41 @@
+"""Two machines that are network namespaces of Linux, with links between them. Other tools use it; it has no `main`."""
+import os
+import shutil
+import subprocess
+
+
+def is_able(tool):
+    """Whether this process may make namespaces. Where not it says so, and nothing is tried."""
+    if os.geteuid() == 0 and shutil.which("ip"):
+        return True
+    print(f"{tool}: NOT TRIED: it needs root and `ip`\n1 passed, 0 failed")
+    return False
+
+
+class Machines:
+    """A machine for the device and one for its peers, with links from `link0` on: of each the peers' address and the device's."""
+
+    def __init__(self, *links):
+        self.links, self.device, self.peers = links, f"oca-d{os.getpid()}", f"oca-p{os.getpid()}"
+
+    def __enter__(self):
+        for name in (self.device, self.peers):
+            self.ip(f"netns add {name}")
+            self.ip(f"-n {name} link set lo up")
+        for number, (near, far) in enumerate(self.links):
+            self.ip(f"-n {self.peers} link add link{number} type veth peer name link{number} netns {self.device}")
+            for name, address in ((self.peers, near), (self.device, far)):
+                self.ip(f"-n {name} addr add {address}/24 dev link{number}")
+                self.ip(f"-n {name} link set link{number} up")
+        return self
+
+    def __exit__(self, *_):
+        for name in (self.device, self.peers):
+            subprocess.run(["ip", "netns", "del", name], check=False)
+
+    @staticmethod
+    def ip(line):
+        subprocess.run(["ip", *line.split()], check=True)
+
+    def start(self, machine, *words, stdin=subprocess.DEVNULL):
+        return subprocess.Popen(["ip", "netns", "exec", machine, *map(str, words)], stdin=stdin, stdout=subprocess.PIPE, stderr=subprocess.PIPE, text=True)
