@@ -26,7 +26,7 @@ from concurrent.futures import ThreadPoolExecutor
 from pathlib import Path
 
 import page
-from panel import COUNTS, MUTE, SOURCE, TRIM, Device, Relay, check, free_port, many_tree, ocactl
+from panel import COUNTS, MUTE, SOURCE, TREE, TRIM, Device, Relay, check, free_port, many_tree, ocactl
 
 CASES = Path(__file__).resolve().parent / "page_cases"
 PHANTOM, OTHER_MUTE, BLOCK = 4096, 4103, 4097
@@ -516,16 +516,29 @@ def looks(one):
     check(one.run("parseFloat(getComputedStyle(document.activeElement).outlineWidth)") >= 2, "the focus is seen")
 
 
-def pictures(one, folder):
-    """The pictures of the documents."""
-    one.run("document.activeElement.blur();scrollTo(0,0)")
-    for name, width, height, is_dark in [("panel.png", 1280, 800, False), ("panel-tablet.png", 834, 1112, True)]:
-        one.size(width, height)
-        one.dark(is_dark)
-        time.sleep(0.7)
-        Path(folder, name).write_bytes(one.picture())
-    one.size(1280, 900)
-    one.dark(False)
+NAMES = ["Kick", "Snare", "Bass", "Guitar", "Keys", "Lead vocal", "Choir", "Talkback"]
+
+
+def pictures(folder, browser, place):
+    """The pictures of the documents: a stage box with names and levels."""
+    with tempfile.TemporaryDirectory() as units:
+        Path(units, "units").write_text("class int16 0.1 dB\n")
+        with Device(folder) as device, Program(folder, device.port, "--no-token", "--units", str(Path(units, "units"))) as panel:
+            one = Window(browser, panel.address)
+            one.holds(LIVE, "the device of the pictures is shown", 30)
+            one.run("order(rows.get(100),'label','Stage box A')")
+            for n, name in enumerate(NAMES):
+                one.run(f"order({row(4097 + 5 * n)},'label','{name}');change({row(4100 + 5 * n)},'{[-60, -35, 0, 45, -120, 20, -80, -300][n]}')")
+                if n not in (4, 7):
+                    one.run(f"change({row(4098 + 5 * n)},'unmuted')")
+            one.holds(f"{row(4132, '.label')}==='Talkback'&&{shows(4135, '-300')}&&program.name==='Stage box A'", "its names and levels are set")
+            one.run("document.activeElement.blur();scrollTo(0,0)")
+            for name, width, height, is_dark in [("panel.png", 1280, 800, False), ("panel-tablet.png", 834, 1112, True)]:
+                one.size(width, height, is_dark)
+                one.dark(is_dark)
+                time.sleep(1)
+                Path(place, name).write_bytes(one.picture())
+            one.close()
 
 
 def stalls(folder, device, browser, panel, address):
@@ -580,9 +593,11 @@ def begun_anew(folder, browser):
             one.close()
 
 
-def bad_network(folder, browser):
+def bad_network(folder, browser, place):
     """At 20 % loss, and over a device that restarts."""
-    device = Device(folder)
+    file = Path(place, "one.tree")
+    file.write_text("".join(line + "\n" for line in TREE.read_text().splitlines() if line[:4] in ("4096", "4097", "4098", "4099", "4100", "4101")))
+    device = Device(folder, 0, ("--tree", str(file)))
     relay = Relay(device.port, 3)
     relay.start()
     with Program(folder, relay.port) as panel:
@@ -608,7 +623,7 @@ def bad_network(folder, browser):
         check(wrong == 0, f"{wrong} of 5 drags at 20 % loss with a lock at once end at another value")
         device.__exit__()
         window.holds("program.state==='lost'&&$('banner').textContent.includes('is lost')", "a device that is gone is shown as lost", 30)
-        with Device(folder, device.port):
+        with Device(folder, device.port, ("--tree", str(file))):
             relay.device = ("127.0.0.1", device.port)
             window.holds(LIVE, "and found again", 60)
         window.close()
@@ -699,7 +714,7 @@ def started_without_cookies(browser):
 
 
 # How many rows there are of each part; a part that has fewer tried too little.
-ROWS = {"sources": 2, "node": 69, "wrong pages": 36, "chromium": 69, "by hand": 60, "looks": 27, "programs": 30}
+ROWS = {"sources": 2, "node": 73, "wrong pages": 36, "chromium": 73, "by hand": 44, "looks": 20, "programs": 43}
 
 
 def counted(name, part_of, *given):
@@ -723,7 +738,8 @@ def programs(folder, browser):
     with Device(folder) as device, Program(folder, device.port) as panel:
         stalls(folder, device, browser, panel, panel.address)
     begun_anew(folder, browser)
-    bad_network(folder, browser)
+    with tempfile.TemporaryDirectory() as place:
+        bad_network(folder, browser, place)
     large(folder, browser)
     hostile(folder, browser)
     watching(folder, browser)
@@ -741,11 +757,11 @@ def in_chromium(folder, program, place):
                 windows = []
                 counted("by hand", lambda: windows.extend(by_hand(folder, device, browser, panel.address)))
                 counted("looks", looks, windows[0])
-                if place:
-                    pictures(windows[0], place)
                 for window in windows:
                     window.close()
             counted("programs", programs, folder, browser)
+            if place:
+                pictures(folder, browser, place)
             lines = [line for line in browser.lines if "ERR_" not in str(line) and "Failed to load resource" not in str(line)]
             check(not lines, f"no line in the console: {lines[:3]}")
         finally:
