@@ -9,7 +9,7 @@
 # make world   schedules for both ends, held against the laws and the second implementation: SCHEDULES=8000 SEED=1
 # make law     histories of events, held against the law by events, and wrong devices: HISTORIES=2000 SEED=1
 # make bench   instructions, memory by size, requests a second beside bare loops, with the goals
-# make panel-trial   the panel in a real browser, headless Chromium: clicks, drags, locks, loss, a restart, 4,096 objects
+# make panel-trial   the panel's page: its cases in node, and in headless Chromium: clicks, drags, locks, loss, restarts
 # make install puts the programs, their manual pages and the library for C below PREFIX (of DESTDIR); what is not built yet is
 #              proved and built first (make build ocapanel library), and built anew where a source is newer
 # make library proves and builds the library for C: TARGET=aarch64-unknown-linux-gnu for another kind of processor, which

@@ -15,7 +15,6 @@ import os
 import random
 import re
 import select
-import shutil
 import signal
 import socket
 import subprocess
@@ -1223,119 +1222,6 @@ def limits_of_orders(folder):
     check(False, "orders behind one without an answer are all lost")
 
 
-# What the page's script does when its controls are used, with what stands for a document; a line for each order.
-PAGE_SCRIPT = r"""
-const orders=[],made=()=>new Proxy(function(){},{get:(t,k)=>k in t?t[k]:k===Symbol.toPrimitive?()=>"":made(),set:(t,k,v)=>(t[k]=v,true),apply:()=>made()});
-const element=()=>{const e={style:{},dataset:{},classList:{add(){},remove(){},toggle(){}},setAttribute(){},append(){},prepend(){},after(){},addEventListener(){},textContent:""};return e};
-globalThis.document={createElement:element,getElementById:element,addEventListener(){},body:element(),hidden:false,activeElement:null};
-globalThis.window=globalThis;globalThis.IntersectionObserver=class{observe(){}unobserve(){}disconnect(){}};
-globalThis.fetch=(path,how)=>{if(how)orders.push(path+" "+how.body);return new Promise(()=>{})};
-const script=require("fs").readFileSync(0,"utf8");
-const page=new Function(script+";return{toggle,choice,number,locker}")();
-const row=more=>({ono:7,ticket:0,box:element(),flags:[],names:[],inputs:[],...more});
-for(const[cls,on,off]of[["mute","muted","unmuted"],["polarity","inverted","non-inverted"],["boolean","on","off"]])
- for(const value of[on,off])page.toggle(row({value}),cls,on,off)[0].onclick();
-for(const kind of["int8","uint32","uint64"]){const r=row({kind,value:"1",limits:["0","9"]}),c=page.number(r);c[c.length-1].value="5";c[c.length-1].onchange();
- if(c.length>1){const d=page.number(row({kind,value:"1",limits:["0","9"]}));d[0].value="6";d[0].oninput()}}
-const r=row({kind:"switch",value:"0",names:["a","b"]}),c=page.choice(r);c[0].value="1";c[0].onchange();
-for(const lock of["free","own","other"])page.locker(row({lock}),true).onclick();
-console.log(orders.join(String.fromCharCode(10)));
-"""
-# The page's script as it polls a panel, of whose orders the first is refused, and told from then on, and the second is
-# carried out: how often orders were settled behind each, and what the page says of the object then.
-POLLING_SCRIPT = r"""
-const of=(t,k)=>k in t?t[k]:k===Symbol.toPrimitive?()=>"":k===Symbol.iterator?undefined:made();
-const made=()=>new Proxy(function(){},{get:of,set:(t,k,v)=>(t[k]=v,true),apply:()=>made()});
-globalThis.document={createElement:made,getElementById:made,addEventListener(){},body:made(),hidden:false};
-globalThis.window=globalThis;globalThis.IntersectionObserver=class{observe(){}unobserve(){}disconnect(){}};
-let polls=0,orders=0;const told=[],last=[];
-const mute={ono:7,in:100,class:"mute",role:"m",lockable:true,names:[]};
-const shown={ono:7,value:"muted",limits:null,trouble:null,lock:"free",enabled:true,label:"",flags:[]};
-const link={heard:1,lost_for:null,in_flight:0,commands:1,again:0,lost:0};
-const said=more=>({status:200,ok:true,json:async()=>({epoch:1,walked:true,...more})});
-globalThis.fetch=async(path,how)=>{
- if(how){const ticket=++orders;last.push(JSON.parse(how.body).before);setTimeout(()=>told.push({ticket,ono:7,trouble:ticket===1?"Locked":null}),100);
-  return{status:202,ok:true,json:async()=>ticket}}
- if(path==="/tree")return said({objects:[mute]});
- return said({change:++polls,now:700000,objects:[shown],link,told:told.slice()})};
-const script=require("fs").readFileSync(0,"utf8");
-const page=new Function(script+";return{order,times,row:()=>rows.get(7)}")();
-const pause=ms=>new Promise(done=>setTimeout(done,ms));
-(async()=>{
- for(let n=0;n<100&&!page.row();n++)await pause(50);
- const row=page.row(),said=[];
- for(const[value,count]of[["unmuted",1],["unmuted",2]]){
-  page.order("/set",row,value);
-  for(let n=0;n<100&&page.times.length<count;n++)await pause(50);
-  await pause(600);said.push([page.times.length,row.why,row.ticket])}
- console.log(JSON.stringify([polls>5,said,last]));process.exit(0)})();
-"""
-SET = ["unmuted", "muted", "non-inverted", "inverted", "off", "on", "5", "6", "5", "6", "5", "1"]
-
-
-def controls(panel):
-    """What the page's controls order, where node is installed: a click turns a toggle, and so on."""
-    if not shutil.which("node"):
-        return print("NOT TRIED: the page's script, without node")
-    script = re.search(r"<script>(.*?)</script>", panel.ask("GET", "/")[2].decode(), re.DOTALL)[1]
-    with tempfile.NamedTemporaryFile("w", suffix=".js") as file:
-        file.write(PAGE_SCRIPT)
-        file.flush()
-        done = subprocess.run(["node", file.name], input=script, capture_output=True, text=True, timeout=60)
-    told = [line.split(" ", 1) for line in done.stdout.splitlines()]
-    got = [(path, json.loads(body)) for path, body in told]
-    last = [body.pop("before", None) for _, body in got]
-    check(all(isinstance(moment, int) and moment >= 5000 for moment in last), f"the last moments of the page's orders: {last}")
-    rows = [("/set", {"ono": 7, "value": value}) for value in SET] + [(path, {"ono": 7}) for path in ("/lock", "/unlock", "/lock")]
-    check(got == rows, f"what the page's controls order: {got} {done.stderr[-300:]}")
-    settles(script)
-
-
-def settles(script):
-    """An order that was told is settled once, whatever the panel tells from then on."""
-    with tempfile.NamedTemporaryFile("w", suffix=".js") as file:
-        file.write(POLLING_SCRIPT)
-        file.flush()
-        done = subprocess.run(["node", file.name], input=script, capture_output=True, text=True, timeout=60)
-    *got, last = json.loads(done.stdout or "[null]")
-    check(got == [True, [[1, "Locked", 0], [2, "", 0]]], f"how orders are settled: {got} {done.stderr[-300:]}")
-    in_time = bool(last) and all(705_000 <= moment < 706_000 for moment in last)
-    check(in_time, f"orders of a page are good for 5 s by the clock of its program, which reads 700 s: {last}")
-    hides(script)
-
-
-# The page's script in a window that is shown, hidden, and shown again: how often it asks for values in each.
-HIDING_SCRIPT = r"""
-const of=(t,k)=>k in t?t[k]:k===Symbol.toPrimitive?()=>"":k===Symbol.iterator?undefined:made();
-const made=()=>new Proxy(function(){},{get:of,set:(t,k,v)=>(t[k]=v,true),apply:()=>made()});
-let changed=null,asked=0;
-globalThis.document={createElement:made,getElementById:made,addEventListener(what,f){if(what==="visibilitychange")changed=f},
- body:made(),hidden:false};
-globalThis.window=globalThis;globalThis.IntersectionObserver=class{observe(){}unobserve(){}disconnect(){}};
-const link={heard:1,lost_for:null,in_flight:0,commands:1,again:0,lost:0};
-globalThis.fetch=async path=>{if(path.startsWith("/values"))asked++;
- return{status:200,ok:true,json:async()=>({epoch:1,walked:false,now:1,change:1,objects:[],link,told:[]})}};
-const script=require("fs").readFileSync(0,"utf8");
-new Function(script)();
-const pause=ms=>new Promise(done=>setTimeout(done,ms)),counts=[];
-(async()=>{
- for(const hidden of[false,true,false]){
-  document.hidden=hidden;changed&&changed();await pause(300);
-  asked=0;await pause(2500);counts.push(asked)}
- console.log(JSON.stringify(counts));process.exit(0)})();
-"""
-
-
-def hides(script):
-    """A window that is hidden asks for nothing, and again once it is shown."""
-    with tempfile.NamedTemporaryFile("w", suffix=".js") as file:
-        file.write(HIDING_SCRIPT)
-        file.flush()
-        done = subprocess.run(["node", file.name], input=script, capture_output=True, text=True, timeout=60)
-    shown, hidden, again = json.loads(done.stdout or "[0, 0, 0]")
-    check(shown > 2 and hidden == 0 and again > 2, f"a window asks {shown} times, hidden {hidden}, shown again {again} {done.stderr[-300:]}")
-
-
 def asked_at_once(folder, *given):
     """How many commands are in flight at a device that answers none, by their handles; and how many the panel says."""
     with socket.socket(socket.AF_INET, socket.SOCK_DGRAM) as silent:
@@ -1494,7 +1380,6 @@ def main():
         part(folder)
     with Device(folder) as device, Panel(folder, device.port) as panel:
         page(panel)
-        controls(panel)
         in_one_piece(panel)
         objects(folder, device, panel)
         hostile(panel)

@@ -1,279 +1,43 @@
-//! The page: one document with its style and its script.
+//! The page: one document with its style and its script, made by `tools/page.py` from the files in `page/`.
 
 /// What the page may do: run its own script, use its own style, and ask the panel that sent it, and nothing else. The
 /// hashes are those of the script and of the style below; `tools/panel.py` compares them.
 pub const POLICY: &str =
-    "default-src 'none'; style-src 'sha256-Y/i9LSaffZAIzaSvKv58iOYmhMJUbD22okXE9k7yV1k='; \
-     script-src 'sha256-HDkUwBBhwpaXXUs81iHpIHFf/hFcKjLc+gk5FTmklJk='; connect-src 'self'; \
+    "default-src 'none'; style-src 'sha256-BEaEPvO2kIvNgwDZzF92pIPBNVxXfwJff08FnPkgbM0='; \
+     script-src 'sha256-6GFtuywAkhyJRycJK6D1110DRxQrYULqfoALY8jX3vI='; connect-src 'self'; \
      frame-ancestors 'none'; base-uri 'none'; form-action 'none'";
 
-/// The page. It asks for `/tree` and `/values`, and sends orders to `/set`, `/lock` and `/unlock`. What comes from the
-/// device goes into it by `textContent` and by properties alone, never as HTML.
+/// The page. It asks for `/tree` and `/values`, and sends orders to `/orders`. What comes from the device goes into it by
+/// `textContent` and by properties alone, never as HTML.
 pub const PAGE: &str = r###"<!doctype html>
 <html lang="en"><head><meta charset="utf-8"><title>OCA panel</title>
 <meta name="viewport" content="width=device-width,initial-scale=1">
-<style>
-:root{color-scheme:light dark;--page:#f3f4f6;--card:#fff;--inner:#eef0f4;--text:#1b1f26;--soft:#4d5766;--edge:#c3c9d3;
- --good:#17722f;--bad:#b3261e;--on:#b3261e;--turn:#1f56a8;--yes:#17722f;--focus:#1f56a8}
-@media(prefers-color-scheme:dark){
- :root{--page:#16181c;--card:#23272e;--inner:#2d323b;--text:#e4e7ec;--soft:#a9b3c1;--edge:#454c58;--good:#6fd38a;
-  --bad:#ff8a80;--on:#d5473e;--turn:#3d7bd6;--yes:#2d8f4a;--focus:#8ab4f8}}
-*{box-sizing:border-box}
-body{margin:0;font:15px/1.35 system-ui,sans-serif;background:var(--page);color:var(--text)}
-header{position:sticky;top:0;z-index:1;background:var(--card);border-bottom:1px solid var(--edge);padding:8px 12px;
- display:flex;flex-wrap:wrap;gap:4px 18px;align-items:baseline}
-h1{font-size:16px;margin:0}
-#link{font-weight:600}.good{color:var(--good)}.bad{color:var(--bad)}.soft{color:var(--soft);
- font-variant-numeric:tabular-nums}
-main{display:grid;grid-template-columns:repeat(auto-fill,minmax(316px,1fr));gap:10px;padding:10px;align-items:start}
-section{background:var(--card);border:1px solid var(--edge);border-radius:8px;padding:8px 10px;min-width:0;
- content-visibility:auto}
-section section{background:var(--inner);margin:6px 0}
-h2{font-size:14px;margin:0 0 4px;display:flex;gap:8px;align-items:center;justify-content:space-between;
- overflow-wrap:anywhere}
-.row{display:grid;grid-template-columns:minmax(60px,1fr) minmax(155px,2fr) auto;gap:4px 8px;align-items:center;
- padding:3px 0;min-height:34px}
-.row>.name{color:var(--soft);overflow-wrap:anywhere}
-.control{display:flex;gap:6px;align-items:center;min-width:0}
-button,select,input{font:inherit;color:inherit;background:var(--inner);border:1px solid var(--edge);border-radius:5px;
- padding:3px 8px;max-width:100%}
-input[type=range]{flex:1 1 70px;min-width:60px;padding:0;border:0;background:none}input[type=number]{width:5.6em}
-input.wide{width:100%}
-button[aria-pressed=true]{color:#fff}button.mute[aria-pressed=true]{background:var(--on)}
-button.polarity[aria-pressed=true]{background:var(--turn)}
-button.boolean[aria-pressed=true],button.lock[aria-pressed=true]{background:var(--yes)}
-button.lock{font-size:12px;padding:2px 6px;min-width:4.8em}
-:focus-visible{outline:2px solid var(--focus);outline-offset:2px}
-.held .control,.off .control,.off>.name{opacity:.45}.sent .control{outline:1px dashed var(--turn);outline-offset:2px}
-.said{grid-column:1/-1;color:var(--bad);font-size:13px;overflow-wrap:anywhere}.said:empty{display:none}
-.away main{opacity:.6}
-</style></head><body>
+<style>:root{color-scheme:light dark;--m:#e7eaef;--e:#fff;--j:#f1f3f6;--o:#14181f;--n:#4a5462;--g:#757e8c;--i:#cdd3db;--l:#b3161b;--a:#1c53a6;--r:#17692d;--q:#8a4b00;--b:#a81a15;--c:#343c49;--k:#fff;--h:#0b57d0}@media (prefers-color-scheme:dark){:root{--m:#0a0c0f;--e:#171b21;--j:#232932;--o:#eef1f5;--n:#b3bdca;--g:#7d899b;--i:#343c48;--l:#c92a2a;--a:#2c66c4;--r:#1e7a3a;--q:#ffb454;--b:#ff9a92;--c:#cfd6e0;--k:#0a0c0f;--h:#8ab8ff}}*{box-sizing:border-box}[hidden]{display:none !important}body{margin:0;font:15px/1.25 system-ui,sans-serif;background:var(--m);color:var(--o);padding-bottom:66px}svg{width:20px;height:20px;fill:none;stroke:currentColor;stroke-width:2;pointer-events:none;flex:none}button,input,select{font:inherit;color:inherit;background:var(--j);border:1px solid var(--g);border-radius:7px;min-height:44px;min-width:44px;padding:4px 9px;max-width:100%;touch-action:manipulation;user-select:none;-webkit-user-select:none}input{user-select:auto;-webkit-user-select:auto}button:disabled{color:var(--n);border-style:dotted}[aria-pressed=true],[aria-checked=true],.go{background:var(--a);color:#fff}.red,.mute>[aria-pressed=true],.mute>.on{background:var(--l);color:#fff;font-weight:700}:focus-visible{outline:3px solid var(--h);outline-offset:2px}::placeholder{color:var(--n);opacity:1}bdi{unicode-bidi:isolate}.top{position:sticky;top:0;z-index:3;background:var(--e);border-bottom:1px solid var(--i)}header,#bar,#foot,.acts,.row{display:flex;gap:8px;align-items:center;padding:6px 12px}h1{font-size:17px;margin:0;flex:1;min-width:0}h1>*,.cut,.select small{display:block;overflow:hidden;text-overflow:ellipsis;white-space:nowrap}small,time,#hits{font-weight:400;font-size:13px;color:var(--n);font-variant-numeric:tabular-nums}#watch{border:2px solid;border-radius:7px;padding:4px 8px;color:var(--q)}#state{flex:none;display:flex;gap:8px;align-items:center;justify-content:center;height:44px;min-width:9em;padding:0 12px;border:2px solid;border-radius:22px;font-weight:700}[data-state=live] #state{background:var(--r);color:#fff}[data-state=slow] #state{color:var(--q);border-radius:7px}[data-state=read] #state{border-style:dashed}:is([data-state=silent],[data-state=lost],[data-state=stale],[data-state=shut]) #state{background:var(--l);color:#fff;border-radius:0}#age{min-width:4.9em}#bar{padding-top:0;overflow-x:auto;scrollbar-width:none}#bar>*{flex:none}#find{flex:1 0 110px;max-width:340px}#bar b{display:inline-block;min-width:2.1em;text-align:right}#jump{width:9.5em}#guard{display:flex;gap:8px;align-items:center;font-weight:700}#guard[aria-pressed=true]{background:var(--q);color:var(--e)}main{padding:10px 12px;--f:clamp(150px,100vh - 566px,310px)}.grid{display:grid;grid-template-columns:repeat(auto-fill,minmax(130px,1fr));gap:8px;margin-bottom:8px}.grid:empty{display:none}.group{margin-bottom:8px;scroll-margin:118px;--f:clamp(150px,100vh - 680px,310px)}.group .group{margin-left:12px}.group>button{width:100%;display:flex;gap:10px;align-items:center;font-weight:700;background:var(--e);margin-bottom:8px}.group>button small{margin-left:auto}.group>p{margin:0 0 8px;color:var(--b)}.strip{background:var(--e);border:1px solid var(--i);border-radius:10px;padding:6px;display:grid;gap:6px;align-content:start;grid-template-columns:minmax(0,1fr) 44px;min-width:0;scroll-margin:118px 0 70px}.strip>*{grid-column:1/-1;min-width:0}.strip.tall{min-height:calc(var(--f) + 361px)}.strip[data-on]{outline:3px solid var(--a)}.select{font-weight:700;text-align:left;line-height:1.15;border-color:transparent;overflow-wrap:anywhere}.select span{display:-webkit-box;-webkit-line-clamp:2;-webkit-box-orient:vertical;overflow:hidden}.cell{display:flex;flex-direction:column;gap:2px}.cell>button{width:100%;flex:1}.cell>small{font-size:12px}.cell>output{min-height:44px;padding:10px 9px;border-radius:7px;background:var(--j);text-align:center;font-weight:600;overflow-wrap:anywhere}.strip .polarity{grid-column:1}.menu{display:grid;place-items:center;align-self:end}.polarity + .menu{grid-column:2}.menu.other{color:var(--q);border:2px dashed}.menu.own{background:var(--a);color:#fff}.other>button,.other .field{border:2px dashed var(--q)}.other>[aria-pressed=true]{border-color:#fff}.busy>button,.busy .cap,.busy .field{outline:2px dashed var(--h);outline-offset:-6px}.mute>button{min-height:58px;font-weight:700;letter-spacing:.05em}.mute>small{order:1;margin-top:-19px;text-align:center;z-index:1;pointer-events:none;color:var(--o)}.mute:has([aria-pressed=true])>small,.mute:has(.on)>small{color:#fff}.boolean>[aria-pressed=true],.boolean>.on{background:var(--r);color:#fff}.switch>button{display:flex;justify-content:space-between;align-items:center;gap:4px}.hold{position:relative;overflow:hidden}.hold::after{content:"";position:absolute;left:0;bottom:0;height:6px;width:0;background:currentColor}.hold.down::after{width:100%;transition:width .8s linear}.value{position:relative}.field{width:100%;text-align:center;font-weight:600;font-variant-numeric:tabular-nums}.value i{position:absolute;right:7px;top:14px;font:12px/1.3 system-ui;color:var(--n);pointer-events:none}.beside,.mark{background:var(--q);color:var(--e);font:700 12px/18px system-ui;padding:0 4px;border-radius:3px;white-space:nowrap}.beside{position:absolute;left:0;top:-11px;pointer-events:none;z-index:1}.fader{position:relative;height:var(--f);border-radius:7px;cursor:grab;user-select:none;-webkit-user-select:none;background:repeating-linear-gradient(var(--g) 0 1px,#0000 1px 12.5%) 50% 24px/44px calc(100% - 47px) no-repeat}.fader>*{position:absolute;pointer-events:none}.rail{left:calc(50% - 3px);width:6px;top:18px;bottom:18px;border-radius:3px;background:var(--g)}.zero{left:calc(50% - 32px);width:64px;height:3px;bottom:calc(23px + (100% - 48px)*var(--z));background:var(--o)}.limit{right:0;font-size:11px}.high{top:0}.low{bottom:0}.cap{left:calc(50% - 27px);width:54px;height:48px;bottom:calc((100% - 48px)*var(--p));border-radius:8px;touch-action:none;background:linear-gradient(var(--k) 0 0) 50%/42px 4px no-repeat var(--c);box-shadow:0 0 0 2px var(--e),0 3px 6px #0008;pointer-events:auto !important}.fine .cap{background-color:var(--a)}.mark{left:0;bottom:calc(15px + (100% - 48px)*var(--d))}:is(.flat,.wide) .fader{height:48px;background:repeating-linear-gradient(90deg,var(--g) 0 1px,#0000 1px 12.5%) 24px 50%/calc(100% - 47px) 32px no-repeat}:is(.flat,.wide) .rail{left:18px;right:18px;width:auto;top:21px;bottom:21px}:is(.flat,.wide) .zero{width:3px;height:44px;bottom:2px;left:calc(23px + (100% - 48px)*var(--z))}:is(.flat,.wide) .limit{display:none}:is(.flat,.wide) .cap{bottom:0;width:48px;left:calc((100% - 48px)*var(--p));background-size:4px 38px}:is(.flat,.wide) .mark{bottom:auto;top:-4px;left:calc((100% - 48px)*var(--d))}[aria-disabled=true]{cursor:not-allowed}.cell>[aria-disabled=true]{border-style:dotted}.message{font-size:12px;height:47px;overflow:hidden;color:var(--b);overflow-wrap:anywhere}.message.hint{color:var(--n)}.strip.wide{grid-column:1/-1;grid-template-columns:repeat(auto-fill,minmax(140px,1fr));align-items:end}.wide>.cell,.wide>.menu{grid-column:auto}.wide .message{height:17px}.wide .long{grid-column:span 2}.old main{filter:grayscale(1)}.old .strip{border:1px dashed var(--g);background:var(--m)}.old main *,.guarded .strip *{cursor:not-allowed}.guarded .strip{outline:2px dashed var(--q);outline-offset:-2px}.guarded .top{box-shadow:0 4px 0 var(--q)}.watching .act,.watching #guard,.watching #chosen{display:none}#foot,#banner,#log{position:fixed;z-index:4;left:0;right:0;bottom:0;background:var(--e);border-top:1px solid var(--i)}#foot>*{flex:none}#foot>#undo{flex:0 1 30em;min-width:0;text-align:left}#foot>p{flex:1;margin:0}#chosen{padding:0}#banner{bottom:64px;margin:auto;width:min(740px,96%);background:var(--l);color:#fff;padding:12px 16px;border-radius:8px}#banner b{display:block;font-size:17px;overflow-wrap:anywhere}[data-state=read] #banner{background:var(--a)}#log{z-index:2;left:auto;top:0;bottom:57px;width:min(420px,100%);padding:112px 12px 0;overflow:auto;border-left:1px solid var(--i)}#log p{margin:0;padding:6px 0;border-top:1px solid var(--i);font-size:14px;overflow-wrap:anywhere}#log b{display:block;font-weight:400;color:var(--n)}#log .bad b{color:var(--b);font-weight:600}dialog{border:1px solid var(--g);border-radius:12px;background:var(--e);color:var(--o);width:min(460px,94vw);max-height:92vh;padding:14px}dialog::backdrop{background:#000b}dialog h2{margin:0;font-size:18px;overflow-wrap:anywhere}dialog p{margin:6px 0 10px;color:var(--n);overflow-wrap:anywhere}dialog input{width:100%}.options{display:grid;gap:6px}.options>button{text-align:left;overflow-wrap:anywhere}.row,.acts{padding:4px 0;flex-wrap:wrap}#chosen.row{flex-wrap:nowrap}.row span{flex:1;min-width:8em;overflow-wrap:anywhere}.row small{display:block}.acts{justify-content:flex-end;padding-top:12px}@media (max-width:600px){header,#bar,#foot{padding-left:8px;padding-right:8px}main{padding:8px}#guard span,.picked #undo,.picked #mute-all{display:none}#state{min-width:6.6em;font-size:13px;padding:0 8px}#age{display:none}.grid{grid-template-columns:1fr}.group .group{margin-left:0}.strip:not(.wide){grid-template-columns:repeat(12,minmax(0,1fr))}.strip.tall{min-height:0}.flat>.select{grid-column:1/8}.flat>.mute{grid-column:8/-1}.flat>.mute>button{min-height:44px}.flat>.cell{align-self:end}.flat>.switch,.flat>.boolean{grid-column:span 6}.flat>.polarity.polarity{grid-column:span 3}.flat>.menu.menu{grid-column:-4/-1;align-self:end}.flat>.level{display:grid;grid-template-columns:1fr 92px;gap:2px 6px}.level>small{grid-column:1/-1}.flat .message{height:16px;white-space:nowrap;text-overflow:ellipsis}}@media (prefers-reduced-motion:reduce){.hold.down::after{transition:none}}</style></head><body data-state="read">
+<svg hidden>
+<symbol id="icon-free" viewBox="0 0 24 24"><path d="M5 11h14v10H5zM8 11V7a4 4 0 0 1 7.5-2"/></symbol>
+<symbol id="icon-held" viewBox="0 0 24 24"><path fill="currentColor" d="M5 11h14v10H5z"/><path d="M8 11V7a4 4 0 0 1 8 0v4"/></symbol>
+</svg>
+<div class="top">
 <header>
-<h1>OCA panel</h1>
-<span id="link" role="status">asking the device</span>
-<span class="soft" id="heard"></span>
-<span class="soft" id="flight"></span>
-<span class="soft" id="again"></span>
-<span class="soft" id="lost"></span>
-<span class="bad" id="note" role="alert"></span>
+<div id="state" role="status"><span aria-hidden="true">◌</span><span>READING</span></div><small id="age"></small>
+<h1><bdi id="device">OCA panel</bdi><small id="about"></small></h1>
+<b id="watch" hidden>READ ONLY</b>
+<button id="guard" aria-pressed="false" aria-label="Panel lock: off"><svg><use href="#icon-free"/></svg><span>Panel lock</span></button>
 </header>
+<div id="bar" role="toolbar" aria-label="Find strips">
+<input type="search" id="find" placeholder="Search" aria-label="Search strips by name">
+<button id="only-muted" aria-pressed="false">Muted <b>0</b></button><button id="only-locked" aria-pressed="false">Locked <b>0</b></button>
+<select id="jump" aria-label="Jump to"></select><button id="renew" hidden>Update list</button><span id="hits" role="status"></span>
+</div>
+</div>
 <main id="main" aria-busy="true"></main>
-<script>
-"use strict";
-const node=(tag,cls,text)=>{const e=document.createElement(tag);if(cls)e.className=cls;
- if(text!==undefined)e.textContent=text;return e};
-const by=id=>document.getElementById(id);
-const put=(e,text)=>{if(e.textContent!==text)e.textContent=text};
-const NOTHING="18446744073709551615";
-let epoch=0,since=NOTHING,rows=new Map(),awaited=new Map(),timer=0,busy=false,again=false,pace=2,told=[];
-let strips=[],near=null,seen=null,inView=new Set(),asked="",ahead=0;
-const times=[];
-// The clock of the panel's program, by its last answer: an order is not to be carried out later than 5 s after its click.
-const clock=()=>Math.floor(performance.now()+ahead);
-async function order(path,row,value,before=clock()+5000){
- if(row.ticket){row.next=[path,value,before];return}
- row.ticket=-1;row.begun=performance.now();row.box.classList.add("sent");
- try{
-  const body={ono:row.ono,before};if(value!==undefined)body.value=value;
-  const sent=fetch(path,{method:"POST",headers:{"Content-Type":"application/json"},body:JSON.stringify(body)});
-  pace=2;poll();
-  const r=await sent;
-  if(r.status===202){row.ticket=await r.json();const t=told.find(t=>t.ticket===row.ticket);if(t)settle(row,t.trouble);
-   else{awaited.set(row.ticket,row);pace=2;poll()}}
-  else settle(row,r.status===503?"too many orders wait":r.status===404?"no such object":
-   r.status===422?"no such value":"refused: "+r.status);
- }catch(e){settle(row,"the panel's program does not answer")}
-}
-function settle(row,why){
- row.ticket=0;row.box.classList.remove("sent");
- times.push(performance.now()-row.begun);if(times.length>1000)times.shift();
- row.why=why==="lost"?"lost: it may have been carried out":why||"";
- if(row.next){const n=row.next;row.next=null;order(n[0],row,n[1],n[2])}else show(row);
-}
-function toggle(row,cls,on,off){
- const c=node("button",cls);c.type="button";
- c.onclick=()=>order("/set",row,row.value===on?off:on);
- row.draw=()=>{put(c,row.value===null?"?":row.value);c.setAttribute("aria-pressed",row.value===on)};
- return[c];
-}
-function choice(row){
- const c=node("select");
- c.onchange=()=>order("/set",row,c.value);
- row.draw=()=>{
-  const [least,greatest]=row.limits?row.limits.map(Number):[0,row.names.length-1];
-  const key=least+" "+greatest+" "+row.flags.join();
-  if(key!==row.key){row.key=key;c.textContent="";
-   for(let i=least;i<=greatest;i++){const o=node("option","",row.names[i-least]||String(i));o.value=String(i);
-    o.disabled=row.flags[i-least]===false;c.append(o)}}
-  if(row.value!==null)c.value=row.value};
- return[c];
-}
-function number(row){
- const wide=row.kind.endsWith("64"),field=node("input",wide?"wide":""),fader=wide?null:node("input");
- field.type=wide?"text":"number";if(wide)field.inputMode="numeric";
- field.onchange=()=>order("/set",row,field.value.trim());
- if(fader){fader.type="range";fader.step=1;fader.oninput=()=>{field.value=fader.value;order("/set",row,fader.value)};
-  fader.onchange=fader.oninput}
- row.draw=()=>{
-  if(row.limits){const[least,greatest]=row.limits;field.title=least+" to "+greatest;
-   if(!wide){field.min=fader.min=least;field.max=fader.max=greatest}
-    else field.setAttribute("aria-description",least+" to "+greatest)}
-  if(row.value!==null){if(document.activeElement!==field)field.value=row.value;if(fader)fader.value=row.value}};
- row.second=fader;
- return fader?[fader,field]:[field];
-}
-function controls(row){
- switch(row.kind){
- case"mute":return toggle(row,"mute","muted","unmuted");
- case"polarity":return toggle(row,"polarity","inverted","non-inverted");
- case"boolean":return toggle(row,"boolean","on","off");
- case"switch":return choice(row);
- case"block":case"unknown":row.draw=()=>{};return[];
- default:return number(row)}
-}
-function title(row){return row.label||row.role||"object "+row.ono}
-function show(row){
- put(row.name,title(row));
- if(!row.said)return;
- if(row.ticket===0)row.draw();
- row.box.classList.toggle("held",row.lock==="other");row.box.classList.toggle("off",!row.enabled);
- for(const c of row.inputs){c.setAttribute("aria-label",title(row)+(row.strip?", "+row.strip:""));
-  c.disabled=!row.enabled}
- if(row.locker){put(row.locker,row.lock==="own"?"unlock":"lock");
-  row.locker.setAttribute("aria-pressed",row.lock==="own");
-  row.locker.setAttribute("aria-label",(row.lock==="own"?"unlock ":"lock ")+title(row)+(row.strip?", "+row.strip:""))}
- const words=[];
- if(row.lock==="other")words.push("Locked by a different controller");
- if(!row.enabled)words.push("not enabled");
- if(row.kind==="unknown")words.push("a class that is not known here");
- if(row.trouble)words.push(row.kind==="block"?"its members can't be listed: "+row.trouble:row.trouble);
- if(row.why&&!(row.why==="Locked"&&row.lock==="other"))words.push(row.why);
- put(row.said,words.join("; "));
-}
-function locker(row,lockable){
- if(!lockable)return;
- const c=node("button","lock","lock");c.type="button";
- c.onclick=()=>order(row.lock==="own"?"/unlock":"/lock",row);
- row.locker=c;return c;
-}
-// A strip is there with its names at once; its controls are made when it comes near, and those of all others while
-// nothing else is to be done, so that the keyboard, a search and a reader of the page find them.
-function fill(row){
- if(row.said)return;
- row.said=node("div","said");row.said.setAttribute("role","status");
- if(row.kind==="block"){
-  row.draw=()=>{};
-  if(row.ono===100)row.box.prepend(row.said);
-  else{const lock=locker(row,row.lockable);if(lock)row.name.after(lock);row.name.parentNode.after(row.said)}
- }else{
-  row.inputs=controls(row);const c=node("div","control");c.append(...row.inputs);
-  row.box.append(c,locker(row,row.lockable)||node("span"),row.said);
- }
- show(row);
-}
-function wake(strip){
- if(!strip||strip.awake)return;
- strip.awake=true;near.unobserve(strip.box);
- for(const row of strip.rows)fill(row);
-}
-const idle=window.requestIdleCallback?f=>requestIdleCallback(f,{timeout:1000}):
- f=>setTimeout(()=>f({timeRemaining:()=>0}),30);
-function wakeRest(of,at){
- idle(rest=>{
-  if(of!==strips)return;
-  do{while(at<of.length&&of[at].awake)at++;wake(of[at])}while(at<of.length&&rest.timeRemaining()>5);
-  if(at<of.length)wakeRest(of,at);
- });
-}
-function strip(box,row){
- const s={box,rows:row?[row]:[],inner:[],awake:false,at:strips.length};
- box.strip=s;strips.push(s);return s;
-}
-function high(s){
- const size=62+34*s.rows.filter(r=>r.kind!=="block").length+s.inner.reduce((n,i)=>n+high(i)+12,0);
- s.box.style.containIntrinsicSize="auto 280px auto "+size+"px";
- return size;
-}
-function watch(){
- if(near){near.disconnect();seen.disconnect()}
- inView=new Set();asked="";
- near=new IntersectionObserver(all=>{for(const e of all)if(e.isIntersecting)wake(e.target.strip)},
-  {rootMargin:"100% 0px"});
- seen=new IntersectionObserver(all=>{
-  for(const e of all){const s=e.target.strip;if(e.isIntersecting)inView.add(s);else inView.delete(s)}asked=range()});
- for(const s of strips)if(s.at){near.observe(s.box);seen.observe(s.box)}
-}
-function build(tree){
- epoch=tree.epoch;since=0;rows=new Map();awaited.clear();strips=[];
- const main=node("main");main.id="main";
- const root=strip(main),boxes=new Map([[100,root]]);root.title="";
- tree.objects.forEach((o,place)=>{
-  const row={ono:o.ono,kind:o.class,role:o.role,label:"",names:o.names,lockable:o.lockable,flags:[],value:null,
-   limits:null,lock:"free",enabled:true,trouble:null,why:"",ticket:0,next:null,place,inputs:[],said:null};
-  const within=boxes.get(o.in)||root;row.strip=within.title;
-  row.name=node("span","name",o.role);
-  if(o.class==="block"){
-   if(o.ono===100){row.box=main;root.rows.push(row)}
-   else{
-    row.box=node("section");const head=node("h2");head.append(row.name);
-    row.box.append(head);row.name.id="name"+o.ono;row.box.setAttribute("aria-labelledby",row.name.id);
-    const own=strip(row.box,row);own.title=o.role;boxes.set(o.ono,own);within.inner.push(own);
-    within.box.append(row.box);
-   }
-  }else{
-   row.box=node("div","row");row.box.append(row.name);
-   if(within===root){const s=node("section");s.append(row.box);root.inner.push(strip(s,row));main.append(s)}
-   else{within.rows.push(row);within.box.append(row.box)}
-  }
-  row.box.dataset.ono=o.ono;
-  rows.set(o.ono,row);
- });
- for(const s of root.inner)high(s);
- main.addEventListener("focusin",
-  e=>{const s=e.target.closest("section");if(s){wake(strips[s.strip.at-1]);wake(strips[s.strip.at+1])}});
- by("main").replaceWith(main);
- watch();wake(root);wakeRest(strips,0);
-}
-function range(){
- let first=null,last=0;
- for(const s of inView)for(const r of s.rows){if(first===null||r.place<first)first=r.place;if(r.place>last)last=r.place}
- return first===null?"":"&first="+first+"&count="+(last-first+1);
-}
-const ms=n=>n<1000?n+" ms":n<60000?(n/1000).toFixed(1)+" s":Math.floor(n/60000)+" min";
-function tell(v){
- const l=v.link,away=l.lost_for!==null;
- by("link").className=away||l.heard===null?"bad":"good";
- put(by("link"),away?"device lost since "+new Date(Date.now()-l.lost_for).toLocaleTimeString():
-  l.heard===null?"asking the device":"device heard");
- put(by("heard"),l.heard===null?"":ms(l.heard)+" ago");
- put(by("flight"),l.in_flight+" in flight");put(by("again"),l.again+" retransmissions");
-  put(by("lost"),l.lost+" sessions lost");
- document.body.classList.toggle("away",away);put(by("note"),"");
-}
-async function poll(){
- clearTimeout(timer);if(busy){again=true;return}busy=true;again=false;
- try{
-  const r=await fetch("/values?since="+since+asked);if(!r.ok)throw 0;const v=await r.json();
-  ahead=v.now-performance.now();
-  if(v.epoch!==epoch)since=NOTHING;
-  if(v.walked&&v.epoch!==epoch){const t=await fetch("/tree");if(!t.ok)throw 0;const tree=await t.json();
-   if(tree.walked){build(tree);again=true}}
-  else if(v.epoch===epoch){
-   since=v.change;
-   for(const o of v.objects){const row=rows.get(o.ono);
-    if(row){Object.assign(row,
-     {value:o.value,limits:o.limits,trouble:o.trouble,lock:o.lock,enabled:o.enabled,label:o.label,flags:o.flags});
-      show(row)}}
-   by("main").removeAttribute("aria-busy");
-  }
-  told=v.told;
-  for(const t of told){const row=awaited.get(t.ticket);if(row){awaited.delete(t.ticket);settle(row,t.trouble)}}
-  tell(v);
- }catch(e){put(by("note"),"the panel's program does not answer")}
- busy=false;
- if(again||awaited.size||!document.hidden)timer=setTimeout(poll,again?0:awaited.size?pace=Math.min(40,1.5*pace):100);
-}
-document.addEventListener("visibilitychange",()=>{if(!document.hidden)poll()});
-poll();
-</script></body></html>
+<aside id="log" aria-label="Log: what this page did" hidden></aside>
+<div id="banner" role="alert" hidden></div>
+<div id="foot" role="toolbar" aria-label="Actions">
+<button id="undo" class="cut act" disabled>Nothing to undo</button>
+<div id="chosen" class="row" hidden><b></b><button id="mute-chosen" class="red">Mute</button><button id="unmute-chosen">Unmute: hold</button><button id="choose-none" aria-label="Clear the selection">✕</button></div>
+<p></p><button id="mute-all" class="red act">Mute all…</button><button id="show-log" aria-expanded="false" aria-controls="log">Log</button>
+</div>
+<dialog id="dialog" aria-labelledby="dialog-title"></dialog>
+<script>"use strict";let $=id=>document.getElementById(id),now=()=>performance.now(),cp=()=>new Date().toLocaleTimeString("en-GB");function j(fO,dA,A){let i=document.createElement(fO);if(dA)i.className=dA;if(A!=null)i.textContent=A;return i}function P(i,A){if(i.textContent!==A)i.textContent=A}function L(i,name,value){if(i.getAttribute("aria-"+name)!==String(value))i.setAttribute("aria-"+name,String(value))}function fb(name){let dc=$("guard").firstElementChild.cloneNode(!0);dc.firstElementChild.setAttribute("href","#icon-"+name);return dc}function U(A){let af=String(A).replace(/[\u0000-\u001f\u007f-\u009f\u061c\u200b-\u200f\u2028-\u202e\u2060-\u206f\ufeff]/g,"\ufffd").trim();return af.length>120?af.slice(0,119)+"…":af}let ac=c=>U(c.label)||U(c.role)||"object "+c.ono,ba=c=>!c.d||c.d.t===c?ac(c):c.d.title+" · "+ac(c);function fq(units,G){let unit=units.find(u=>u.ono===G.ono)||units.find(u=>u.ono==null&&u.class===G.class),found=unit&&/^(\d+)(?:\.(\d+))?$/.exec(unit.factor);if(!found)return null;let be=found[2]||"",aq=BigInt(found[1]+be);return aq?{name:U(unit.unit),aq,al:be.length}:null}let ao=c=>/int/.test(c.p),aN=c=>c.unit?" "+c.unit.name:"";function fm(m,unit){let value=BigInt(m)*unit.aq,cB=String(value<0n?-value:value).padStart(unit.al+1,"0"),at=cB.length-unit.al;return(value<0n?"−":value>0n?"+":"")+cB.slice(0,at)+(unit.al?"."+cB.slice(at):"")}function cO(c,m){return U(c.names[m-(c.limits?c.limits[0]:0)]||"")||"position "+m}function K(c,m){if(m==null)return"–";if(c.p==="switch")return cO(c,m);if(!ao(c))return m;return c.unit?fm(m,c.unit):m.replace("-","−")}function fE(c,A){let found=/^([+-]?)(\d+)(?:\.(\d+))?$/.exec(A.trim().replace(/[−–]/,"-").replace(",",".").replace(/\s*[a-zµ%°Ω/]+$/i,""));if(!found||found[3]&&!c.unit)return null;let be=found[3]||"",unit=c.unit||{aq:1n,al:0},eC=BigInt(found[2]+be)*10n**BigInt(unit.al),ew=unit.aq*10n**BigInt(be.length),size=(2n*eC+ew)/(2n*ew),value=found[1]==="-"?-size:size;if(c.limits&&(value<BigInt(c.limits[0])||value>BigInt(c.limits[1])))return null;return String(value)}let di=ms=>ms<9950?(ms/1000).toFixed(1)+" s":ms<60000?Math.round(ms/1000)+" s":Math.floor(ms/60000)+" min",aw="18446744073709551615",bJ=1000,cj=2000,bx=2000,dM=20000,eF=5000,cv={live:["●","LIVE"],slow:["▲","SLOW"],read:["◌","READING"],silent:["✕","DEVICE SILENT"],lost:["✕","DEVICE LOST"],stale:["■","NO PROGRAM"],shut:["■","NOT LET IN"]},e={run:null,epoch:null,since:aw,ev:0,bs:null,aD:now(),bb:"",device:"",name:"",found:0,told:0,bE:null,Y:!1,shut:!1,state:"read"},C=new Map(),aA=()=>now()-(e.bs??e.aD),ar=()=>e.bE&&e.bE.heard!==null?e.bE.heard+aA():null,bk=()=>e.state==="live"||e.state==="slow";function ep(){if(e.shut)return"shut";if(aA()>cj)return"stale";if(e.bs===null)return"read";if(e.bE.lost_for!==null)return"lost";if(e.epoch===null||!C.size||e.dG)return"read";if(ar()===null)return"read";if(ar()>cj)return"silent";return aA()>bJ||ar()>bJ?"slow":"live"}let av=state=>cv[state][1].toLowerCase();function eP(state){let device=e.device||"The device",fj="What you see is old, and nothing is sent. ",H="This page goes on by itself.";switch(state){case"shut":return["The panel program does not let this page in.","Open the address that ocapanel printed when it was started; it has the token in it."];case"stale":return["The panel program gives no answer"+(e.bb?" since "+e.bb:"")+".",fj+"See whether ocapanel runs, and start it again. "+H];case"silent":return[device+" gives no answer for "+di(ar())+".",fj+H];case"lost":return[device+" is lost.",fj+"See to the device's power and network. Locks of this panel may be gone. "+H];case"read":return now()-e.aD>1500||e.found?[device+" is being read: "+e.found+" objects so far.","If this stays, see whether the address is right and the device is on."]:["",""];default:return["",""]}}function dU(state){let fs=e.state;e.state=state;if([fs,state].includes("slow")&&["live","slow"].includes(fs)&&["live","slow"].includes(state))return;cG("link: "+av(state),"was "+av(fs),!["live","slow","read"].includes(state));if(!bk())aS("not sent: "+av(state));bw()}function bz(){let state=ep(),bH=cv[state][0],m=cv[state][1],fN=ar(),[aI,A]=eP(state);if(state!==e.state)dU(state);document.body.dataset.state=state;document.body.classList.toggle("old",!bk());L($("main"),"disabled",!bk());P($("state").firstElementChild,bH);P($("state").lastElementChild,m);let eY=state==="lost"&&e.bE?e.bE.lost_for+aA():fN;P($("age"),eY===null?"":di(eY)+" ago");ef(bH,state==="live"?"":" — "+m);$("banner").hidden=!aI;if($("banner").textContent!==aI+A)$("banner").replaceChildren(j("b","",aI),A)}function ef(bH,m){let name=U(e.name)||e.device||"OCA panel",bq=e.device&&e.device!==name?e.device:"";P($("device"),name);P($("about"),(bq?bq+" · ":"")+z.length+" strips, "+C.size+" objects");let title=bH+" "+name+(bq?" · "+bq:"")+m;if(document.title!==title)document.title=title}async function get(bF,fI=bx){let l=await fetch(bF,{signal:AbortSignal.timeout(fI)});e.shut=l.status===401;if(!l.ok)throw new Error("status "+l.status);return l.json()}let dL=()=>"/values?since="+e.since+(e.run===null?"":"&run="+e.run)+"&told="+e.told+"&shown="+da();function cy(values){let cu=e.run===null;if(!cu)cG("the panel program was started anew","all is read anew"+(e.device===values.device?"":"; the device is now "+values.device),!0);eH("the panel program was started anew",e.device===values.device);Object.assign(e,{run:values.run,epoch:null,since:aw,told:0,Y:!!values.read_only,aD:now()});bu()}function eq(values){Object.assign(e,{bE:values.link,ev:values.now-now(),device:U(values.device),name:values.name,found:values.found||0,bs:now(),bb:cp()});if(e.Y!==!!values.read_only)cy(values);document.body.classList.toggle("watching",e.Y);$("watch").hidden=!e.Y}async function er(values){e.since=aw;e.dG=!0;if(!values.walked)return;let bf=await get("/tree",dM);if(bf.run!==values.run||bf.epoch!==values.epoch||!bf.walked)return;aS("not sent: the objects were read anew");fw(bf);Object.assign(e,{epoch:bf.epoch,since:"0",dG:!1});ct=!0}function fB(objects){for(let am of objects){let c=C.get(am.ono);if(!c)continue;let key=[am.value,am.lock,am.enabled,am.trouble].join();if(key!==c.key)cS(c,key);for(let name of["value","limits","trouble","lock","enabled","label","flags"])c[name]=am[name];bG(c)}$("main").removeAttribute("aria-busy")}function cS(c,key){c.key=key;aC=!0;let bd=az.get(c.ono);if(bd&&bd.ab==="lost")bd.read=!0;else az.delete(c.ono)}async function fK(values){if(values.run===undefined)throw new Error("another version");if(values.run!==e.run)cy(values);eq(values);if(values.epoch!==e.epoch||!values.walked)await er(values);else{e.since=values.change;e.dG=!1;fB(values.objects)}cY(values.told)}let cx=!1,ct=!1,eo=2,cn=0;async function dF(){clearTimeout(cn);if(cx){ct=!0;return}cx=!0;ct=!1;try{await fK(await get(dL(),e.since==="0"?dM:bx))}catch(aQ){if(aQ instanceof TypeError&&!/fetch|network/i.test(aQ.message))console.error(aQ)}cx=!1;bz();if(!document.hidden||ak.size)cn=setTimeout(dF,ct?0:ak.size?eo=Math.min(40,1.5*eo):100)}function fr(){if(document.hidden)return;Object.assign(e,{bs:null,aD:now()});bz();dF()}let bh=64,eb=64,dp=3,dq=8000,aP=new Map(),ak=new Map(),ay=new Map(),cT=new Set(),cg=new Set(),aq=[],aW=0,aX=bh,aB=0,I=Q=>Q.p==="unlock"?"lock":Q.p,cA=ono=>aP.get(ono)||aP.set(ono,{R:null,H:[]}).get(ono),ae=(c,cc)=>{let s=aP.get(c.ono);return!!s&&[s.R,...s.H].some(Q=>Q&&I(Q)===cc)},ax=c=>c.ch??c.value,bV=Q=>(Q.v?Q.v.at:Q.at)+eF;function dQ(c){if(e.Y)return"not sent: read only";if(br)return"not sent: the panel lock is on";if(!bk())return"not sent: "+av(e.state);if(C.get(c.ono)!==c)return"not sent: no longer there";return!c.enabled?"not sent: not enabled":c.value===null&&c.p!=="block"&&c.p!=="unknown"?"not sent: not read yet":""}function bO(c){let aO=dQ(c);if(aO)bd(c.ono,"hint",aO);return!aO}function Q(c,p,m,v){let s=cA(c.ono),g={ono:c.ono,run:e.run,name:ba(c),p,m,v:v||null,at:now(),from:c.value,dE:!1},V=s.H.filter(other=>I(other)===I(g));s.H=s.H.filter(other=>I(other)!==I(g));if(V.length)g.from=V[0].from;s.H.push(g);if(p==="set")c.ch=m;az.delete(c.ono);for(let other of V)aU(other,"displaced","");dH(c.ono);if(!v)au();bG(c)}function dH(ono){let s=aP.get(ono);if(!s||!s.H.length)return;(s.H[0].v?cg:cT).add(ono)}function dX(){let k=[];for(let ff of[cT,cg]){for(let ono of ff){if(k.length>=Math.min(aX,eb-ak.size-bn))break;ff.delete(ono);let s=aP.get(ono);if(!s||s.R||!s.H.length)continue;s.R=s.H.shift();if(now()>bV(s.R))aU(s.R,"unsent","not sent: it waited for 5 s");else k.push(s.R)}if(k.length)break}return k}let bn=0;function au(){while(aW<dp&&!aB){let k=dX();if(!k.length)return;fJ(k)}}function eS(k){let before=Math.floor(Math.min(...k.map(bV))+e.ev),orders=k.map(g=>g.p==="set"?{ono:g.ono,set:g.m}:g.p==="label"?{ono:g.ono,label:g.m}:{ono:g.ono,[g.p]:!0});return JSON.stringify({run:e.run,before:Math.max(0,before),orders})}async function fJ(k){let run=e.run;aW++;bn+=k.length;let l=null,aQ="";try{l=await fetch("/orders",{method:"POST",headers:{"Content-Type":"application/json"},body:eS(k),signal:AbortSignal.timeout(bx)});await dK(k,l)}catch(error){aQ="the panel program gave no answer"}aW--;bn-=k.length;if(aQ)for(let g of k)aU(g,"lost",aQ);if(!aW&&run===e.run)ay.clear();eo=k[0].v?20:2;au();dF()}async function dK(k,l){switch(l.status){case 202:{let{tickets}=await l.json();aX=Math.min(bh,aX*2);k.forEach((g,at)=>eX(g,tickets[at]));return}case 503:return ds(k);case 404:case 422:return dD(k,l);case 409:return aV(k,"not sent: the panel program was started anew");case 403:return aV(k,"not sent: read only");case 401:e.shut=!0;return aV(k,"not sent: not let in");default:return aV(k,"not sent: the panel program answered "+l.status)}}function aV(k,q){for(let g of k)aU(g,"unsent",q)}function eX(g,ticket){if(g.dE)return;g.ticket=ticket;g.dK=now();if(ay.has(ticket))told(g,ay.get(ticket));else ak.set(ticket,g)}function dh(k){for(let g of k){let s=cA(g.ono);if(g.dE||s.R!==g)continue;s.R=null;if(s.H.some(other=>I(other)===I(g)))aU(g,"displaced","");else s.H.unshift(g);dH(g.ono)}}function ds(k){aX=Math.max(1,Math.floor(k.length/2));dh(k);clearTimeout(aB);aB=setTimeout(()=>{aB=0;au()},50)}async function dD(k,l){let at=0;try{at=k.length>1?(await l.json()).at:0}catch(aQ){return aV(k,"not sent: one of these orders can't be")}if(!k[at])return aV(k,"not sent: one of these orders can't be");aU(k[at],"unsent",l.status===404?"not sent: no such object":k[at].p==="label"?"not sent: a name has at most 64 bytes":"not sent: no such value");dh(k.filter((_,E)=>E!==at))}function cY(eN){for(let{ticket,trouble}of eN){e.told=Math.max(e.told,ticket+1);let g=ak.get(ticket);if(g)told(g,trouble);else if(aW)ay.set(ticket,trouble)}au()}function cs(){for(let g of ak.values())if(now()-g.dK>dq)aU(g,"lost","no word of how it ended")}function told(g,trouble){if(!trouble)return aU(g,"done","");if(trouble==="lost"||trouble==="no answer")return aU(g,"lost","the device gave no answer");if(/^not sent/.test(trouble))return aU(g,"unsent",U(trouble));aU(g,"refused","refused: "+(trouble==="Locked"?"locked by another controller":U(trouble)))}let dT=aO=>"lost: "+aO+"; it may have been carried out";function aU(g,ab,aO){if(g.dE)return;g.dE=!0;ak.delete(g.ticket);let s=cA(g.ono),c=C.get(g.ono),q=ab==="lost"?dT(aO):aO;if(s.R===g)s.R=null;if(c&&!ae(c,"set")&&!c.aJ)c.ch=null;if(q&&!s.H.some(other=>I(other)===I(g)))bd(g.ono,ab,q);if(ab!=="displaced")ej(g);eO(g,ab,q);dH(g.ono);if(c)bG(c)}function ej(g){aq.push(Math.round(10*(now()-g.at))/10);if(aq.length>1000)aq.shift()}function aS(q){for(let s of aP.values())for(let g of s.H.splice(0))aU(g,"unsent",q);cT.clear();cg.clear()}function eH(aO,dI){aS("not sent: "+aO);for(let s of aP.values())if(s.R)aU(s.R,"lost",aO);ak.clear();ay.clear();aP.clear();cr();if(!dI)az.clear()}let dN=20,dn=200,az=new Map(),M=[];function bd(ono,ab,q){az.set(ono,{ab,q,read:!1});let c=C.get(ono);if(c)ap(c.d)}function ea(ono){let c=C.get(ono);if(az.delete(ono)&&c)ap(c.d)}function bw(){for(let[ono,{ab}]of az)if(ab==="hint")ea(ono)}function dk(c){let am=az.get(c.ono);if(am)return am.q+(am.ab==="lost"&&am.read?" (read since: "+K(c,c.value)+")":"");if(c.lock==="other")return"locked by another controller";if(!c.enabled)return"not enabled";if(c.trouble)return(c.p==="block"?"its members can't be listed: ":"not read: ")+U(c.trouble);return c.p==="unknown"?"a class that is not known here":""}function ap(d){if(!d||!d.message)return;let ca=new Map(),bm=!0;for(let c of Z(d)){let q=dk(c),am=az.get(c.ono);if(!q)continue;ca.set(q,[...ca.get(q)||[],c===d.t?"block":ac(c)]);bm=bm&&!!am&&am.ab==="hint"}let aL=[...ca].map(([q,names])=>(names.length>1&&names.length>=d.C.length?"":names.join(", ")+": ")+q).join("; ");P(d.message,aL);d.message.title=aL;d.message.classList.toggle("hint",bm&&!!aL)}function cG(aj,ec,fz){let aL=j("p",fz?"bad":""),D=$("log"),name=j("bdi","",aj);aL.append(j("time","",cp()+" "),name,j("b","",ec));D.prepend(aL);if(D.children.length>dn)D.lastElementChild.remove()}let ed=g=>g.p==="set"?"":g.p==="label"?"name “"+U(g.m)+"”":g.p;function eO(g,ab,q){let c=C.get(g.ono),ms=Math.round(now()-g.at);if(g.v)return es(g,ab,q);if(ab==="displaced"||ab==="done"&&c&&(c.aJ||ae(c,I(g))))return;if(ab==="refused"||ab==="unsent")M=M.filter(change=>change.v||change.D[0].ono!==g.ono||change.D[0].to!==g.m);let value=g.p==="set"&&c?K(c,eI(g))+" → "+K(c,g.m)+aN(c):ed(g);cG(g.name+": "+value,q||"done, "+ms+" ms",ab!=="done");an()}function eI(g){let change=M.at(-1);return change&&!change.v&&change.D[0].ono===g.ono?change.D[0].from:g.from}function es(g,ab,q){let v=g.v;v.at=now();v.dy--;if(ab==="displaced")v.V++;else if(ab!=="done")v.ck.push(g.name+": "+q);an();if(v.dy)return;let ck=v.ck.length,fy=v.V?", "+v.V+" displaced by a later order":"",ec=ck?ck+" of "+v.bM+" not done: "+v.ck.slice(0,12).join("; ")+(ck>12?" …":""):"all "+v.bM+" done, "+Math.round(now()-v.fv)+" ms";cG(v.aj,ec+fy,ck>0)}function change(c,m){if(m===ax(c)||!bO(c))return;let w=M.at(-1),fc=w&&!w.v&&w.D[0].ono===c.ono&&(c.aJ?w.aJ===c.aJ:now()-w.at<1000);if(fc)Object.assign(w,{at:now(),D:[{...w.D[0],to:m}]});else bU({D:[{ono:c.ono,from:c.value,to:m}],at:now(),aJ:c.aJ,v:null});Q(c,"set",m);an()}function bU(g){M.push(g);if(M.length>dN)M.shift();an()}function cr(){M=[];an()}function aY(D,ci,aj,fd){let bZ=D.filter(c=>c.enabled&&c.value!==null&&ax(c)!==ci(c));if(!bZ.length)return cG(aj,"nothing to do");bZ.sort((a,b)=>bi.has(b.d)-bi.has(a.d));let v={aj,bM:bZ.length,dy:bZ.length,ck:[],V:0,fv:now(),at:now()};if(!fd)bU({D:bZ.map(c=>({ono:c.ono,from:ax(c),to:ci(c)})),at:now(),v});for(let c of bZ)Q(c,"set",ci(c),v);au()}function dZ(w){if(w.v)return"Undo "+w.v.aj+" ("+w.D.length+(w.v.dy?", "+w.v.dy+" to go)":")");let c=C.get(w.D[0].ono);return c?"Undo "+ba(c)+": back to "+K(c,w.D[0].from)+aN(c):"Undo"}function an(){let w=M.at(-1),button=$("undo");button.disabled=!w;P(button,w?dZ(w):"Nothing to undo");button.title=button.textContent}function fL(){let w=M.at(-1),aj=$("undo").textContent;if(!w||!bW(aj))return;let fH=new Map(w.D.map(g=>[g.ono,g.from])),D=w.D.map(g=>C.get(g.ono)).filter(Boolean),since=w.D.filter(g=>C.has(g.ono)&&ax(C.get(g.ono))!==g.to).length,go=()=>{M=M.filter(g=>g!==w);aY(D,c=>fH.get(c.ono),aj,!0);an()};if(!since)return go();ag("Undo?",(w.D.length>1?since+" of "+w.D.length+" were":"It was")+" changed since, by another controller or at the device. "+aj+" all the same?",(F,l)=>l("Undo","go",go))}function bW(aj){let aO=e.Y?"read only":br?"the panel lock is on":bk()?"":av(e.state);if(!aO)return !0;cG(aj,"not done: "+aO,!0);ag("Not done: "+aO,"",()=>{});return !1}let eE=800;function ag(title,A,eg){let bQ=$("dialog"),aI=j("h2","",title),F=j("div","options"),eR=j("div","acts");aI.id="dialog-title";bQ.replaceChildren(aI,j("p","",A),F,eR);let l=(q,dA,then)=>{let button=j("button",dA,q);button.onclick=()=>{bQ.close();if(then)then()};eR.append(button);return button};l("Cancel");eg(F,l);if(!bQ.open)bQ.showModal()}function cL(button,eu,{ay,title,af}){let bt=0,bS=!1,de=h=>h.key===" "||h.key==="Enter",up=()=>{if(!bt)return;clearTimeout(bt);bt=0;button.classList.remove("down");if(ay)ay()},eW=()=>{if(bt||af&&af.is())return;button.classList.add("down");bt=setTimeout(()=>{bt=0;bS=!0;button.classList.remove("down");eu()},eE)};button.classList.add("hold");button.onpointerdown=h=>{bS=!1;if(!h.button)eW()};button.onpointerup=button.onpointerleave=button.onpointercancel=button.onblur=up;button.oncontextmenu=h=>h.preventDefault();button.onkeydown=h=>{if(!de(h))return;h.preventDefault();if(h.repeat)return;bS=!1;if(af&&af.is())button.click();else eW()};button.onkeyup=h=>{if(!de(h))return;h.preventDefault();up()};button.onclick=h=>{if(bS)bS=!1;else if(af&&af.is())af.eu();else if(!h.detail)ag(title(),"",(F,l)=>l(title(),"go",eu))}}let et={muted:"unmuted",unmuted:"muted",inverted:"non-inverted","non-inverted":"inverted",on:"off",off:"on"},bK={mute:{on:"muted",q:{muted:"MUTED",unmuted:"Mute"}},polarity:{on:"inverted",q:{inverted:"Ø INV","non-inverted":"Ø"}},boolean:{on:"on",q:{on:"ON · hold",off:"OFF · hold"}}};function bR(button,c){let{on,q}=bK[c.p];P(button,q[c.value]||"–");L(button,"pressed",c.value===on)}function toggle(c){let button=j("button");button.onclick=()=>change(c,et[ax(c)]||bK[c.p].on);return{N:[button],ah:button,aa:()=>bR(button,c)}}function dw(c){let button=j("button"),to=()=>et[ax(c)]||"on";cL(button,()=>change(c,to()),{ay:()=>bO(c)&&bd(c.ono,"hint","hold for 1 s to switch "+to()),title:()=>"Switch "+ba(c)+" "+to()});return{N:[button],ah:button,aa:()=>bR(button,c)}}function bP(c){let button=j("button"),A=j("span","cut");button.append(A,"▾");button.ariaHasPopup="dialog";button.onclick=()=>bO(c)&&ag(ba(c),"Now: "+K(c,c.value)+". Select, then switch.",(F,l)=>eU(c,F,l));return{N:[button],ah:button,aa:()=>P(A,K(c,c.value))}}function eU(c,F,l){let cN=c.value,go=l("Switch","go",()=>change(c,cN)),J=c.limits?Number(c.limits[0]):0,B=c.limits?Number(c.limits[1]):c.names.length-1;go.disabled=!0;F.role="radiogroup";for(let at=J;at<=B;at++){let m=String(at),aM=j("button","",cO(c,m));aM.role="radio";L(aM,"checked",m===cN);aM.disabled=c.flags[at-J]===!1;aM.onclick=()=>{cN=m;for(let other of F.children)L(other,"checked",other===aM);go.disabled=m===c.value;P(go,"Switch to "+aM.textContent)};F.append(aM)}}function dV(c){let A=j("output"),aa=()=>{P(A,bK[c.p]?c.value??"–":K(c,c.value)+aN(c));A.classList.toggle("on",!!bK[c.p]&&c.value===bK[c.p].on)};return{N:[A],ah:A,aa}}function cc(c){if(c.p==="unknown"||c.p==="block")return{N:[],ah:null,aa(){}};if(e.Y)return dV(c);switch(c.p){case"mute":case"polarity":return toggle(c);case"boolean":return dw(c);case"switch":return bP(c);default:return c.cH?dv(c):fC(c)}}let cq=350,eD=80,fM=48,aK=c=>c.limits?c.limits.map(Number):[0,0];function ex(c){let bN=j("div","value"),r=j("input","field"),cz=j("b","beside"),bo=!1;r.inputMode="text";r.autocomplete="off";bN.append(r,j("i","",c.unit?c.unit.name:""),cz);let aa=()=>{let bj=bo&&r.value!==K(c,c.value);if(!bo&&r.value!==K(c,ax(c)))r.value=K(c,ax(c));cz.hidden=!bj;if(bj)P(cz,"device "+K(c,c.value));if(c.limits)r.title=K(c,c.limits[0])+" to "+K(c,c.limits[1])+aN(c)},dx=()=>{bo=!1;aa()},fo=()=>{if(!bo)return;let A=r.value,m=fE(c,A);dx();if(m===null)bd(c.ono,"hint","“"+U(A)+"” not sent: "+(c.limits?r.title:"no number"));else change(c,m);aa()};r.onfocus=()=>r.select();r.oninput=()=>{bo=!0;aa()};r.onblur=dx;r.onchange=fo;r.onkeydown=h=>{if(h.key==="Enter")fo();else if(h.key==="Escape")dx()};return{bN,r,aa}}function dv(c){let{bN,r,aa}=ex(c);return{N:[bN],ah:r,aa}}function du(){let N={fP:j("i","rail"),ft:j("i","zero"),eZ:j("small","limit high"),fG:j("small","limit low"),eT:j("div","cap"),ek:j("b","mark")},o=j("div","fader");o.append(...Object.values(N));o.tabIndex=0;o.role="slider";return{o,...N}}function cI(c,cK){let[J,B]=aK(c);change(c,String(Math.round(Math.min(B,Math.max(J,cK)))))}function bX(c){let[J,B]=aK(c);if(!bO(c))return;if(J<=0&&B>=0)cI(c,0);else bd(c.ono,"hint","not set to 0: that is out of the limits")}function fp(c,O,bT){let[J,B]=aK(c),fF=c.unit?Math.max(1,Math.round(10**c.unit.al/Number(c.unit.aq))):Math.max(1,Math.round((B-J)/100));if(c.value!==null&&bO(c))cI(c,Number(ax(c))+O*(bT?1:fF))}function fk(c,o,eT){let T=null,bI=-1e9;o.onpointerdown=h=>{if(h.button||T||c.value===null||h.pointerType!=="mouse"&&h.target!==eT||!bO(c))return;if(now()-bI<cq){bI=-1e9;return bX(c)}let E=o.getBoundingClientRect(),aR=E.height>E.width;o.setPointerCapture(h.pointerId);T={aR,cH:Math.max(1,(aR?E.height:E.width)-fM),at:Number(ax(c)),x:h.clientX,y:h.clientY,x0:h.clientX,y0:h.clientY,eA:!1};c.aJ={};c.ch=ax(c);bG(c)};o.onpointermove=h=>{if(!T)return;let by=T.aR?T.y-h.clientY:h.clientX-T.x,[J,B]=aK(c),bT=h.shiftKey||Math.abs(T.aR?h.clientX-T.x0:h.clientY-T.y0)>eD;Object.assign(T,{x:h.clientX,y:h.clientY});o.classList.toggle("fine",bT);if(!by)return;T.eA=!0;T.at=Math.min(B,Math.max(J,T.at+by/T.cH*(B-J)*(bT?0.1:1)));cI(c,T.at)};o.onpointerup=o.onpointercancel=o.onlostpointercapture=()=>{if(!T)return;bI=T.eA?-1e9:now();T=c.aJ=null;o.classList.remove("fine");if(!ae(c,"set"))c.ch=null;bG(c)}}function cf(c,o){let eV={ArrowUp:1,ArrowRight:1,ArrowDown:-1,ArrowLeft:-1,PageUp:10,PageDown:-10};o.onkeydown=h=>{let O=eV[h.key];if(!O&&h.key!=="Delete")return;h.preventDefault();if(O)fp(c,O,h.shiftKey);else bX(c)};o.addEventListener("wheel",h=>{if(document.activeElement!==o)return;h.preventDefault();fp(c,h.deltaY+h.deltaX<0?1:-1,h.shiftKey)},{passive:!1})}function dO(c,{o,ft,eZ,fG,ek}){let[J,B]=aK(c),m=ax(c),E=cK=>String((cK-J)/(B-J||1)),bj=c.aJ&&c.value!==c.ch;o.style.setProperty("--p",m===null?"0":E(Number(m)));o.style.setProperty("--z",E(0));ft.hidden=J>0||B<0;ek.hidden=!bj;if(bj){o.style.setProperty("--d",E(Number(c.value)));P(ek,"device "+K(c,c.value))}L(o,"valuemin",J);L(o,"valuemax",B);L(o,"valuenow",m??J);L(o,"valuetext",K(c,m)+aN(c));L(o,"orientation",c.d.cV||bY.matches?"horizontal":"vertical");P(eZ,K(c,String(B)));P(fG,K(c,String(J)))}function fC(c){let N=du(),{bN,r,aa}=ex(c);fk(c,N.o,N.eT);cf(c,N.o);return{N:[N.o,bN],ah:r,fn:N.o,aa(){dO(c,N);aa()}}}let eQ={mute:1,switch:2,boolean:3,polarity:4},Z=d=>d.t?[d.t,...d.C]:d.C,bC=d=>!!d.on;function bG(c){if(c.f)cl(c.f);let d=c.d;if(!d)return;if(c.bp)bv(c,d);aH(d);ap(d)}function bv(c,d){c.bp.aa();let name=ac(c),ez=c.cb.classList;ez.toggle("other",c.lock==="other");ez.toggle("busy",ae(c,"set"));L(c.cb,"busy",ae(c,"set"));P(c.aE,name);c.aE.hidden=name===c.p&&!ao(c);for(let be of[c.bp.ah,c.bp.fn]){if(!be)continue;L(be,"label",name+(c.p==="switch"?" "+K(c,c.value):"")+", "+d.title+(c.lock==="other"?", locked by another controller":""));L(be,"disabled",!c.enabled||c.value===null)}}function eJ(d){let bM=Z(d),other=bM.filter(c=>c.lock==="other").length,own=bM.filter(c=>c.lock==="own").length;return other?["other",other+" by another controller"]:own?["own",own+" by this panel"]:["free","none"]}function aH(d){let title=d.t?ac(d.t):d.title,fA=title!==d.title;d.title=title;if(fA)for(let c of d.C)if(c.bp)bv(c,d);P(d.name,d.title);d.select.title=d.title;P(d.role,d.t&&ae(d.t,"label")?"another name: not yet":d.t&&U(d.t.label)?U(d.t.role):"");L(d.select,"pressed",bC(d));L(d.select,"label","Select "+d.title);d.i.toggleAttribute("data-on",bC(d));if(d.ai)ee(d)}function ee(d){let[m,fD]=eJ(d),ae=Z(d).some(cm),key=m+ae;if(d.df!==key){d.df=key;d.ai.className="menu "+m;d.ai.replaceChildren(ae?"…":fb(m==="free"?"free":"held"))}L(d.ai,"label","Locks and names of "+d.title+", locked: "+fD+(ae?"; an order is out":""))}let cm=c=>ae(c,"lock");function cJ(t,aF,title){let O=test=>aF.filter(test).length,d={t,C:aF,title,bF:"",on:!1,message:null,ai:null};d.cV=aF.length>6||O(c=>c.p==="mute")>1||O(ao)>1||O(c=>c.cH)>0;d.i=j("section","strip"+(d.cV?" wide":O(ao)?" tall":""));d.select=j("button","select");d.name=j("span");d.role=j("small");d.name.id="strip-"+z.length;d.name.dir="auto";d.select.append(d.name,d.role);d.select.onclick=()=>cX(d);d.i.role="group";L(d.i,"labelledby",d.name.id);d.i.append(d.select);d.i.d=d;for(let c of Z(d))c.d=d;cF(d);aH(d);return d}function cF(d){let fg=d.C.filter(ao).length,H=!d.message;d.i.classList.toggle("flat",!d.cV&&bY.matches);let height=d.cV?120+70*Math.ceil(d.C.length/Math.max(1,Math.floor(innerWidth/150)))+"px":bY.matches?(fg?"218px":"110px"):"";d.i.style.minHeight=H?height:""}function eg(d){if(d.message)return;d.message=j("div","message");d.message.role="status";d.message.onclick=()=>Z(d).forEach(c=>ea(c.ono));cF(d);let ai=e.Y?null:eM(d);for(let c of[...d.C].sort((a,b)=>(eQ[a.p]||5)-(eQ[b.p]||5))){if(ai&&ao(c)&&!d.cV){d.i.append(ai);ai=null}d.i.append(eL(c))}if(ai)d.i.append(ai);d.i.append(d.message);for(let c of Z(d))bG(c);aH(d);ap(d)}function eL(c){c.cb=j("div","cell "+(ao(c)?"level":c.p)+(c.cH?" long":""));c.aE=j("small","cut");c.aE.dir="auto";c.bp=cc(c);c.cb.append(c.aE,...c.bp.N);return c.cb}function eM(d){d.ai=j("button");d.df="";d.ai.ariaHasPopup="dialog";d.ai.onclick=()=>dW(d);return d.ai}function fx(d){if(!d.message||d.i.contains(document.activeElement)||d.C.some(c=>c.aJ||ae(c,"set")))return;d.i.style.minHeight=d.i.offsetHeight?d.i.offsetHeight+"px":"";d.i.replaceChildren(d.select);d.message=d.ai=null;for(let c of d.C)c.cb=c.bp=c.aE=null}let dl={free:"not locked",own:"locked by this panel",other:"locked by another controller; the device does not say which"};function dW(d){let lockable=Z(d).filter(c=>c.lockable),own=lockable.filter(c=>c.lock==="own"),fl=lockable.filter(c=>c.lock!=="own"),cM=(D,p)=>D.forEach(c=>bO(c)&&Q(c,p));ag("Locks and names: "+d.title,"A lock keeps other controllers out until it is taken off or this panel ends. The block's lock is not that of its controls.",(F,l)=>{for(let c of Z(d))F.append(el(d,c));if(own.length)l("Unlock all","",()=>cM(own,"unlock"));if(fl.length)l("Lock all","go",()=>cM(fl,"lock"))})}function el(d,c){let aL=j("div","row"),A=j("span","",c===d.t?"the block":ac(c)),cP=j("button","","Rename");if(c.lockable)A.append(j("small","",dl[c.lock]+(cm(c)?"; an order is out":"")));aL.append(A);if(c.lockable)aL.append(dz(c,A.firstChild.data));cP.ariaLabel="Rename "+A.firstChild.data;cP.onclick=()=>eG(c);aL.append(cP);return aL}function dz(c,name){let p=c.lock==="own"?"unlock":"lock",button=j("button","",c.lock==="other"?"Try to lock":c.lock==="own"?"Unlock":"Lock");button.ariaLabel=button.textContent+" "+name;button.onclick=()=>{$("dialog").close();if(bO(c))Q(c,p)};return button}function eG(c){ag("Rename "+ac(c),"The name is kept by the device, and all controllers see it. Its role stays: "+U(c.role)+".",(F,l)=>{let r=j("input");r.maxLength=64;r.value=c.label;r.ariaLabel="Name";let go=l("Rename","go",()=>r.value!==c.label&&bO(c)&&Q(c,"label",r.value));r.onkeydown=h=>h.key==="Enter"&&go.click();F.append(r);setTimeout(()=>r.focus(),0)})}let aG=()=>z.filter(bC),dg=D=>D.flatMap(d=>d.C.filter(c=>c.p==="mute"));function cX(d){d.on=!d.on;aH(d);aZ()}function dt(){for(let d of aG()){d.on=!1;aH(d)}aZ()}function aZ(){let O=aG().length;$("chosen").hidden=!O;document.body.classList.toggle("picked",!!O);P($("chosen").firstElementChild,O+" selected")}let cW=8,dr=400,dm=100,z=[],W=[],cQ={z:[],W:[]},aC=!1,dC=null,dJ=null,bi=new Set(),dj=new Map(),bY=matchMedia("(max-width:600px)");function fi(G,E,units){return{ono:G.ono,p:G.class,role:G.role,names:G.names,lockable:G.lockable,E,label:"",flags:[],value:null,limits:null,lock:"free",enabled:!0,trouble:null,key:"",ch:null,aJ:null,d:null,f:null,cb:null,bp:null,aE:null,cH:G.class.endsWith("64"),unit:/int/.test(G.class)?fq(units,G):null}}function bu(){if(dC)dC.disconnect();if(dJ)dJ.disconnect();C=new Map();z=[];W=[];bi.clear();let ah=j("main");ah.id="main";L(ah,"busy",!0);$("main").replaceWith(ah);if($("dialog").open)$("dialog").close();cQ={i:ah,z:[],W:[],up:null};aZ();return ah}function fw(bf){let height=scrollY,ah=bu(),aT=new Map(),eC=bf.objects[0];bf.objects.forEach((G,E)=>{let c=fi(G,E,bf.units||[]);C.set(G.ono,c);if(E)aT.set(G.in,[...aT.get(G.in)||[],c])});if(eC)bL(C.get(eC.ono),cQ,ah,aT);scrollTo(0,height);db();dS();aC=!0;filter();cC()}let bl=(aT,c)=>aT.get(c.ono)||[],cd=c=>c.p==="block";function bL(t,f,bN,aT){let aF=bl(aT,t),own=aF.filter(c=>!cd(c)),bB=j("div","grid");if(own.length)cw(cJ(t.E?t:null,own,"device"),f,bB);for(let ad of aF.filter(cd)){if(!bl(aT,ad).some(cd)){cw(cJ(ad,bl(aT,ad),""),f,bB);continue}let en=em(ad,f);bN.append(bB,en.i);bB=j("div","grid");bL(ad,en,en.body,aT)}bN.append(bB)}function cw(d,f,bB){z.push(d);f.z.push(d);d.up=f;bB.append(d.i)}function em(t,up){let f={t,up,aI:j("button"),bH:j("span"),name:j("b"),bg:j("small"),trouble:j("p"),body:j("div"),i:j("div","group"),z:[],W:[]};f.name.dir="auto";f.aI.append(f.bH,f.name,f.bg);f.i.append(f.aI,f.trouble,f.body);W.push(f);up.W.push(f);t.f=f;f.open=dj.get(t.ono)??(C.size<dr||W.length<3);f.aI.onclick=()=>{dj.set(t.ono,f.open=!f.open);eh(f)};cl(f);return f}function cl(f){let q=f.t.d?"":dk(f.t);P(f.name,ac(f.t));P(f.trouble,q);f.trouble.hidden=!q}function eh(f){let ce=f.open||!!bc();f.body.hidden=!ce;P(f.bH,ce?"▾":"▸");L(f.aI,"expanded",ce)}function db(){dC=new IntersectionObserver(bM=>{for(let g of bM)(g.isIntersecting?eg:fx)(g.target.d)},{rootMargin:"80% 0px"});dJ=new IntersectionObserver(bM=>{for(let g of bM)bi[g.isIntersecting?"add":"delete"](g.target.d)});for(let d of z){dC.observe(d.i);dJ.observe(d.i)}}function da(){let al=new Set([0]);for(let d of bi)for(let c of Z(d))al.add(c.E);let S=[];for(let E of[...al].sort((a,b)=>a-b)){let w=S.at(-1);if(w&&E<=w[1]+1)w[1]=E;else S.push([E,E])}while(S.length>cW){let at=1;for(let n=2;n<S.length;n++)if(S[n][0]-S[n-1][1]<S[at][0]-S[at-1][1])at=n;S.splice(at-1,2,[S[at-1][0],S[at][1]])}return S.map(([cu,w])=>cu+"-"+(w-cu+1)).join(",")}function dS(){let ei=$("jump");ei.replaceChildren(new Option("Jump to…",""));W.forEach((f,at)=>{let dR="";for(let up=f.up;up.up;up=up.up)dR+="\u2003";ei.append(new Option(dR+ac(f.t),"g"+at))});if(z.length<dm)z.forEach((d,at)=>ei.append(new Option(d.title,"s"+at)))}function fe(bP){let target=(bP[0]==="g"?W:z)[bP.slice(1)];if(!target)return;for(let f=target;f&&f.up;f=f.up){if(!f.body)continue;f.open=!0;eh(f)}target.i.scrollIntoView()}let dd=d=>d.C.some(c=>c.value==="muted"),cE=d=>Z(d).some(c=>c.lock!=="free"),X=id=>$(id).getAttribute("aria-pressed")==="true",cU=()=>$("find").value.trim().toLowerCase(),bc=()=>cU()||X("only-muted")||X("only-locked");function ey(d){let A=()=>(d.bF+Z(d).map(c=>c.label+" "+c.role+" "+c.ono).join(" ")).toLowerCase();return(!cU()||A().includes(cU()))&&(!X("only-muted")||dd(d))&&(!X("only-locked")||cE(d))}function filter(){let cD=bc()?bA(cQ,"",ey):bA(cQ,"",()=>!0);P($("hits"),bc()?cD+" of "+z.length+" strips":"");$("renew").hidden=!0}function bA(f,bF,test){let cD=0;for(let d of f.z){d.bF=bF;d.fa=test(d);d.i.hidden=!d.fa;cD+=d.fa}for(let ad of f.W){let found=bA(ad,bF+ac(ad.t)+" ",test);ad.i.hidden=!found;eh(ad);cD+=found}return cD}function eB(f){let bg=[f.z.length,f.z.filter(dd).length,f.z.filter(cE).length];for(let ad of f.W)eB(ad).forEach((O,at)=>bg[at]+=O);if(f.bg)P(f.bg,bg[0]+(bg[0]===1?" strip":" strips")+(bg[1]?" · "+bg[1]+" muted":"")+(bg[2]?" · "+bg[2]+" locked":""));return bg}function cC(){if(!aC)return;aC=!1;let[,muted,fh]=eB(cQ);P($("only-muted").lastElementChild,String(muted));P($("only-locked").lastElementChild,String(fh));if(X("only-muted")||X("only-locked"))$("renew").hidden=!z.some(d=>ey(d)!==d.fa)}function cZ(){for(let d of z){cF(d);if(d.message)for(let c of d.C)bG(c)}}let br=!1;function cR(bD){let button=$("guard");br=bD;L(button,"pressed",bD);P(button.lastElementChild,bD?"Locked: hold":"Panel lock");button.firstElementChild.replaceWith(fb(bD?"held":"free"));L(button,"label",bD?"Panel lock: on; hold to take it off":"Panel lock: off");document.body.classList.toggle("guarded",bD);bw();cG("panel lock "+(bD?"on":"off"),"")}function eK(){let dB=dg(z),open=dB.filter(c=>c.value!=="muted").length;if(!bW("mute all"))return;ag("Mute all?",open+" of "+dB.length+" are unmuted. All of the device is muted, not only what is shown.",(F,l)=>l("Mute "+open,"red",()=>bW("mute all")&&aY(dB,()=>"muted","mute all")))}function co(m,aj){if(bW(aj))aY(dg(aG()),()=>m,aj)}function dY(){$("log").hidden=!$("log").hidden;L($("show-log"),"expanded",!$("log").hidden)}function dP(h){let find=$("find");if(h.key==="/"&&!/INPUT|SELECT/.test(h.target.tagName)&&!$("dialog").open){h.preventDefault();find.focus()}else if(h.key==="Escape"&&h.target===find){find.value="";filter()}}function fu(){if(location.search)history.replaceState(null,"",location.pathname);cL($("guard"),()=>cR(!1),{title:()=>"Take the panel lock off",af:{is:()=>!br,eu:()=>cR(!0)}});cL($("unmute-chosen"),()=>co("unmuted","unmute of the selection"),{title:()=>"Unmute the selection"});$("mute-chosen").onclick=()=>co("muted","mute of the selection");$("choose-none").onclick=dt;$("mute-all").onclick=eK;$("undo").onclick=fL;$("show-log").onclick=dY;$("find").oninput=$("renew").onclick=filter;for(let id of["only-muted","only-locked"]){$(id).onclick=()=>{L($(id),"pressed",!X(id));filter()}}$("jump").onchange=h=>{fe(h.target.value);h.target.value=""};bY.onchange=cZ;document.onkeydown=dP;document.onvisibilitychange=fr;setInterval(()=>{bz();cC();cs()},250);dF()}fu();</script></body></html>
 "###;

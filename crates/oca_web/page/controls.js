@@ -1,0 +1,151 @@
+// Controls: each shows what the device said last, or is marked as not yet; and what a person does with it is an order.
+const HOLD_MS = 800;
+
+// Asks in a dialog: `fill` puts options into it, and answers that close it.
+function askFirst(title, text, fill) {
+  const dialog = $("dialog"), head = make("h2", "", title), options = make("div", "options"), acts = make("div", "acts");
+  head.id = "dialog-title";
+  dialog.replaceChildren(head, make("p", "", text), options, acts);
+  const answer = (words, look, then) => {
+    const button = make("button", look, words);
+    button.onclick = () => {
+      dialog.close();
+      if (then) then();
+    };
+    acts.append(button);
+    return button;
+  };
+  answer("Cancel");
+  fill(options, answer);
+  if (!dialog.open) dialog.showModal();
+}
+
+// A press that is held for 0.8 s acts. A click without pointer or key, as assistive tools make it, is asked about; `plain`
+// says whether a click acts at once, and acts.
+function onHold(button, act, { early, title, plain }) {
+  let timer = 0, fired = false;
+  const isPress = event => event.key === " " || event.key === "Enter";
+  const up = () => {
+    if (!timer) return;
+    clearTimeout(timer);
+    timer = 0;
+    button.classList.remove("down");
+    if (early) early();
+  };
+  const down = () => {
+    if (timer || plain && plain.is()) return;
+    button.classList.add("down");
+    timer = setTimeout(() => {
+      timer = 0;
+      fired = true;
+      button.classList.remove("down");
+      act();
+    }, HOLD_MS);
+  };
+  button.classList.add("hold");
+  button.onpointerdown = event => {
+    fired = false;
+    if (!event.button) down();
+  };
+  button.onpointerup = button.onpointerleave = button.onpointercancel = button.onblur = up;
+  button.oncontextmenu = event => event.preventDefault();
+  button.onkeydown = event => {
+    if (!isPress(event)) return;
+    event.preventDefault();
+    if (event.repeat) return;
+    fired = false;
+    if (plain && plain.is()) button.click();
+    else down();
+  };
+  button.onkeyup = event => {
+    if (!isPress(event)) return;
+    event.preventDefault();
+    up();
+  };
+  button.onclick = event => {
+    if (fired) fired = false;
+    else if (plain && plain.is()) plain.act();
+    else if (!event.detail) askFirst(title(), "", (options, answer) => answer(title(), "go", act));
+  };
+}
+
+const OTHER = { muted: "unmuted", unmuted: "muted", inverted: "non-inverted", "non-inverted": "inverted", on: "off", off: "on" };
+const WORDS = {
+  mute: { on: "muted", words: { muted: "MUTED", unmuted: "Mute" } },
+  polarity: { on: "inverted", words: { inverted: "Ø INV", "non-inverted": "Ø" } },
+  boolean: { on: "on", words: { on: "ON · hold", off: "OFF · hold" } },
+};
+
+// A button that shows one of two values, by its word and by whether it is pressed.
+function drawToggle(button, row) {
+  const { on, words } = WORDS[row.kind];
+  put(button, words[row.value] || "–");
+  aria(button, "pressed", row.value === on);
+}
+
+function toggle(row) {
+  const button = make("button");
+  button.onclick = () => change(row, OTHER[goal(row)] || WORDS[row.kind].on);
+  return { parts: [button], main: button, draw: () => drawToggle(button, row) };
+}
+
+// Phantom power and the like: held for 0.8 s, so that no touch in passing switches it.
+function heldToggle(row) {
+  const button = make("button"), to = () => OTHER[goal(row)] || "on";
+  onHold(button, () => change(row, to()), {
+    early: () => can(row) && note(row.ono, "hint", "hold for 1 s to switch " + to()),
+    title: () => "Switch " + fullName(row) + " " + to(),
+  });
+  return { parts: [button], main: button, draw: () => drawToggle(button, row) };
+}
+
+// A source and the like: select, then switch.
+function choice(row) {
+  const button = make("button"), text = make("span", "cut");
+  button.append(text, "▾");
+  button.ariaHasPopup = "dialog";
+  button.onclick = () => can(row) && askFirst(fullName(row), "Now: " + shown(row, row.value) + ". Select, then switch.", (options, answer) => choose(row, options, answer));
+  return { parts: [button], main: button, draw: () => put(text, shown(row, row.value)) };
+}
+
+function choose(row, options, answer) {
+  let picked = row.value;
+  const go = answer("Switch", "go", () => change(row, picked)), least = row.limits ? Number(row.limits[0]) : 0, greatest = row.limits ? Number(row.limits[1]) : row.names.length - 1;
+  go.disabled = true;
+  options.role = "radiogroup";
+  for (let at = least; at <= greatest; at++) {
+    const word = String(at), option = make("button", "", position(row, word));
+    option.role = "radio";
+    aria(option, "checked", word === picked);
+    option.disabled = row.flags[at - least] === false;
+    option.onclick = () => {
+      picked = word;
+      for (const other of options.children) aria(other, "checked", other === option);
+      go.disabled = word === row.value;
+      put(go, "Switch to " + option.textContent);
+    };
+    options.append(option);
+  }
+}
+
+// Where nothing may be done, a control is a text.
+function plainText(row) {
+  const text = make("output");
+  const draw = () => {
+    put(text, WORDS[row.kind] ? row.value ?? "–" : shown(row, row.value) + unitName(row));
+    text.classList.toggle("on", !!WORDS[row.kind] && row.value === WORDS[row.kind].on);
+  };
+  return { parts: [text], main: text, draw };
+}
+
+function control(row) {
+  if (row.kind === "unknown" || row.kind === "block") return { parts: [], main: null, draw() {} };
+  if (program.readOnly) return plainText(row);
+  switch (row.kind) {
+    case "mute":
+    case "polarity": return toggle(row);
+    case "boolean": return heldToggle(row);
+    case "switch": return choice(row);
+    default: return row.long ? fieldAlone(row) : level(row);
+  }
+}

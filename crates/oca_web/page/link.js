@@ -1,0 +1,180 @@
+// The link: what the program said last, when it was, and what that is worth now.
+const NOTHING_SINCE = "18446744073709551615";
+const SLOW_AFTER = 1000, OLD_AFTER = 2000, FETCH_MS = 2000, ALL_MS = 20000, LIFE_MS = 5000;
+const STATES = {
+  live: ["●", "LIVE"], slow: ["▲", "SLOW"], read: ["◌", "READING"], silent: ["✕", "DEVICE SILENT"], lost: ["✕", "DEVICE LOST"],
+  stale: ["■", "NO PROGRAM"], shut: ["■", "NOT LET IN"],
+};
+const program = {
+  run: null, epoch: null, since: NOTHING_SINCE, ahead: 0, heardAt: null, waitsSince: now(), heardClock: "", device: "", name: "", found: 0, told: 0,
+  news: null, readOnly: false, shut: false, state: "read",
+};
+let rows = new Map();
+
+// How long ago the program answered, and the device, in milliseconds; of the device null where that is not known.
+const programAge = () => now() - (program.heardAt ?? program.waitsSince);
+const deviceAge = () => program.news && program.news.heard !== null ? program.news.heard + programAge() : null;
+const isOpen = () => program.state === "live" || program.state === "slow";
+
+// What is so of the link now.
+function stateNow() {
+  if (program.shut) return "shut";
+  if (programAge() > OLD_AFTER) return "stale";
+  if (program.heardAt === null) return "read";
+  if (program.news.lost_for !== null) return "lost";
+  if (program.epoch === null || !rows.size || program.reads) return "read";
+  if (deviceAge() === null) return "read";
+  if (deviceAge() > OLD_AFTER) return "silent";
+  return programAge() > SLOW_AFTER || deviceAge() > SLOW_AFTER ? "slow" : "live";
+}
+
+const stateWord = state => STATES[state][1].toLowerCase();
+
+// What is said over the page where it shows nothing that is so: a heading and what to do.
+function warning(state) {
+  const device = program.device || "The device", old = "What you see is old, and nothing is sent. ", waits = "This page goes on by itself.";
+  switch (state) {
+    case "shut": return ["The panel program does not let this page in.", "Open the address that ocapanel printed when it was started; it has the token in it."];
+    case "stale": return ["The panel program gives no answer" + (program.heardClock ? " since " + program.heardClock : "") + ".",
+      old + "See whether ocapanel runs, and start it again. " + waits];
+    case "silent": return [device + " gives no answer for " + seconds(deviceAge()) + ".", old + waits];
+    case "lost": return [device + " is lost.", old + "See to the device's power and network. Locks of this panel may be gone. " + waits];
+    case "read": return now() - program.waitsSince > 1500 || program.found ? [device + " is being read: " + program.found + " objects so far.", "If this stays, see whether the address is right and the device is on."] : ["", ""];
+    default: return ["", ""];
+  }
+}
+
+function noteState(state) {
+  const was = program.state;
+  program.state = state;
+  if ([was, state].includes("slow") && ["live", "slow"].includes(was) && ["live", "slow"].includes(state)) return;
+  log("link: " + stateWord(state), "was " + stateWord(was), !["live", "slow", "read"].includes(state));
+  if (!isOpen()) dropWaiting("not sent: " + stateWord(state));
+  forgetHints();
+}
+
+// Draws what is so of the link: word, colour and shape, age, the device's name, and the warning.
+function drawLink() {
+  const state = stateNow(), sign = STATES[state][0], word = STATES[state][1], age = deviceAge(), [head, text] = warning(state);
+  if (state !== program.state) noteState(state);
+  document.body.dataset.state = state;
+  document.body.classList.toggle("old", !isOpen());
+  aria($("main"), "disabled", !isOpen());
+  put($("state").firstElementChild, sign);
+  put($("state").lastElementChild, word);
+  const gone = state === "lost" && program.news ? program.news.lost_for + programAge() : age;
+  put($("age"), gone === null ? "" : seconds(gone) + " ago");
+  drawName(sign, state === "live" ? "" : " — " + word);
+  $("banner").hidden = !head;
+  if ($("banner").textContent !== head + text) $("banner").replaceChildren(make("b", "", head), text);
+}
+
+// The device's name and address stand in the header and in the window's title.
+function drawName(sign, word) {
+  const name = clean(program.name) || program.device || "OCA panel", address = program.device && program.device !== name ? program.device : "";
+  put($("device"), name);
+  put($("about"), (address ? address + " · " : "") + strips.length + " strips, " + rows.size + " objects");
+  const title = sign + " " + name + (address ? " · " + address : "") + word;
+  if (document.title !== title) document.title = title;
+}
+
+// An answer of the program. A request ends after 2 s; one that asks for all objects may take longer, and meanwhile all is old.
+async function get(path, most = FETCH_MS) {
+  const answer = await fetch(path, { signal: AbortSignal.timeout(most) });
+  program.shut = answer.status === 401;
+  if (!answer.ok) throw new Error("status " + answer.status);
+  return answer.json();
+}
+
+const valuesPath = () => "/values?since=" + program.since + (program.run === null ? "" : "&run=" + program.run) + "&told=" + program.told + "&shown=" + shownRanges();
+
+// Another run of the program: its tickets, its changes and perhaps its device are others. Nothing of the old one stays.
+function beginRun(values) {
+  const first = program.run === null;
+  if (!first) log("the panel program was started anew", "all is read anew" + (program.device === values.device ? "" : "; the device is now " + values.device), true);
+  dropAll("the panel program was started anew", program.device === values.device);
+  Object.assign(program, { run: values.run, epoch: null, since: NOTHING_SINCE, told: 0, readOnly: !!values.read_only, waitsSince: now() });
+  clearStrips();
+}
+
+function takeLink(values) {
+  Object.assign(program, { news: values.link, ahead: values.now - now(), device: clean(values.device), name: values.name, found: values.found || 0, heardAt: now(), heardClock: wallClock() });
+  if (program.readOnly !== !!values.read_only) beginRun(values);
+  document.body.classList.toggle("watching", program.readOnly);
+  $("watch").hidden = !program.readOnly;
+}
+
+// The objects are read, or were read anew: once the walk is over, the strips of the one before go, and those of this one come.
+async function takeTree(values) {
+  program.since = NOTHING_SINCE;
+  program.reads = true;
+  if (!values.walked) return;
+  const tree = await get("/tree", ALL_MS);
+  if (tree.run !== values.run || tree.epoch !== values.epoch || !tree.walked) return;
+  dropWaiting("not sent: the objects were read anew");
+  build(tree);
+  Object.assign(program, { epoch: tree.epoch, since: "0", reads: false });
+  again = true;
+}
+
+// What the device said of its objects since the last answer.
+function learn(objects) {
+  for (const said of objects) {
+    const row = rows.get(said.ono);
+    if (!row) continue;
+    const key = [said.value, said.lock, said.enabled, said.trouble].join();
+    if (key !== row.key) stateChanged(row, key);
+    for (const name of ["value", "limits", "trouble", "lock", "enabled", "label", "flags"]) row[name] = said[name];
+    show(row);
+  }
+  $("main").removeAttribute("aria-busy");
+}
+
+function stateChanged(row, key) {
+  row.key = key;
+  sumsAreOld = true;
+  const note = notes.get(row.ono);
+  if (note && note.how === "lost") note.read = true;
+  else notes.delete(row.ono);
+}
+
+async function take(values) {
+  if (values.run === undefined) throw new Error("another version");
+  if (values.run !== program.run) beginRun(values);
+  takeLink(values);
+  if (values.epoch !== program.epoch || !values.walked) await takeTree(values);
+  else {
+    program.since = values.change;
+    program.reads = false;
+    learn(values.objects);
+  }
+  hearResults(values.told);
+}
+
+let asking = false, again = false, pace = 2, pollTimer = 0;
+
+async function poll() {
+  clearTimeout(pollTimer);
+  if (asking) {
+    again = true;
+    return;
+  }
+  asking = true;
+  again = false;
+  try {
+    await take(await get(valuesPath(), program.since === "0" ? ALL_MS : FETCH_MS));
+  } catch (fault) {
+    if (fault instanceof TypeError && !/fetch|network/i.test(fault.message)) console.error(fault);
+  }
+  asking = false;
+  drawLink();
+  if (!document.hidden || awaited.size) pollTimer = setTimeout(poll, again ? 0 : awaited.size ? pace = Math.min(40, 1.5 * pace) : 100);
+}
+
+// A window that was hidden asked for nothing: what it shows counts as old until an answer comes.
+function wakeUp() {
+  if (document.hidden) return;
+  Object.assign(program, { heardAt: null, waitsSince: now() });
+  drawLink();
+  poll();
+}

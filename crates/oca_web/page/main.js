@@ -1,0 +1,75 @@
+// What the page begins with: its buttons, its keys, and the first question to the program.
+let guarded = false;
+
+// The page's own lock, against a sleeve: one press on, held to take off. It stops orders, and not looking.
+function setGuard(isOn) {
+  const button = $("guard");
+  guarded = isOn;
+  aria(button, "pressed", isOn);
+  put(button.lastElementChild, isOn ? "Locked: hold" : "Panel lock");
+  button.firstElementChild.replaceWith(icon(isOn ? "held" : "free"));
+  aria(button, "label", isOn ? "Panel lock: on; hold to take it off" : "Panel lock: off");
+  document.body.classList.toggle("guarded", isOn);
+  forgetHints();
+  log("panel lock " + (isOn ? "on" : "off"), "");
+}
+
+function muteAll() {
+  const mutes = mutesOf(strips), open = mutes.filter(row => row.value !== "muted").length;
+  if (!mayAct("mute all")) return;
+  askFirst("Mute all?", open + " of " + mutes.length + " are unmuted. All of the device is muted, not only what is shown.",
+    (options, answer) => answer("Mute " + open, "red", () => mayAct("mute all") && changeMany(mutes, () => "muted", "mute all")));
+}
+
+function setChosen(word, what) {
+  if (mayAct(what)) changeMany(mutesOf(chosenStrips()), () => word, what);
+}
+
+function toggleLog() {
+  $("log").hidden = !$("log").hidden;
+  aria($("show-log"), "expanded", !$("log").hidden);
+}
+
+function findByKey(event) {
+  const find = $("find");
+  if (event.key === "/" && !/INPUT|SELECT/.test(event.target.tagName) && !$("dialog").open) {
+    event.preventDefault();
+    find.focus();
+  } else if (event.key === "Escape" && event.target === find) {
+    find.value = "";
+    filter();
+  }
+}
+
+function begin() {
+  if (location.search) history.replaceState(null, "", location.pathname);
+  onHold($("guard"), () => setGuard(false), { title: () => "Take the panel lock off", plain: { is: () => !guarded, act: () => setGuard(true) } });
+  onHold($("unmute-chosen"), () => setChosen("unmuted", "unmute of the selection"), { title: () => "Unmute the selection" });
+  $("mute-chosen").onclick = () => setChosen("muted", "mute of the selection");
+  $("choose-none").onclick = chooseNone;
+  $("mute-all").onclick = muteAll;
+  $("undo").onclick = undo;
+  $("show-log").onclick = toggleLog;
+  $("find").oninput = $("renew").onclick = filter;
+  for (const id of ["only-muted", "only-locked"]) {
+    $(id).onclick = () => {
+      aria($(id), "pressed", !isPressed(id));
+      filter();
+    };
+  }
+  $("jump").onchange = event => {
+    jumpTo(event.target.value);
+    event.target.value = "";
+  };
+  narrow.onchange = layOutAgain;
+  document.onkeydown = findByKey;
+  document.onvisibilitychange = wakeUp;
+  setInterval(() => {
+    drawLink();
+    drawSums();
+    giveUpUnheard();
+  }, 250);
+  poll();
+}
+
+begin();

@@ -1,0 +1,238 @@
+// Orders. For an object one is in flight, and of each of its controls the last one waits; each ends as done, refused, lost or not sent.
+const MOST_IN_BODY = 64, MOST_OUT = 64, MOST_POSTS = 3, NO_WORD_MS = 8000;
+const desks = new Map();     // by ONo: the order in flight, and those that wait
+const awaited = new Map();   // by ticket: orders that were taken, whose result was not told yet
+const early = new Map();     // by ticket: results that were told while the answer with the tickets was on its way
+const urgent = new Set(), patient = new Set();   // objects with an order that can be sent; those of many at once are patient
+const times = [];            // how long the last orders took, in milliseconds
+let posting = 0, bodyMost = MOST_IN_BODY, retryTimer = 0;
+
+const controlOf = order => order.kind === "unlock" ? "lock" : order.kind;
+const deskOf = ono => desks.get(ono) || desks.set(ono, { flying: null, waits: [] }).get(ono);
+const isOut = (row, control) => {
+  const desk = desks.get(row.ono);
+  return !!desk && [desk.flying, ...desk.waits].some(order => order && controlOf(order) === control);
+};
+const goal = row => row.want ?? row.value;
+const lastMoment = order => (order.gang ? order.gang.at : order.at) + LIFE_MS;
+
+// Why an object takes no order now, or "".
+function hindrance(row) {
+  if (program.readOnly) return "not sent: read only";
+  if (guarded) return "not sent: the panel lock is on";
+  if (!isOpen()) return "not sent: " + stateWord(program.state);
+  if (rows.get(row.ono) !== row) return "not sent: no longer there";
+  return !row.enabled ? "not sent: not enabled" : row.value === null && row.kind !== "block" && row.kind !== "unknown" ? "not sent: not read yet" : "";
+}
+
+function can(row) {
+  const why = hindrance(row);
+  if (why) note(row.ono, "hint", why);
+  return !why;
+}
+
+// Takes an order of a person: `word` is the value, or the label. One of many waits for the others, and goes with them.
+function order(row, kind, word, gang) {
+  const desk = deskOf(row.ono), one = { ono: row.ono, run: program.run, name: fullName(row), kind, word, gang: gang || null, at: now(), from: row.value, over: false };
+  const displaced = desk.waits.filter(other => controlOf(other) === controlOf(one));
+  desk.waits = desk.waits.filter(other => controlOf(other) !== controlOf(one));
+  if (displaced.length) one.from = displaced[0].from;
+  desk.waits.push(one);
+  if (kind === "set") row.want = word;
+  notes.delete(row.ono);
+  for (const other of displaced) end(other, "displaced", "");
+  ready(row.ono);
+  if (!gang) sendReady();
+  show(row);
+}
+
+function ready(ono) {
+  const desk = desks.get(ono);
+  if (!desk || !desk.waits.length) return;
+  (desk.waits[0].gang ? patient : urgent).add(ono);
+}
+
+// The next orders that go in one body, each for another object.
+function takeBatch() {
+  const batch = [];
+  for (const lane of [urgent, patient]) {
+    for (const ono of lane) {
+      if (batch.length >= Math.min(bodyMost, MOST_OUT - awaited.size - outPosted)) break;
+      lane.delete(ono);
+      const desk = desks.get(ono);
+      if (!desk || desk.flying || !desk.waits.length) continue;
+      desk.flying = desk.waits.shift();
+      if (now() > lastMoment(desk.flying)) end(desk.flying, "unsent", "not sent: it waited for 5 s");
+      else batch.push(desk.flying);
+    }
+    if (batch.length) break;
+  }
+  return batch;
+}
+
+let outPosted = 0;
+
+function sendReady() {
+  while (posting < MOST_POSTS && !retryTimer) {
+    const batch = takeBatch();
+    if (!batch.length) return;
+    post(batch);
+  }
+}
+
+function bodyOf(batch) {
+  const before = Math.floor(Math.min(...batch.map(lastMoment)) + program.ahead);
+  const orders = batch.map(one => one.kind === "set" ? { ono: one.ono, set: one.word } : one.kind === "label" ? { ono: one.ono, label: one.word } : { ono: one.ono, [one.kind]: true });
+  return JSON.stringify({ run: program.run, before: Math.max(0, before), orders });
+}
+
+async function post(batch) {
+  const run = program.run;
+  posting++;
+  outPosted += batch.length;
+  let answer = null, fault = "";
+  try {
+    answer = await fetch("/orders", { method: "POST", headers: { "Content-Type": "application/json" }, body: bodyOf(batch), signal: AbortSignal.timeout(FETCH_MS) });
+    await taken(batch, answer);
+  } catch (error) {
+    fault = "the panel program gave no answer";
+  }
+  posting--;
+  outPosted -= batch.length;
+  if (fault) for (const one of batch) end(one, "lost", fault);
+  if (!posting && run === program.run) early.clear();
+  pace = batch[0].gang ? 20 : 2;
+  sendReady();
+  poll();
+}
+
+// What the program said to a body with orders: it took all of them, or none.
+async function taken(batch, answer) {
+  switch (answer.status) {
+    case 202: {
+      const { tickets } = await answer.json();
+      bodyMost = Math.min(MOST_IN_BODY, bodyMost * 2);
+      batch.forEach((one, at) => expect(one, tickets[at]));
+      return;
+    }
+    case 503: return againLater(batch);
+    case 404:
+    case 422: return oneIsWrong(batch, answer);
+    case 409: return endAll(batch, "not sent: the panel program was started anew");
+    case 403: return endAll(batch, "not sent: read only");
+    case 401:
+      program.shut = true;
+      return endAll(batch, "not sent: not let in");
+    default: return endAll(batch, "not sent: the panel program answered " + answer.status);
+  }
+}
+
+function endAll(batch, words) {
+  for (const one of batch) end(one, "unsent", words);
+}
+
+function expect(one, ticket) {
+  if (one.over) return;
+  one.ticket = ticket;
+  one.taken = now();
+  if (early.has(ticket)) told(one, early.get(ticket));
+  else awaited.set(ticket, one);
+}
+
+// Puts orders that were not taken back, behind none of their own control.
+function putBack(batch) {
+  for (const one of batch) {
+    const desk = deskOf(one.ono);
+    if (one.over || desk.flying !== one) continue;
+    desk.flying = null;
+    if (desk.waits.some(other => controlOf(other) === controlOf(one))) end(one, "displaced", "");
+    else desk.waits.unshift(one);
+    ready(one.ono);
+  }
+}
+
+// The program has no room for all of a body: it is sent again in smaller ones, until its orders are too old.
+function againLater(batch) {
+  bodyMost = Math.max(1, Math.floor(batch.length / 2));
+  putBack(batch);
+  clearTimeout(retryTimer);
+  retryTimer = setTimeout(() => {
+    retryTimer = 0;
+    sendReady();
+  }, 50);
+}
+
+// One order of a body can't be: it ends, and the others go again.
+async function oneIsWrong(batch, answer) {
+  let at = 0;
+  try {
+    at = batch.length > 1 ? (await answer.json()).at : 0;
+  } catch (fault) {
+    return endAll(batch, "not sent: one of these orders can't be");
+  }
+  if (!batch[at]) return endAll(batch, "not sent: one of these orders can't be");
+  end(batch[at], "unsent", answer.status === 404 ? "not sent: no such object" : batch[at].kind === "label" ? "not sent: a name has at most 64 bytes" : "not sent: no such value");
+  putBack(batch.filter((_, place) => place !== at));
+}
+
+// The results that the program tells, each once.
+function hearResults(results) {
+  for (const { ticket, trouble } of results) {
+    program.told = Math.max(program.told, ticket + 1);
+    const one = awaited.get(ticket);
+    if (one) told(one, trouble);
+    else if (posting) early.set(ticket, trouble);
+  }
+  sendReady();
+}
+
+function giveUpUnheard() {
+  for (const one of awaited.values()) if (now() - one.taken > NO_WORD_MS) end(one, "lost", "no word of how it ended");
+}
+
+// How an order ended, by the word of the program.
+function told(one, trouble) {
+  if (!trouble) return end(one, "done", "");
+  if (trouble === "lost" || trouble === "no answer") return end(one, "lost", "the device gave no answer");
+  if (/^not sent/.test(trouble)) return end(one, "unsent", clean(trouble));
+  end(one, "refused", "refused: " + (trouble === "Locked" ? "locked by another controller" : clean(trouble)));
+}
+
+const lostWords = why => "lost: " + why + "; it may have been carried out";
+
+function end(one, how, why) {
+  if (one.over) return;
+  one.over = true;
+  awaited.delete(one.ticket);
+  const desk = deskOf(one.ono), row = rows.get(one.ono), words = how === "lost" ? lostWords(why) : why;
+  if (desk.flying === one) desk.flying = null;
+  if (row && !isOut(row, "set") && !row.held) row.want = null;
+  if (words && !desk.waits.some(other => controlOf(other) === controlOf(one))) note(one.ono, how, words);
+  if (how !== "displaced") keepTime(one);
+  tellEnd(one, how, words);
+  ready(one.ono);
+  if (row) show(row);
+}
+
+function keepTime(one) {
+  times.push(Math.round(10 * (now() - one.at)) / 10);
+  if (times.length > 1000) times.shift();
+}
+
+// Nothing that waits is sent any more; what is in flight is told as it ends.
+function dropWaiting(words) {
+  for (const desk of desks.values()) for (const one of desk.waits.splice(0)) end(one, "unsent", words);
+  urgent.clear();
+  patient.clear();
+}
+
+// The program is another one: what was in flight may have been carried out. Notes stay where the device is the same.
+function dropAll(why, sameDevice) {
+  dropWaiting("not sent: " + why);
+  for (const desk of desks.values()) if (desk.flying) end(desk.flying, "lost", why);
+  awaited.clear();
+  early.clear();
+  desks.clear();
+  forgetChanges();
+  if (!sameDevice) notes.clear();
+}

@@ -1,0 +1,209 @@
+// Strips: a name that selects, and controls, which are there only near what is seen.
+const RANK = { mute: 1, switch: 2, boolean: 3, polarity: 4 };
+const rowsOf = strip => strip.block ? [strip.block, ...strip.rows] : strip.rows;
+const isChosen = strip => !!strip.on;
+
+// Draws an object anew: its control, its strip's head, and what is said of it.
+function show(row) {
+  if (row.group) drawGroup(row.group);
+  const strip = row.strip;
+  if (!strip) return;
+  if (row.view) drawControl(row, strip);
+  drawHead(strip);
+  drawMessage(strip);
+}
+
+function drawControl(row, strip) {
+  row.view.draw();
+  const name = nameOf(row), looks = row.cell.classList;
+  looks.toggle("other", row.lock === "other");
+  looks.toggle("busy", isOut(row, "set"));
+  aria(row.cell, "busy", isOut(row, "set"));
+  put(row.caption, name);
+  row.caption.hidden = name === row.kind && !isLevel(row);
+  for (const part of [row.view.main, row.view.second]) {
+    if (!part) continue;
+    aria(part, "label", name + (row.kind === "switch" ? " " + shown(row, row.value) : "") + ", " + strip.title + (row.lock === "other" ? ", locked by another controller" : ""));
+    aria(part, "disabled", !row.enabled || row.value === null);
+  }
+}
+
+// The locks of a strip in one word, and in one number.
+function locksOf(strip) {
+  const all = rowsOf(strip), other = all.filter(row => row.lock === "other").length, own = all.filter(row => row.lock === "own").length;
+  return other ? ["other", other + " by another controller"] : own ? ["own", own + " by this panel"] : ["free", "none"];
+}
+
+function drawHead(strip) {
+  const title = strip.block ? nameOf(strip.block) : strip.title, isNew = title !== strip.title;
+  strip.title = title;
+  if (isNew) for (const row of strip.rows) if (row.view) drawControl(row, strip);
+  put(strip.name, strip.title);
+  strip.select.title = strip.title;
+  put(strip.role, strip.block && isOut(strip.block, "label") ? "another name: not yet" : strip.block && clean(strip.block.label) ? clean(strip.block.role) : "");
+  aria(strip.select, "pressed", isChosen(strip));
+  aria(strip.select, "label", "Select " + strip.title);
+  strip.element.toggleAttribute("data-on", isChosen(strip));
+  if (strip.menu) drawMenu(strip);
+}
+
+function drawMenu(strip) {
+  const [word, locks] = locksOf(strip), isOut = rowsOf(strip).some(isLockOut), key = word + isOut;
+  if (strip.menuKey !== key) {
+    strip.menuKey = key;
+    strip.menu.className = "menu " + word;
+    strip.menu.replaceChildren(isOut ? "…" : icon(word === "free" ? "free" : "held"));
+  }
+  aria(strip.menu, "label", "Locks and names of " + strip.title + ", locked: " + locks + (isOut ? "; an order is out" : ""));
+}
+
+const isLockOut = row => isOut(row, "lock");
+
+function newStrip(block, members, title) {
+  const count = test => members.filter(test).length;
+  const strip = { block, rows: members, title, path: "", on: false, message: null, menu: null };
+  strip.wide = members.length > 6 || count(row => row.kind === "mute") > 1 || count(isLevel) > 1 || count(row => row.long) > 0;
+  strip.element = make("section", "strip" + (strip.wide ? " wide" : count(isLevel) ? " tall" : ""));
+  strip.select = make("button", "select");
+  strip.name = make("span");
+  strip.role = make("small");
+  strip.name.id = "strip-" + strips.length;
+  strip.name.dir = "auto";
+  strip.select.append(strip.name, strip.role);
+  strip.select.onclick = () => chooseStrip(strip);
+  strip.element.role = "group";
+  aria(strip.element, "labelledby", strip.name.id);
+  strip.element.append(strip.select);
+  strip.element.strip = strip;
+  for (const row of rowsOf(strip)) row.strip = strip;
+  layOut(strip);
+  drawHead(strip);
+  return strip;
+}
+
+// A strip lies in a narrow window; one whose controls are not there yet is as high as it will be.
+function layOut(strip) {
+  const levels = strip.rows.filter(isLevel).length, waits = !strip.message;
+  strip.element.classList.toggle("flat", !strip.wide && narrow.matches);
+  const height = strip.wide ? 120 + 70 * Math.ceil(strip.rows.length / Math.max(1, Math.floor(innerWidth / 150))) + "px" : narrow.matches ? (levels ? "218px" : "110px") : "";
+  strip.element.style.minHeight = waits ? height : "";
+}
+
+function fill(strip) {
+  if (strip.message) return;
+  strip.message = make("div", "message");
+  strip.message.role = "status";
+  strip.message.onclick = () => rowsOf(strip).forEach(row => unnote(row.ono));
+  layOut(strip);
+  let menu = program.readOnly ? null : newMenu(strip);
+  for (const row of [...strip.rows].sort((a, b) => (RANK[a.kind] || 5) - (RANK[b.kind] || 5))) {
+    if (menu && isLevel(row) && !strip.wide) {
+      strip.element.append(menu);
+      menu = null;
+    }
+    strip.element.append(newCell(row));
+  }
+  if (menu) strip.element.append(menu);
+  strip.element.append(strip.message);
+  for (const row of rowsOf(strip)) show(row);
+  drawHead(strip);
+  drawMessage(strip);
+}
+
+function newCell(row) {
+  row.cell = make("div", "cell " + (isLevel(row) ? "level" : row.kind) + (row.long ? " long" : ""));
+  row.caption = make("small", "cut");
+  row.caption.dir = "auto";
+  row.view = control(row);
+  row.cell.append(row.caption, ...row.view.parts);
+  return row.cell;
+}
+
+function newMenu(strip) {
+  strip.menu = make("button");
+  strip.menuKey = "";
+  strip.menu.ariaHasPopup = "dialog";
+  strip.menu.onclick = () => stripMenu(strip);
+  return strip.menu;
+}
+
+// Takes the controls away of a strip that is far from what is seen, but none that a person uses.
+function empty(strip) {
+  if (!strip.message || strip.element.contains(document.activeElement) || strip.rows.some(row => row.held || isOut(row, "set"))) return;
+  strip.element.style.minHeight = strip.element.offsetHeight ? strip.element.offsetHeight + "px" : "";
+  strip.element.replaceChildren(strip.select);
+  strip.message = strip.menu = null;
+  for (const row of strip.rows) row.cell = row.view = row.caption = null;
+}
+
+// One menu a strip: its locks and its names.
+const LOCK_WORDS = { free: "not locked", own: "locked by this panel", other: "locked by another controller; the device does not say which" };
+
+function stripMenu(strip) {
+  const lockable = rowsOf(strip).filter(row => row.lockable), own = lockable.filter(row => row.lock === "own"), rest = lockable.filter(row => row.lock !== "own");
+  const orderAll = (list, kind) => list.forEach(row => can(row) && order(row, kind));
+  askFirst("Locks and names: " + strip.title, "A lock keeps other controllers out until it is taken off or this panel ends. The block's lock is not that of its controls.", (options, answer) => {
+    for (const row of rowsOf(strip)) options.append(menuLine(strip, row));
+    if (own.length) answer("Unlock all", "", () => orderAll(own, "unlock"));
+    if (rest.length) answer("Lock all", "go", () => orderAll(rest, "lock"));
+  });
+}
+
+function menuLine(strip, row) {
+  const line = make("div", "row"), text = make("span", "", row === strip.block ? "the block" : nameOf(row)), rename = make("button", "", "Rename");
+  if (row.lockable) text.append(make("small", "", LOCK_WORDS[row.lock] + (isLockOut(row) ? "; an order is out" : "")));
+  line.append(text);
+  if (row.lockable) line.append(lockButton(row, text.firstChild.data));
+  rename.ariaLabel = "Rename " + text.firstChild.data;
+  rename.onclick = () => askName(row);
+  line.append(rename);
+  return line;
+}
+
+function lockButton(row, name) {
+  const kind = row.lock === "own" ? "unlock" : "lock", button = make("button", "", row.lock === "other" ? "Try to lock" : row.lock === "own" ? "Unlock" : "Lock");
+  button.ariaLabel = button.textContent + " " + name;
+  button.onclick = () => {
+    $("dialog").close();
+    if (can(row)) order(row, kind);
+  };
+  return button;
+}
+
+// Asks for an object's name, which is a label in the device.
+function askName(row) {
+  askFirst("Rename " + nameOf(row), "The name is kept by the device, and all controllers see it. Its role stays: " + clean(row.role) + ".", (options, answer) => {
+    const input = make("input");
+    input.maxLength = 64;
+    input.value = row.label;
+    input.ariaLabel = "Name";
+    const go = answer("Rename", "go", () => input.value !== row.label && can(row) && order(row, "label", input.value));
+    input.onkeydown = event => event.key === "Enter" && go.click();
+    options.append(input);
+    setTimeout(() => input.focus(), 0);
+  });
+}
+
+const chosenStrips = () => strips.filter(isChosen);
+const mutesOf = list => list.flatMap(strip => strip.rows.filter(row => row.kind === "mute"));
+
+function chooseStrip(strip) {
+  strip.on = !strip.on;
+  drawHead(strip);
+  drawChosen();
+}
+
+function chooseNone() {
+  for (const strip of chosenStrips()) {
+    strip.on = false;
+    drawHead(strip);
+  }
+  drawChosen();
+}
+
+function drawChosen() {
+  const count = chosenStrips().length;
+  $("chosen").hidden = !count;
+  document.body.classList.toggle("picked", !!count);
+  put($("chosen").firstElementChild, count + " selected");
+}

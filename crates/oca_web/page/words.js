@@ -1,0 +1,78 @@
+// Elements and texts. What comes from the device goes in as text and as attributes alone, never as HTML.
+const $ = id => document.getElementById(id);
+const now = () => performance.now();
+const wallClock = () => new Date().toLocaleTimeString("en-GB");
+
+function make(tag, look, text) {
+  const element = document.createElement(tag);
+  if (look) element.className = look;
+  if (text != null) element.textContent = text;
+  return element;
+}
+
+// What did not change is left alone, so that nothing is laid out again for it.
+function put(element, text) {
+  if (element.textContent !== text) element.textContent = text;
+}
+
+function aria(element, name, value) {
+  if (element.getAttribute("aria-" + name) !== String(value)) element.setAttribute("aria-" + name, String(value));
+}
+
+function icon(name) {
+  const drawing = $("guard").firstElementChild.cloneNode(true);
+  drawing.firstElementChild.setAttribute("href", "#icon-" + name);
+  return drawing;
+}
+
+// A text of the device within one of the page's own: no line breaks, no marks that turn the order of letters, no endless words.
+function clean(text) {
+  const plain = String(text).replace(/[\u0000-\u001f\u007f-\u009f\u061c\u200b-\u200f\u2028-\u202e\u2060-\u206f\ufeff]/g, "\ufffd").trim();
+  return plain.length > 120 ? plain.slice(0, 119) + "…" : plain;
+}
+
+const nameOf = row => clean(row.label) || clean(row.role) || "object " + row.ono;
+const fullName = row => !row.strip || row.strip.block === row ? nameOf(row) : row.strip.title + " · " + nameOf(row);
+
+// A unit of the file that the program was given: of this object, else of its class.
+function unitOf(units, object) {
+  const unit = units.find(u => u.ono === object.ono) || units.find(u => u.ono == null && u.class === object.class);
+  const found = unit && /^(\d+)(?:\.(\d+))?$/.exec(unit.factor);
+  if (!found) return null;
+  const part = found[2] || "", times = BigInt(found[1] + part);
+  return times ? { name: clean(unit.unit), times, places: part.length } : null;
+}
+
+const isLevel = row => /int/.test(row.kind);
+const unitName = row => row.unit ? " " + row.unit.name : "";
+
+// A whole number times the unit's factor, exact however large it is.
+function scaled(word, unit) {
+  const value = BigInt(word) * unit.times, digits = String(value < 0n ? -value : value).padStart(unit.places + 1, "0"), at = digits.length - unit.places;
+  return (value < 0n ? "−" : value > 0n ? "+" : "") + digits.slice(0, at) + (unit.places ? "." + digits.slice(at) : "");
+}
+
+function position(row, word) {
+  return clean(row.names[word - (row.limits ? row.limits[0] : 0)] || "") || "position " + word;
+}
+
+// A value of an object as it is shown.
+function shown(row, word) {
+  if (word == null) return "–";
+  if (row.kind === "switch") return position(row, word);
+  if (!isLevel(row)) return word;
+  return row.unit ? scaled(word, row.unit) : word.replace("-", "−");
+}
+
+// The value that a person typed, or null where it is none of the object's.
+function typed(row, text) {
+  const found = /^([+-]?)(\d+)(?:\.(\d+))?$/.exec(text.trim().replace(/[−–]/, "-").replace(",", ".").replace(/\s*[a-zµ%°Ω/]+$/i, ""));
+  if (!found || found[3] && !row.unit) return null;
+  const part = found[3] || "", unit = row.unit || { times: 1n, places: 0 };
+  const top = BigInt(found[2] + part) * 10n ** BigInt(unit.places), below = unit.times * 10n ** BigInt(part.length);
+  const size = (2n * top + below) / (2n * below), value = found[1] === "-" ? -size : size;
+  if (row.limits && (value < BigInt(row.limits[0]) || value > BigInt(row.limits[1]))) return null;
+  return String(value);
+}
+
+const seconds = ms => ms < 9950 ? (ms / 1000).toFixed(1) + " s" : ms < 60000 ? Math.round(ms / 1000) + " s" : Math.floor(ms / 60000) + " min";

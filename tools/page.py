@@ -1,0 +1,162 @@
+#!/usr/bin/env python3
+"""Makes `crates/oca_web/src/page.rt` from the sources of the page in `crates/oca_web/page/`, with the hashes of its style and its script.
+
+Usage: page.py     writes page.rt; `tools/panel_trial.py` compares it with what the sources make
+
+Comments and spaces are left out, and the names that the script itself declares are cut short, each to another one: so nothing in
+the sources may rely on a name of a function or of a constant as a text. In the sources of the script a comment begins its line, no
+regular expression has a space or a quote, no template is used, and a statement ends in a semicolon or a brace.
+
+No step of the gate."""
+import base64
+import functools
+import hashlib
+import re
+from collections import Counter
+from pathlib import Path
+
+TOP = Path(__file__).resolve().parent.parent
+SOURCES, TARGET = TOP / "crates/oca_web/page", TOP / "crates/oca_web/src/page.rt"
+SCRIPTS = ["words", "link", "orders", "log", "controls", "faders", "strips", "tree", "main"]
+MOST = 45_000
+# The names that are not the page's own: of the language and the browser, of what the program says, and those that are used as texts too.
+KEPT = set("""
+async await break case catch ceil class const continue default delete else false for from function if in instanceof let new null of return switch throw true try undefined while
+as do is
+AbortSignal BigInt Boolean Date Error IntersectionObserver JSON Map Math Number Object Option Set String TypeError abs activeElement add addEventListener append ariaHasPopup
+ariaLabel assign at autocomplete body button children classList className clear clearTimeout click clientX clientY cloneNode close console contains createElement data dataset
+deltaX deltaY detail dir disabled disconnect document endsWith error exec fetch filter find firstChild firstElementChild flatMap floor focus forEach get getAttribute
+getBoundingClientRect getElementById has headers height hidden history id includes innerWidth inputMode isIntersecting join json key lastElementChild length location map matchMedia
+matches max maxLength message method min minHeight name now observe offsetHeight ok onblur onchange onclick oncontextmenu onfocus oninput onkeydown onkeyup onlostpointercapture
+onpointercancel onpointerdown onpointerleave onpointermove onpointerup onvisibilitychange open padStart passive pathname performance pointerId pointerType prepend preventDefault push remove
+removeAttribute repeat replace replaceChildren replaceState replaceWith role rootMargin round scrollIntoView scrollTo scrollY search select setAttribute setInterval setPointerCapture setProperty
+setTimeout shift shiftKey showModal signal size slice some sort splice status stringify style tabIndex tagName target test textContent timeout title toFixed toLocaleTimeString
+toLowerCase toggle toggleAttribute trim unshift values value width
+run since told before orders ono set lock unlock label tickets ticket trouble epoch walked change device found read_only link heard lost_for objects lockable names units factor unit
+limits enabled flags
+then up live slow read silent lost stale shut free own other muted unmuted inverted on off mute polarity boolean ArrowUp ArrowDown ArrowLeft ArrowRight PageUp PageDown state
+""".split())
+HEAD = '''//! The page: one document with its style and its script, made by `tools/page.py` from the files in `page/`.
+
+/// What the page may do: run its own script, use its own style, and ask the panel that sent it, and nothing else. The
+/// hashes are those of the script and of the style below; `tools/panel.py` compares them.
+pub const POLICY: &str =
+    "default-src 'none'; style-src 'sha256-{style}'; \\
+     script-src 'sha256-{script}'; connect-src 'self'; \\
+     frame-ancestors 'none'; base-uri 'none'; form-action 'none'";
+
+/// The page. It asks for `/tree` and `/values`, and sends orders to `/orders`. What comes from the device goes into it by
+/// `textContent` and by properties alone, never as HTML.
+pub const PAGE: &str = r###"{page}"###;
+'''
+TOKEN = re.compile(r"""("(?:[^"\\\n]|\\.)*"|'(?:[^'\\\n]|\\.)*')|((?:(?<=[(=:,!&|?{};>])|(?<=[(=:,!&|?>]\s))/(?![/*=\s])(?:[^/\\\n\[]|\\.|\[(?:[^\]\\\n]|\\.)*\])+/[a-z]*)|([A-Za-z_$][\w$]*)|(\d[\w.]*)|(\s+)|(.)""")
+
+
+def style(folder):
+    """The style without its comments and the spaces that it does not need."""
+    text = re.sub(r"/\*.*?\*/", "", (folder / "page.css").read_text(), flags=re.DOTALL)
+    text = re.sub(r"\s+", " ", text)
+    text = re.sub(r"\s*([{};,>])\s*", r"\1", text)
+    text = re.sub(r":\s+", ":", text)
+    for short, name in zip("abceghijklmnoqrst", sorted(set(re.findall(r"--([a-z]{2,})", text)))):
+        text = re.sub(rf"--{name}\b", f"--{short}", text)
+    return text.replace(";}", "}").strip()
+
+
+def is_word(character):
+    return character.isalnum() or character in "_$"
+
+
+def without_spaces(text):
+    """A script without its comments and the spaces that it does not need."""
+    text = "\n".join(line for line in text.splitlines() if not line.lstrip().startswith("//"))
+    text = re.sub(r"; {2,}//.*", ";", text)
+    out = ""
+    tokens = [match.group(0) for match in TOKEN.finditer(text)]
+    for at, token in enumerate(tokens):
+        if not token.isspace():
+            out += token
+            continue
+        after = tokens[at + 1][0] if at + 1 < len(tokens) else ""
+        if out and after and (is_word(out[-1]) and is_word(after) or out[-1] in "+-" and after in "+-"):
+            out += " "
+    return re.sub(r",([}\])])", r"\1", out.replace(";}", "}"))
+
+
+@functools.cache
+def short_names(folder=SOURCES):
+    """For each name of the page's own a short one, the shortest for what stands most often."""
+    counts = Counter(match.group(3) for match in TOKEN.finditer(sources(folder)) if match.group(3))
+    own = sorted((name for name in counts if name not in KEPT and len(name) > 2), key=lambda name: (-counts[name] * len(name), name))
+    letters = "abcdefghijklmnopqrstuvwxyzABCDEFGHIJKLMNOPQRSTUVWXYZ"
+    free = (one for one in [*letters, *(a + b for a in letters for b in letters)] if one not in KEPT and one not in counts)
+    return dict(zip(own, free))
+
+
+def shorten(text, folder=None):
+    """A script with the short names in place of the page's own; it may be one that is to run beside the page's."""
+    names = short_names(folder or SOURCES)
+    shorter = names | {"const": "let", "true": "!0", "false": "!1"}
+    return "".join(shorter.get(match.group(3), match.group(0)) for match in TOKEN.finditer(text))
+
+
+def joined(text):
+    """The script with declarations that follow one another as one."""
+    tokens = [match.group(0) for match in TOKEN.finditer(text)]
+    out, levels, at = [], [""], 0
+    while at < len(tokens):
+        token = tokens[at]
+        if token == ";" and levels[-1] == "let" and tokens[at + 1:at + 2] == ["let"]:
+            out.append(",")
+            at += 3 if tokens[at + 2].isspace() else 2
+            continue
+        if token in "([{":
+            levels.append("")
+        elif token in ")]}":
+            levels.pop()
+            levels[-1] = levels[-1] if token != "}" or levels[-1] == "let" else ""
+        elif token == ";":
+            levels[-1] = ""
+        elif not token.isspace():
+            levels[-1] = levels[-1] or token
+        out.append(token)
+        at += 1
+    return "".join(out)
+
+
+def sources(folder):
+    """The script as it is written, without comments and spaces."""
+    return without_spaces("\n".join((folder / f"{name}.js").read_text() for name in SCRIPTS))
+
+
+def script(folder):
+    """The script of the page as it is sent."""
+    return '"use strict";' + joined(shorten(sources(folder), folder))
+
+
+def page(folder=None):
+    """The page, its style and its script."""
+    folder = folder or SOURCES
+    css, js = style(folder), script(folder)
+    text = (folder / "page.html").read_text()
+    text = text.replace("\npage.css\n", css).replace("\npage.js\n", js)
+    return text, css, js
+
+
+def digest(text):
+    return base64.b64encode(hashlib.sha256(text.encode()).digest()).decode()
+
+
+def made():
+    """What page.rt is to be."""
+    text, css, js = page()
+    return HEAD.replace("{style}", digest(css)).replace("{script}", digest(js)).replace("{page}", text)
+
+
+def main():
+    TARGET.write_text(made())
+    print(f"{TARGET.relative_to(TOP)}: the page has {len(page()[0].encode())} bytes")
+
+
+if __name__ == "__main__":
+    main()

@@ -1,0 +1,680 @@
+// The page's functions, case by case: what stands on the page and what is sent, by state and event. A row is a name, what is to come,
+// and what is done; each runs in a page of its own, in node and in the browser, behind stand.js and the page's script.
+const pause = ms => new Promise(done => setTimeout(done, ms));
+
+async function until(test, ms = 4000) {
+  const last = realNow() + ms;
+  while (!test() && realNow() < last) await pause(3);
+  return !!test();
+}
+
+// The page has read its objects, and all its strips have their controls.
+async function started() {
+  await until(() => rows.size === fake.objects.length && isOpen());
+  for (const strip of strips) fill(strip);
+  await answered();
+}
+
+// The program was asked again, and what it said is drawn.
+async function answered() {
+  const asked = fake.paths.length;
+  await until(() => fake.paths.slice(asked).filter(path => path.startsWith("/values")).length > 1);
+  drawLink();
+  drawSums();
+}
+
+const part = ono => rows.get(ono).view.main;
+const looks = ono => [part(ono).textContent, part(ono).getAttribute("aria-pressed"), rows.get(ono).cell.classList.contains("busy")];
+const words = ono => rows.get(ono).strip.message.textContent;
+const sent = () => fake.bodies.flatMap(body => body.orders);
+const tell = (ticket, trouble = null) => fake.told.push({ ticket, ono: 0, trouble });
+const click = element => element.onclick({ detail: 1, target: element, preventDefault() {} });
+const key = (element, name, shiftKey = false) => element.onkeydown({ key: name, shiftKey, target: element, preventDefault() {} });
+const options = () => [...$("dialog").children[2].children];
+const answers = () => [...$("dialog").lastElementChild.children];
+const answerNamed = start => answers().find(button => button.textContent.startsWith(start));
+
+// An order of an object is in flight.
+async function flying(count = 1) {
+  return until(() => fake.bodies.length >= count && awaited.size > 0);
+}
+
+async function typeIn(ono, text) {
+  const input = part(ono);
+  input.focus();
+  input.value = text;
+  input.oninput({});
+  const beside = input.parentNode || input.parent, shownBeside = beside.lastElementChild.hidden ? "" : beside.lastElementChild.textContent;
+  input.onkeydown({ key: "Enter" });
+  await pause(20);
+  return shownBeside;
+}
+
+function drag(ono) {
+  const fader = rows.get(ono).view.second, event = more => ({ button: 0, pointerType: "mouse", pointerId: 1, clientX: 0, clientY: 300, shiftKey: false, target: fader, ...more });
+  fader.setPointerCapture = () => {};
+  fader.getBoundingClientRect = () => ({ width: 60, height: 348 });
+  return {
+    down: () => fader.onpointerdown(event()), to: (clientY, more) => fader.onpointermove(event({ clientY, ...more })), up: () => fader.onpointerup(event()),
+    mark: () => fader.lastElementChild.hidden ? "" : fader.lastElementChild.textContent, at: () => fader.getAttribute("aria-valuenow"),
+  };
+}
+
+const manyMutes = count => [fakeObjects[0], ...Array.from({ length: count }, (_, at) => ({ ono: 1000 + at, in: 100, class: "mute", role: "mute " + at, lockable: false, names: [] }))];
+
+async function startedWith(objects, value) {
+  fake.objects = objects;
+  for (const object of objects) if (object.class === "mute") fakeValues[object.ono] = value;
+  fake.epoch++;
+  await until(() => program.epoch === fake.epoch && isOpen());
+  for (const strip of strips) fill(strip);
+  await answered();
+}
+
+const CASES = [
+  ["a muted and an unmuted channel", [["MUTED", "true", false], ["Mute", "false", false]], async () => [looks(11), looks(21)]],
+  ["a click turns a mute", [{ ono: 11, set: "unmuted" }, { ono: 21, set: "muted" }], async () => {
+    click(part(11));
+    click(part(21));
+    await until(() => sent().length > 1);
+    return sent();
+  }],
+  ["a click turns a polarity", [{ ono: 12, set: "inverted" }], async () => {
+    click(part(12));
+    await flying();
+    return sent();
+  }],
+  ["an order names its run, and is good for 5 s by the program's clock", ["71", true, "/orders"], async () => {
+    const at = performance.now() + 700000;
+    click(part(11));
+    await flying();
+    const [body] = fake.bodies;
+    return [body.run, Math.abs(body.before - at - 5000) < 200, body.path];
+  }],
+  ["a control shows the device's word, and is marked, while its order is out", [["MUTED", "true", true], ["Mute", "false", false]], async () => {
+    click(part(11));
+    await flying();
+    const during = looks(11);
+    says(11, { value: "unmuted" });
+    tell(1);
+    await until(() => !awaited.size);
+    await answered();
+    return [during, looks(11)];
+  }],
+  ["an order in the way drops none: the last value of a fader and the lock behind it", [{ ono: 13, set: "1" }, { ono: 13, set: "3" }, { ono: 13, lock: true }], async () => {
+    for (const value of ["1", "2", "3"]) change(rows.get(13), value);
+    order(rows.get(13), "lock");
+    await flying();
+    tell(1);
+    await until(() => sent().length > 1);
+    tell(2);
+    await until(() => sent().length > 2);
+    return sent();
+  }],
+  ["one order of an object is in flight, and other objects do not wait for it", [[13, 11], ["3"]], async () => {
+    for (const value of ["1", "2", "3"]) change(rows.get(13), value);
+    click(part(11));
+    await until(() => sent().length > 1);
+    await answered();
+    return [sent().map(one => one.ono), desks.get(13).waits.map(one => one.word)];
+  }],
+  ["another lock is the last one of its control", [{ ono: 13, lock: true }, { ono: 13, lock: true }], async () => {
+    for (const kind of ["lock", "unlock", "lock"]) order(rows.get(13), kind);
+    await flying();
+    tell(1);
+    await until(() => sent().length > 1);
+    return sent();
+  }],
+  ["phantom power takes no click", [[], "phantom power: hold for 1 s to switch on"], async () => {
+    const button = part(5);
+    button.onpointerdown({ button: 0 });
+    button.onpointerup({});
+    click(button);
+    await answered();
+    return [sent(), words(5)];
+  }],
+  ["phantom power takes a press of 0.8 s", [{ ono: 5, set: "on" }], async () => {
+    part(5).onpointerdown({ button: 0 });
+    await flying();
+    part(5).onpointerup({});
+    click(part(5));
+    return sent();
+  }],
+  ["a source is selected, and then switched", [["Mic", "Line", "Off"], 0, [{ ono: 14, set: "1" }]], async () => {
+    click(part(14));
+    const names = options().map(option => option.textContent);
+    click(options()[2]);
+    click(options()[1]);
+    await pause(20);
+    const before = sent().length;
+    click(answerNamed("Switch to Line"));
+    await flying();
+    return [names, before, sent()];
+  }],
+  ["a position that is not enabled can't be selected", [false, true, false], async () => {
+    says(14, { flags: [true, false, true] });
+    await answered();
+    click(part(14));
+    return options().map(option => option.disabled);
+  }],
+  ["a field sends what is typed", [{ ono: 13, set: "-60" }], async () => {
+    await typeIn(13, "-60");
+    await flying();
+    return sent();
+  }],
+  ["9999 where the device has 0 is not sent, and not left standing", [[], "0", "trim: “9999” not sent: −600 to 600"], async () => {
+    await typeIn(13, "9999");
+    return [sent(), part(13).value, words(13)];
+  }],
+  ["no number is not sent", [[], "0"], async () => {
+    await typeIn(13, "loud");
+    await typeIn(13, "1.5");
+    await typeIn(13, "");
+    return [sent(), part(13).value];
+  }],
+  ["64 bits stay exact", [["18446744073709551615"], [{ ono: 22, set: "9007199254740993" }]], async () => {
+    const first = part(22).value;
+    await typeIn(22, "9007199254740993");
+    await flying();
+    return [[first], sent()];
+  }],
+  ["a field in which a person types shows the device's value beside it", ["device 0", "device 7", ""], async () => {
+    const first = await typeIn(13, "5x");
+    part(13).value = "123";
+    part(13).oninput({});
+    says(13, { value: "7" });
+    await answered();
+    const box = part(13).parentNode || part(13).parent, second = box.lastElementChild.textContent;
+    part(13).onblur({});
+    return [first, second, box.lastElementChild.hidden ? "" : "shown"];
+  }],
+  ["what the device has is left in a field that is left", ["7"], async () => {
+    part(13).focus();
+    part(13).value = "123";
+    part(13).oninput({});
+    says(13, { value: "7" });
+    await answered();
+    part(13).onblur({});
+    return [part(13).value];
+  }],
+  ["a unit", ["+1.5", "dB", ["+60.0", "−60.0"], [{ ono: 13, set: "-35" }]], async () => {
+    fake.units = [{ class: "int16", ono: null, factor: "0.1", unit: "dB" }];
+    says(13, { value: "15" });
+    await startedWith(fake.objects, "muted");
+    const row = rows.get(13), limits = [shown(row, "600"), shown(row, "-600")], first = part(13).value;
+    await typeIn(13, "-3,5 dB");
+    await flying();
+    return [first, row.unit.name, limits, sent()];
+  }],
+  ["a drag sends its last value", ["200", { ono: 13, set: "200" }], async () => {
+    const hand = drag(13);
+    hand.down();
+    hand.to(250);
+    hand.to(200);
+    await flying();
+    hand.up();
+    tell(1);
+    await until(() => sent().length > 1 || sent().at(-1).set === "400");
+    return [String(Number(sent().at(-1).set) / 2), { ...sent().at(-1), set: String(Number(sent().at(-1).set) / 2) }];
+  }],
+  ["a tap moves nothing", [], async () => {
+    const hand = drag(13);
+    hand.down();
+    hand.up();
+    await answered();
+    return sent();
+  }],
+  ["a fader that is held is not moved by others, who are shown beside it", ["0", "device −350", "-350", ""], async () => {
+    const hand = drag(13);
+    hand.down();
+    says(13, { value: "-350" });
+    await answered();
+    const during = [hand.at(), hand.mark()];
+    hand.up();
+    return [...during, hand.at(), hand.mark()];
+  }],
+  ["a drag is fine where the pointer is far aside", ["20"], async () => {
+    const hand = drag(13);
+    hand.down();
+    hand.to(250, { clientX: 100 });
+    await flying();
+    return [sent()[0].set];
+  }],
+  ["keys of a fader: steps, fine steps, limits, 0", ["12", "13", "1", "-119", "0"], async () => {
+    const fader = rows.get(13).view.second, at = () => goal(rows.get(13)), came = [];
+    for (const [name, shiftKey] of [["ArrowUp", false], ["ArrowRight", true], ["ArrowDown", false], ["PageDown", false], ["Delete", false]]) {
+      key(fader, name, shiftKey);
+      came.push(at());
+    }
+    return came;
+  }],
+  ["no key leaves the limits", ["600"], async () => {
+    for (let n = 0; n < 9; n++) key(rows.get(13).view.second, "PageUp");
+    return [goal(rows.get(13))];
+  }],
+  ["a refusal is said, and goes when the state changes", ["mute: refused: locked by another controller", "mute: locked by another controller", ""], async () => {
+    click(part(11));
+    await flying();
+    tell(1, "Locked");
+    await until(() => words(11));
+    const came = [words(11)];
+    says(11, { lock: "other" });
+    await answered();
+    came.push(words(11));
+    says(11, { lock: "free" });
+    await answered();
+    return [...came, words(11)];
+  }],
+  ["each word of a result", ["refused: ParameterOutOfRange", "not sent: too late", "lost: the device gave no answer; it may have been carried out", "lost: the device gave no answer; it may have been carried out", ""], async () => {
+    const came = [];
+    for (const trouble of ["ParameterOutOfRange", "not sent: too late", "lost", "no answer", null]) {
+      click(part(11));
+      await flying(came.length + 1);
+      tell(came.length + 1, trouble);
+      await until(() => !awaited.size);
+      came.push(words(11).replace("mute: ", ""));
+    }
+    return came;
+  }],
+  ["that an order was lost stays until a person acts", ["mute: lost: the device gave no answer; it may have been carried out (read since: unmuted)", ""], async () => {
+    click(part(11));
+    await flying();
+    tell(1, "lost");
+    await until(() => words(11));
+    says(11, { value: "unmuted" });
+    await answered();
+    const still = words(11);
+    click(part(11));
+    return [still, words(11)];
+  }],
+  ["that an order was lost stays over a new walk", ["mute: lost: the device gave no answer; it may have been carried out (read since: muted)"], async () => {
+    click(part(11));
+    await flying();
+    tell(1, "lost");
+    await until(() => words(11));
+    fake.epoch++;
+    await until(() => program.epoch === fake.epoch);
+    await started();
+    return [words(11)];
+  }],
+  ["no room for an order: it is sent again, and said when it is too old", [true, "mute: not sent: it waited for 5 s", ["MUTED", "true", false]], async () => {
+    fake.answer = () => [503, {}];
+    click(part(11));
+    await until(() => fake.bodies.length > 2);
+    const again = fake.bodies.length > 2;
+    skipped += 6000;
+    program.heardAt = now();
+    await until(() => words(11));
+    return [again, words(11), looks(11)];
+  }],
+  ["one of many that can't be: the others are sent", [true, "trim: not sent: no such value"], async () => {
+    fake.answer = orders => orders.length > 1 && orders.some(one => one.ono === 13) ? [422, { at: orders.findIndex(one => one.ono === 13) }] : orders[0].ono === 13 ? [422, { at: 0 }] : null;
+    changeMany([rows.get(11), rows.get(13), rows.get(21)], row => row.ono === 13 ? "5" : row.ono === 11 ? "unmuted" : "muted", "three");
+    await until(() => awaited.size > 1);
+    return [[...awaited.values()].map(one => one.ono).sort().join() === "11,21", words(13)];
+  }],
+  ["a program that was started anew takes no order of the page before", ["mute: not sent: the panel program was started anew"], async () => {
+    fake.answer = () => [409, {}];
+    click(part(11));
+    await until(() => words(11));
+    return [words(11)];
+  }],
+  ["a program that gives no answer to an order", ["mute: lost: the panel program gave no answer; it may have been carried out"], async () => {
+    const real = fetch;
+    globalThis.fetch = (path, how) => how.method === "POST" ? Promise.reject(new TypeError("fetch failed")) : real(path, how);
+    click(part(11));
+    await until(() => words(11));
+    return [words(11)];
+  }],
+  ["a result that is told before its ticket", [[1], ""], async () => {
+    fake.answer = orders => {
+      tell(1);
+      return null;
+    };
+    click(part(11));
+    await until(() => fake.bodies.length > 0 && !isOut(rows.get(11), "set"));
+    return [[fake.tickets], words(11)];
+  }],
+  ["150 orders at once all end, and each that was lost is said", [150, 3, true, 0], async () => {
+    await startedWith(manyMutes(150), "muted");
+    fake.answer = orders => {
+      const first = fake.tickets + 1;
+      setTimeout(() => orders.forEach((_, at) => tell(first + at, (first + at) % 50 ? null : "lost")), 5);
+      return null;
+    };
+    for (const row of rows.values()) if (row.kind === "mute") click(row.view.main);
+    await until(() => times.length === 150);
+    const said = [...notes.values()].map(note => note.words);
+    return [times.length, said.length, said.every(text => text.includes("may have been carried out")), awaited.size];
+  }],
+  ["an order without a word of how it ended is lost", ["mute: lost: no word of how it ended; it may have been carried out"], async () => {
+    click(part(11));
+    await flying();
+    skipped += 8100;
+    await until(() => words(11));
+    return [words(11)];
+  }],
+  ["at most 64 orders in a body", [true, 70], async () => {
+    await startedWith(manyMutes(70), "unmuted");
+    fake.answer = orders => {
+      const first = fake.tickets + 1;
+      setTimeout(() => orders.forEach((_, at) => tell(first + at)), 5);
+      return null;
+    };
+    changeMany([...rows.values()].filter(row => row.kind === "mute"), () => "muted", "mute all");
+    await until(() => times.length === 70);
+    return [fake.bodies.length < 5 && fake.bodies.every(body => body.orders.length <= 64), sent().length];
+  }],
+  ["a block's trouble is shown", ["block: its members can't be listed: status 9"], async () => {
+    says(10, { trouble: "status 9" });
+    await answered();
+    return [words(11)];
+  }],
+  ["an object's trouble and what it can't do", ["trim: not read: no answer", "meter: a class that is not known here; mute: not enabled"], async () => {
+    says(13, { trouble: "no answer" });
+    says(21, { enabled: false });
+    await answered();
+    return [words(13), words(21).split("; ").sort().join("; ")];
+  }],
+  ["what is not enabled takes no click", [[], "true"], async () => {
+    says(21, { enabled: false });
+    await answered();
+    click(part(21));
+    await answered();
+    return [sent(), part(21).getAttribute("aria-disabled")];
+  }],
+  ["a label goes before the role", ["Lead vocal", "channel 1", "mute, Lead vocal"], async () => {
+    says(10, { label: "Lead vocal" });
+    await answered();
+    const strip = rows.get(11).strip;
+    return [strip.name.textContent, strip.role.textContent, part(11).getAttribute("aria-label")];
+  }],
+  ["a hostile label is a text", ["<img src=x onerror=alert(1)>\ufffdevil", 0, true], async () => {
+    says(10, { label: "<img src=x onerror=alert(1)>\u202eevil" });
+    says(11, { label: "x".repeat(65000) });
+    await answered();
+    const strip = rows.get(11).strip;
+    return [strip.name.textContent, strip.name.children.length, part(11).getAttribute("aria-label").length < 300];
+  }],
+  ["a live link names the device", ["live", "Stage box", "192.0.2.7:65000 · 3 strips, 11 objects", "● Stage box · 192.0.2.7:65000", false], async () => [program.state, $("device").textContent, $("about").textContent, document.title, document.body.classList.contains("old")]],
+  ["slow after 1 s without an answer", ["slow", "SLOW", false], async () => {
+    fake.silent = true;
+    await pause(30);
+    program.heardAt = now() - 1100;
+    drawLink();
+    return [program.state, $("state").lastElementChild.textContent, document.body.classList.contains("old")];
+  }],
+  ["the program is gone: all is old, is said, and takes no click", ["stale", "NO PROGRAM", true, true, "mute: not sent: no program", [], "true"], async () => {
+    fake.silent = true;
+    await pause(30);
+    program.heardAt = now() - 2100;
+    drawLink();
+    click(part(11));
+    await pause(30);
+    return [program.state, $("state").lastElementChild.textContent, document.body.classList.contains("old"), $("banner").textContent.startsWith("The panel program gives no answer since ") && !$("banner").hidden, words(11), sent(), $("main").getAttribute("aria-disabled")];
+  }],
+  ["a request ends after 2 s", [true, "stale"], async () => {
+    fake.silent = true;
+    await pause(200);
+    const asked = fake.paths.length;
+    await until(() => fake.paths.length > asked + 1 || program.state === "stale" && fake.paths.length > asked, 6000);
+    return [fake.paths.length > asked, stateNow()];
+  }],
+  ["the device gives no answer for 2 s", ["silent", true, []], async () => {
+    fake.link.heard = 2100;
+    await answered();
+    click(part(11));
+    await answered();
+    return [program.state, $("banner").textContent.startsWith("192.0.2.7:65000 gives no answer for "), sent()];
+  }],
+  ["the device is lost", ["lost", "DEVICE LOST", true, []], async () => {
+    Object.assign(fake.link, { heard: 6000, lost_for: 900 });
+    await answered();
+    click(part(11));
+    await answered();
+    return [program.state, $("state").lastElementChild.textContent, $("banner").textContent.startsWith("192.0.2.7:65000 is lost."), sent()];
+  }],
+  ["what waits when the program is gone is not sent", ["trim: not sent: no program"], async () => {
+    change(rows.get(13), "1");
+    change(rows.get(13), "2");
+    await flying();
+    fake.silent = true;
+    await pause(30);
+    program.heardAt = now() - 2100;
+    drawLink();
+    return [words(13)];
+  }],
+  ["another run of the program: the old strips go, and its tickets begin anew", [0, "read", "lost: the panel program was started anew; it may have been carried out", 1, "71→72", "unmuted"], async () => {
+    click(part(11));
+    await flying();
+    Object.assign(fake, { run: "72", walked: false, tickets: 0 });
+    await until(() => program.run === "72");
+    drawLink();
+    const gone = [strips.length, program.state, [...notes.values()].map(note => note.words).join()];
+    fake.walked = true;
+    await started();
+    click(part(21));
+    await until(() => fake.bodies.length > 1);
+    tell(1);
+    await until(() => !awaited.size);
+    return [...gone, fake.tickets, fake.bodies.map(body => body.run).join("→"), goal(rows.get(21))];
+  }],
+  ["another device: nothing of the old one stays", ["● Monitor desk · 192.0.2.8:65000", ["MUTED", "true", false], 0, true], async () => {
+    click(part(21));
+    await flying();
+    Object.assign(fake, { run: "72", device: "192.0.2.8:65000", name: "Monitor desk" });
+    says(21, { value: "muted" });
+    await until(() => program.run === "72");
+    await started();
+    return [document.title, looks(21), notes.size, $("log").textContent.includes("the device is now 192.0.2.8:65000")];
+  }],
+  ["the page is not let in", ["shut", true], async () => {
+    fake.refuses = 401;
+    await until(() => program.state === "shut");
+    return [program.state, $("banner").textContent.includes("Open the address that ocapanel printed")];
+  }],
+  ["read only: no control acts, and it is said", [true, 0, "muted", false], async () => {
+    Object.assign(fake, { run: "72", read_only: true });
+    await until(() => program.readOnly);
+    await started();
+    const acts = [...rows.values()].filter(row => row.view && row.view.main && row.view.main.tagName !== "OUTPUT").length + strips.filter(strip => strip.menu).length;
+    return [document.body.classList.contains("watching"), acts, part(11).textContent, $("watch").hidden];
+  }],
+  ["the panel lock stops orders", [[], "mute: not sent: the panel lock is on", [{ ono: 11, set: "unmuted" }]], async () => {
+    setGuard(true);
+    click(part(11));
+    await answered();
+    const came = [sent(), words(11)];
+    setGuard(false);
+    click(part(11));
+    await flying();
+    return [...came, sent()];
+  }],
+  ["the panel lock is put on by one press, and taken off by a hold", [true, true, false], async () => {
+    const button = $("guard"), press = () => {
+      button.onpointerdown({ button: 0 });
+      button.onpointerup({});
+      click(button);
+    };
+    press();
+    const came = [guarded];
+    press();
+    came.push(guarded);
+    button.onpointerdown({ button: 0 });
+    await until(() => !guarded);
+    return [...came, guarded];
+  }],
+  ["several are chosen and muted in one body", [1, [{ ono: 21, set: "muted" }], "2 selected", true], async () => {
+    for (const strip of strips) if (strip.block) click(strip.select);
+    const count = $("chosen").firstElementChild.textContent;
+    click($("mute-chosen"));
+    await flying();
+    tell(1);
+    await until(() => $("log").textContent.includes("all 1 done"));
+    return [fake.bodies.length, sent(), count, $("log").textContent.includes("mute of the selection")];
+  }],
+  ["the result of each of many", ["1 of 2 not done: channel 2 · mute: refused: locked by another controller"], async () => {
+    changeMany([rows.get(11), rows.get(21)], row => row.ono === 11 ? "unmuted" : "muted", "two");
+    await flying();
+    tell(1);
+    tell(2, "Locked");
+    await until(() => $("log").textContent.includes("not done"));
+    return [/1 of 2 not done: [^;]*controller/.exec($("log").textContent)[0]];
+  }],
+  ["mute all asks first", [0, "Mute 1", [{ ono: 21, set: "muted" }]], async () => {
+    click($("mute-all"));
+    const before = sent().length, button = answers()[1];
+    click(button);
+    await flying();
+    return [before, button.textContent, sent()];
+  }],
+  ["the last change is taken back", ["Undo channel 1 · mute: back to muted", [{ ono: 11, set: "unmuted" }, { ono: 11, set: "muted" }]], async () => {
+    click(part(11));
+    await flying();
+    says(11, { value: "unmuted" });
+    tell(1);
+    await until(() => !awaited.size && rows.get(11).value === "unmuted");
+    const text = $("undo").textContent;
+    click($("undo"));
+    await flying(2);
+    return [text, sent()];
+  }],
+  ["what others changed since is asked about before it is taken back", [1, "Undo?"], async () => {
+    click(part(11));
+    await flying();
+    says(11, { value: "unmuted" });
+    tell(1);
+    await until(() => !awaited.size && rows.get(11).value === "unmuted");
+    says(11, { value: "muted" });
+    await answered();
+    click($("undo"));
+    await pause(20);
+    return [sent().length, $("dialog").firstElementChild.textContent];
+  }],
+  ["a lock: the menu, its words, its order", ["not locked", "Lock mute", [{ ono: 11, lock: true }], "menu own"], async () => {
+    const strip = rows.get(11).strip;
+    click(strip.menu);
+    const line = options()[1], word = line.firstElementChild.lastElementChild.textContent, button = line.children[1];
+    click(button);
+    await flying();
+    says(11, { lock: "own" });
+    tell(1);
+    await until(() => rows.get(11).lock === "own");
+    await answered();
+    return [word, button.getAttribute("aria-label"), sent(), strip.menu.className];
+  }],
+  ["the block's own lock clears", ["menu other", "menu free"], async () => {
+    says(10, { lock: "other" });
+    await answered();
+    const strip = rows.get(11).strip, came = [strip.menu.className];
+    says(10, { lock: "free" });
+    await answered();
+    return [...came, strip.menu.className];
+  }],
+  ["a name is given", [{ ono: 10, label: "Lead vocal" }], async () => {
+    click(rows.get(11).strip.menu);
+    click(options()[0].lastElementChild);
+    options()[0].value = "Lead vocal";
+    click(answerNamed("Rename"));
+    await flying();
+    return sent();
+  }],
+  ["search", [["channel 2"], "1 of 3 strips"], async () => {
+    $("find").value = "channel 2";
+    filter();
+    return [strips.filter(strip => !strip.element.hidden).map(strip => strip.title), $("hits").textContent];
+  }],
+  ["muted only, and what changed since is not taken in under the hand", ["1", ["channel 1"], false, ["channel 1", "channel 2"]], async () => {
+    const shownOnes = () => strips.filter(strip => !strip.element.hidden).map(strip => strip.title);
+    click($("only-muted"));
+    const came = [$("only-muted").lastElementChild.textContent, shownOnes()];
+    says(21, { value: "muted" });
+    await answered();
+    came.push($("renew").hidden);
+    filter();
+    return [...came, shownOnes()];
+  }],
+  ["locked only", [["channel 2"]], async () => {
+    says(21, { lock: "other" });
+    await answered();
+    click($("only-locked"));
+    return [strips.filter(strip => !strip.element.hidden).map(strip => strip.title)];
+  }],
+  ["what is seen is asked for in at most eight ranges, the root first", ["0-1,2-5", 8, "0-1", true], async () => {
+    inView.clear();
+    inView.add(rows.get(11).strip);
+    const one = shownRanges();
+    await startedWith(manyMutes(40), "muted");
+    inView.clear();
+    const places = [20, 21, 22, 30, 31, 33, 200, 201, 300, 400, 500, 600, 700];
+    inView.add({ block: null, rows: places.map(place => ({ place })) });
+    const ranges = shownRanges().split(",").map(text => text.split("-").map(Number));
+    return [one, ranges.length, ranges[0].join("-"), places.every(place => ranges.some(([first, count]) => first <= place && place < first + count))];
+  }],
+  ["a window that was hidden shows what is old as old until an answer comes", ["read", "live"], async () => {
+    fake.silent = true;
+    await pause(20);
+    wakeUp();
+    const first = program.state;
+    fake.silent = false;
+    await until(() => program.state === "live", 6000);
+    return [first, program.state];
+  }],
+  ["a window that is hidden asks for nothing, and again once it is shown", [true, 0, true], async () => {
+    let isHidden = false, asked = 0;
+    const count = () => fake.paths.filter(path => path.startsWith("/values")).length, came = [];
+    Object.defineProperty(document, "hidden", { configurable: true, get: () => isHidden });
+    for (const next of [false, true, false]) {
+      isHidden = next;
+      document.onvisibilitychange();
+      await pause(300);
+      asked = count();
+      await pause(1200);
+      came.push(next ? count() - asked : count() - asked > 1);
+    }
+    return came;
+  }],
+  ["what is not read yet takes no click", [[], "mute: not sent: not read yet"], async () => {
+    says(11, { value: null });
+    await answered();
+    click(part(11));
+    await pause(30);
+    return [sent(), words(11)];
+  }],
+  ["a name that was given is marked until the device says it", ["another name: not yet", "channel 1"], async () => {
+    order(rows.get(10), "label", "Lead");
+    await flying();
+    const strip = rows.get(11).strip, came = [strip.role.textContent];
+    says(10, { label: "Lead" });
+    tell(1);
+    await until(() => !awaited.size && rows.get(10).label);
+    await answered();
+    return [...came, strip.role.textContent];
+  }],
+  ["a name that is too long", ["block: not sent: a name has at most 64 bytes"], async () => {
+    fake.answer = () => [422, { at: 0 }];
+    order(rows.get(10), "label", "x".repeat(65));
+    await until(() => words(11));
+    return [words(11)];
+  }],
+  ["a group that is folded stays so", [true, "▸", "1 strip · 1 muted"], async () => {
+    await startedWith([fakeObjects[0], { ono: 50, in: 100, class: "block", role: "inputs", lockable: false, names: [] }, { ...fakeObjects[2], in: 50 }, fakeObjects[3]], "muted");
+    click(groups[0].head);
+    fake.epoch++;
+    await until(() => program.epoch === fake.epoch);
+    await answered();
+    return [groups[0].body.hidden, groups[0].sign.textContent, groups[0].sum.textContent];
+  }],
+];
+
+async function runCase(at) {
+  const [name, wanted, act] = CASES[at];
+  await started();
+  let got;
+  try {
+    got = await act();
+  } catch (fault) {
+    got = String(fault && fault.stack || fault);
+  }
+  return JSON.stringify({ "name": name, "ok": JSON.stringify(got) === JSON.stringify(wanted), "wanted": wanted, "got": got });
+}
