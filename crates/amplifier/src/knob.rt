@@ -1,7 +1,11 @@
 //! The amplifier's own knobs, which lines of text turn.
-ghost use Rattle.std.specs.Prelude.{◌≡◌, IfOk, OnErr};
+ghost use Rattle.std.specs.Prelude.{◌≡◌, ◌∷◌, IfOk, List, OnErr};
 ghost use Rattle.std.specs.Result.{result_err};
+ghost use Rattle.oca_types.specs.Sizes.{DeviceSizes};
 ghost use Rattle.oca_tree.specs.Settings.{set_fault};
+ghost use Rattle.oca_tree.specs.declared.object.Object.{Object};
+ghost use Rattle.oca_device.specs.Devices.{Represents};
+ghost use Rattle.oca_device.specs.Events.{Event, Local};
 ghost use Rattle.amplifier.specs.Channels.{channels_of_objects};
 ghost use Rattle.amplifier.specs.Knobs.{mute_at, channel_of, tenths_of, gain_by, knob_by, knob_of};
 
@@ -32,6 +36,8 @@ impl Knob {
     /// Turns the knob: the object is set at the local front panel, and the electronics follow. A refusal changes
     /// nothing.
     pub fn turn(self, device: &mut Device, channels: &mut Channels) -> Result<(), SetFault>
+        ensures sets { (w : DeviceSizes) (T : List Object) (E : List Event) → Represents w device.old T E →
+            Represents w device.new T (Local self.ono.0 self.value ∷ E) }
         ensures fault { result_err result ≡ set_fault device.old.tree self.ono.0 self.value }
         ensures follows { IfOk result (λ _. channels.new ≡ channels_of_objects device.new.tree) }
         ensures refused { OnErr result (device.new ≡ device.old) }
