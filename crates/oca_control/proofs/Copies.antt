@@ -24,6 +24,8 @@ use Rattle.oca_control.specs.Histories.{Call, Submits, GivesOut, Receives, Takes
 use Rattle.oca_control.specs.Driving.{goes_on, link_from, HearsDelivery}
 use Rattle.oca_control.specs.Turning.{GivesIf, GivesInTime, GivesAfter, Turns}
 use Rattle.oca_control.specs.Asking.{TakesTurns, NoneTaken, OneTaken, Waits, Begins, Asks, HasOutcome}
+use Rattle.oca_control.specs.Waiting.{TakesTurnsBefore, WaitsUntil}
+use Rattle.oca_control.specs.Waiting as waiting
 use Rattle.oca_control.specs.Copies.{submitted_at, LeavesInTime, IsInTime, MakesInTime, IsMadeInTime, EveryStepIsInTime}
 use Rattle.oca_control.proofs.Following.{equal_is, equal_self, unequal, is_at_most, both_true, each_map, each_both, each_append, end_of, IsSent}
 use Rattle.oca_control.proofs.Calls.{is_accepted, is_given, each_first, each_without}
@@ -250,7 +252,7 @@ none_given_out t h (u ∷ us) e =
     both : (a b : Bool) → a ≡ false → b ≡ false → (a || b) ≡ false
     both a b p q = cc
 
-calm_after : (now : ℕ) (l : LinkState) → late_at now l ≡ false → late_at now (gone_on now l) ≡ false
+pub calm_after : (now : ℕ) (l : LinkState) → late_at now l ≡ false → late_at now (gone_on now l) ≡ false
 calm_after now l calm = by (decision now l)
   where
     by : (d : Decision) → late_at now (after_due d (present_moment now l) l) ≡ false
@@ -319,7 +321,17 @@ waits_made h turns old new (outcomes.Refused fault) e f w = absurd w
 waits_made h turns old new outcomes.Lost e f w = turns_made w.3
 waits_made h turns old new outcomes.Unanswered e f w = turns_made w.0
 
-calm_submitted : (request : RequestFields) (now : ℕ) (h : Handle) (l : LinkState) → Ok h ≡ submission request l → late_at now l ≡ false → late_at now (submitted request now l) ≡ false
+turns_made_before : {h until n : ℕ} {lost closed : Bool} {old new : LinkState} {e f : EndState} → TakesTurnsBefore h until n lost closed old new e f → IsMadeInTime old new
+turns_made_before waiting.NoTurn = not_changed refl
+turns_made_before (waiting.OneTurn {l = l} {new = new} {e = e} {f = f} before none going time turn) = then_made (turns_made_before before) (turn_made l new e f turn.report turn.turns)
+
+waits_made_until : (h until : ℕ) (old new : LinkState) (o : Outcome) (e f : EndState) → WaitsUntil h until old o new e f → IsMadeInTime old new
+waits_made_until h until old new (outcomes.Answered a) e f w = then_made (turns_made_before w.5) (one_call (TakesAnswer h (answer_under h w.0.untaken)) (refl, w.7) tt)
+waits_made_until h until old new (outcomes.Refused fault) e f w = absurd w
+waits_made_until h until old new outcomes.Lost e f w = turns_made_before w.4
+waits_made_until h until old new outcomes.Unanswered e f w = turns_made_before w.3
+
+pub calm_submitted : (request : RequestFields) (now : ℕ) (h : Handle) (l : LinkState) → Ok h ≡ submission request l → late_at now l ≡ false → late_at now (submitted request now l) ≡ false
 calm_submitted request now h l is calm =
     ap (λ a. late_at now (after_submission a request now l)) (sym is)
     ∙ ap (λ k. list_any (is_late k) (l.untaken ++ new_untaken (present_moment now l) (command_under h.0 request) ∷ [])) (again l.moment now)
@@ -349,7 +361,7 @@ asks_made request turns old new o e f a = then_made (begins_made request a.retur
 
 -- What each step over an end makes of a link, it makes by calls in time.
 pub every_step : EveryStepIsInTime
-every_step = record { giving = gives_made; turning = turn_made; beginning = begins_made; waiting = waits_made; asking = asks_made }
+every_step = record { giving = gives_made; turning = turn_made; beginning = begins_made; waiting = waits_made; waiting_until = waits_made_until; asking = asks_made }
 
 -- ---- once late, late ever after
 

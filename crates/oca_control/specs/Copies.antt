@@ -16,6 +16,7 @@ use Rattle.oca_control.specs.Histories.{Call, Submits, GivesOut, Receives, Takes
 use Rattle.oca_control.specs.Histories.{sendings}
 use Rattle.oca_control.specs.Turning.{GivesInTime, Turns}
 use Rattle.oca_control.specs.Asking.{Waits, Begins, Asks}
+use Rattle.oca_control.specs.Waiting.{WaitsUntil}
 
 -- WHEN A COMMAND WAS SUBMITTED that has this handle, by the clock; none has it where none was.
 abbrev pub submitted_at : ℕ → ℕ → List Call → Option ℕ
@@ -55,7 +56,8 @@ EveryCopyIsInTime =
 abbrev pub IsMadeInTime : LinkState → LinkState → Type 0
 IsMadeInTime old new = (calls : List Call) × MakesInTime old calls new
 
--- WHAT A STEP MAKES OF A LINK, it makes by calls in time: `give_in_time`, `turn`, `begin`, `wait_for` and `ask`.
+-- WHAT A STEP MAKES OF A LINK, it makes by calls in time: `give_in_time`, `turn`, `begin`, `wait_for`,
+-- `wait_until`, so `wait_while`, and `ask`.
 pub record EveryStepIsInTime : Type 0 where
   pub giving : (now : ℕ) (old new : LinkState) (before after : EndState) (report : DriveReport) →
       GivesInTime now old new before after report → IsMadeInTime old new
@@ -65,6 +67,8 @@ pub record EveryStepIsInTime : Type 0 where
       (before after : EndState) → Begins request returned old new before after → IsMadeInTime old new
   pub waiting : (h turns : ℕ) (old new : LinkState) (outcome : Outcome) (before after : EndState) →
       Waits h turns old outcome new before after → IsMadeInTime old new
+  pub waiting_until : (h until : ℕ) (old new : LinkState) (outcome : Outcome) (before after : EndState) →
+      WaitsUntil h until old outcome new before after → IsMadeInTime old new
   pub asking : (request : RequestFields) (turns : ℕ) (old new : LinkState) (outcome : Outcome)
       (before after : EndState) → Asks request turns old outcome new before after → IsMadeInTime old new
 

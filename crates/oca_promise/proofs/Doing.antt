@@ -1,7 +1,7 @@
 -- What the calls of a panel do with its link.
 use Rattle.std.proofs.Common.{◌≡◌, ℕ, ◌+◌, Bool, true, false, List, [], ◌∷◌, ◌++◌, length, Option, Some, None, Result, Ok, Err, refl, sym, ap, ◌∙◌, subst, arith, zero, suc, inl, inr, append_assoc, append-nil}
 use Rattle.std.specs.Prelude.{IsTrue, nat_le, if◌then◌else◌}
-use Rattle.std.specs.List.{flat_map}
+use Rattle.std.specs.List.{flat_map, AllByRecursion}
 use Rattle.std.proofs.lemmas.Grind.{flat_map-append}
 use Rattle.oca_types.specs.declared.words.Peer.{Peer}
 use Rattle.oca_types.specs.declared.words.Handle.{Handle}
@@ -31,8 +31,9 @@ use Rattle.oca_control.specs.Waiting as waiting
 use Rattle.oca_pair.specs.Networks.{device_address}
 use Rattle.oca_pair.specs.Steps.{content_read, messages_read}
 use Rattle.oca_panel.specs.Panels.{PanelState, AsksIn, EndsIn}
-use Rattle.oca_promise.specs.Doings.{Doing, Submits, Sends, Hears, Takes, done, all_done, hearing_of, is_hearing, hearings, IsOfDevice, AreOfDevice, WasDone, sent_by}
-use Rattle.oca_promise.specs.Calls.{IsDoneByCall}
+use Rattle.oca_promise.specs.Doings.{Doing, Submits, Sends, Hears, Takes, done, all_done, hearing_of, is_hearing, hearings, IsOfDevice, AreOfDevice, WasDone, sent_by, IsSentOrHeard, AreSentInTime}
+use Rattle.oca_control.proofs.Copies.{calm_after, calm_submitted}
+use Rattle.oca_promise.specs.Calls.{IsDoneByCall, IsAll}
 
 -- ---- lists of doings
 
@@ -64,6 +65,27 @@ sent_both (Sends now ∷ xs) ys l = ap (λ zs. given_to l.device (decision now l
 sent_both (Submits request now ∷ xs) ys l = sent_both xs ys (submitted request now l)
 sent_both (Hears bytes now ∷ xs) ys l = sent_both xs ys (received device_address (content_read bytes) now l)
 sent_both (Takes h ∷ xs) ys l = sent_both xs ys (taken h l)
+
+-- sent and heard alone, and in time
+only_both : (xs ys : List Doing) → AllByRecursion IsSentOrHeard xs → AllByRecursion IsSentOrHeard ys → AllByRecursion IsSentOrHeard (xs ++ ys)
+only_both [] ys a b = b
+only_both (x ∷ xs) ys a b = (a.0, only_both xs ys a.1 b)
+
+in_time_both : (xs ys : List Doing) (l : LinkState) → AreSentInTime xs l → AreSentInTime ys (all_done xs l) → AreSentInTime (xs ++ ys) l
+unfolding all_done AreSentInTime
+in_time_both [] ys l a b = b
+in_time_both (Sends now ∷ xs) ys l a b = (a.0, in_time_both xs ys (gone_on now l) a.1 b)
+in_time_both (Submits request now ∷ xs) ys l a b = in_time_both xs ys (submitted request now l) a b
+in_time_both (Hears bytes now ∷ xs) ys l a b = in_time_both xs ys (received device_address (content_read bytes) now l) a b
+in_time_both (Takes h ∷ xs) ys l a b = in_time_both xs ys (taken h l) a b
+
+none_in_time_sent : (l : LinkState) → AreSentInTime [] l
+unfolding AreSentInTime
+none_in_time_sent l = tt
+
+taken_in_time : (h : ℕ) (l : LinkState) → AreSentInTime (Takes h ∷ []) l
+unfolding AreSentInTime
+taken_in_time h l = tt
 
 -- nothing was done
 nothing : (l : LinkState) (e : EndState) → WasDone [] l l e e
@@ -132,6 +154,23 @@ all_given now (suc n) l = ap (λ zs. given_to l.device (decision now l) ++ zs) (
     by_test true e = e
     by_test false e = refl
 
+only_sends : (now n : ℕ) (l : LinkState) → AllByRecursion IsSentOrHeard (sends now n l)
+only_sends now zero l = tt
+only_sends now (suc n) l = (tt, by_test (goes_on (decision now l)) (only_sends now n (gone_on now l)))
+  where
+    by_test : (b : Bool) → AllByRecursion IsSentOrHeard (sends now n (gone_on now l)) → AllByRecursion IsSentOrHeard (if b then sends now n (gone_on now l) else [])
+    by_test true a = a
+    by_test false a = tt
+
+calm_sends : (now n : ℕ) (l : LinkState) → late_at now l ≡ false → AreSentInTime (sends now n l) l
+unfolding AreSentInTime
+calm_sends now zero l calm = tt
+calm_sends now (suc n) l calm = (calm, by_test (goes_on (decision now l)) (calm_sends now n (gone_on now l) (calm_after now l calm)))
+  where
+    by_test : (b : Bool) → AreSentInTime (sends now n (gone_on now l)) (gone_on now l) → AreSentInTime (if b then sends now n (gone_on now l) else []) (gone_on now l)
+    by_test true a = a
+    by_test false a = tt
+
 abbrev sends_in_time : ℕ → LinkState → List Doing
 sends_in_time now l = if late_at now l then [] else sends now (l.span + 1) l
 
@@ -158,6 +197,20 @@ given_in_time now l = by_test (late_at now l)
     by_test true = refl
     by_test false = all_given now (l.span + 1) l
 
+only_in_time : (now : ℕ) (l : LinkState) → AllByRecursion IsSentOrHeard (sends_in_time now l)
+only_in_time now l = by_test (late_at now l)
+  where
+    by_test : (b : Bool) → AllByRecursion IsSentOrHeard (if b then [] else sends now (l.span + 1) l)
+    by_test true = tt
+    by_test false = only_sends now (l.span + 1) l
+
+calm_in_time : (now : ℕ) (l : LinkState) → AreSentInTime (sends_in_time now l) l
+calm_in_time now l = by_test (late_at now l) refl
+  where
+    by_test : (b : Bool) → late_at now l ≡ b → AreSentInTime (if b then [] else sends now (l.span + 1) l) l
+    by_test true e = none_in_time_sent l
+    by_test false e = calm_sends now (l.span + 1) l e
+
 -- what is sent after a delivery
 abbrev sends_after : Delivery → LinkState → List Doing
 sends_after (Datagram from bytes now) l = sends_in_time now l
@@ -180,6 +233,16 @@ none_after : (d : Delivery) (l : LinkState) → hearings (sends_after d l) ≡ [
 none_after (Datagram from bytes now) l = none_in_time now l
 none_after (Quiet now) l = none_in_time now l
 none_after Failed l = refl
+
+only_after : (d : Delivery) (l : LinkState) → AllByRecursion IsSentOrHeard (sends_after d l)
+only_after (Datagram from bytes now) l = only_in_time now l
+only_after (Quiet now) l = only_in_time now l
+only_after Failed l = tt
+
+calm_after_delivery : (d : Delivery) (l : LinkState) → AreSentInTime (sends_after d l) l
+calm_after_delivery (Datagram from bytes now) l = calm_in_time now l
+calm_after_delivery (Quiet now) l = calm_in_time now l
+calm_after_delivery Failed l = none_in_time_sent l
 
 -- ---- what is heard
 
@@ -259,9 +322,34 @@ heard_in_turn : (d : Delivery) (old between : LinkState) → hearings (turn_doin
 heard_in_turn d old between =
     hearings_both (hearing_of d) (sends_after d between) ∙ ap (λ zs. zs ++ hearings (sends_after d between)) (all_heard d) ∙ ap (λ zs. hearing_of d ++ zs) (none_after d between)
 
--- Some doings make a link another, over an end.
+only_hearing : (d : Delivery) → AllByRecursion IsSentOrHeard (hearing_of d)
+only_hearing (Datagram from bytes now) = by_test (nat_le (length bytes) 1472)
+  where
+    by_test : (b : Bool) → AllByRecursion IsSentOrHeard (if b then Hears bytes now ∷ [] else [])
+    by_test true = (tt, tt)
+    by_test false = tt
+only_hearing (Quiet now) = tt
+only_hearing Failed = tt
+
+calm_hearing : (d : Delivery) (l : LinkState) → AreSentInTime (hearing_of d) l
+unfolding AreSentInTime
+calm_hearing (Datagram from bytes now) l = by_test (nat_le (length bytes) 1472)
+  where
+    by_test : (b : Bool) → AreSentInTime (if b then Hears bytes now ∷ [] else []) l
+    by_test true = tt
+    by_test false = tt
+calm_hearing (Quiet now) l = tt
+calm_hearing Failed l = tt
+
+turn_in_time : ReadingIsExact → (d : Delivery) (old between : LinkState) (answered : ℕ) → HearsDelivery d old between answered → AreOfDevice (d ∷ []) → AreSentInTime (turn_doings d old between) old
+turn_in_time law d old between answered heard are =
+    in_time_both (hearing_of d) (sends_after d between) old (calm_hearing d old)
+    (subst (λ (l : LinkState). AreSentInTime (sends_after d between) l) (hears law d old between answered heard are.0) (calm_after_delivery d between))
+
+-- Some doings make a link another, over an end: what is sent and heard alone, and in time.
 abbrev Does : LinkState → LinkState → EndState → EndState → Type 0
-Does old new before after = (doings : List Doing) × WasDone doings old new before after
+Does old new before after =
+    (doings : List Doing) × (done : WasDone doings old new before after) × AllByRecursion IsSentOrHeard doings × (AreOfDevice done.deliveries → AreSentInTime doings old)
 
 sent_none : (l : LinkState) → [] ≡ sent_by [] l
 unfolding sent_by
@@ -285,6 +373,8 @@ turn_does law old new e f r (inl x) = (
         subst (λ (zs : List Sent). TakesAllBut r.failed_sends e.taken f.taken zs)
         (sent_in_turn x.delivery old x.turns.between new x.decisions x.answered law x.turns.hears x.turns.gives are) (x.runs.taken tells);
   },
+  only_both (hearing_of x.delivery) (sends_after x.delivery x.turns.between) (only_hearing x.delivery) (only_after x.delivery x.turns.between),
+  λ are. turn_in_time law x.delivery old x.turns.between x.answered x.turns.hears are,
 )
 turn_does law old new e f r (inr x) = (
   [],
@@ -297,13 +387,24 @@ turn_does law old new e f r (inr x) = (
     failed = 0;
     sent = λ are tells. subst (λ (zs : List Sent). TakesAllBut 0 e.taken f.taken zs) (sent_none old) (takes_none e.taken f.taken (x.received.taken tells));
   },
+  tt,
+  λ are. none_in_time_sent old,
 )
 
 does_both : {a b c : LinkState} {d e f : EndState} → Does a b d e → Does b c e f → Does a c d f
-does_both x y = (x.0 ++ y.0, both x.1 y.1)
+unfolding both
+does_both {a} {b} {c} {d} {e} {f} x y = (
+  x.0 ++ y.0,
+  both x.1 y.1,
+  only_both x.0 y.0 x.2 y.2,
+  λ are.
+      let before = first_of_both x.1.deliveries y.1.deliveries are in
+      in_time_both x.0 y.0 a (x.3 before)
+      (subst (λ (l : LinkState). AreSentInTime y.0 l) (x.1.link before) (y.3 (last_of_both x.1.deliveries y.1.deliveries are))),
+)
 
 turns_do : ReadingIsExact → {h until n : ℕ} {lost closed : Bool} {old new : LinkState} {e f : EndState} → TakesTurnsBefore h until n lost closed old new e f → Does old new e f
-turns_do law (waiting.NoTurn {l = l} {e = e}) = ([], nothing l e)
+turns_do law (waiting.NoTurn {l = l} {e = e}) = ([], nothing l e, tt, λ are. none_in_time_sent l)
 turns_do law (waiting.OneTurn {l = l} {new = new} {e = e} {f = f} before none going time turn) = does_both (turns_do law before) (turn_does law l new e f turn.report turn.turns)
 
 -- ---- a command is begun
@@ -314,6 +415,13 @@ submission_of request now l h e = by_test (late_at now l) e
     by_test : (b : Bool) → Ok h ≡ (if b then Err faults.Lost else submission request l) → submission request l ≡ Ok h
     by_test true e = cc
     by_test false e = sym e
+
+not_late : (request : RequestFields) (now : ℕ) (l : LinkState) (h : Handle) → Ok h ≡ beginning request now l → late_at now l ≡ false
+not_late request now l h e = by_test (late_at now l) refl e
+  where
+    by_test : (b : Bool) → late_at now l ≡ b → Ok h ≡ (if b then Err faults.Lost else submission request l) → late_at now l ≡ false
+    by_test true q e = cc
+    by_test false q e = q
 
 abbrev begin_doings : RequestFields → ℕ → LinkState → List Doing
 begin_doings request now l = sends now ((submitted request now l).span + 1) (submitted request now l)
@@ -355,12 +463,13 @@ take_done h xs old l new e f d is = record {
 call_waits : ReadingIsExact → (request : RequestFields) (h : Handle) (old between new : PanelState) (a : Answer)
     (b : Begins request (Ok h) old.link between.link old.end_state between.end_state) (until : ℕ) →
     WaitsUntil h.0 until between.link (outcomes.Answered a) new.link between.end_state new.end_state →
-    (doings : List Doing) × IsDoneByCall request h.0 (answer_fields a) doings old new
-unfolding both take_done
+    (doings : List Doing) × (done : IsDoneByCall request h.0 (answer_fields a) doings old new) × IsAll done
+unfolding both take_done all_done AreSentInTime
 call_waits law request h old between new a b until w =
     let turns = turns_do law w.5 in
     let begun = begin_does request h old.link between.link old.end_state between.end_state b in
     let xs = begin_doings request b.now old.link ++ turns.0 in
+    let called : LinkState = submitted request b.now old.link in
     let before : WasDone (Submits request b.now ∷ xs) old.link w.0 old.end_state new.end_state = both begun turns.1 in (
       Submits request b.now ∷ xs ++ Takes h.0 ∷ [],
       record {
@@ -371,13 +480,23 @@ call_waits law request h old between new a b until w =
         done = take_done h.0 (Submits request b.now ∷ xs) old.link w.0 new.link old.end_state new.end_state before w.7;
         held = λ are. ap (λ (l : LinkState). answer_under h.0 l.untaken) (sym (before.link are)) ∙ w.6;
       },
+      record {
+        present = b.present;
+        only = only_both (begin_doings request b.now old.link) turns.0 (only_sends b.now (called.span + 1) called) turns.2;
+        in_time = λ are.
+            in_time_both xs (Takes h.0 ∷ []) called
+            (in_time_both (begin_doings request b.now old.link) turns.0 called
+            (calm_sends b.now (called.span + 1) called (calm_submitted request b.now h old.link (sym (submission_of request b.now old.link h b.answer)) (not_late request b.now old.link h b.answer)))
+            (subst (λ (l : LinkState). AreSentInTime turns.0 l) (begun.link (first_of_both begun.deliveries turns.1.deliveries are)) (turns.3 (last_of_both begun.deliveries turns.1.deliveries are))))
+            (taken_in_time h.0 (all_done xs called));
+      },
     )
 
 pub call_does : ReadingIsExact → (request : RequestFields) (old new : PanelState) (a : Answer) → AsksIn request old new (outcomes.Answered a) →
-    (h : ℕ) × (doings : List Doing) × IsDoneByCall request h (answer_fields a) doings old new
+    (h : ℕ) × (doings : List Doing) × (done : IsDoneByCall request h (answer_fields a) doings old new) × IsAll done
 call_does law request old new a asks = by asks.returned asks.begins.begins asks.ends
   where
     by : (returned : Result Handle ControlFault) → Begins request returned old.link asks.between.link old.end_state asks.between.end_state → EndsIn returned asks.between new (outcomes.Answered a) →
-        (h : ℕ) × (doings : List Doing) × IsDoneByCall request h (answer_fields a) doings old new
-    by (Ok h) begins ends = let x = call_waits law request h old asks.between new a begins _ ends.waits.waits in (h.0, x.0, x.1)
+        (h : ℕ) × (doings : List Doing) × (done : IsDoneByCall request h (answer_fields a) doings old new) × IsAll done
+    by (Ok h) begins ends = let x = call_waits law request h old asks.between new a begins _ ends.waits.waits in (h.0, x.0, x.1, x.2)
     by (Err fault) begins ends = cc

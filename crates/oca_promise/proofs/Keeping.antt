@@ -60,5 +60,6 @@ calls_keep Holds of_each law request old new a asks =
       handle = x.0;
       doings = x.1;
       by_call = x.2;
-      holds = in_each_network Holds of_each request x.0 (answer_fields a) x.1 old new x.2;
+      all = x.3;
+      holds = λ xs done. in_each_network Holds of_each request x.0 (answer_fields a) xs old new done;
     }

@@ -75,8 +75,9 @@ follows A B request answer old new f k = record {
   handle = k.handle;
   doings = k.doings;
   by_call = k.by_call;
-  holds = λ are w s tree starts before steps i p apart fit time is plays.
-      let x = k.holds are w s tree starts before steps i p apart fit time is plays in
+  all = k.all;
+  holds = λ xs done are w s tree starts before steps i p apart fit time is plays.
+      let x = k.holds xs done are w s tree starts before steps i p apart fit time is plays in
       record { first = x.first; now = x.now; later = x.later; steps_are = x.steps_are; holds = f k.handle p x.later _ x.holds };
 }
 
@@ -141,7 +142,8 @@ sets_keep between sets law target value old new fits (o, f, e) =
     record {
       request = f.request;
       asks = f.calls;
-      answer = answer_fields ok.answer;
+      answer = ok.answer;
+      answered = subst (λ (x : Outcome). AsksIn f.request old new x) ok.is f.asks;
       keeps = follows (Both IsOfOneExecutionSince SettingsWereMade) (WasSetTo target value) f.request (answer_fields ok.answer) old new
           (λ h p later called (said, made) right class_is. (
             said,
@@ -159,7 +161,8 @@ refused_sets_keep between refused law target value status old new (o, f, e) =
     record {
       request = f.request;
       asks = f.calls;
-      answer = answer_fields r.0;
+      answer = r.0;
+      answered = subst (λ (x : Outcome). AsksIn f.request old new x) r.1 f.asks;
       keeps = follows (Both IsOfOneExecutionSince RefusalsChangeNothing) (WasRefused status) f.request (answer_fields r.0) old new
           (λ h p later called (said, changed). (r.2, (said, changed (not_zero r.0.status r.3) said)))
           (answered_call (Both IsOfOneExecutionSince RefusalsChangeNothing) (also IsOfOneExecutionSince RefusalsChangeNothing between refused) law target (class_of_value value) (asked.Set value) old new o r.0 f r.1);
@@ -217,7 +220,8 @@ readings_keep between oks reads met law target of reading old new r = by (get_me
         record {
           request = f.request;
           asks = f.calls;
-          answer = answer_fields ok.answer;
+          answer = ok.answer;
+      answered = subst (λ (x : Outcome). AsksIn f.request old new x) ok.is f.asks;
           keeps = follows ReadsAll (HadReading target of reading) f.request (answer_fields ok.answer) old new
               (read_so target of m reading f.request ok.answer get f.calls ok.ok (ap (reading_in of) ok.params_are ∙ params.2))
               (answered_call ReadsAll
@@ -241,7 +245,8 @@ locks_keep between oks law target old new (o, f, e) =
     record {
       request = f.request;
       asks = f.calls;
-      answer = answer_fields ok.answer;
+      answer = ok.answer;
+      answered = subst (λ (x : Outcome). AsksIn f.request old new x) ok.is f.asks;
       keeps = follows (Both IsOfOneExecutionSince OksSayWhatIsHeld) (WasLocked target) f.request (answer_fields ok.answer) old new
           (λ h p later called (said, held) right.
           let by = held class.Block asked.LockTotal right.0 right.1 (asks_of class.Block asked.LockTotal target h f.request tt f.calls) ok.ok said in (
@@ -262,7 +267,8 @@ unlocks_keep between oks law target old new (o, f, e) =
     record {
       request = f.request;
       asks = f.calls;
-      answer = answer_fields ok.answer;
+      answer = ok.answer;
+      answered = subst (λ (x : Outcome). AsksIn f.request old new x) ok.is f.asks;
       keeps = follows (Both IsOfOneExecutionSince OksSayWhatIsHeld) (WasUnlocked target) f.request (answer_fields ok.answer) old new
           (λ h p later called (said, held) right.
           let by = held class.Block asked.Unlock right.0 right.1 (asks_of class.Block asked.Unlock target h f.request tt f.calls) ok.ok said in (
@@ -332,7 +338,8 @@ classes_keep between oks met law target of old new (o, f, e) =
     record {
       request = f.request;
       asks = f.calls;
-      answer = answer_fields ok.answer;
+      answer = ok.answer;
+      answered = subst (λ (x : Outcome). AsksIn f.request old new x) ok.is f.asks;
       keeps = follows ClassAll (HadClass target of) f.request (answer_fields ok.answer) old new
           (had_class target of f.request ok.answer f.calls ok.ok (ap class_in ok.params_are ∙ params.2))
           (answered_call ClassAll (also (Both IsOfOneExecutionSince ClassesMetAreThoseAtFirst) OksSayWhatIsHeld (also IsOfOneExecutionSince ClassesMetAreThoseAtFirst between met) oks) law target class.Block asked.GetClassIdentification old new o ok.answer f ok.is);
@@ -379,20 +386,20 @@ get_keeps between oks reads met law target value of reading old mid new value_is
       between = mid;
       class_call = one;
       value_call = two;
-      read = λ are_one are_two w s tree starts before steps_one steps_two i p apart fit time right is plays_one plays_two.
+      read = λ xs ys class_done value_done are_one are_two w s tree starts before steps_one steps_two i p apart fit time right is plays_one plays_two.
           let start : Network = opening w s tree starts in
           let n : Network = after_steps before start in
-          let class_there = one.keeps.holds are_one w s tree starts before steps_one i p apart (fit_first starts (before ++ steps_one) steps_two fit) (in_time_first i [] (before ++ steps_one) steps_two start time) is plays_one in
+          let class_there = one.keeps.holds xs class_done are_one w s tree starts before steps_one i p apart (fit_first starts (before ++ steps_one) steps_two fit) (in_time_first i [] (before ++ steps_one) steps_two start time) is plays_one in
           let at_one : Network = after_steps class_there.first n in
           let called_one : Network = after_step (Submit i one.request class_there.now) at_one in
           let tree_one : called_one.tree ≡ tree = tree_kept (Submit i one.request class_there.now ∷ []) at_one ∙ tree_kept class_there.first n ∙ tree_kept before start in
           let class_is : class_of_ono tree target ≡ Some of = ap (λ (t : List Object). class_of_ono t target) (sym tree_one) ∙ class_there.holds (subst IsRightAtFirst (sym tree_one) right) in
           let same : after_steps (before ++ steps_one) start ≡ after_steps steps_one n = after_both before steps_one start in
           let link_mid : slice_get (after_steps steps_one n).links i ≡ Some (record { peer = p; link = mid.link }) =
-          played_link i p steps_one old.link n one.keeps.doings is plays_one
-          ∙ ap (λ (z : LinkState). let y : PeerLink = record { peer = p; link = z } in Some y) (sym (one.keeps.by_call.done.link are_one)) in
-          let value_there = two.keeps.holds are_two w s tree starts (before ++ steps_one) steps_two i p apart fit time
-          (ap (λ (z : Network). slice_get z.links i) same ∙ link_mid) (subst (λ (z : Network). Plays i p z two.keeps.doings steps_two) (sym same) plays_two) in
+          played_link i p steps_one old.link n xs is plays_one
+          ∙ ap (λ (z : LinkState). let y : PeerLink = record { peer = p; link = z } in Some y) (sym (class_done.done.link are_one)) in
+          let value_there = two.keeps.holds ys value_done are_two w s tree starts (before ++ steps_one) steps_two i p apart fit time
+          (ap (λ (z : Network). slice_get z.links i) same ∙ link_mid) (subst (λ (z : Network). Plays i p z ys steps_two) (sym same) plays_two) in
           let n_two : Network = after_steps (before ++ steps_one) start in
           let at_two : Network = after_steps value_there.first n_two in
           let called_two : Network = after_step (Submit i two.request value_there.now) at_two in

@@ -1,10 +1,11 @@
 -- WHAT A CALL OF A PANEL IS IN A NETWORK (profile): what was done with its link, and what then holds where a schedule
 -- plays that.
 use Rattle.std.specs.Prelude.{◌≡◌, ℕ, true, List, [], ◌∷◌, ◌++◌, Some, Ok}
-use Rattle.std.specs.List.{slice_get}
+use Rattle.std.specs.List.{slice_get, AllByRecursion}
 use Rattle.oca_types.specs.declared.words.Peer.{Peer}
 use Rattle.oca_types.specs.Peers.{CommandFields, RequestFields}
 use Rattle.oca_types.specs.Sizes.{DeviceSizes}
+use Rattle.oca_net.specs.EndStates.{IsPresent}
 use Rattle.oca_tree.specs.declared.object.Object.{Object}
 use Rattle.oca_control.specs.declared.answer.Answer.{Answer}
 use Rattle.oca_control.specs.declared.outcome.Outcome.TheVariants as outcomes
@@ -17,7 +18,8 @@ use Rattle.oca_pair.specs.Steps.{Step, Submit, after_step, after_steps}
 use Rattle.oca_pair.specs.Premises.{are_apart, Fit}
 use Rattle.oca_pair.specs.InTime.{AreInTime}
 use Rattle.oca_panel.specs.Panels.{PanelState, AsksIn}
-use Rattle.oca_promise.specs.Doings.{Doing, Submits, Takes, all_done, AreOfDevice, WasDone, Plays}
+use Rattle.oca_promise.specs.Doings.{Doing, Submits, Takes, all_done, IsSentOrHeard, AreSentInTime, AreOfDevice}
+use Rattle.oca_promise.specs.Doings.{WasDone, Plays}
 
 -- THIS WAS DONE BY A CALL that asked the request and got the answer: the command was given to the link under this
 -- handle, and at the end its answer, which the link then held, was taken.
@@ -30,6 +32,14 @@ pub record IsDoneByCall (request : RequestFields) (handle : ℕ) (answer : Answe
   pub done : WasDone doings old.link new.link old.end_state new.end_state
   pub held : AreOfDevice done.deliveries →
       answer_under handle (all_done (Submits request now ∷ between) old.link).untaken ≡ Some answer
+
+-- The call did that alone: the command was submitted at a present moment of the end, and then it was sent and heard until
+-- the answer was taken. Nothing was sent while the link was late.
+pub record IsAll {request : RequestFields} {handle : ℕ} {answer : AnswerFields} {doings : List Doing}
+    {old new : PanelState} (by_call : IsDoneByCall request handle answer doings old new) : Type 0 where
+  pub present : IsPresent by_call.now old.end_state
+  pub only : AllByRecursion IsSentOrHeard by_call.between
+  pub in_time : AreOfDevice by_call.done.deliveries → AreSentInTime doings old.link
 
 -- What holds of a command of a peer and its answer, by the network just after the command was submitted and the steps
 -- from there on.
@@ -57,13 +67,16 @@ HoldsInEachNetwork Holds request handle answer doings old =
     slice_get n.links i ≡ Some (record { peer = p; link = old.link }) → Plays i p n doings steps →
     HoldsFromSubmit Holds i p request handle answer steps n
 
--- THE CALL KEEPS IT: what was done by it is such that it holds in each network whose datagrams are all that came.
+-- THE CALL KEEPS IT: something was done by it; and whatever that was, it holds in each network whose datagrams are all
+-- that came.
 pub record KeepsInNetworks (Holds : OfAnAnswer) (request : RequestFields) (answer : AnswerFields)
     (old new : PanelState) : Type 0 where
   pub handle : ℕ
   pub doings : List Doing
   pub by_call : IsDoneByCall request handle answer doings old new
-  pub holds : AreOfDevice by_call.done.deliveries → HoldsInEachNetwork Holds request handle answer doings old
+  pub all : IsAll by_call
+  pub holds : (xs : List Doing) (done : IsDoneByCall request handle answer xs old new) →
+      AreOfDevice done.done.deliveries → HoldsInEachNetwork Holds request handle answer xs old
 
 -- Each call that asked a request, and to which an answer came, keeps it.
 abbrev pub EveryAnsweredCallKeeps : OfAnAnswer → Type 0

@@ -8,7 +8,7 @@ use Rattle.oca_net.specs.Ends.{largest_datagram, TakesAllBut}
 use Rattle.oca_net.specs.EndStates.{EndState}
 use Rattle.oca_pdu.specs.Laws.{AreBytes}
 use Rattle.oca_control.specs.Driving.{given_to}
-use Rattle.oca_control.specs.Links.{LinkState, Request, submitted, decision, gone_on, received, taken}
+use Rattle.oca_control.specs.Links.{LinkState, Request, submitted, decision, gone_on, late_at, received, taken}
 use Rattle.oca_pair.specs.Networks.{Network, device_address}
 use Rattle.oca_pair.specs.Steps.{Step, Submit, Due, ToLink, Take, content_read, after_step}
 
@@ -34,6 +34,21 @@ done (Takes h) l = taken h l
 unfoldable pub all_done : List Doing → LinkState → LinkState
 all_done [] l = l
 all_done (x ∷ xs) l = all_done xs (done x l)
+
+-- it is sent or heard
+abbrev pub IsSentOrHeard : Doing → Type 0
+IsSentOrHeard (Sends now) = Unit {0}
+IsSentOrHeard (Hears bytes now) = Unit {0}
+IsSentOrHeard (Submits request now) = ⊥
+IsSentOrHeard (Takes h) = ⊥
+
+-- nothing is sent at a moment at which the link is late
+unfoldable pub AreSentInTime : List Doing → LinkState → Type 0
+AreSentInTime [] l = Unit {0}
+AreSentInTime (Sends now ∷ xs) l = (late_at now l ≡ false) × AreSentInTime xs (gone_on now l)
+AreSentInTime (Submits request now ∷ xs) l = AreSentInTime xs (submitted request now l)
+AreSentInTime (Hears bytes now ∷ xs) l = AreSentInTime xs (received device_address (content_read bytes) now l)
+AreSentInTime (Takes h ∷ xs) l = AreSentInTime xs (taken h l)
 
 -- ---- over an end
 

@@ -19,7 +19,9 @@ use Rattle.oca_tree.specs.Objects.{object_of, with_object}
 use Rattle.oca_tree.specs.Readers.{class_of_ono}
 use Rattle.oca_tree.specs.Trees.{IsTree}
 use Rattle.oca_tree.specs.TypedLaws.{IsOfItsTypes}
-use Rattle.oca_control.specs.Answers.{AnswerFields}
+use Rattle.oca_control.specs.declared.answer.Answer.{Answer}
+use Rattle.oca_control.specs.declared.outcome.Outcome.TheVariants as outcomes
+use Rattle.oca_control.specs.Answers.{answer_fields}
 use Rattle.oca_pair.specs.declared.start.Start.{Start}
 use Rattle.oca_pair.specs.Networks.{Network, opening}
 use Rattle.oca_pair.specs.Steps.{Step, after_steps}
@@ -27,11 +29,11 @@ use Rattle.oca_pair.specs.Premises.{are_apart, Fit}
 use Rattle.oca_pair.specs.InTime.{AreInTime}
 use Rattle.oca_pair.specs.Saying.{IsOfOneExecutionSince, ChangedNothing, SetsObject, ReadSo, objects_left}
 use Rattle.oca_panel.specs.declared.trouble.Trouble.TheVariants as trouble
-use Rattle.oca_panel.specs.Panels.{PanelState}
+use Rattle.oca_panel.specs.Panels.{PanelState, AsksIn}
 use Rattle.oca_panel.specs.Objects.{IsRequestTo, Reads, ReadsBy, SetsValue, GetsValue}
 use Rattle.oca_panel.specs.Outcomes.{done_answered}
-use Rattle.oca_promise.specs.Doings.{AreOfDevice, Plays}
-use Rattle.oca_promise.specs.Calls.{OfAnAnswer, KeepsInNetworks}
+use Rattle.oca_promise.specs.Doings.{Doing, AreOfDevice, Plays}
+use Rattle.oca_promise.specs.Calls.{OfAnAnswer, IsDoneByCall, KeepsInNetworks}
 
 -- the device's objects at first are a tree, and their texts and numbers are of their types
 abbrev pub IsRightAtFirst : List Object → Type 0
@@ -41,8 +43,9 @@ IsRightAtFirst tree = IsTree tree × All IsOfItsTypes tree
 pub record CallKeeps (target : ℕ) (of : Class) (r : Asked) (Holds : OfAnAnswer) (old new : PanelState) : Type 0 where
   pub request : RequestFields
   pub asks : IsRequestTo target of r request
-  pub answer : AnswerFields
-  pub keeps : KeepsInNetworks Holds request answer old new
+  pub answer : Answer
+  pub answered : AsksIn request old new (outcomes.Answered answer)
+  pub keeps : KeepsInNetworks Holds request (answer_fields answer) old new
 
 -- ---- SET: the object, where it is of the value's class, was set to the value by the only execution of the command, which
 -- lies between the call and its return.
@@ -124,15 +127,17 @@ pub record GetKeeps (target : ℕ) (value : Value) (old new : PanelState) : Type
   pub between : PanelState
   pub class_call : CallKeeps target class.Block asked.GetClassIdentification (HadClass target of) old between
   pub value_call : CallKeeps target of asked.Get (HadReading target of reading) between new
-  pub read : AreOfDevice class_call.keeps.by_call.done.deliveries →
-      AreOfDevice value_call.keeps.by_call.done.deliveries →
+  pub read : (xs ys : List Doing)
+      (class_done : IsDoneByCall class_call.request class_call.keeps.handle (answer_fields class_call.answer) xs old between)
+      (value_done : IsDoneByCall value_call.request value_call.keeps.handle (answer_fields value_call.answer) ys between new) →
+      AreOfDevice class_done.done.deliveries → AreOfDevice value_done.done.deliveries →
       (w : DeviceSizes) (s : ℕ) (tree : List Object) (starts : List Start) (before one two : List Step) (i : ℕ)
       (p : Peer) →
       let start : Network = opening w s tree starts in
       let n : Network = after_steps before start in
       are_apart starts ≡ true → Fit starts ((before ++ one) ++ two) → AreInTime i [] ((before ++ one) ++ two) start →
       IsRightAtFirst tree → slice_get n.links i ≡ Some (record { peer = p; link = old.link }) →
-      Plays i p n class_call.keeps.doings one → Plays i p (after_steps one n) value_call.keeps.doings two →
+      Plays i p n xs one → Plays i p (after_steps one n) ys two →
       ReadSo target reading two (after_steps one n)
 
 abbrev pub EveryGetKeeps : Type 0
