@@ -7,9 +7,9 @@ use Rattle.oca_types.specs.declared.words.Peer.{Peer}
 use Rattle.oca_types.specs.declared.words.Handle.{Handle}
 use Rattle.oca_types.specs.Peers.{RequestFields}
 use Rattle.oca_net.specs.Deliveries.{Delivery, Datagram, Quiet, Failed, Sent}
-use Rattle.oca_net.specs.Ends.{TakesAllBut}
+use Rattle.oca_net.specs.Ends.{last_u64, TakesAllBut}
 use Rattle.oca_net.specs.EndStates.{EndState}
-use Rattle.oca_net.proofs.Sending.{takes_none, takes_more}
+use Rattle.oca_net.proofs.Sending.{takes_none, takes_more, counts_more}
 use Rattle.oca_pdu.specs.Laws.{AreBytes, ReadingIsExact}
 use Rattle.oca_pdu.specs.Messages.{Msg}
 use Rattle.oca_pdu.specs.Reading.{read_datagram}
@@ -17,6 +17,7 @@ use Rattle.oca_pdu.specs.declared.fault.PduFault.{PduFault}
 use Rattle.oca_control.specs.declared.fault.ControlFault.{ControlFault}
 use Rattle.oca_control.specs.declared.fault.ControlFault.TheVariants as faults
 use Rattle.oca_control.specs.declared.answer.Answer.{Answer}
+use Rattle.oca_control.specs.declared.outcome.Outcome.{Outcome}
 use Rattle.oca_control.specs.declared.outcome.Outcome.TheVariants as outcomes
 use Rattle.oca_control.specs.declared.report.DriveReport.{DriveReport}
 use Rattle.oca_control.specs.Answers.{answer_fields}
@@ -87,6 +88,9 @@ taken_in_time : (h : ℕ) (l : LinkState) → AreSentInTime (Takes h ∷ []) l
 unfolding AreSentInTime
 taken_in_time h l = tt
 
+no_more : (n : ℕ) → n ≡ n + 0
+no_more n = omega arith
+
 -- nothing was done
 nothing : (l : LinkState) (e : EndState) → WasDone [] l l e e
 unfolding all_done sent_by
@@ -98,6 +102,7 @@ nothing l e = record {
   link = λ of_device. refl;
   failed = 0;
   sent = λ of_device tells. takes_none e.taken e.taken refl;
+  sends = λ of_device below. no_more e.sends;
 }
 
 -- one thing and then the other
@@ -114,6 +119,10 @@ both {xs} {ys} {a} {b} {c} {d} {e} {f} x y = record {
       subst (λ (zs : List Sent). TakesAllBut (x.failed + y.failed) d.taken f.taken zs)
       (ap (λ (l : LinkState). sent_by xs a ++ sent_by ys l) (x.link before) ∙ sym (sent_both xs ys a))
       (takes_more (x.sent before tells) (y.sent (last_of_both x.deliveries y.deliveries of_device) (subst IsTrue (sym x.telling) tells)));
+  sends = λ of_device below.
+      let before = first_of_both x.deliveries y.deliveries of_device in
+      counts_more (sent_by xs a) (sent_by ys b) d.sends e.sends f.sends (x.sends before) (y.sends (last_of_both x.deliveries y.deliveries of_device)) below
+      ∙ ap (λ (zs : List Sent). d.sends + length zs) (ap (λ (l : LinkState). sent_by xs a ++ sent_by ys l) (x.link before) ∙ sym (sent_both xs ys a));
 }
 
 -- ---- what is due is sent
@@ -372,6 +381,7 @@ turn_does law old new e f r (inl x) = (
     sent = λ are tells.
         subst (λ (zs : List Sent). TakesAllBut r.failed_sends e.taken f.taken zs)
         (sent_in_turn x.delivery old x.turns.between new x.decisions x.answered law x.turns.hears x.turns.gives are) (x.runs.taken tells);
+    sends = λ are below. x.runs.sends below ∙ ap (λ (zs : List Sent). e.sends + length zs) (sent_in_turn x.delivery old x.turns.between new x.decisions x.answered law x.turns.hears x.turns.gives are);
   },
   only_both (hearing_of x.delivery) (sends_after x.delivery x.turns.between) (only_hearing x.delivery) (only_after x.delivery x.turns.between),
   λ are. turn_in_time law x.delivery old x.turns.between x.answered x.turns.hears are,
@@ -386,6 +396,7 @@ turn_does law old new e f r (inr x) = (
     link = λ are. x.link ∙ done_none old;
     failed = 0;
     sent = λ are tells. subst (λ (zs : List Sent). TakesAllBut 0 e.taken f.taken zs) (sent_none old) (takes_none e.taken f.taken (x.received.taken tells));
+    sends = λ are below. x.received.sends ∙ no_more e.sends ∙ ap (λ (zs : List Sent). e.sends + length zs) (sent_none old);
   },
   tt,
   λ are. none_in_time_sent old,
@@ -440,6 +451,7 @@ begin_does request h old new e f b =
       sent = λ are tells.
           subst (λ (zs : List Sent). TakesAllBut b.gives.0.failed_sends e.taken f.taken zs)
           (sym (all_given b.now (l.span + 1) l)) (b.gives.1.sends.taken tells);
+      sends = λ are below. b.gives.1.sends.sends below ∙ ap (λ (zs : List Sent). e.sends + length zs) (sym (all_given b.now (l.span + 1) l));
     }
 
 -- ---- an answer is taken
@@ -456,6 +468,7 @@ take_done h xs old l new e f d is = record {
   sent = λ are tells.
       subst (λ (zs : List Sent). TakesAllBut d.failed e.taken f.taken zs)
       (sym (sent_both xs (Takes h ∷ []) old ∙ append-nil (sent_by xs old))) (d.sent are tells);
+  sends = λ are below. d.sends are below ∙ ap (λ (zs : List Sent). e.sends + length zs) (sym (sent_both xs (Takes h ∷ []) old ∙ append-nil (sent_by xs old)));
 }
 
 -- ---- a call
@@ -500,3 +513,49 @@ call_does law request old new a asks = by asks.returned asks.begins.begins asks.
         (h : ℕ) × (doings : List Doing) × (done : IsDoneByCall request h (answer_fields a) doings old new) × IsAll done
     by (Ok h) begins ends = let x = call_waits law request h old asks.between new a begins _ ends.waits.waits in (h.0, x.0, x.1, x.2)
     by (Err fault) begins ends = cc
+
+-- ---- a call, however it came out
+
+-- what was done in time makes a link another, over an end
+abbrev pub InTime : LinkState → LinkState → EndState → EndState → Type 0
+InTime old new before after = (doings : List Doing) × (done : WasDone doings old new before after) × (AreOfDevice done.deliveries → AreSentInTime doings old)
+
+begin_in_time : (request : RequestFields) (h : Handle) (old new : LinkState) (e f : EndState) → Begins request (Ok h) old new e f → InTime old new e f
+unfolding AreSentInTime
+begin_in_time request h old new e f b =
+    let called : LinkState = submitted request b.now old in (
+      Submits request b.now ∷ begin_doings request b.now old,
+      begin_does request h old new e f b,
+      λ are. calm_sends b.now (called.span + 1) called (calm_submitted request b.now h old (sym (submission_of request b.now old h b.answer)) (not_late request b.now old h b.answer)),
+    )
+
+then_in_time : {a b c : LinkState} {d e f : EndState} → InTime a b d e → Does b c e f → InTime a c d f
+unfolding both
+then_in_time {a} x y = (
+  x.0 ++ y.0,
+  both x.1 y.1,
+  λ are.
+      let before = first_of_both x.1.deliveries y.1.deliveries are in
+      in_time_both x.0 y.0 a (x.2 before)
+      (subst (λ (l : LinkState). AreSentInTime y.0 l) (x.1.link before) (y.3 (last_of_both x.1.deliveries y.1.deliveries are))),
+)
+
+pub every_call_does : ReadingIsExact → (request : RequestFields) (old new : PanelState) (o : Outcome) → AsksIn request old new o → InTime old.link new.link old.end_state new.end_state
+every_call_does law request old new o asks = by asks.returned asks.begins.begins asks.ends
+  where
+    mid : PanelState
+    mid = asks.between
+
+    waited : (h : Handle) (o : Outcome) (b : Begins request (Ok h) old.link mid.link old.end_state mid.end_state) (until : ℕ) → WaitsUntil h.0 until mid.link o new.link mid.end_state new.end_state → InTime old.link new.link old.end_state new.end_state
+    waited h (outcomes.Answered a) b until w = let x = call_waits law request h old mid new a b until w in (x.0, x.1.done, x.2.in_time)
+    waited h (outcomes.Refused fault) b until w = absurd w
+    waited h outcomes.Lost b until w = then_in_time (begin_in_time request h old.link mid.link old.end_state mid.end_state b) (turns_do law w.4)
+    waited h outcomes.Unanswered b until w = then_in_time (begin_in_time request h old.link mid.link old.end_state mid.end_state b) (turns_do law w.3)
+
+    by : (returned : Result Handle ControlFault) → Begins request returned old.link mid.link old.end_state mid.end_state → EndsIn returned mid new o → InTime old.link new.link old.end_state new.end_state
+    by (Ok h) b ends = waited h o b _ ends.waits.waits
+    by (Err fault) b ends =
+        let link_is : new.link ≡ old.link = ap (λ (s : PanelState). s.link) ends.1 ∙ b.gives.0 in
+        let end_is : new.end_state ≡ old.end_state = ap (λ (s : PanelState). s.end_state) ends.1 ∙ b.gives.1 in
+        subst (λ (l : LinkState). InTime old.link l old.end_state new.end_state) (sym link_is)
+        (subst (λ (x : EndState). InTime old.link old.link old.end_state x) (sym end_is) ([], nothing old.link old.end_state, λ are. none_in_time_sent old.link))

@@ -8,6 +8,7 @@ use Rattle.oca_types.specs.Sizes.{DeviceSizes}
 use Rattle.oca_net.specs.EndStates.{IsPresent}
 use Rattle.oca_tree.specs.declared.object.Object.{Object}
 use Rattle.oca_control.specs.declared.answer.Answer.{Answer}
+use Rattle.oca_control.specs.declared.outcome.Outcome.{Outcome}
 use Rattle.oca_control.specs.declared.outcome.Outcome.TheVariants as outcomes
 use Rattle.oca_control.specs.Answers.{AnswerFields, answer_fields}
 use Rattle.oca_control.specs.Links.{submission, command_under}
@@ -77,6 +78,13 @@ pub record KeepsInNetworks (Holds : OfAnAnswer) (request : RequestFields) (answe
   pub all : IsAll by_call
   pub holds : (xs : List Doing) (done : IsDoneByCall request handle answer xs old new) →
       AreOfDevice done.done.deliveries → HoldsInEachNetwork Holds request handle answer xs old
+
+-- EVERY CALL IS IN TIME, however it came out: something was done by it, and nothing was sent while the link was late.
+abbrev pub EveryCallIsInTime : Type 0
+EveryCallIsInTime =
+    (request : RequestFields) (old new : PanelState) (outcome : Outcome) → AsksIn request old new outcome →
+    (doings : List Doing) × (done : WasDone doings old.link new.link old.end_state new.end_state)
+    × (AreOfDevice done.deliveries → AreSentInTime doings old.link)
 
 -- Each call that asked a request, and to which an answer came, keeps it.
 abbrev pub EveryAnsweredCallKeeps : OfAnAnswer → Type 0

@@ -1,10 +1,10 @@
 -- WHAT IS DONE WITH A LINK (profile), and a schedule of a network in which that is done. Of doings the first stands first;
 -- moments are in milliseconds.
-use Rattle.std.specs.Prelude.{◌≡◌, ◌⊎◌, ℕ, Bool, true, false, IsTrue, if◌then◌else◌, nat_le, List, [], ◌∷◌, ◌++◌, length, Some}
+use Rattle.std.specs.Prelude.{◌≡◌, ◌⊎◌, ℕ, ◌+◌, ◌<◌, Bool, true, false, IsTrue, if◌then◌else◌, nat_le, List, [], ◌∷◌, ◌++◌, length, Some}
 use Rattle.std.specs.List.{filter, flat_map, slice_get, AllByRecursion}
 use Rattle.oca_types.specs.declared.words.Peer.{Peer}
 use Rattle.oca_net.specs.Deliveries.{Delivery, Datagram, Quiet, Failed, Sent}
-use Rattle.oca_net.specs.Ends.{largest_datagram, TakesAllBut}
+use Rattle.oca_net.specs.Ends.{largest_datagram, last_u64, TakesAllBut}
 use Rattle.oca_net.specs.EndStates.{EndState}
 use Rattle.oca_pdu.specs.Laws.{AreBytes}
 use Rattle.oca_control.specs.Driving.{given_to}
@@ -87,8 +87,8 @@ abbrev pub AreOfDevice : List Delivery → Type 0
 AreOfDevice deliveries = AllByRecursion IsOfDevice deliveries
 
 -- THIS WAS DONE with a link over an end, which became another by it. Where the end tells, what was heard is what it
--- delivered; and where each of these datagrams is the device's, the link is what is said, and the end took what is sent
--- but for so many sends that failed.
+-- delivered; and where each of these datagrams is the device's, the link is what is said, the end was given just as many
+-- datagrams as are sent, and where it tells it took these but for so many sends that failed.
 pub record WasDone (doings : List Doing) (old new : LinkState) (before after : EndState) : Type 0 where
   pub deliveries : List Delivery
   pub telling : after.tells ≡ before.tells
@@ -98,6 +98,8 @@ pub record WasDone (doings : List Doing) (old new : LinkState) (before after : E
   pub failed : ℕ
   pub sent : AreOfDevice deliveries → IsTrue before.tells →
       TakesAllBut failed before.taken after.taken (sent_by doings old)
+  pub sends : AreOfDevice deliveries → after.sends < last_u64 →
+      after.sends ≡ before.sends + length (sent_by doings old)
 
 -- ---- in a network
 

@@ -1,6 +1,6 @@
 //! The law of a panel's calls. The function runs nothing: its contract is the law.
 ghost use Rattle.oca_pair.specs.Saying.{IsOfOneExecutionSince, RefusalsChangeNothing};
-ghost use Rattle.oca_promise.specs.Calls.{EveryAnsweredCallKeeps};
+ghost use Rattle.oca_promise.specs.Calls.{EveryAnsweredCallKeeps, EveryCallIsInTime};
 ghost use Rattle.oca_promise.specs.Promises.{EverySetKeeps, EveryRefusedSetKeeps, EveryReadingKeeps, EveryGetKeeps};
 ghost use Rattle.oca_promise.specs.Promises.{EveryLockKeeps, EveryUnlockKeeps};
 
@@ -16,6 +16,7 @@ use oca_pdu::law_reading;
 /// the object held at a moment between. Reading, lock and unlock likewise.
 pub fn law_of_calls()
     ensures once { EveryAnsweredCallKeeps IsOfOneExecutionSince }
+    ensures in_time { EveryCallIsInTime }
     ensures refused { EveryAnsweredCallKeeps RefusalsChangeNothing }
     ensures set { EverySetKeeps }
     ensures set_refused { EveryRefusedSetKeeps }

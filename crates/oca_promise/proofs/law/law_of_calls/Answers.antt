@@ -1,3 +1,4 @@
+use Rattle.oca_promise.proofs.Doing.{every_call_does}
 use Rattle.oca_promise.proofs.Keeping.{calls_keep}
 use Rattle.oca_promise.proofs.Promises.{sets_keep, refused_sets_keep, readings_keep, gets_keep, locks_keep, unlocks_keep}
 use Rattle.oca_promise.proofs.law.law_of_calls.Goals as goal
@@ -8,6 +9,7 @@ returns c =
     let law = c.law_reading.ensures in
     record {
       once = calls_keep _ said.between law;
+      in_time = every_call_does law;
       refused = calls_keep _ said.refused law;
       set = sets_keep said.between said.sets law;
       set_refused = refused_sets_keep said.between said.refused law;
