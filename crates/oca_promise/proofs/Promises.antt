@@ -221,7 +221,7 @@ readings_keep between oks reads met law target of reading old new r = by (get_me
           request = f.request;
           asks = f.calls;
           answer = ok.answer;
-      answered = subst (λ (x : Outcome). AsksIn f.request old new x) ok.is f.asks;
+          answered = subst (λ (x : Outcome). AsksIn f.request old new x) ok.is f.asks;
           keeps = follows ReadsAll (HadReading target of reading) f.request (answer_fields ok.answer) old new
               (read_so target of m reading f.request ok.answer get f.calls ok.ok (ap (reading_in of) ok.params_are ∙ params.2))
               (answered_call ReadsAll
