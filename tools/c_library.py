@@ -818,7 +818,7 @@ class Board:
     """A device without an operating system, on an emulated board: what is said over its serial line."""
 
     def __init__(self, program):
-        words = ["qemu-system-aarch64", "-M", "virt", "-cpu", "cortex-a53", "-display", "none", "-monitor", "none", "-serial", "stdio", "-kernel", program]
+        words = ["qemu-system-aarch64", "-M", "virt", "-cpu", "cortex-a53", "-nic", "none", "-display", "none", "-monitor", "none", "-serial", "stdio", "-kernel", program]
         self.run = subprocess.Popen([str(it) for it in words], stdin=subprocess.PIPE, stdout=subprocess.PIPE, bufsize=0)
 
     def read(self, size, seconds=60):
