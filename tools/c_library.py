@@ -148,11 +148,23 @@ def panels(checks, made, prefix, folder):
         checks.same(f"the walk of a device that is gone {words}", said_by([made / "network-c11-sanitized", port]), ("lost\n", 1))
 
 
+def each_call_sanitized(checks, made, prefix):
+    """Each call, and the C of the library under the sanitizers."""
+    program = made / "calls-sanitized"
+    parts = [TOP / f"c/{name}.c" for name in PARTS]
+    subprocess.run(["cc", "-std=c11", *STRICT[1:], *SANITIZED, f"-I{prefix}/include", "-o", program, HERE / "c_library.c", *parts, prefix / "lib/liboca.a"], check=True)
+    out, status = said_by([program])
+    counts = re.search(r"(\d+) passed, (\d+) failed\n$", out)
+    checks.same("each call under the sanitizers", (counts and counts[2], status), ("0", 0))
+    checks.passed += int(counts[1]) if counts else 0
+    print(out, end="") if status else None
+
+
 def random_calls(checks, made, prefix):
     """Calls of devices, links and panels in any order, with any numbers, under the sanitizers: what each answers, and what it writes."""
     for seed, (language, compiler) in enumerate(LANGUAGES.items(), 1):
         program = made / f"random-{language}"
-        subprocess.run([*compiler, *STRICT, *SANITIZED, f"-I{prefix}/include", "-o", program, HERE / "c_library_random.c", TOP / "c/panel.c", "-x", "none",
+        subprocess.run([*compiler, *STRICT, *SANITIZED, f"-I{prefix}/include", "-o", program, HERE / "c_library_random.c", TOP / "c/panel.c", TOP / "c/kept.c", "-x", "none",
                         prefix / "lib/liboca.a"], check=True)
         out, status = said_by([program, CALLS, seed])
         counts = re.search(r"(\d+) passed, (\d+) failed\n$", out)
@@ -818,7 +830,7 @@ class Board:
     """A device without an operating system, on an emulated board: what is said over its serial line."""
 
     def __init__(self, program):
-        words = ["qemu-system-aarch64", "-M", "virt", "-cpu", "cortex-a53", "-display", "none", "-monitor", "none", "-serial", "stdio", "-kernel", program]
+        words = ["qemu-system-aarch64", "-M", "virt", "-cpu", "cortex-a53", "-nic", "none", "-display", "none", "-monitor", "none", "-serial", "stdio", "-kernel", program]
         self.run = subprocess.Popen([str(it) for it in words], stdin=subprocess.PIPE, stdout=subprocess.PIPE, bufsize=0)
 
     def read(self, size, seconds=60):
@@ -960,6 +972,7 @@ def main():
         against_each_other(checks, made)
         against_the_programs(checks, made, folder)
         panels(checks, made, prefix, folder)
+        each_call_sanitized(checks, made, prefix)
         random_calls(checks, made, prefix)
         full_datagram(checks, made)
         mixers(checks, made, prefix)

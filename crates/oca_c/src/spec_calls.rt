@@ -9,7 +9,7 @@ ghost use Rattle.oca_device.specs.Events.{Event};
 ghost use Rattle.oca_calls.specs.Calls.{HandleBuilds, HandleRuns, RefusesBuilding, RefusesClosed, RefusesRunning};
 ghost use Rattle.oca_calls.specs.CSpecs.{HandleAddsSpec, OpensWith, WritesSpec, WrittenMakesAgain};
 ghost use Rattle.oca_calls.specs.Numbers.{answer_number};
-ghost use Rattle.oca_calls.specs.Restoring.{Restores};
+ghost use Rattle.oca_calls.specs.Restoring.{RestoresSpec};
 ghost use Rattle.oca_calls.specs.declared.answer.Answer.{Answer as AnswerItself};
 
 use oca_calls::answer::Answer;
@@ -130,7 +130,7 @@ pub extern "C" fn oca_device_spec_of(
 /// Brings what was stored of an object into the struct that says what it is to be.
 #[unsafe(no_mangle)]
 pub extern "C" fn oca_spec_restore(spec: &mut SpecWords, stored: &SpecWords) -> u32
-    ensures { (answer : AnswerItself) × (result ≡ answer_number answer) × Restores answer spec.old stored.now spec.new }
+    ensures { (answer : AnswerItself) × (result ≡ answer_number answer) × RestoresSpec answer spec.old stored.now spec.new }
 {
     restore(spec, stored).number()
 }

@@ -46,8 +46,8 @@ abbrev pub HasSetTexts : SpecWords → Type 0
 HasSetTexts w = IsName w.label × AllByRecursion IsName (names_of w)
 
 -- an unsigned number lies within its limits, and a signed one
-abbrev pub IsWithin : Ranged ℕ → Type 0
-IsWithin r = (r.least ≤ r.setting) × (r.setting ≤ r.greatest)
+abbrev pub IsInLimits : Ranged ℕ → Type 0
+IsInLimits r = (r.least ≤ r.setting) × (r.setting ≤ r.greatest)
 
 -- A setting that an object with these limits, and so many positions, can have.
 abbrev pub IsPossible : Reading → ℕ → Type 0
@@ -59,10 +59,10 @@ IsPossible (readings.Int8 r) positions = (r.least ≤ℤ r.setting) × (r.settin
 IsPossible (readings.Int16 r) positions = (r.least ≤ℤ r.setting) × (r.setting ≤ℤ r.greatest)
 IsPossible (readings.Int32 r) positions = (r.least ≤ℤ r.setting) × (r.setting ≤ℤ r.greatest)
 IsPossible (readings.Int64 r) positions = (r.least ≤ℤ r.setting) × (r.setting ≤ℤ r.greatest)
-IsPossible (readings.Uint8 r) positions = IsWithin r
-IsPossible (readings.Uint16 r) positions = IsWithin r
-IsPossible (readings.Uint32 r) positions = IsWithin r
-IsPossible (readings.Uint64 r) positions = IsWithin r
+IsPossible (readings.Uint8 r) positions = IsInLimits r
+IsPossible (readings.Uint16 r) positions = IsInLimits r
+IsPossible (readings.Uint32 r) positions = IsInLimits r
+IsPossible (readings.Uint64 r) positions = IsInLimits r
 
 -- WHAT WAS STORED IS BROUGHT INTO A STRUCT, with this answer, the first that applies: bad size, where one of them is of
 -- another version; other kind, where they are of two classes, or of two numbers of positions; bad range, where these are
@@ -97,7 +97,7 @@ VersionsRestore answer old stored new =
     ((AreAlike old stored → ⊥) × (answer ≡ answers.OtherKind) × (new ≡ old))
     ⊎ (AreAlike old stored × AlikeRestore answer old stored new)
 
-abbrev pub Restores : Answer → SpecWords → SpecWords → SpecWords → Type 0
-Restores answer old stored new =
+abbrev pub RestoresSpec : Answer → SpecWords → SpecWords → SpecWords → Type 0
+RestoresSpec answer old stored new =
     ((AreOfThisVersion old stored → ⊥) × (answer ≡ answers.BadSize) × (new ≡ old))
     ⊎ (AreOfThisVersion old stored × VersionsRestore answer old stored new)

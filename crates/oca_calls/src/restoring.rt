@@ -1,6 +1,6 @@
 //! Bringing what was stored of an object into the struct that says what the object is to be.
 ghost use Rattle.std.specs.Prelude.{◌≡◌, ◌⊎◌, ◌≤◌, ◌↔◌, IsTrue};
-ghost use Rattle.oca_calls.specs.Restoring.{AlikeRestore, HasSetTexts, IsPossible, PossibleRestores, Restores};
+ghost use Rattle.oca_calls.specs.Restoring.{AlikeRestore, HasSetTexts, IsPossible, PossibleRestores, RestoresSpec};
 ghost use Rattle.oca_calls.specs.Restoring.{TextsRestore, ValueRestores, VersionsRestore, with_stored, with_value};
 
 use crate::answer::Answer;
@@ -12,7 +12,7 @@ use oca_model::Reading;
 
 /// Brings what was stored of an object into the struct that says what it is to be.
 pub fn restore(spec: &mut SpecWords, stored: &SpecWords) -> Answer
-    ensures { Restores result spec.old stored.now spec.new }
+    ensures { RestoresSpec result spec.old stored.now spec.new }
 {
     if !spec.is_of_this_version() || !stored.is_of_this_version() {
         return Answer::BadSize;
