@@ -288,8 +288,7 @@ DEVICE_SCRIPTS = [
         (0, A, command(6, 4100, (5, 2), b"\x02\x58"), EXECUTED, [done(6)]),
         (0, A, command(7, 4100, (5, 2), b"\xfd\xa8"), EXECUTED, [done(7)]),
         (0, A, command(8, 4100, (5, 2), b"\x02\x59"), EXECUTED, [response(8, 7, 0)]),
-        (0, A, command(9, 4100, (5, 1)), EXECUTED,
-         [bytes.fromhex("3b00010000001903000100000010000000090003fda8fda80258")])]),
+        (0, A, command(9, 4100, (5, 1)), EXECUTED, [bytes.fromhex("3b00010000001903000100000010000000090003fda8fda80258")])]),
     # Of commands that overtake one another the one that came last counts.
     ("", None, [
         (0, A, set_state(1, 2), EXECUTED, [done(1)]),
@@ -316,16 +315,9 @@ DEVICE_SCRIPTS = [
     # The grammar has no rule for ParamCount: a wrong one is answered with the status ParameterError.
     ("", None, [(0, A, GET[:-1] + b"\5", EXECUTED, [response(1, 6, 0)])]),
     # A window of 32 after 33 commands: the first is old, the second a duplicate, and a lower one is old.
-    ("", None, [
-        *muted(1, 34),
-        (0, A, get_state(1), OLD, []),
-        (0, A, get_state(2), KEPT, [state(2, 1)]),
-        (0, A, get_state(0), OLD, [])]),
+    ("", None, [*muted(1, 34), (0, A, get_state(1), OLD, []), (0, A, get_state(2), KEPT, [state(2, 1)]), (0, A, get_state(0), OLD, [])]),
     # A handle that never came is old below the floor, and above the window one is fresh.
-    ("", None, [
-        *muted(6, 39),
-        (0, A, set_state(5, 2), OLD, []),
-        (0, A, get_state(39), EXECUTED, [state(39, 1)])]),
+    ("", None, [*muted(6, 39), (0, A, set_state(5, 2), OLD, []), (0, A, get_state(39), EXECUTED, [state(39, 1)])]),
     # A window of one command.
     ("--window 1", None, [
         (0, A, get_state(5), EXECUTED, [state(5, 1)]),
@@ -335,10 +327,7 @@ DEVICE_SCRIPTS = [
         (0, A, get_state(4), OLD, []),
         (0, A, get_state(7), EXECUTED, [state(7, 1)])]),
     # A window of 64 commands.
-    ("--window 64", None, [
-        *muted(1, 66),
-        (0, A, get_state(1), OLD, []),
-        (0, A, get_state(2), KEPT, [state(2, 1)])]),
+    ("--window 64", None, [*muted(1, 66), (0, A, get_state(1), OLD, []), (0, A, get_state(2), KEPT, [state(2, 1)])]),
     # Another command under the handle of a retained one is not executed and gets nothing, and the retained one stays.
     ("", None, [
         (0, A, GET, EXECUTED, [MUTED]),
@@ -369,17 +358,14 @@ DEVICE_SCRIPTS = [
     ("", None, [(0, A, FULL_OF_KEEP_ALIVES, NOTHING, 122 * [ONE_SECOND])]),
     # Two responses leave in one PDU; a keep-alive between two leaves in a packet of its own, and so do they.
     ("", None, [(0, A, TWO_GETS, EXECUTED_2, [TWO_STATES])]),
-    ("", None, [
-        (0, A, GET + ONE_SECOND + command(2, 4098, (4, 1)), EXECUTED_2, [MUTED, ONE_SECOND, state(2, 1)])]),
+    ("", None, [(0, A, GET + ONE_SECOND + command(2, 4098, (4, 1)), EXECUTED_2, [MUTED, ONE_SECOND, state(2, 1)])]),
     # A duplicate in the same datagram, and a command that asks for no response between the two, end no group.
-    ("", None, [
-        (0, A, GET + quiet_command(2, 4097, (4, 1)) + GET, b"served 2 1 0", [TWICE])]),
+    ("", None, [(0, A, GET + quiet_command(2, 4097, (4, 1)) + GET, b"served 2 1 0", [TWICE])]),
     # The same command twice in one datagram is executed once, and its response leaves twice in one PDU.
     ("", None, [(0, A, GET + GET, b"served 1 1 0", [TWICE])]),
     # Responses of exactly 1,472 bytes with their header are one packet, and one response more begins another.
     ("", None, [(0, A, pdu(1, *THIRTEEN), b"served 13 0 0", [OF_THIRTEEN])]),
-    ("", None, [
-        (0, A, pdu(1, *THIRTEEN, asked(14, 4097, (4, 1))), b"served 14 0 0", [OF_THIRTEEN, state(14, 1)])]),
+    ("", None, [(0, A, pdu(1, *THIRTEEN, asked(14, 4097, (4, 1))), b"served 14 0 0", [OF_THIRTEEN, state(14, 1)])]),
     # The member of the root is listed, and all that is below the root.
     ("", None, [(0, A, MEMBERS, EXECUTED, [THE_DESK])]),
     ("", None, [(0, A, command(1, 100, (3, 6)), EXECUTED, [response(1, 0, 1, ALL_BELOW)])]),
