@@ -14,7 +14,7 @@ TOP = Path(__file__).resolve().parent.parent
 NEEDS = 4_000_000_000  # bytes for a check: the most that one took, measured, is 3.3 GB (ocactl_cli)
 MEMORY = Path("/dev/shm")  # a folder in memory, where the system has one
 ROOM = 6_000_000_000  # bytes there; the most that a run of the gate took, measured, is 1.8 GB
-MISSING = "there is no rt: this needs the toolchain's kit, whose folder bin/ must be in PATH (README.md, Toolchain)"
+MISSING = "there is no rt: this needs the toolchain's kit, whose folder bin/ must be in PATH (README.md says at its end where it is)"
 # The names that are used of the command, and of its library.
 OF_RT = "checked edited free in_lanes need processors unread".split()
 OF_RTLIB = "PARTS RATTLE STALE crates_below files_of guarded lock sum_of".split()

@@ -391,6 +391,12 @@ SAID_OF_EDITS = [
 ]
 
 
+def answered(lines, texts=()):
+    """What the prover says of a copy of a crate with these texts, where these lines tell of what is not proved."""
+    told = "\n".join([*lines, "logic=not-proved" if lines else "logic=proved"]) + "\n"
+    return edits.Answer(SimpleNamespace(returncode=int(bool(lines)), stdout=told), texts)
+
+
 def judges_edits(_):
     """An edit is refused where a goal of its own function fails, and one of no function where any does: not where only
     a name is gone, where a function only calls another, or where the prover was not reached; and why not is told."""
@@ -551,9 +557,7 @@ def empties_functions(_):
 
             def checked(texts, paths, without):
                 asked.append(sorted(it.path() for it in without))
-                lines = without_bodies if without else whole
-                said = "\n".join([*lines, "logic=not-proved" if lines else "logic=proved"]) + "\n"
-                return edits.Answer(SimpleNamespace(returncode=int(bool(lines)), stdout=said), texts)
+                return answered(without_bodies if without else whole, texts)
 
             trial.checked = checked
             trial.try_group(edits.Group(edit), True)
@@ -609,8 +613,7 @@ def told_of_clause(crate, clause, narrow, whole, wanted):
     def checked(texts, paths, without=()):
         is_narrow = "0 < result" not in texts["src/m.rt"].split("n + 3")[0]
         lines = [f"fn a::m::{it}: not proved: the search did not prove a goal" for it in (narrow if is_narrow else whole)]
-        said = "\n".join([*lines, "logic=not-proved" if lines else "logic=proved"]) + "\n"
-        return edits.Answer(SimpleNamespace(returncode=int(bool(lines)), stdout=said), texts)
+        return answered(lines, texts)
 
     trial.checked = checked
     trial.run()

@@ -218,57 +218,59 @@ def meets(barrier):
     return False
 
 
+def crate_of(name, hundreds, *below):
+    """A crate that takes so many hundreds of seconds, above others."""
+    return FakeCrate(name=name, below=lambda: [*below], count=lambda _: 1000 * hundreds)
+
+
 def shares_processors(_):
     """`build.py` begins as many crates as processors are idle, those first that others wait for longest, with processes for the processors
-    that no other waits for, and more for the crates that begin long chains; never more in all, nor one before those below it."""
-    found = []
-    for ready, idle, number, long, wanted in SHARES:
-        given = build.shares([*ready], idle, number, [*long])
-        found.append(" ".join(f"{name}{jobs}" for name, jobs in given) == wanted)
-    made = lambda name, hundreds, *below: FakeCrate(name=name, below=lambda: [*below], count=lambda _: 1000 * hundreds)
-    a, b, c = (made(name, seconds) for name, seconds in (("a", 1), ("b", 5), ("c", 2)))
-    crates = [a, b, c, made("d", 9, a, c), made("e", 1, a, b, c)]
-    for number in (1, 2, 4):
-        begun, used, most, lock = [], [0], [0], threading.Lock()
+    that no other waits for, and more for the crates that begin long chains; never more in all."""
+    shared = lambda ready, idle, number, long: " ".join(f"{name}{jobs}" for name, jobs in build.shares([*ready], idle, number, [*long]))
+    return is_same([wanted for *_, wanted in SHARES], [shared(*row) for *row, _ in SHARES])
+
+
+def begins_in_order(_):
+    """`build.py` begins no crate before those below it, and as many at once as there are processors, or as RT_JOBS says."""
+    found, number = [], []
+    a, b, c = (crate_of(name, seconds) for name, seconds in (("a", 1), ("b", 5), ("c", 2)))
+    crates = [a, b, c, crate_of("d", 9, a, c), crate_of("e", 1, a, b, c)]
+    for most in (1, 2, 4):
+        begun, used, lock = [], [0], threading.Lock()
 
         def noted(crate, jobs):
             with lock:
                 begun.append(crate.name)
-                used[0] += jobs
-                most[0] = max(most[0], used[0])
+                used.append(used[-1] + jobs)
             time.sleep(0.01)
             with lock:
-                used[0] -= jobs
+                used.append(used[-1] - jobs)
             return True
 
-        is_made = build.side_by_side(crates, number, noted)
-        found.append(is_made and sorted(begun) == [*"abcde"] and most[0] <= number and begun.index("d") > max(map(begun.index, "ac")))
-        found.append(number > 1 or begun == ["c", "a", "d", "b", "e"])
-    for hundreds, wanted in ((2, "c3 f1"), (5, "c3 f1"), (6, "c2 f2")):
-        f = made("f", hundreds)
-        found.append(begun_with([c, f, made("d", 9, c), made("g", 1, f)], 4) == wanted)
-    f, h = made("f", 8), made("h", 9)
-    j, r = made("j", 2, h), made("r", 1, h)
-    found.append(begun_with([h, f, j, r, made("d", 9, h, j), made("g", 1, f)], 4, f, r) == "h3 f1 j2 r1")
-    s, x = made("s", 0.2), made("x", 1)
-    over_x = made("c", 2, x)
-    found.append(begun_with([s, x, over_x, made("g", 1, x), made("d", 9, s, over_x)], 4, s, over_x) == "s1 x3 c3")
-    z = made("z", 1)
-    k, i = made("k", 8, z), made("i", 7, z)
-    found.append(begun_with([h, z, k, i, made("d", 9, h)], 8, h, i) == "h4 z4 k2 i2")
-    for hundreds, wanted in ((0.29, "c3 f1"), (0.3, "c2 f2")):
-        f = made("f", hundreds)
-        found.append(begun_with([c, f, made("d", 9, c), made("g", 9, f)], 4) == wanted)
-    found.append(build.chains(crates) == {"a": 1000, "b": 600, "c": 1100, "d": 900, "e": 100})
-    meeting = threading.Barrier(4, timeout=30)
-    found.append(build.side_by_side([made("a", 9), *(made(name, 1) for name in "bcd")], 8, lambda *_: meets(meeting)))
-    number = []
+        is_made = build.side_by_side(crates, most, noted)
+        found.append(is_made and sorted(begun) == [*"abcde"] and max(used) <= most and begun.index("d") > max(map(begun.index, "ac")))
+        found.append(most > 1 or begun == ["c", "a", "d", "b", "e"])
     for processors, free, says in ((4, 9e9, ""), (4, 3e9, ""), (2, 99e9, ""), (4, 99e9, "3"), (4, 99e9, "0")):
         with without("RT_JOBS"), patch.object(build, "side_by_side", lambda _, most, make: number.append(most)):
             os.environ |= {"RT_JOBS": says} if says else {}
             build.build_all(fake_tools(processors, free), [])
-    named = made("oca_tree", 1)
-    return all(found) and number == [2, 1, 2, 3, 4] and build.work(named) == build.SECONDS["oca_tree"] and build.work(a) == 100
+    found.append(build.chains(crates) == {"a": 1000, "b": 600, "c": 1100, "d": 900, "e": 100} and build.work(a) == 100)
+    return all(found) and number == [2, 1, 2, 3, 4] and build.work(crate_of("oca_tree", 1)) == build.SECONDS["oca_tree"]
+
+
+def gives_long_chains_more(_):
+    """`build.py` gives more processes to a crate that begins a long chain, as long as it is longer than the others."""
+    found, c, h, s, x, z = [], crate_of("c", 2), crate_of("h", 9), crate_of("s", 0.2), crate_of("x", 1), crate_of("z", 1)
+    for hundreds, above, wanted in ((2, 1, "c3 f1"), (5, 1, "c3 f1"), (6, 1, "c2 f2"), (0.29, 9, "c3 f1"), (0.3, 9, "c2 f2")):
+        f = crate_of("f", hundreds)
+        found.append(begun_with([c, f, crate_of("d", 9, c), crate_of("g", above, f)], 4) == wanted)
+    f, j, r = crate_of("f", 8), crate_of("j", 2, h), crate_of("r", 1, h)
+    found.append(begun_with([h, f, j, r, crate_of("d", 9, h, j), crate_of("g", 1, f)], 4, f, r) == "h3 f1 j2 r1")
+    over_x, k, i = crate_of("c", 2, x), crate_of("k", 8, z), crate_of("i", 7, z)
+    found.append(begun_with([s, x, over_x, crate_of("g", 1, x), crate_of("d", 9, s, over_x)], 4, s, over_x) == "s1 x3 c3")
+    found.append(begun_with([h, z, k, i, crate_of("d", 9, h)], 8, h, i) == "h4 z4 k2 i2")
+    meeting = threading.Barrier(4, timeout=30)
+    return all(found) and build.side_by_side([crate_of("a", 9), *(crate_of(name, 1) for name in "bcd")], 8, lambda *_: meets(meeting))
 
 
 def builds_each_program(folder):
@@ -644,6 +646,7 @@ def installs_whole(folder):
 ROWS = [(f"make {goal} fails with what it runs", functools.partial(make_fails_with, goal)) for goal in GOALS] + [
     (".ci/run runs the gate", ci_runs_the_gate), ("build.py proves each library", proves_each_library),
     ("build.py takes what stands", takes_what_stands), ("build.py shares the processors", shares_processors),
+    ("build.py begins crates in order", begins_in_order), ("build.py gives long chains more", gives_long_chains_more),
     ("build.py builds each program", builds_each_program), ("build.py builds what is named", builds_what_is_named),
     ("build.py proves a program", proves_a_program), ("build.py has checks write in memory", writes_in_memory),
     ("run.py has all written where it may", writes_where_git_is), ("own_ports.py keeps others out", keeps_others_out),

@@ -15,6 +15,12 @@ def ended(run, seconds=60):
         return ("it did not end", *run.communicate(timeout=60))
 
 
+def verdict(passed, failed):
+    """Prints the last line over so many checks, and answers the exit status: 1 where one failed or none passed."""
+    print(f"{passed} passed, {failed} failed")
+    return int(failed > 0 or not passed)
+
+
 class Checks:
     """Counts checks, and runs the programs of a folder for them."""
 
@@ -33,6 +39,12 @@ class Checks:
 
     def same(self, what, got, wanted, is_time=False):
         self.expect(what, got == wanted, f"{got!r:.1000} in place of {wanted!r:.1000}", is_time)
+
+    def all_but(self, count, faults):
+        """So many checks, of which each of these faults is one that failed."""
+        self.passed += max(0, count - len(faults))
+        for fault in faults:
+            self.expect(fault, False)
 
     def start(self, *words, given=None, text=True, **how):
         """A run of a program of the folder, with this input; without one it stays open."""
@@ -76,8 +88,7 @@ class Checks:
                 run.wait()
         if self.repeated:
             print(f"parts that were repeated since times were too long: {', '.join(self.repeated)}")
-        print(f"{self.passed} passed, {self.failed} failed")
-        return int(self.failed > 0 or not self.passed)
+        return verdict(self.passed, self.failed)
 
 
 def write(run, given, ends=True):

@@ -13,6 +13,7 @@ device hears all but the damaged datagrams: both answer alike, and have the same
 import sys
 
 import oca_profile as oca
+from checks import verdict
 from comparing import runs_of
 
 # the examples of docs/PROTOCOL.md and some more: commands of all sizes, responses, keep-alives of both forms, two commands in a PDU
@@ -143,8 +144,7 @@ def main():
         trial.message(message)
     print(f"damaged datagrams: {trial.tried} tried, {trial.refused} refused with nothing changed, {trial.again} of the others "
           f"written back alike, {trial.wrong} wrong")
-    print(f"{trial.tried - trial.wrong} passed, {trial.wrong} failed")
-    return 1 if trial.wrong else 0
+    return verdict(trial.tried - trial.wrong, trial.wrong)
 
 
 if __name__ == "__main__":

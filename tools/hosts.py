@@ -15,6 +15,7 @@ import sys
 import threading
 import time
 
+from checks import verdict
 from lossy import Network, answers_of, step, told_apart
 from namespaces import Machines
 from neighbours import DEVICE, PEER, PORT
@@ -101,8 +102,7 @@ def main():
     for ahead in (1, 2, 16):
         with Machines((PEER, DEVICE)) as room:
             good.append(run(room, folder, count, seed, ahead))
-    print(f"{sum(good)} passed, {len(good) - sum(good)} failed")
-    return 0 if all(good) else 1
+    return verdict(sum(good), len(good) - sum(good))
 
 
 if __name__ == "__main__":

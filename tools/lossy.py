@@ -23,6 +23,7 @@ import sys
 import time
 
 import oca_profile as oca
+from checks import verdict
 from own_ports import bound, free_port
 
 LOSS, DOUBLING, SLOW = 0.2, 0.2, 0.15
@@ -257,8 +258,7 @@ def main():
         count, seed = int(words[0]) if words else 200, int(words[1]) if len(words) > 1 else 1
         good = [told(folder, set_and_read(random.Random(seed), count), 32, seed, []),
                 told(folder, told_apart(random.Random(seed), 4 * count), 31, seed, ["--ahead", "16"])]
-    print(f"{sum(good)} passed, {len(good) - sum(good)} failed")
-    return 0 if all(good) else 1
+    return verdict(sum(good), len(good) - sum(good))
 
 
 if __name__ == "__main__":

@@ -17,6 +17,8 @@ import subprocess
 import sys
 from pathlib import Path
 
+from checks import Checks
+
 PAGES = Path(__file__).resolve().parent.parent / "man"
 
 
@@ -194,29 +196,17 @@ def is_found(name, there, other, folder):
 
 
 def main():
-    passed = failed = 0
+    folder, checks = sys.argv[1], Checks()
     for name in ("ocadev", "ocactl", "ocapanel"):
         page = PAGES / f"{name}.1"
-        faults, count = faults_of(page.read_text(), f"{sys.argv[1]}/{name}")
+        faults, count = faults_of(page.read_text(), f"{folder}/{name}")
         faults += warnings_of(page) + ends_told(page.read_text(), name)
-        count += len(ENDED[name])
-        for fault in faults:
-            print(f"{name}.1: {fault}")
-        failed += len(faults)
-        passed += max(0, count - len(faults))
-    faults, count = explanations(sys.argv[1])
-    for fault in faults:
-        print(fault)
-    failed += len(faults)
-    passed += count - len(faults)
+        checks.all_but(count + len(ENDED[name]), [f"{name}.1: {fault}" for fault in faults])
+    faults, count = explanations(folder)
+    checks.all_but(count, faults)
     for name, there, other in WRONG:
-        if is_found(name, there, other, sys.argv[1]):
-            passed += 1
-        else:
-            failed += 1
-            print(f"not found: {other!r} in place of {there!r} in {name}.1")
-    print(f"{passed} passed, {failed} failed")
-    return 1 if failed else 0
+        checks.expect(f"not found: {other!r} in place of {there!r} in {name}.1", is_found(name, there, other, folder))
+    return checks.verdict()
 
 
 if __name__ == "__main__":

@@ -16,6 +16,7 @@ import time
 
 import namespaces
 import oca_profile as oca
+from checks import verdict
 from own_ports import bound
 
 DEVICE, PEER, SILENT = "10.91.0.1", "10.91.0.2", "10.91.0.{}"
@@ -127,8 +128,7 @@ def main():
             passed, failed = passed + good, failed + (not good)
             print(f"{silent[0]} silent, {silent[1]} datagrams a second of {silent[2]} keep-alives, {sent} in all: {answered} of "
                   f"{asked} answered, the slowest in {slowest} ms (alone {alone[2]})", flush=True)
-    print(f"{passed} passed, {failed} failed")
-    return 1 if failed else 0
+    return verdict(passed, failed)
 
 
 if __name__ == "__main__":

@@ -3,10 +3,9 @@
 
 Usage: network.py BIN     BIN is the folder with `ocadev` and `ocactl`
 
-Signals, failing calls and what a send buffer is granted come from the layer of `unreliable.c`. What the programs print and how long they take is compared. What is timed is held against waits of the same
-length that this script makes meanwhile, and tried again while it is too long, since a machine may be busy: a part is
-repeated only where nothing but times was wrong, and how often one was stands before the last line.
-The last line is 'N passed, M failed'."""
+Signals, failing calls and what a send buffer is granted come from the layer of `unreliable.c`. What the programs print and how long they take is
+compared. What is timed is held against waits of the same length that this script makes meanwhile, and tried again while it is too long, since a
+machine may be busy: a part is repeated only where nothing but times was wrong, and which were stands before the last line, 'N passed, M failed'."""
 import contextlib
 import errno
 import itertools

@@ -3,7 +3,7 @@
 In a `Late` the latest stands first, and what stands behind it is `before`. What executing one command gives, and what a change at the front does, is
 the second implementation's (oca_profile.py). tools/law.py holds transcripts against it."""
 import functools
-from typing import NamedTuple
+from collections import namedtuple
 
 import oca_profile as oca
 from comparing import Break
@@ -11,54 +11,16 @@ from comparing import Break
 # ---- messages and PDUs (Messages.antt), their encodings (Encoding.antt)
 
 
-class CommandFields(NamedTuple):
-    handle: int
-    target: int
-    level: int
-    index: int
-    count: int
-    params: bytes
-
-
-class ResponseFields(NamedTuple):
-    handle: int
-    status: int
-    count: int
-    params: bytes
-
-
-class Seconds(NamedTuple):
-    n: int
-
-
-class Millis(NamedTuple):
-    n: int
-
-
-class Command(NamedTuple):
-    respond: bool
-    fields: CommandFields
-
-
-class Response(NamedTuple):
-    fields: ResponseFields
-
-
-class KeepAlive(NamedTuple):
-    form: object
-
-
-class Commands(NamedTuple):
-    respond: bool
-    commands: tuple
-
-
-class Responses(NamedTuple):
-    responses: tuple
-
-
-class OneKeepAlive(NamedTuple):
-    form: object
+CommandFields = namedtuple("CommandFields", "handle target level index count params")
+ResponseFields = namedtuple("ResponseFields", "handle status count params")
+Seconds = namedtuple("Seconds", "n")
+Millis = namedtuple("Millis", "n")
+Command = namedtuple("Command", "respond fields")
+Response = namedtuple("Response", "fields")
+KeepAlive = namedtuple("KeepAlive", "form")
+Commands = namedtuple("Commands", "respond commands")
+Responses = namedtuple("Responses", "responses")
+OneKeepAlive = namedtuple("OneKeepAlive", "form")
 
 
 LARGEST_DATAGRAM = 1472
@@ -262,12 +224,7 @@ class Tree:
         self.objects = tuple(objects)
 
 
-class Execution(NamedTuple):
-    tree: Tree
-    status: int
-    count: int
-    parameters: bytes
-    wrote: bool
+Execution = namedtuple("Execution", "tree status count parameters wrote")
 
 
 def with_copies(tree, ones):
@@ -299,49 +256,15 @@ def after_set(tree, ono, value):
 # ---- what happened (LawByEvents.antt)
 
 
-class Datagram(NamedTuple):
-    sender: tuple
-    data: bytes
-    now: int
-
-
-class Tick(NamedTuple):
-    now: int
-
-
-class Local(NamedTuple):
-    ono: int
-    value: tuple
-
-
-class Passes(NamedTuple):
-    now: int
-
-
-class Says(NamedTuple):
-    sender: tuple
-    messages: tuple
-
-
-class Sets(NamedTuple):
-    ono: int
-    value: tuple
-
-
-class Executes(NamedTuple):
-    p: tuple
-    c: CommandFields
-
-
-class Releases(NamedTuple):
-    p: tuple
-
-
-class Arrival(NamedTuple):
-    sender: tuple
-    messages: tuple
-    at: int
-    number: int  # tells arrivals apart, for what is kept of them
+Datagram = namedtuple("Datagram", "sender data now")
+Tick = namedtuple("Tick", "now")
+Local = namedtuple("Local", "ono value")
+Passes = namedtuple("Passes", "now")
+Says = namedtuple("Says", "sender messages")
+Sets = namedtuple("Sets", "ono value")
+Executes = namedtuple("Executes", "p c")
+Releases = namedtuple("Releases", "p")
+Arrival = namedtuple("Arrival", "sender messages at number")  # tells arrivals apart, for what is kept of them
 
 
 class Late:
@@ -609,14 +532,9 @@ class Law:
 # ---- a transcript held against the law
 
 
-class Told(NamedTuple):
-    """What a device said of an event: the verdict, or whether a change at the front was made; the packets; what a
-    datagram wrote to, or None where that is not told; the number of sessions and the objects after it."""
-    verdict: tuple
-    packets: tuple
-    written: tuple
-    sessions: int
-    objects: tuple
+# What a device said of an event: the verdict, or whether a change at the front was made; the packets; what a datagram wrote to, or None where that is
+# not told; the number of sessions and the objects after it.
+Told = namedtuple("Told", "verdict packets written sessions objects")
 
 
 def shown_objects(objects):

@@ -23,60 +23,64 @@ def number(data):
 
 def check(data):
     """The messages of a datagram, or the first Fault in the order of the checks."""
-    end = len(data)
-    if end == 0:
+    if not data:
         raise Fault(1, 0)
-    if end > LARGEST:
+    if len(data) > LARGEST:
         raise Fault(2, 1472)
-    messages = []
-    p = 0
+    messages, p = [], 0
+    while p < len(data):
+        kind, count, end = frame_at(data, p)
+        messages += [("keep-alive", data[p + 10:end])] if kind == 4 else messages_in(data, p, end, kind, count)
+        p = end
+    return messages
 
+
+def frame_at(data, p):
+    """The type, the count and the end of the PDU that begins at p."""
     def field(at, size):
-        if at + size > end:
+        if at + size > len(data):
             raise Fault(9, at)
         return number(data[at:at + size])
 
-    while p < end:
-        if data[p] != 0x3B:
-            raise Fault(3, p)
-        if field(p + 1, 2) != 1:
-            raise Fault(4, p + 1)
-        size = field(p + 3, 4)
-        if size < 11:
-            raise Fault(5, p + 3)
-        e = p + 1 + size
-        if e > end:
-            raise Fault(9, p + 3)
-        kind = data[p + 7]
-        if kind not in (0, 1, 3, 4):
-            raise Fault(6, p + 7)
-        count = number(data[p + 8:p + 10])
-        if count == 0 or (kind == 4 and count != 1):
+    if data[p] != 0x3B:
+        raise Fault(3, p)
+    if field(p + 1, 2) != 1:
+        raise Fault(4, p + 1)
+    size = field(p + 3, 4)
+    if size < 11:
+        raise Fault(5, p + 3)
+    if p + 1 + size > len(data):
+        raise Fault(9, p + 3)
+    kind, count = data[p + 7], number(data[p + 8:p + 10])
+    if kind not in (0, 1, 3, 4):
+        raise Fault(6, p + 7)
+    if count == 0 or (kind == 4 and count != 1):
+        raise Fault(7, p + 8)
+    if kind == 4 and size not in (11, 13):
+        raise Fault(8, p + 10)
+    return kind, count, p + 1 + size
+
+
+def messages_in(data, p, end, kind, count):
+    """The messages of the PDU from p to the end."""
+    messages, at = [], p + 10
+    for _ in range(count):
+        if at == end:
             raise Fault(7, p + 8)
-        if kind == 4:
-            if size not in (11, 13):
-                raise Fault(8, p + 10)
-            messages.append(("keep-alive", data[p + 10:e]))
+        if end - at < 4:
+            raise Fault(8, at)
+        length = number(data[at:at + 4])
+        if length < (10 if kind == 3 else 17) or at + length > end:
+            raise Fault(8, at)
+        body = data[at:at + length]
+        if kind == 3:
+            messages.append(("response", number(body[4:8]), body[8], body[9], body[10:]))
         else:
-            m = p + 10
-            for _ in range(count):
-                if m == e:
-                    raise Fault(7, p + 8)
-                if e - m < 4:
-                    raise Fault(8, m)
-                length = number(data[m:m + 4])
-                if length < (10 if kind == 3 else 17) or m + length > e:
-                    raise Fault(8, m)
-                body = data[m:m + length]
-                if kind == 3:
-                    messages.append(("response", number(body[4:8]), body[8], body[9], body[10:]))
-                else:
-                    command = Command(number(body[4:8]), number(body[8:12]), number(body[12:14]), number(body[14:16]), body[16], body[17:])
-                    messages.append(("command", kind == 1, command))
-                m += length
-            if m < e:
-                raise Fault(7, p + 8)
-        p = e
+            fields = [number(body[a:b]) for a, b in ((4, 8), (8, 12), (12, 14), (14, 16))]
+            messages.append(("command", kind == 1, Command(*fields, body[16], body[17:])))
+        at += length
+    if at < end:
+        raise Fault(7, p + 8)
     return messages
 
 

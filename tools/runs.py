@@ -89,17 +89,8 @@ STRIPS = OBJECTS + b"""\
 4109 1.1.1.3 4107 polarity
 4110 1.1.1.1.3 4107 trim
 """
-# A keep-alive of each of three peers.
-THREE_PEERS = b"""\
-0 127.0.0.1:9001 3b00010000000b0400010001
-0 127.0.0.1:9002 3b00010000000b0400010001
-0 127.0.0.1:9003 3b00010000000b0400010001
-"""
 # GetState of the mute of the second strip.
 GET_STRIP = b"0 127.0.0.1:9001 3b00010000001a0100010000001100000001000010080004000100\n"
-# Commands under the handles 5, 6, 6, 5, 4 and 7.
-SIX_COMMANDS = b"".join(b"0 127.0.0.1:9001 3b00010000001a000001000000110000000%d000010010004000100\n" % handle for handle in (5, 6, 6, 5, 4, 7))
-
 # What a run of `ocadev` on these words and this input prints, without a fault.
 DEVICE_PRINTS = [
     # The worked examples.
@@ -125,27 +116,6 @@ served 0 1 0
 malformed 1 at 0
 quiet
 """),
-    # Room for so many peers.
-    ("ocadev replay --peers 1", THREE_PEERS, b"served 0 0 0\n> 3b00010000000b0400010001\nno-room\nno-room\n"),
-    ("ocadev replay --peers 002",
-     THREE_PEERS,
-     b"""\
-served 0 0 0
-> 3b00010000000b0400010001
-served 0 0 0
-> 3b00010000000b0400010001
-no-room
-"""),
-    ("ocadev replay --peers 64",
-     THREE_PEERS,
-     b"""\
-served 0 0 0
-> 3b00010000000b0400010001
-served 0 0 0
-> 3b00010000000b0400010001
-served 0 0 0
-> 3b00010000000b0400010001
-"""),
     # Behind the bench's own objects stand the strips, and a command for the mute of the second is answered.
     ("ocadev show --channels 0000", b"", OBJECTS),
     ("ocadev show --text", b"", TEXT),
@@ -164,27 +134,6 @@ served 2 0 0
 > 3b00010000001f0300020000000b000000010001010000000b00000002000101
 served 0 0 0 reused 1
 served 0 1 0
-"""),
-    # With a window of 1 the second handle makes the first one old; without it the first is kept.
-    ("ocadev replay --window 001",
-     SIX_COMMANDS,
-     b"""\
-served 1 0 0
-served 1 0 0
-served 0 1 0
-served 0 0 1
-served 0 0 1
-served 1 0 0
-"""),
-    ("ocadev replay --window 64",
-     SIX_COMMANDS,
-     b"""\
-served 1 0 0
-served 1 0 0
-served 0 1 0
-served 0 1 0
-served 1 0 0
-served 1 0 0
 """),
 ]
 
@@ -246,7 +195,7 @@ def done(handle):
     return response(handle, 0, 0)
 
 
-A, B = 9001, 9002  # the ports of two peers
+A, B, C = 9001, 9002, 9003  # the ports of three peers
 EXECUTED, EXECUTED_2, KEPT = b"served 1 0 0", b"served 2 0 0", b"served 0 1 0"
 OLD, REUSED, NOTHING = b"served 0 0 1", b"served 0 0 0 reused 1", b"served 0 0 0"
 # GetState of 4097 under handle 1, and its response, Muted.
@@ -317,133 +266,118 @@ def muted(first, end):
     return [(0, A, get_state(handle), EXECUTED, [state(handle, 1)]) for handle in range(first, end)]
 
 
+def six(*verdicts):
+    """Commands under the handles 5, 6, 6, 5, 4 and 7 that ask for no response, each with its verdict."""
+    return [(0, A, quiet_command(handle, 4097, (4, 1)), verdict, []) for handle, verdict in zip((5, 6, 6, 5, 4, 7), verdicts, strict=True)]
+
+
+# What becomes of a keep-alive of one who is admitted, and of one who finds no room.
+ADMITTED, REFUSED = (ONE_SECOND, NOTHING, [ONE_SECOND]), (ONE_SECOND, b"no-room", [])
 # What a device makes of datagrams: its options, the text of its objects, or none of the bench's, and for each datagram the moment, the port of its
 # peer, its bytes, the verdict and the packets that leave.
-DEVICE_SCRIPTS = {
+DEVICE_SCRIPTS = [
+    # Room for so many peers.
+    ("--peers 1", None, [(0, A, *ADMITTED), (0, B, *REFUSED), (0, C, *REFUSED)]),
+    ("--peers 002", None, [(0, A, *ADMITTED), (0, B, *ADMITTED), (0, C, *REFUSED)]),
+    ("--peers 64", None, [(0, A, *ADMITTED), (0, B, *ADMITTED), (0, C, *ADMITTED)]),
+    # With a window of 1 the second handle makes the first one old; without it the first is kept.
+    ("--window 001", None, six(EXECUTED, EXECUTED, KEPT, OLD, OLD, EXECUTED)),
+    ("--window 64", None, six(EXECUTED, EXECUTED, KEPT, KEPT, EXECUTED, EXECUTED)),
     # Settings from -600 to 600 are taken, 601 is refused, and the setting stays.
-    "refuses_out_of_range": ("", None, [
+    ("", None, [
         (0, A, command(6, 4100, (5, 2), b"\x02\x58"), EXECUTED, [done(6)]),
         (0, A, command(7, 4100, (5, 2), b"\xfd\xa8"), EXECUTED, [done(7)]),
         (0, A, command(8, 4100, (5, 2), b"\x02\x59"), EXECUTED, [response(8, 7, 0)]),
-        (0, A, command(9, 4100, (5, 1)), EXECUTED,
-         [bytes.fromhex("3b00010000001903000100000010000000090003fda8fda80258")]),
-    ]),
+        (0, A, command(9, 4100, (5, 1)), EXECUTED, [bytes.fromhex("3b00010000001903000100000010000000090003fda8fda80258")])]),
     # Of commands that overtake one another the one that came last counts.
-    "executes_in_order_of_arrival": ("", None, [
+    ("", None, [
         (0, A, set_state(1, 2), EXECUTED, [done(1)]),
         (0, A, set_state(2, 1), EXECUTED, [done(2)]),
         (0, A, set_state(4, 2), EXECUTED, [done(4)]),
         (0, A, set_state(3, 1), EXECUTED, [done(3)]),
-        (0, A, get_state(5), EXECUTED, [state(5, 1)]),
-    ]),
+        (0, A, get_state(5), EXECUTED, [state(5, 1)])]),
     # A locks an object at 0. A malformed datagram of B at 3,001 raises the moment past three heartbeats of A, so that the lock is off for what B
     # sends after it, though that is marked with an earlier moment.
-    "malformed_datagrams_move_the_clock": ("", None, [
+    ("", None, [
         (0, A, ONE_SECOND, NOTHING, [ONE_SECOND]),
         (0, A, lock(1), EXECUTED, [done(1)]),
         (3000, B, set_state(1, 2), EXECUTED, [response(1, 3, 0)]),
         (3001, B, b"", b"malformed 1 at 0", []),
-        (0, B, set_state(2, 2), EXECUTED, [done(2)]),
-    ]),
+        (0, B, set_state(2, 2), EXECUTED, [done(2)])]),
     # Keep-alives come back as they were sent, and the last sets the heartbeat, here to the least of 250 ms.
-    "returns_keep_alives": ("", None, [
+    ("", None, [
         (0, A, ONE_SECOND, NOTHING, [ONE_SECOND]),
         (0, A, MILLIS, NOTHING, [MILLIS]),
         (0, A, NO_SECONDS, NOTHING, [NO_SECONDS]),
         (0, A, lock(1), EXECUTED, [done(1)]),
         (750, B, set_state(1, 2), EXECUTED, [response(1, 3, 0)]),
-        (751, B, set_state(2, 2), EXECUTED, [done(2)]),
-    ]),
+        (751, B, set_state(2, 2), EXECUTED, [done(2)])]),
     # The grammar has no rule for ParamCount: a wrong one is answered with the status ParameterError.
-    "a_wrong_count_of_parameters": ("", None, [(0, A, GET[:-1] + b"\5", EXECUTED, [response(1, 6, 0)])]),
+    ("", None, [(0, A, GET[:-1] + b"\5", EXECUTED, [response(1, 6, 0)])]),
     # A window of 32 after 33 commands: the first is old, the second a duplicate, and a lower one is old.
-    "keeps_the_last_replies": ("", None, [
-        *muted(1, 34),
-        (0, A, get_state(1), OLD, []),
-        (0, A, get_state(2), KEPT, [state(2, 1)]),
-        (0, A, get_state(0), OLD, []),
-    ]),
+    ("", None, [*muted(1, 34), (0, A, get_state(1), OLD, []), (0, A, get_state(2), KEPT, [state(2, 1)]), (0, A, get_state(0), OLD, [])]),
     # A handle that never came is old below the floor, and above the window one is fresh.
-    "executes_nothing_below_the_floor": ("", None, [
-        *muted(6, 39),
-        (0, A, set_state(5, 2), OLD, []),
-        (0, A, get_state(39), EXECUTED, [state(39, 1)]),
-    ]),
+    ("", None, [*muted(6, 39), (0, A, set_state(5, 2), OLD, []), (0, A, get_state(39), EXECUTED, [state(39, 1)])]),
     # A window of one command.
-    "keeps_as_few_as_one": ("--window 1", None, [
+    ("--window 1", None, [
         (0, A, get_state(5), EXECUTED, [state(5, 1)]),
         (0, A, get_state(6), EXECUTED, [state(6, 1)]),
         (0, A, get_state(6), KEPT, [state(6, 1)]),
         (0, A, get_state(5), OLD, []),
         (0, A, get_state(4), OLD, []),
-        (0, A, get_state(7), EXECUTED, [state(7, 1)]),
-    ]),
+        (0, A, get_state(7), EXECUTED, [state(7, 1)])]),
     # A window of 64 commands.
-    "keeps_as_many_as_64": ("--window 64", None, [
-        *muted(1, 66),
-        (0, A, get_state(1), OLD, []),
-        (0, A, get_state(2), KEPT, [state(2, 1)]),
-    ]),
+    ("--window 64", None, [*muted(1, 66), (0, A, get_state(1), OLD, []), (0, A, get_state(2), KEPT, [state(2, 1)])]),
     # Another command under the handle of a retained one is not executed and gets nothing, and the retained one stays.
-    "ignores_another_command_under_a_kept_handle": ("", None, [
+    ("", None, [
         (0, A, GET, EXECUTED, [MUTED]),
         (0, A, set_state(1, 2), REUSED, []),
         (0, A, GET, KEPT, [MUTED]),
         (0, A, quiet_command(1, 4097, (4, 1)), KEPT, []),
         *muted(2, 34),
-        (0, A, set_state(1, 2), OLD, []),
-    ]),
+        (0, A, set_state(1, 2), OLD, [])]),
     # A lock goes after three heartbeats of silence, and the reply that took it stays. B asks for the role: mute.
-    "releases_locks_and_keeps_replies": ("", None, [
+    ("", None, [
         (0, A, ONE_SECOND, NOTHING, [ONE_SECOND]),
         (0, A, lock(1), EXECUTED, [done(1)]),
         (3000, B, command(1, 4097, (1, 5)), EXECUTED, [response(1, 3, 0)]),
         (3001, B, command(2, 4097, (1, 5)), EXECUTED, [response(2, 0, 1, b"\0\4mute")]),
         (3002, A, lock(1), KEPT, [done(1)]),
-        (3003, B, get_state(3), EXECUTED, [state(3, 1)]),
-    ]),
+        (3003, B, get_state(3), EXECUTED, [state(3, 1)])]),
     # The reply of a command that asked for none is retained.
-    "retains_replies_that_were_not_sent": ("", None, [
+    ("", None, [
         (0, A, QUIET_SET, EXECUTED, []),
         (0, A, QUIET_SET, KEPT, []),
         (0, A, set_state(1, 2), KEPT, [done(1)]),
-        (0, A, get_state(2), EXECUTED, [state(2, 2)]),
-    ]),
+        (0, A, get_state(2), EXECUTED, [state(2, 2)])]),
     # As many commands as fit are answered in one packet; a byte more is too long.
-    "takes_a_datagram_full_of_commands": ("", None, [(0, A, FULL_OF_GETS, b"served 86 0 0", [FULL_OF_STATES])]),
-    "refuses_a_byte_too_many": ("", None, [(0, A, FULL_OF_GETS + b"\0", b"malformed 2 at 1472", [])]),
+    ("", None, [(0, A, FULL_OF_GETS, b"served 86 0 0", [FULL_OF_STATES])]),
+    ("", None, [(0, A, FULL_OF_GETS + b"\0", b"malformed 2 at 1472", [])]),
     # As many responses as fit are ignored; as many keep-alives come back, each in a packet of its own.
-    "ignores_a_datagram_full_of_responses": ("", None, [(0, A, FULL_OF_RESPONSES, NOTHING, [])]),
-    "returns_a_datagram_full_of_keep_alives": ("", None, [(0, A, FULL_OF_KEEP_ALIVES, NOTHING, 122 * [ONE_SECOND])]),
+    ("", None, [(0, A, FULL_OF_RESPONSES, NOTHING, [])]),
+    ("", None, [(0, A, FULL_OF_KEEP_ALIVES, NOTHING, 122 * [ONE_SECOND])]),
     # Two responses leave in one PDU; a keep-alive between two leaves in a packet of its own, and so do they.
-    "neighbours_leave_in_one_pdu": ("", None, [(0, A, TWO_GETS, EXECUTED_2, [TWO_STATES])]),
-    "a_keep_alive_leaves_alone": ("", None, [
-        (0, A, GET + ONE_SECOND + command(2, 4098, (4, 1)), EXECUTED_2, [MUTED, ONE_SECOND, state(2, 1)]),
-    ]),
+    ("", None, [(0, A, TWO_GETS, EXECUTED_2, [TWO_STATES])]),
+    ("", None, [(0, A, GET + ONE_SECOND + command(2, 4098, (4, 1)), EXECUTED_2, [MUTED, ONE_SECOND, state(2, 1)])]),
     # A duplicate in the same datagram, and a command that asks for no response between the two, end no group.
-    "other_commands_end_no_group": ("", None, [
-        (0, A, GET + quiet_command(2, 4097, (4, 1)) + GET, b"served 2 1 0", [TWICE]),
-    ]),
+    ("", None, [(0, A, GET + quiet_command(2, 4097, (4, 1)) + GET, b"served 2 1 0", [TWICE])]),
     # The same command twice in one datagram is executed once, and its response leaves twice in one PDU.
-    "a_duplicate_beside_its_command": ("", None, [(0, A, GET + GET, b"served 1 1 0", [TWICE])]),
+    ("", None, [(0, A, GET + GET, b"served 1 1 0", [TWICE])]),
     # Responses of exactly 1,472 bytes with their header are one packet, and one response more begins another.
-    "a_group_has_1472_bytes": ("", None, [(0, A, pdu(1, *THIRTEEN), b"served 13 0 0", [OF_THIRTEEN])]),
-    "a_group_has_at_most_1472_bytes": ("", None, [
-        (0, A, pdu(1, *THIRTEEN, asked(14, 4097, (4, 1))), b"served 14 0 0", [OF_THIRTEEN, state(14, 1)]),
-    ]),
+    ("", None, [(0, A, pdu(1, *THIRTEEN), b"served 13 0 0", [OF_THIRTEEN])]),
+    ("", None, [(0, A, pdu(1, *THIRTEEN, asked(14, 4097, (4, 1))), b"served 14 0 0", [OF_THIRTEEN, state(14, 1)])]),
     # The member of the root is listed, and all that is below the root.
-    "tells_the_members_of_a_block": ("", None, [(0, A, MEMBERS, EXECUTED, [THE_DESK])]),
-    "tells_all_below_a_block": ("", None, [(0, A, command(1, 100, (3, 6)), EXECUTED, [response(1, 0, 1, ALL_BELOW)])]),
+    ("", None, [(0, A, MEMBERS, EXECUTED, [THE_DESK])]),
+    ("", None, [(0, A, command(1, 100, (3, 6)), EXECUTED, [response(1, 0, 1, ALL_BELOW)])]),
     # Direct members are listed without those below them, and all below a block without what stands beside it.
-    "tells_members_level_by_level": ("", TWO_LEVELS, [
+    ("", TWO_LEVELS, [
         (0, A, command(1, 100, (3, 5)), EXECUTED, [response(1, 0, 1, DIRECT)]),
         (0, A, command(2, 100, (3, 6)), EXECUTED, [response(2, 0, 1, BELOW)]),
-        (0, A, command(3, 4096, (3, 6)), EXECUTED, [response(3, 0, 1, BELOW_THE_BLOCK)]),
-    ]),
+        (0, A, command(3, 4096, (3, 6)), EXECUTED, [response(3, 0, 1, BELOW_THE_BLOCK)])]),
     # 65 actuators are listed in a datagram of 1,452 bytes, and 66 are too many for one.
-    "tells_as_many_as_fit": ("", actuators(4161), [(0, A, command(1, 100, (3, 6)), EXECUTED, [SIXTY_FIVE])]),
-    "tells_no_more_than_fit": ("", actuators(4162), [(0, A, command(1, 100, (3, 6)), EXECUTED, [response(1, 14, 0)])]),
-}
+    ("", actuators(4161), [(0, A, command(1, 100, (3, 6)), EXECUTED, [SIXTY_FIVE])]),
+    ("", actuators(4162), [(0, A, command(1, 100, (3, 6)), EXECUTED, [response(1, 14, 0)])]),
+]
 
 # How many bytes these have.
 LENGTHS = [(FULL_OF_GETS, 1472), (FULL_OF_STATES, 956), (FULL_OF_RESPONSES, 1470), (TWICE, 32), (SIXTY_FIVE, 1452), (OF_THIRTEEN, 1472)]
@@ -625,7 +559,7 @@ def device_scripts(runs):
     for length in LENGTHS:
         runs.check(["length"], len(length[0]) == length[1], length)
     with tempfile.TemporaryDirectory() as room:
-        for options, objects, steps in DEVICE_SCRIPTS.values():
+        for options, objects, steps in DEVICE_SCRIPTS:
             words = ["ocadev", "replay", *options.split()]
             if objects is not None:
                 words += ["--tree", f"{room}/objects.tree"]

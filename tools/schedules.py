@@ -198,10 +198,15 @@ def visitors(r, window, span):
                 schedule.timed("to-device", some_datagram(r, len(network.to_device), ()))
             if network.to_links:
                 schedule.timed("to-link", some_datagram(r, len(network.to_links), ()))
-        if r.randrange(3) == 0:
-            schedule.take_all()
-        schedule.now += r.choice(pace)
+        goes_on(r, schedule, pace)
     return schedule
+
+
+def goes_on(r, schedule, pace):
+    """Now and then all that links hold is taken; then some time passes."""
+    if r.randrange(3) == 0:
+        schedule.take_all()
+    schedule.now += r.choice(pace)
 
 
 def lossy(r, window, span):
@@ -220,9 +225,7 @@ def lossy(r, window, span):
                 if r.randrange(loss + 1) == 0:
                     schedule.timed(way, k)
             came[way] = len(sent)
-        if r.randrange(3) == 0:
-            schedule.take_all()
-        schedule.now += r.choice(pace)
+        goes_on(r, schedule, pace)
     return schedule
 
 

@@ -27,6 +27,7 @@ import sys
 import tempfile
 from pathlib import Path
 
+from checks import Checks
 from grants import NOTE
 
 TOP = Path(__file__).resolve().parent.parent
@@ -209,14 +210,11 @@ def all_tables():
 
 
 def main():
-    passed, failed = 0, 0
-    checks = [it for name in DOCUMENTS for it in checks_of(name, os.path.abspath(sys.argv[1]))]
-    for where, fault in [*checks, *examples(), *all_tables()]:
-        passed += fault is None
-        failed += fault is not None
+    counts = Checks()
+    for where, fault in [*(it for name in DOCUMENTS for it in checks_of(name, os.path.abspath(sys.argv[1]))), *examples(), *all_tables()]:
+        counts.passed, counts.failed = counts.passed + (fault is None), counts.failed + (fault is not None)
         print(f"{where}: {'as it stands' if fault is None else fault}")
-    print(f"{passed} passed, {failed} failed")
-    return 1 if failed else 0
+    return counts.verdict()
 
 
 if __name__ == "__main__":

@@ -20,7 +20,7 @@ import sys
 import tempfile
 
 import oca_profile as oca
-from checks import layered
+from checks import layered, verdict
 from damaged import MESSAGES
 
 PEERS = ["127.0.0.1:9001", "127.0.0.1:9002"]
@@ -197,8 +197,7 @@ def main():
         print(f"unreliable: {runs.refused} requests for memory refused and answered, {runs.without} done without; "
               f"{runs.ends} failed reads and writes, {runs.in_memory} failed receives and sends in memory, "
               f"{runs.pieces} runs in short pieces; {runs.wrong} wrong")
-    print(f"{runs.refused + runs.ends + runs.in_memory + runs.pieces} passed, {runs.wrong} failed")
-    return 1 if runs.wrong else 0
+    return verdict(runs.refused + runs.ends + runs.in_memory + runs.pieces, runs.wrong)
 
 
 if __name__ == "__main__":
