@@ -3,7 +3,7 @@ ghost use Rattle.std.specs.Prelude.{◌≡◌, ◌⊎◌, ◌≤◌, length, map
 ghost use Rattle.std.specs.Option.{option_copied};
 ghost use Rattle.oca_tree.specs.Readers.{info_at, info_of_ono};
 ghost use Rattle.oca_calls.specs.CSpecs.{AreSettingWords, FitsBits, FitsSetting, FitsSpec, HasBits, IsNumberWords};
-ghost use Rattle.oca_calls.specs.CSpecs.{IsSpecOf, WritesFound, WritesSpec, alone, is_yes};
+ghost use Rattle.oca_calls.specs.CSpecs.{IsSpecOf, WritesSpec, alone, is_yes};
 ghost use Rattle.oca_calls.specs.Numbers.{answer_number};
 ghost use Rattle.oca_calls.specs.declared.answer.Answer.TheVariants.{Done};
 ghost use Rattle.oca_calls.specs.Outputs.{class_number};
@@ -184,9 +184,6 @@ pub fn read_spec(tree: &Tree, index: usize, out: &mut SpecWords) -> Answer
     ensures writes { WritesSpec tree.now (info_at tree.now index) out.old out.new (answer_number result) }
     ensures unwritten { (result ≡ Done) ⊎ (out.new ≡ out.old) }
 {
-    if out.size != SPEC_SIZE {
-        return Answer::BadSize;
-    }
     write_spec(tree, tree.object_at(index), out)
 }
 
@@ -195,17 +192,18 @@ pub fn read_spec_of(tree: &Tree, ono: Ono, out: &mut SpecWords) -> Answer
     ensures writes { WritesSpec tree.now (info_of_ono tree.now ono.0) out.old out.new (answer_number result) }
     ensures unwritten { (result ≡ Done) ⊎ (out.new ≡ out.old) }
 {
-    if out.size != SPEC_SIZE {
-        return Answer::BadSize;
-    }
     write_spec(tree, tree.object_of(ono), out)
 }
 
-/// Tells what this object is; nothing is written where there is none or it has no room.
+/// Tells what this object is; nothing is written to a struct of another size, or where there is no object or it has no
+/// room.
 fn write_spec(tree: &Tree, found: Option<ObjectInfo>, out: &mut SpecWords) -> Answer
-    ensures writes { WritesFound tree.now found out.old out.new (answer_number result) }
+    ensures writes { WritesSpec tree.now found out.old out.new (answer_number result) }
     ensures unwritten { (result ≡ Done) ⊎ (out.new ≡ out.old) }
 {
+    if out.size != SPEC_SIZE {
+        return Answer::BadSize;
+    }
     let Some(object) = found else {
         return Answer::Nothing;
     };
