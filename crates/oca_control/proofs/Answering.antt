@@ -1,4 +1,4 @@
--- What was answered stays so, and what is due is given out.
+-- What was answered stays so, and what is due is sent.
 use Rattle.std.proofs.Common.{◌≡◌, ◌⊎◌, ℕ, suc, ◌+◌, ◌-◌, ◌<◌, ◌≤◌, Bool, true, false, cond, not, ◌&&◌, ◌||◌, max, List, [], ◌∷◌, ◌++◌, length, Some, None, Ok, Err, is_none, is_some, refl, sym, ap, ◌∙◌, arith, subst, inl, inr}
 use Rattle.std.specs.Prelude.{nat_eq, nat_le, filter}
 use Rattle.std.specs.List.{AllByRecursion, list_any}
@@ -103,7 +103,7 @@ answer_kept device first opened span before later after h from bytes messages no
     let b = both_true (is_untaken h calls) (is_some (first_of (answers_to device h calls))) so in
     ap is_some (answer_is h (λ x. answers_to device x calls) after.untaken g.are_answered ∙ ap (λ c. cond c (first_of (answers_to device h calls)) None) (g.held h ∙ b.0)) ∙ b.1
 
--- ---- what is due is given out
+-- ---- what is due is sent
 
 abbrev without : ℕ → List ℕ → List ℕ
 without x xs = filter (λ y. not (nat_eq y x)) xs
@@ -168,7 +168,7 @@ module _ (device : Peer) (opened now t h most : ℕ) (calls : List Call) (made :
   abbrev sent_now : List ℕ → Sending
   sent_now bytes = record { at = max (clock_of_calls opened calls) now; bytes = bytes }
 
-  -- what was just given out is not due
+  -- what was just sent is not due
   not_again : (y : ℕ) (bytes : List ℕ) → (is_untaken y calls && (is_none (first_of (answers_to device y calls)) && may_be_sent t (sent_now bytes ∷ sendings opened y calls))) ≡ true → ⊥
   not_again y bytes e =
       let b = both_true (is_untaken y calls) (is_none (first_of (answers_to device y calls)) && may_be_sent t (sent_now bytes ∷ sendings opened y calls)) e in
@@ -253,7 +253,7 @@ goes_on_until device opened now h before (Receives from bytes content n a ∷ ca
 goes_on_until device opened now h before (TakesAnswer x a ∷ calls) due g e d covers = absurd e.0
 
 -- Among calls of `due` alone, at one moment, and at least as many of them as handles are due then, each handle that is
--- due is given out, or the link is lost (span not 0).
+-- due is sent, or the link is lost (span not 0).
 pub given_out : (device : Peer) (first opened span : ℕ) (before calls : List Call) (after : LinkState) (now h : ℕ) (due : List ℕ) → 0 < span → IsHistory device first opened span (calls ++ before) after →
     AllByRecursion (CallsDueAt now) calls → is_due_at device opened (max (clock_of_calls opened before) now) h before ≡ true →
     ((x : ℕ) → is_due_at device opened (max (clock_of_calls opened before) now) x before ≡ true → is_among x due ≡ true) → length due ≤ length calls →

@@ -77,7 +77,7 @@ few_untaken device first opened s calls l some p =
     within : (n k : ℕ) → l.span ≡ s → k ≤ n - (n - s) → k ≤ l.span
     within n k e p = omega arith
 
--- ---- what is due is given out
+-- ---- what is due is sent
 
 record Gave (ms since : ℕ) (calls : List Call) (l new : LinkState) : Type 0 where
   pub more : List Call
@@ -383,7 +383,7 @@ module _ (device : Peer) (first opened s : ℕ) (some : 0 < s) (ms : ℕ) (short
       further : (a : ℕ) → a ≤ l.moment → now ≤ a + ms → now ≤ l.moment + ms
       further a p q = omega arith
 
-  -- a turn with a moment, in which all that is due is given out
+  -- a turn with a moment, in which all that is due is sent
   turn_at : (old l between new : LinkState) (ts : List ℕ) (d : Delivery) (now n : ℕ) → delivered_at d ≡ now ∷ [] → HearsDelivery d l between n → new ≡ link_from now (between.span + 1) between →
       (AreWithin ms old.moment ts → l.lost ≡ false → Goes old l ts) → AreWithin ms old.moment (ts ++ delivered_at d) → new.lost ≡ false → Goes old new (ts ++ delivered_at d)
   turn_at old l between new ts d now n same hears made rest within going =
@@ -460,7 +460,7 @@ module _ (device : Peer) (first opened s : ℕ) (some : 0 < s) (ms : ℕ) (short
 
 -- ---- the laws
 
--- A link whose span is not 0 and that has nothing left to give out, and then runs at moments that follow one another
+-- A link whose span is not 0 and that has nothing left to send, and then runs at moments that follow one another
 -- within `ms`, at most 500, is asked every `ms`, unless it is lost at the end.
 pub run_asked : (device : Peer) (first opened span ms : ℕ) (before : List Call) (old new : LinkState) (moments : List ℕ) → 0 < span → 20 * (250 + ms) ≤ 15000 → IsHistory device first opened span before old → NothingIsLeft old →
     HaveTimeLeft ms old → IsRun moments old new → AreWithin ms old.moment moments → new.lost ≡ false → IsAsked ms old.moment old new
@@ -497,7 +497,7 @@ lost_before_run (Began {l = l} request now h run is made) going =
     ∙ not_lost_before ((submitted request now l).span + 1) now (submitted request now l) (sym (ap (λ (k : LinkState). k.lost) made) ∙ going))
 lost_before_run (Took run_h run made) going = lost_before_run run (sym (ap (λ (k : LinkState). k.lost) made) ∙ going)
 
--- A command that was begun is given out in time as long as it is in flight, over a run whose moments follow one another
+-- A command that was begun is sent in time as long as it is in flight, over a run whose moments follow one another
 -- within `ms`, at most 500, unless the link is lost at the end (span not 0).
 pub begun_in_time : (device : Peer) (first opened span ms : ℕ) (before : List Call) (old link new : LinkState) (request : RequestFields) (now : ℕ) (h : Handle) (moments : List ℕ) → 0 < span → 20 * (250 + ms) ≤ 15000 →
     IsHistory device first opened span before old → beginning request now old ≡ Ok h → link ≡ link_from now ((submitted request now old).span + 1) (submitted request now old) → HaveTimeLeft ms link →

@@ -140,16 +140,16 @@ submits device first s t now accepted sent came open_at l h r some a g = record 
           bytes_are = p.bytes_are;
         }
 
--- ---- a command is given out
+-- ---- a command is sent
 
--- what is decided where a command is given out
+-- what is decided where a command is sent
 pub record IsGiven (t : ℕ) (c : CommandFields) (us : List Untaken) : Type 0 where
   pub given : Untaken
   pub first_is : first_due t us ≡ Some given
   pub command_is : given.command ≡ c
   pub few : given.times < 20
 
--- Where a command is decided on, it is that of the first due one, which was given out less than 20 times.
+-- Where a command is decided on, it is that of the first due one, which was sent less than 20 times.
 pub is_given : (t sent : ℕ) (lost : Bool) (c : CommandFields) (us : List Untaken) → cond lost IsLost (decision_among t sent (first_due t us)) ≡ GivesCommand c → IsGiven t c us
 is_given t sent true c us e = cc
 is_given t sent false c us e = by_first (first_due t us) refl e
@@ -215,7 +215,7 @@ with_sending t c l = record l { moment = t; sent = t; untaken = map (given_out t
 abbrev pub copy_at : ℕ → CommandFields → Sending
 copy_at t c = record { at = t; bytes = pdu_encoding (Commands true (c ∷ [])) }
 
--- A link that follows its history follows it still after a command was given out.
+-- A link that follows its history follows it still after a command was sent.
 pub gives : (device : Peer) (first s t now : ℕ) (accepted : List CommandFields) (sent : ℕ → List Sending) (came : ℕ → List AnswerFields) (open_at : ℕ → Bool) (l : LinkState) (c : CommandFields) →
     IsGiven (present_moment now l) c l.untaken → Follows device first s t accepted sent came open_at l →
     Follows device first s (max t now) accepted (sent_more c.handle (copy_at (max t now) c) sent) came open_at (with_sending (present_moment now l) c l)
@@ -284,7 +284,7 @@ gives device first s t now accepted sent came open_at l c i g = record {
     by_apart x true q = subst (λ y. AreSendingsApart ((copy_at (max t now) c) ∷ sent y)) (sym (equal_is x c.handle q)) (apart_more (sent c.handle) own.count own.last_is (g.apart c.handle))
     by_apart x false q = g.apart x
 
--- nothing of a command is given out
+-- nothing of a command is sent
 pub passes : (device : Peer) (first s t now sent' : ℕ) (lost' : Bool) (accepted : List CommandFields) (sent : ℕ → List Sending) (came : ℕ → List AnswerFields) (open_at : ℕ → Bool) (l : LinkState) →
     Follows device first s t accepted sent came open_at l →
     Follows device first s (max t now) accepted sent came open_at (record l { moment = present_moment now l; sent = sent'; lost = lost' })

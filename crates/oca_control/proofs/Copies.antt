@@ -1,4 +1,4 @@
--- No copy of a command is given out too late.
+-- No copy of a command is sent too late.
 use Rattle.std.proofs.Common.{◌≡◌, ℕ, zero, suc, ◌+◌, ◌-◌, ◌<◌, ◌≤◌, Bool, true, false, cond, ◌&&◌, ◌||◌, max, List, [], ◌∷◌, ◌++◌, length, map, Option, Some, None, Result, Ok, Err, is_none, is_some, refl, sym, ap, ◌∙◌, arith, subst, inl, inr}
 use Rattle.std.specs.Prelude.{nat_eq, nat_lt, nat_le}
 use Rattle.std.specs.List.{AllByRecursion, list_any}
@@ -40,7 +40,7 @@ none_of p (u ∷ us) e = let b = neither (p u) (list_any p us) e in (b.0, none_o
 -- ---- when commands were submitted
 
 -- what a link holds of when each untaken command was submitted
--- and last given out
+-- and last sent
 abbrev pub AreDated : ℕ → (ℕ → Option ℕ) → List Untaken → Type 0
 AreDated t at us = AllByRecursion (λ u. (at u.command.handle ≡ Some u.submitted) × (u.submitted ≤ t) × (u.last ≤ t)) us
 

@@ -38,12 +38,12 @@ abbrev IsEarly : ℕ → ℕ → List Sending → Type 0
 IsEarly ms since [] = Unit {0}
 IsEarly ms since (x ∷ given) = x.at ≤ since + ms + length given * (250 + ms)
 
--- it was given out less than 250 ms before no command was left for the last time, and each time soon after the one before
+-- it was sent less than 250 ms before no command was left for the last time, and each time soon after the one before
 pub record Given (ms since asked : ℕ) (given : List Sending) : Type 0 where
   pub rested : IsRested since asked given
   pub early : IsEarly ms since given
 
--- it is given out once more
+-- it is sent once more
 once_more : (ms since asked t : ℕ) (bytes : List ℕ) (given : List Sending) → asked ≤ t → t ≤ asked + ms → Given ms since asked given →
     Given ms since asked ((let x : Sending = record { at = t; bytes = bytes } in x) ∷ given)
 once_more ms since asked t bytes given p q g = record { rested = omega arith; early = by given g.rested g.early }
@@ -52,7 +52,7 @@ once_more ms since asked t bytes given p q g = record { rested = omega arith; ea
     by [] r e = omega arith
     by (x ∷ xs) r e = let r' : asked < x.at + 250 = r in let e' : x.at ≤ since + ms + length xs * (250 + ms) = e in omega arith
 
--- no command is left to give out
+-- no command is left to send
 none_left : (ms since asked t : ℕ) (given : List Sending) → may_be_sent t given ≡ false → Given ms since asked given → Given ms since t given
 none_left ms since asked t [] e g = cc
 none_left ms since asked t (x ∷ xs) e g = record { rested = young x.at e; early = g.early }
@@ -236,7 +236,7 @@ module _ (device : Peer) (first opened s : ℕ) (some : 0 < s) (before : List Ca
       in_time_by ms since (last_asked since later) (clock_of_calls opened (later ++ base)) (sendings opened h.0 (later ++ base)) (rw (clock_from later) (lately later e))
       ((holds_after_calls device first opened s (later ++ base) after some p).now.at_most_20 h.0) (given later after p e w)
 
--- Where a link whose span is not 0 is asked every so many ms from the submit of a command on, the command is given out
+-- Where a link whose span is not 0 is asked every so many ms from the submit of a command on, the command is sent
 -- in time as long as it is in flight.
 pub in_time : (device : Peer) (first opened span : ℕ) (before later : List Call) (after : LinkState) (r : Request) (now ms : ℕ) (h : Handle) → 0 < span →
     IsHistory device first opened span (later ++ Submits r now (Ok h) ∷ before) after → IsAskedEvery ms (max (clock_of_calls opened before) now) later →

@@ -1,4 +1,4 @@
--- What is given out in time, and a turn.
+-- What is sent in time, and a turn.
 use Rattle.std.proofs.Common.{◌≡◌, ℕ, ◌+◌, ◌<◌, ◌≤◌, min, Bool, true, false, cond, List, [], ◌∷◌, ◌++◌, length, refl, sym, ap, ◌∙◌, subst, arith, inl, inr}
 use Rattle.std.specs.Prelude.{IsTrue, count_by}
 use Rattle.oca_types.specs.declared.words.Peer.{Peer}
@@ -19,7 +19,7 @@ use Rattle.oca_control.specs.Turning.{GivesIf, GivesInTime, decisions_in_time, l
 use Rattle.oca_control.specs.PrivateDriving.{given_report}
 use Rattle.oca_control.proofs.Turns.{datagram_reported, silent_reported, failed_reported, heard_datagram, same_device}
 
--- what was given out in time, by what was decided
+-- what was sent in time, by what was decided
 record GaveInTime (now : ℕ) (old new : LinkState) (f g : EndState) (given : DriveReport) : Type 0 where
   pub link : new ≡ link_in_time now old
   pub reported : given ≡ given_report (decisions_in_time now old) given.failed_sends
@@ -42,7 +42,7 @@ gave {now} {old} {new} {f} {g} {given} k = let w = by (late_at now old) k in rec
         (x.0, x.2 ∙ ap (given_report (IsLost ∷ [])) (sym zero), none_sent old.device given.failed_sends g zero x.1)
     by false x = (x.link, x.reported, x.sends)
 
--- one was heard, and what was due then given out in time
+-- one was heard, and what was due then sent in time
 heard_one : (x : Delivery) {h : Heard} {held : List ℕ} {old new : LinkState} {e f g : EndState} {ds : List Decision} {n : ℕ} {r : DriveReport} →
     Receives h held e f → (IsTrue e.tells → f.delivered ≡ e.delivered ++ x ∷ []) → count_by is_failed_delivery (x ∷ []) ≡ cond (is_failed h) 1 0 →
     SendsAllBut r.failed_sends f g (all_given_to old.device ds) → TurnsInTime x old new ds n → r ≡ drive_report_of (x ∷ []) ds n r.failed_sends →

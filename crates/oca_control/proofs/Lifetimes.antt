@@ -29,7 +29,7 @@ few_sendings device first opened s calls l some p =
     most : (a b : ℕ) → a ≡ b → b ≤ 20 → a ≤ 20
     most a b e q = omega arith
 
--- Of a command at a moment t: once it was given out it has time left, and all sendings that are left to it from t on come
+-- Of a command at a moment t: once it was sent it has time left, and all sendings that are left to it from t on come
 -- before it is late.
 abbrev pub Fits : ℕ → ℕ → Untaken → Type 0
 Fits ms t u = is_none u.answer ≡ true →
@@ -129,7 +129,7 @@ due_moment now l GivesKeepAlive = again l.moment now
 due_moment now l GivesNothing = again l.moment now
 due_moment now l IsLost = again l.moment now
 
--- What is given out at the moment changes nothing of it.
+-- What is sent at the moment changes nothing of it.
 pub fits_from : (ms now n : ℕ) (l : LinkState) → AllByRecursion (Fits ms (present_moment now l)) l.untaken → AllByRecursion (Fits ms (present_moment now l)) (link_from now n l).untaken
 unfolding link_from
 fits_from ms now zero l q = q

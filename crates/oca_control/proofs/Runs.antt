@@ -114,7 +114,7 @@ runs_on moments later old l new first then = run_both first then
 pub every_call : EveryCallRuns
 every_call = record { of_drive = drive_runs; of_turn = turn_runs; of_wait = wait_runs; of_wait_until = wait_until_runs; of_begin = begin_runs; of_ask = ask_runs }
 
--- A link whose span is not 0 and that has nothing left to give out, and then runs over an end that tells and whose
+-- A link whose span is not 0 and that has nothing left to send, and then runs over an end that tells and whose
 -- receives return within `ms`, at most 500, is asked every `ms`, unless it is lost at the end.
 pub end_serves : (device : Peer) (first opened span ms : ℕ) (before : List Call) (old new : LinkState) (begun : List ℕ) (e f : EndState) → 0 < span → 20 * (250 + ms) ≤ 15000 → IsHistory device first opened span before old →
     NothingIsLeft old → HaveTimeLeft ms old → RunsOver begun old new e f → IsTrue e.tells → ReturnsWithin ms old.moment begun e f → new.lost ≡ false → IsAsked ms old.moment old new

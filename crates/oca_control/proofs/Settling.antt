@@ -1,4 +1,4 @@
--- When all that is due was given out, nothing is left.
+-- When all that is due was sent, nothing is left.
 use Rattle.std.proofs.Common.{◌≡◌, ℕ, zero, suc, ◌+◌, ◌-◌, ◌<◌, ◌≤◌, Bool, true, false, cond, ◌&&◌, ◌||◌, max, List, [], ◌∷◌, length, map, Option, Some, None, is_none, refl, sym, ap, ◌∙◌, arith, subst}
 use Rattle.std.specs.Prelude.{nat_eq, nat_lt, nat_le}
 use Rattle.std.specs.List.{list_any}
@@ -39,7 +39,7 @@ none_counted t (u ∷ us) e = by (is_due t u) e (none_counted t us)
     by true e rest = cc
     by false e rest = let z : due_count t us ≡ 0 = rest e in omega arith
 
--- what was just given out is not due
+-- what was just sent is not due
 rested : (t : ℕ) (u : Untaken) → (is_none u.answer && (nat_eq (u.times + 1) 0 || nat_le 250 (t - t))) ≡ false
 rested t u = ap (λ b. is_none u.answer && b) (young t u.times) ∙ and_false (is_none u.answer)
   where
@@ -77,7 +77,7 @@ not_more t h (u ∷ us) =
     both : (a b c d : ℕ) → a ≤ b → c ≤ d → a + c ≤ b + d
     both a b c d p q = omega arith
 
--- Giving out the first due command leaves fewer due at that moment.
+-- Sending the first due command leaves fewer due at that moment.
 pub fewer_given : (t : ℕ) (us : List Untaken) (u : Untaken) → first_due t us ≡ Some u → due_count t (map (given_out t u.command.handle) us) < due_count t us
 fewer_given t [] u e = cc
 fewer_given t (v ∷ us) u e = by (is_due t v) refl e (fewer_given t us u)
@@ -108,8 +108,8 @@ fewer_given t (v ∷ us) u e = by (is_due t v) refl e (fewer_given t us u)
 
 -- ---- what is decided
 
--- Nothing is to be given out where the link is not lost, no command is due, and less than 2,500 ms passed since
--- something was given out.
+-- Nothing is to be sent where the link is not lost, no command is due, and less than 2,500 ms passed since
+-- something was sent.
 pub decided_nothing : (l : LinkState) (now t : ℕ) → present_moment now l ≡ t → l.lost ≡ false → first_due t l.untaken ≡ None → nat_le 2500 (t - l.sent) ≡ false → decision now l ≡ GivesNothing
 decided_nothing l now t at going none silent =
     ap (λ k. cond l.lost IsLost (decision_among k l.sent (first_due k l.untaken))) at
@@ -117,7 +117,7 @@ decided_nothing l now t at going none silent =
     ∙ ap (λ o. decision_among t l.sent o) none
     ∙ ap (λ b. cond b GivesKeepAlive GivesNothing) silent
 
--- what is decided where no command is given out, and where nothing is
+-- what is decided where no command is sent, and where nothing is
 pub record IsQuiet (t sent : ℕ) (lost : Bool) (us : List Untaken) (keeps : Bool) : Type 0 where
   pub going : lost ≡ false
   pub none : first_due t us ≡ None
@@ -126,8 +126,8 @@ pub record IsQuiet (t sent : ℕ) (lost : Bool) (us : List Untaken) (keeps : Boo
 abbrev quiet_decision : Bool → Decision
 quiet_decision keeps = cond keeps GivesKeepAlive GivesNothing
 
--- Where a keep-alive or nothing is to be given out, the link is not lost, no command is due, and the time since
--- something was given out decides which.
+-- Where a keep-alive or nothing is to be sent, the link is not lost, no command is due, and the time since
+-- something was sent decides which.
 pub is_quiet : (t sent : ℕ) (lost : Bool) (us : List Untaken) (keeps : Bool) → cond lost IsLost (decision_among t sent (first_due t us)) ≡ quiet_decision keeps → IsQuiet t sent lost us keeps
 is_quiet t sent true us true e = cc
 is_quiet t sent true us false e = cc
@@ -282,13 +282,13 @@ moment_from (suc n) now l p = by (decision now l) (λ x some. moment_from n now 
     by GivesNothing further = refl
     by IsLost further = refl
 
--- ---- what was given out
+-- ---- what was sent
 
--- What was given out is reported as lost just where the link is lost, if `due` was called at all.
+-- What was sent is reported as lost just where the link is lost, if `due` was called at all.
 pub gave_lost : {now n : ℕ} {old new : LinkState} {e f : EndState} {r : DriveReport} → GivesOut now n old new e f r → 0 < n → r.lost ≡ new.lost
 gave_lost {now} {n} {old} g some = ap (λ (x : DriveReport). x.lost) g.reported ∙ lost_from n now old some ∙ sym (ap (λ (l : LinkState). l.lost) g.link)
 
--- Where no more commands are untaken than the span has handles, nothing is left to give out after one call of `due`
+-- Where no more commands are untaken than the span has handles, nothing is left to send after one call of `due`
 -- more than that, unless the link is reported lost.
 pub gave_left : {now : ℕ} {old new : LinkState} {e f : EndState} {r : DriveReport} → GivesOut now (old.span + 1) old new e f r → length old.untaken ≤ old.span → r.lost ≡ false → NothingIsLeft new
 gave_left {now} {old} {new} g few going =

@@ -62,7 +62,7 @@ gives_lost p IsLost h e f = (refl, refl, refl)
 sends_as : {k : ℕ} {e f : EndState} {xs ys : List Sent} → xs ≡ ys → SendsAllBut k e f xs → SendsAllBut k e f ys
 sends_as {k} {e} {f} same sent = subst (SendsAllBut k e f) same sent
 
--- something was given out, and handed to the end
+-- something was sent, and handed to the end
 pub gave_out : {now : ℕ} {l l' : LinkState} {e f : EndState} {p : Peer} {bytes : List ℕ} {k : ℕ} (r : DriveReport) → l' ≡ gone_on now l → p ≡ l.device → bytes ≡ due_bytes (decision now l) →
     (given_to p (decision now l) ≡ (record { to = p; bytes = due_bytes (decision now l) }) ∷ []) × (goes_on (decision now l) ≡ true) × (r ≡ given_report (decision now l ∷ []) r.failed_sends) →
     r.failed_sends ≡ k → SendsAllBut k e f ((record { to = p; bytes = bytes }) ∷ []) → GivesOne now l l' e f true r
@@ -75,7 +75,7 @@ gave_out {now} {l} {l'} {e} {f} {p} {bytes} {k} r link device same gives count s
       (sends_as (ap (λ (xs : List ℕ). (record { to = p; bytes = xs }) ∷ []) same ∙ sym gives.0) sent));
 }
 
--- nothing was given out
+-- nothing was sent
 pub gave_nothing : {now : ℕ} {l l' : LinkState} (e : EndState) (r : DriveReport) → l' ≡ gone_on now l →
     (given_to l.device (decision now l) ≡ []) × (goes_on (decision now l) ≡ false) × (r ≡ given_report (decision now l ∷ []) 0) → GivesOne now l l' e e false r
 gave_nothing {now} {l} {l'} e r link gives =
@@ -102,7 +102,7 @@ added_reports xs ys ds es n k a b =
         ≡ (let r : DriveReport = record { turns = t'; sent = s'; keep_alives = q'; answered = m; failed_receives = f'; failed_sends = x; lost = l' } in r)
     made t t' s s' q q' f f' l l' m x e1 e2 e3 e4 e5 = cc
 
--- nothing that is given out changes the address
+-- nothing that is sent changes the address
 pub device_stays : (d : Decision) (now : ℕ) (l : LinkState) → (after_due d now l).device ≡ l.device
 device_stays (GivesCommand c) now l = refl
 device_stays GivesKeepAlive now l = refl
@@ -121,7 +121,7 @@ pub record GivesSoFar (now left : ℕ) (start : LinkState) (i : ℕ) (l : LinkSt
   pub device : l.device ≡ start.device
   pub sends : SendsAllBut report.failed_sends e f (all_given_to start.device decisions)
 
--- Before the first call of `due` nothing was given out.
+-- Before the first call of `due` nothing was sent.
 pub gives_start : (now left : ℕ) (l : LinkState) (e : EndState) (r : DriveReport) → r ≡ given_report [] 0 → GivesSoFar now left l 0 l e e r
 gives_start now left l e r is = subst (GivesSoFar now left l 0 l e e) (sym is) (record {
   decisions = [];
@@ -189,7 +189,7 @@ module _ {now left : ℕ} {start : LinkState} {i : ℕ} {l l' : LinkState} {e f 
       all = x.all ∙ ap (λ n. x.decisions ++ decisions_from now n l) (one_less left i below)
           ∙ ap (λ xs. x.decisions ++ xs) (next_decisions now (left - (i + 1)) l ∙ ap (λ b. decision now l ∷ cond b (decisions_from now (left - (i + 1)) (gone_on now l)) []) (sym y.goes ∙ not_so))
 
--- After all calls of `due` what was due is given out.
+-- After all calls of `due` what was due is sent.
 pub gave_all : {now left : ℕ} {start : LinkState} {i : ℕ} {l : LinkState} {e f : EndState} {r : DriveReport} → GivesSoFar now left start i l e f r → left ≤ i → GivesOut now left start l e f r
 unfolding decisions_from link_from
 gave_all {now} {left} {start} {i} {l} {e} {f} {r} x over = record {
@@ -272,14 +272,14 @@ wider m n r x le = record {
 
 -- ---- one turn
 
--- The report of a turn at a datagram: one turn, what was given out, and how many commands were answered.
+-- The report of a turn at a datagram: one turn, what was sent, and how many commands were answered.
 pub datagram_reported : (from : Peer) (bytes : List ℕ) (now : ℕ) (ds : List Decision) (n : ℕ) (given : DriveReport) → given ≡ given_report ds given.failed_sends →
     (let r : DriveReport = record { turns = 1; sent = given.sent; keep_alives = given.keep_alives; answered = n; failed_receives = given.failed_receives; failed_sends = given.failed_sends; lost = given.lost } in r)
     ≡ drive_report_of (Datagram from bytes now ∷ []) ds n given.failed_sends
 datagram_reported from bytes now ds n given e =
     ap (λ (q : DriveReport). let r : DriveReport = record { turns = 1; sent = q.sent; keep_alives = q.keep_alives; answered = n; failed_receives = q.failed_receives; failed_sends = given.failed_sends; lost = q.lost } in r) e
 
--- The report of a turn at a delivery that is no failure and answered nothing: one turn, and what was given out.
+-- The report of a turn at a delivery that is no failure and answered nothing: one turn, and what was sent.
 pub silent_reported : (d : Delivery) (ds : List Decision) (given : DriveReport) → count_by is_failed_delivery (d ∷ []) ≡ 0 → given ≡ given_report ds given.failed_sends →
     (let r : DriveReport = record { turns = 1; sent = given.sent; keep_alives = given.keep_alives; answered = given.answered; failed_receives = given.failed_receives; failed_sends = given.failed_sends; lost = given.lost } in r)
     ≡ drive_report_of (d ∷ []) ds 0 given.failed_sends
@@ -306,7 +306,7 @@ heard_datagram from bytes now old mid answer n short received count = record {
 pub same_device : (from : Peer) (bytes : List ℕ) (now : ℕ) (old mid : LinkState) (answer : Reception) → ReceivesDatagram from bytes now old answer mid → mid.device ≡ old.device
 same_device from bytes now old mid answer received = ap (λ (l : LinkState). l.device) received.link_is
 
--- one was heard, and what was due then given out
+-- one was heard, and what was due then sent
 heard_one : (x : Delivery) {h : Heard} {held : List ℕ} {old new : LinkState} {e f g : EndState} {ds : List Decision} {n : ℕ} {r : DriveReport} →
     Receives h held e f → (IsTrue e.tells → f.delivered ≡ e.delivered ++ x ∷ []) → count_by is_failed_delivery (x ∷ []) ≡ cond (is_failed h) 1 0 →
     SendsAllBut r.failed_sends f g (all_given_to old.device ds) → DrivesTurn x old new ds n → r ≡ drive_report_of (x ∷ []) ds n r.failed_sends → new.device ≡ old.device →

@@ -85,7 +85,7 @@ given_other : (now h : ℕ) (u : Untaken) → u.command.handle ≢ h → given_o
 given_other now h u other =
     ap (λ b. let v : Untaken = record { command = u.command; submitted = u.submitted; times = cond b (u.times + 1) u.times; last = cond b now u.last; answer = u.answer } in v) (differ_nat u.command.handle h other)
 
--- Noting in the slot of the lowest due command that it was given out does so to the command of that handle.
+-- Noting in the slot of the lowest due command that it was sent does so to the command of that handle.
 pub view_given : (now lo hi h p : ℕ) (slots : List (Option Held)) (d x : Option Held) → IsSlotTable lo hi slots → IsLowestDueSlot now slots lo hi (Some h) → p ≡ h % 32 →
     x ≡ option_map (held_given now) (get_or slots p d) →
     view lo hi (set slots p x) ≡ table hi (map (given_out now h) (untaken_from lo (hi - lo) slots))
@@ -125,7 +125,7 @@ due_kept now lo hi h p slots d t at place = by (get_or slots p d) refl (sym (ap 
 pub none_decided : (now lo hi : ℕ) (slots : List (Option Held)) → IsLowestDueSlot now slots lo hi None → first_decided now (untaken_from lo (hi - lo) slots) ≡ None
 none_decided now lo hi slots none = ap (option_map decided) none
 
--- it was given out 20 times
+-- it was sent 20 times
 pub spent : (now lo hi h p : ℕ) (slots : List (Option Held)) (d : Option Held) (b : Bool) → IsSlotTable lo hi slots → IsLowestDueSlot now slots lo hi (Some h) → p ≡ h % 32 →
     IfSome (get_or slots p d) (λ k. b ≡ nat_lt k.times 20) → b ≡ false → first_decided now (untaken_from lo (hi - lo) slots) ≡ Some IsLost
 spent now lo hi h p slots d b t at place test not_so =
@@ -133,13 +133,13 @@ spent now lo hi h p slots d b t at place test not_so =
     let few : b ≡ nat_lt kept.0.times 20 = subst (λ (o : Option Held). IfSome o (λ k. b ≡ nat_lt k.times 20)) kept.1 test in
     (first_is now lo hi h p slots d kept.0 t at place kept.1).first ∙ ap (λ x. Some (cond x (GivesCommand (command_under h kept.0.request)) IsLost)) (sym few ∙ not_so)
 
--- it is given out
+-- it is sent
 pub record Gives (now h : ℕ) (us : List Untaken) (slot : Option Held) : Type 0 where
   pub kept : Held
   pub is : slot ≡ Some kept
   pub first : first_decided now us ≡ Some (GivesCommand (command_under h kept.request))
 
--- The lowest due command, which was given out less than 20 times, is what is decided on.
+-- The lowest due command, which was sent less than 20 times, is what is decided on.
 pub gives : (now lo hi h p : ℕ) (slots : List (Option Held)) (d : Option Held) (b : Bool) → IsSlotTable lo hi slots → IsLowestDueSlot now slots lo hi (Some h) → p ≡ h % 32 →
     IfSome (get_or slots p d) (λ k. b ≡ nat_lt k.times 20) → b ≡ true → Gives now h (untaken_from lo (hi - lo) slots) (get_or slots p d)
 gives now lo hi h p slots d b t at place test so =
@@ -151,11 +151,11 @@ gives now lo hi h p slots d b t at place test so =
       first = (first_is now lo hi h p slots d kept.0 t at place kept.1).first ∙ ap (λ x. Some (cond x (GivesCommand (command_under h kept.0.request)) IsLost)) (sym few ∙ so);
     }
 
--- What is returned is that the command of the handle is given out.
+-- What is returned is that the command of the handle is sent.
 pub gives_answer : (now h : ℕ) (us : List Untaken) (o : Option Held) → Gives now h us o → Some (dues.Send (record { 0 = h })) ≡ option_map due_answer (first_decided now us)
 gives_answer now h us o g = sym (ap (option_map due_answer) g.first)
 
--- The bytes in the packet are those of the command that is given out.
+-- The bytes in the packet are those of the command that is sent.
 pub gives_packet : (now h : ℕ) (us : List Untaken) (o : Option Held) (bytes : List ℕ) → Gives now h us o →
     IfSome o (λ k. bytes ≡ pdu_encoding (Commands true (command_under h k.request ∷ []))) → bytes ≡ bytes_decided (first_decided now us)
 gives_packet now h us o bytes g written =

@@ -1,4 +1,4 @@
--- WHAT COMES OF A COMMAND over histories of calls (*profile*): each that is due is given out, again and again where the
+-- WHAT COMES OF A COMMAND over histories of calls (*profile*): each that is due is sent, again and again where the
 -- link is asked often enough, and what was answered stays so. As in Histories the latest call stands first.
 use Rattle.std.specs.Prelude.{◌≡◌, ◌⊎◌, ℕ, ◌+◌, ◌*◌, ◌==◌, ◌<◌, ◌≤◌, max, Bool, true, false, ⊤, if◌then◌else◌, List, []}
 use Rattle.std.specs.Prelude.{◌∷◌, ◌++◌, length, Some, None, is_some, Ok}
@@ -47,7 +47,7 @@ CallsDueAt t (Submits request now returned) = ⊥
 CallsDueAt t (Receives from bytes content now returned) = ⊥
 CallsDueAt t (TakesAnswer x answer) = ⊥
 
--- the command of this handle was given out in the call
+-- the command of this handle was sent in the call
 abbrev pub is_send_of : ℕ → Due → Bool
 is_send_of h (dues.Send x) = x.0 == h
 is_send_of h dues.KeepAlive = false
@@ -65,7 +65,7 @@ is_given_in h (TakesAnswer x answer) = false
 abbrev pub is_among : ℕ → List ℕ → Bool
 is_among h hs = list_any (λ x. x == h) hs
 
--- Where no others than these k handles are due at a moment, each that is due is given out within k calls of `due` at
+-- Where no others than these k handles are due at a moment, each that is due is sent within k calls of `due` at
 -- that moment, or the link is lost.
 abbrev pub EveryDueCommandIsGivenOut : Type 0
 EveryDueCommandIsGivenOut =
@@ -79,7 +79,7 @@ EveryDueCommandIsGivenOut =
 
 -- ---- a link that is asked often enough
 
--- `due` returned that no command is left to give out: with a keep-alive, with nothing, or that the link is lost
+-- `due` returned that no command is left to send: with a keep-alive, with nothing, or that the link is lost
 abbrev pub is_none_left : Due → Bool
 is_none_left (dues.Send h) = false
 is_none_left dues.KeepAlive = true
@@ -108,18 +108,18 @@ pub record IsInFlight (device : Peer) (h : ℕ) (calls : List Call) : Type 0 whe
   pub unanswered : first_of (answers_to device h calls) ≡ None
   pub not_lost : is_lost calls ≡ false
 
--- Of a command that was submitted at a moment and waits at t: it was given out less than 250 ms and so many ago; or it
--- was never given out, and submitted at most so many ms ago.
+-- Of a command that was submitted at a moment and waits at t: it was sent less than 250 ms and so many ago; or it
+-- was never sent, and submitted at most so many ms ago.
 abbrev pub IsRecent : ℕ → ℕ → ℕ → List Sending → Type 0
 IsRecent ms since t [] = t ≤ since + ms
 IsRecent ms since t (s ∷ before) = t < s.at + (repeat_time + ms)
 
--- And it does not wait for ever, since it is given out at most 20 times.
+-- And it does not wait for ever, since it is sent at most 20 times.
 pub record IsGivenOutInTime (ms since t : ℕ) (given : List Sending) : Type 0 where
   pub recent : IsRecent ms since t given
   pub ends : t ≤ since + ms + most_sendings * (repeat_time + ms)
 
--- Where a link is asked every so many ms from the submit of a command on, the command is given out in time as long as
+-- Where a link is asked every so many ms from the submit of a command on, the command is sent in time as long as
 -- it waits.
 abbrev pub EveryCommandIsGivenOutInTime : Type 0
 EveryCommandIsGivenOutInTime =

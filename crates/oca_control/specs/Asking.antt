@@ -62,7 +62,7 @@ refused_by faults.TooLong = outcomes.Refused faults.TooLong
 abbrev pub beginning : RequestFields → ℕ → LinkState → Result Handle ControlFault
 beginning request now l = if late_at now l then Err faults.Lost else submission request l
 
--- The command was submitted at a moment, and all that was due then given out; or it was refused, which changes nothing.
+-- The command was submitted at a moment, and all that was due then sent; or it was refused, which changes nothing.
 abbrev pub GivesFirst : RequestFields → ℕ → Result Handle ControlFault → LinkState → LinkState → EndState → EndState →
     Type 0
 GivesFirst request now (Ok handle) old new before after =

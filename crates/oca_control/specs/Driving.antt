@@ -20,7 +20,7 @@ answered_by receptions.Stranger = 0
 answered_by receptions.Malformed = 0
 answered_by receptions.NothingNew = 0
 
--- a decision is that a command is given out
+-- a decision is that a command is sent
 abbrev pub gives_command : Decision → Bool
 gives_command (GivesCommand c) = true
 gives_command GivesKeepAlive = false
@@ -41,7 +41,7 @@ decides_lost GivesKeepAlive = false
 decides_lost GivesNothing = false
 decides_lost IsLost = true
 
--- something was given out, so that `due` is asked again
+-- something was sent, so that `due` is asked again
 abbrev pub goes_on : Decision → Bool
 goes_on (GivesCommand c) = true
 goes_on GivesKeepAlive = true
@@ -79,18 +79,18 @@ HearsDelivery (Datagram from bytes now) old new answered = HearsDatagram from by
 HearsDelivery (Quiet now) old new answered = (new ≡ old) × (answered ≡ 0)
 HearsDelivery Failed old new answered = (new ≡ old) × (answered ≡ 0)
 
--- What is then given out: `due` is called at most once more than the span has handles, and not after a failed receive.
+-- What is then sent: `due` is called at most once more than the span has handles, and not after a failed receive.
 abbrev pub GivesAll : ℕ → LinkState → LinkState → List Decision → Type 0
 GivesAll now old new decisions =
     (decisions ≡ decisions_from now (old.span + 1) old) × (new ≡ link_from now (old.span + 1) old)
 
--- what is given out after a delivery
+-- what is sent after a delivery
 abbrev pub Gives : Delivery → LinkState → LinkState → List Decision → Type 0
 Gives (Datagram from bytes now) old new decisions = GivesAll now old new decisions
 Gives (Quiet now) old new decisions = GivesAll now old new decisions
 Gives Failed old new decisions = (decisions ≡ []) × (new ≡ old)
 
--- A TURN: what was delivered is heard, and then what is due is given out.
+-- A TURN: what was delivered is heard, and then what is due is sent.
 pub record DrivesTurn (d : Delivery) (old new : LinkState) (decisions : List Decision) (answered : ℕ) : Type 0 where
   pub between : LinkState
   pub hears : HearsDelivery d old between answered
@@ -151,7 +151,7 @@ drive_report_capped r =
 
 -- A LINK WAS DRIVEN OVER AN END: there are deliveries of which the turns are what was done and reported, and the report
 -- counts the calls of the end that failed. Where the end tells, these deliveries are what it delivered, and it took
--- what was given out but for the failed sends.
+-- what was sent but for the failed sends.
 pub record DrivesEnd (old new : LinkState) (before after : EndState) (report : DriveReport) : Type 0 where
   pub deliveries : List Delivery
   pub decisions : List Decision

@@ -73,7 +73,7 @@ abbrev pub command_accepted : ℕ → List CommandFields → Option CommandField
 command_accepted h [] = None
 command_accepted h (c ∷ before) = if h == c.handle then Some c else command_accepted h before
 
--- A sending of a command: when by the clock, and the bytes that were given out.
+-- A sending of a command: when by the clock, and the bytes that were sent.
 pub record Sending : Type 0 where
   pub at : ℕ
   pub bytes : List ℕ
@@ -131,24 +131,24 @@ is_untaken h (Receives from bytes content now returned ∷ before) = is_untaken 
 is_untaken h (TakesAnswer x (Some answer) ∷ before) = not (x == h) && is_untaken h before
 is_untaken h (TakesAnswer x None ∷ before) = is_untaken h before
 
--- a command may be given out at t where it never was, or last 250 ms before or earlier
+-- a command may be sent at t where it never was, or last 250 ms before or earlier
 abbrev pub may_be_sent : ℕ → List Sending → Bool
 may_be_sent t [] = true
 may_be_sent t (s ∷ before) = nat_le repeat_time (t - s.at)
 
--- A handle is DUE at t while it is untaken, no answer came to it, and its command may be given out.
+-- A handle is DUE at t while it is untaken, no answer came to it, and its command may be sent.
 abbrev pub is_due_at : Peer → ℕ → ℕ → ℕ → List Call → Bool
 is_due_at device opened t h before =
     is_untaken h before && (is_none (first_of (answers_to device h before)) && may_be_sent t (sendings opened h before))
 
--- a command or a keep-alive was given out at t, or nothing was since the last time
+-- a command or a keep-alive was sent at t, or nothing was since the last time
 abbrev pub given_at : ℕ → Due → ℕ → ℕ
 given_at t (dues.Send h) last = t
 given_at t dues.KeepAlive last = t
 given_at t dues.Nothing last = last
 given_at t dues.Lost last = last
 
--- THE LAST MOMENT when a command or a keep-alive was given out, and at first that of the opening.
+-- THE LAST MOMENT when a command or a keep-alive was sent, and at first that of the opening.
 abbrev pub last_given : ℕ → List Call → ℕ
 last_given opened [] = opened
 last_given opened (GivesOut now returned bytes ∷ before) =
@@ -256,13 +256,13 @@ pub record IsLowestDue (device : Peer) (opened t h : ℕ) (before : List Call) :
 abbrev pub NoneIsDue : Peer → ℕ → ℕ → List Call → Type 0
 NoneIsDue device opened t before = (x : ℕ) → is_due_at device opened t x before ≡ false
 
--- the lowest due command was given out 20 times
+-- the lowest due command was sent 20 times
 abbrev pub IsLostNow : Peer → ℕ → ℕ → List Call → Type 0
 IsLostNow device opened t before =
     (h : ℕ) × IsLowestDue device opened t h before × (length (sendings opened h before) ≡ most_sendings)
 
--- What `due` returns at t. A command: the lowest due one, which was given out less than 20 times. A keep-alive of 5
--- seconds: none is due, and nothing was given out for 2,500 ms. Nothing: none is due. Lost: the link is lost now, or it
+-- What `due` returns at t. A command: the lowest due one, which was sent less than 20 times. A keep-alive of 5
+-- seconds: none is due, and nothing was sent for 2,500 ms. Nothing: none is due. Lost: the link is lost now, or it
 -- was.
 abbrev pub IsDueAnswer : Peer → ℕ → ℕ → List ℕ → List Call → Due → Type 0
 IsDueAnswer device opened t bytes before (dues.Send h) =

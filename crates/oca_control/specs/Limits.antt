@@ -1,7 +1,7 @@
 -- The limits of a link (*profile*). Times are in milliseconds.
 use Rattle.std.specs.Prelude.{ℕ}
 
--- a command is given out again after so long without an answer
+-- a command is sent again after so long without an answer
 abbrev pub repeat_time : ℕ
 repeat_time = 250
 
@@ -9,7 +9,7 @@ repeat_time = 250
 abbrev pub most_sendings : ℕ
 most_sendings = 20
 
--- a keep-alive is given out so long after anything was
+-- a keep-alive is sent so long after anything was
 abbrev pub keep_alive_time : ℕ
 keep_alive_time = 2500
 

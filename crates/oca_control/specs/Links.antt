@@ -93,15 +93,15 @@ after_submission (Ok h) r now l =
 abbrev pub submitted : RequestFields → ℕ → LinkState → LinkState
 submitted r now l = after_submission (submission r l) r now l
 
--- DUE. What is to be given out: a command, a keep-alive or nothing; or the link is lost.
+-- DUE. What is to be sent: a command, a keep-alive or nothing; or the link is lost.
 pub data Decision : Type 0 where
   GivesCommand : (command : CommandFields) → Decision
   GivesKeepAlive : Decision
   GivesNothing : Decision
   IsLost : Decision
 
--- The due command with the lowest handle decides: if it was given out 20 times already, the link is lost. With none, a
--- keep-alive is given out 2,500 ms after anything was.
+-- The due command with the lowest handle decides: if it was sent 20 times already, the link is lost. With none, a
+-- keep-alive is sent 2,500 ms after anything was.
 abbrev pub decision_among : ℕ → ℕ → Option Untaken → Decision
 decision_among now sent None = if nat_le keep_alive_time (now - sent) then GivesKeepAlive else GivesNothing
 decision_among now sent (Some u) = if nat_lt u.times most_sendings then GivesCommand u.command else IsLost
@@ -118,7 +118,7 @@ due_answer GivesKeepAlive = dues.KeepAlive
 due_answer GivesNothing = dues.Nothing
 due_answer IsLost = dues.Lost
 
--- the bytes that it gives out: a PDU of type 1 with the command alone, or a keep-alive of 5 seconds (AES70-3)
+-- the bytes that it sends: a PDU of type 1 with the command alone, or a keep-alive of 5 seconds (AES70-3)
 abbrev pub due_bytes : Decision → List ℕ
 due_bytes (GivesCommand c) = pdu_encoding (Commands true (c ∷ []))
 due_bytes GivesKeepAlive = pdu_encoding (OneKeepAlive (Seconds 5))

@@ -45,7 +45,7 @@ abbrev pub held_answer : Option Held → Option AnswerFields
 held_answer None = None
 held_answer (Some k) = k.answer
 
--- given out once more
+-- sent once more
 abbrev pub held_given : ℕ → Held → Held
 held_given now k =
     record { request = k.request; submitted = k.submitted; times = k.times + 1; last = now; answer = k.answer }
@@ -107,7 +107,7 @@ after_decision now (Some GivesKeepAlive) us = us
 after_decision now (Some GivesNothing) us = us
 after_decision now (Some IsLost) us = us
 
--- the bytes that are given out then
+-- the bytes that are sent then
 abbrev pub bytes_decided : Option Decision → List ℕ
 bytes_decided None = []
 bytes_decided (Some d) = due_bytes d

@@ -5,7 +5,7 @@ use Rattle.oca_control.specs.declared.report.DriveReport.{DriveReport}
 use Rattle.oca_control.specs.Links.{LinkState, GivesNothing, IsLost, decision}
 use Rattle.oca_control.specs.Driving.{drive_report_of}
 
--- nothing was given out, and the link counts as lost
+-- nothing was sent, and the link counts as lost
 abbrev pub lost_report : DriveReport
 lost_report = drive_report_of [] (IsLost ∷ []) 0 0
 

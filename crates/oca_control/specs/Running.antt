@@ -24,7 +24,7 @@ use Rattle.oca_control.specs.Turning.{TurnsInTime, Turns}
 use Rattle.oca_control.specs.Asking.{beginning, Begins, Asks, Waits}
 use Rattle.oca_control.specs.Waiting.{WaitsUntil}
 
--- NOTHING IS LEFT to give out at the link's own moment.
+-- NOTHING IS LEFT to send at the link's own moment.
 abbrev pub NothingIsLeft : LinkState → Type 0
 NothingIsLeft l = decision l.moment l ≡ GivesNothing
 
@@ -114,12 +114,12 @@ abbrev pub BecomesBy : LinkState → List Call → LinkState → Type 0
 BecomesBy old [] new = new ≡ old
 BecomesBy old (call ∷ before) new = (l : LinkState) × BecomesBy old before l × IsCall l call new
 
--- The time that a link may be left alone: 500 ms. A command that is given out at once, and then as often as that, is
+-- The time that a link may be left alone: 500 ms. A command that is sent at once, and then as often as that, is
 -- lost before it is late.
 abbrev pub IsShortPause : ℕ → Type 0
 IsShortPause ms = most_sendings * (repeat_time + ms) ≤ longest_life
 
--- A command that was given out HAS TIME LEFT: it is answered; or the sendings that are left to it, where the link is
+-- A command that was sent HAS TIME LEFT: it is answered; or the sendings that are left to it, where the link is
 -- asked every so many ms, and the call that finds it lost, come before it is late.
 abbrev pub HasTimeLeft : ℕ → Untaken → Type 0
 HasTimeLeft ms u = is_none u.answer ≡ true →
@@ -160,7 +160,7 @@ EveryEndInTimeServes =
     IsAsked ms old.moment old new
 
 -- Nothing is left, and each command has time left; and there are calls after the submit of which the command of a handle
--- is given out in time as long as it is in flight.
+-- is sent in time as long as it is in flight.
 pub record CommandIsInTime (device : Peer) (first opened span ms : ℕ) (before : List Call) (request : RequestFields)
     (now : ℕ) (h : Handle) (since : ℕ) (new : LinkState) : Type 0 where
   pub left : NothingIsLeft new
@@ -183,7 +183,7 @@ EveryBegunCommandIsInTime =
     CommandIsInTime device first opened span ms before request now h link.moment new
 
 -- A command that waits for its answer has time at a moment: all sendings that are left to it from then on come before
--- it is late, and so do those that are left to it behind its last one, where it was given out.
+-- it is late, and so do those that are left to it behind its last one, where it was sent.
 abbrev pub HasTimeAt : ℕ → ℕ → Untaken → Type 0
 HasTimeAt ms t u = is_none u.answer ≡ true →
     (t + (most_sendings - u.times) * (repeat_time + ms) ≤ u.submitted + longest_life)

@@ -1,5 +1,5 @@
--- What is given out in time, and a turn (*profile*): a copy of a command is given out at most 15,000 ms after its submit,
--- or never. Where the link is late, nothing is given out, and it counts as lost.
+-- What is sent in time, and a turn (*profile*): a copy of a command is sent at most 15,000 ms after its submit,
+-- or never. Where the link is late, nothing is sent, and it counts as lost.
 use Rattle.std.specs.Prelude.{◌≡◌, ◌⊎◌, ℕ, ◌+◌, Bool, true, false, if◌then◌else◌, List, [], ◌∷◌}
 use Rattle.oca_net.specs.declared.end.Heard.TheVariants as heard
 use Rattle.oca_net.specs.Deliveries.{Delivery, Datagram, Quiet, Failed}
@@ -9,14 +9,14 @@ use Rattle.oca_control.specs.declared.report.DriveReport.{DriveReport}
 use Rattle.oca_control.specs.Links.{LinkState, Decision, IsLost, late_at}
 use Rattle.oca_control.specs.Driving.{HearsDelivery, GivesOut, decisions_from, link_from, all_given_to, drive_report_of}
 
--- What is given out where the link is late, and where it is not: nothing, which changes neither the link nor the end,
+-- What is sent where the link is late, and where it is not: nothing, which changes neither the link nor the end,
 -- and is reported as lost; or all that is due.
 abbrev pub GivesIf : Bool → ℕ → LinkState → LinkState → EndState → EndState → DriveReport → Type 0
 GivesIf true now old new before after report =
     (new ≡ old) × (after ≡ before) × (report ≡ drive_report_of [] (IsLost ∷ []) 0 0)
 GivesIf false now old new before after report = GivesOut now (old.span + 1) old new before after report
 
--- what is given out in time: by whether the link is late at the moment
+-- what is sent in time: by whether the link is late at the moment
 abbrev pub GivesInTime : ℕ → LinkState → LinkState → EndState → EndState → DriveReport → Type 0
 GivesInTime now old new before after report = GivesIf (late_at now old) now old new before after report
 
@@ -36,14 +36,14 @@ GivesAfter (Datagram from bytes now) old new decisions = GivesAllInTime now old 
 GivesAfter (Quiet now) old new decisions = GivesAllInTime now old new decisions
 GivesAfter Failed old new decisions = (decisions ≡ []) × (new ≡ old)
 
--- What was delivered is heard, whether the link is late or not, and then what is due is given out in time.
+-- What was delivered is heard, whether the link is late or not, and then what is due is sent in time.
 pub record TurnsInTime (d : Delivery) (old new : LinkState) (decisions : List Decision) (answered : ℕ) : Type 0 where
   pub between : LinkState
   pub hears : HearsDelivery d old between answered
   pub gives : GivesAfter d between new decisions
 
 -- A TURN OVER AN END: there is a delivery of which it is what was done and reported. Where the end tells, that is what
--- it delivered, and it took what was given out but for the failed sends.
+-- it delivered, and it took what was sent but for the failed sends.
 pub record TurnsLinkOnce (old new : LinkState) (before after : EndState) (report : DriveReport) : Type 0 where
   pub delivery : Delivery
   pub decisions : List Decision

@@ -7,8 +7,8 @@ use Rattle.oca_pdu.specs.Messages.{Msg, Command, Response, KeepAlive}
 use Rattle.oca_control.specs.Limits.{repeat_time, longest_life}
 use Rattle.oca_control.specs.Answers.{AnswerFields, answer_of_response}
 
--- A command, when it was submitted, how often and when last it was given out, and its answer where one came. Moments are
--- in milliseconds by the link's clock; the last one of a command that was never given out says nothing.
+-- A command, when it was submitted, how often and when last it was sent, and its answer where one came. Moments are
+-- in milliseconds by the link's clock; the last one of a command that was never sent says nothing.
 pub record Untaken : Type 0 where
   pub command : CommandFields
   pub submitted : ℕ
@@ -24,11 +24,11 @@ new_untaken now c = record { command = c; submitted = now; times = 0; last = 0; 
 abbrev pub span_has_room : ℕ → ℕ → List Untaken → Bool
 span_has_room s h us = list_all (λ u. nat_lt h (u.command.handle + s)) us
 
--- A command is due while it is unanswered, and was never given out or was given out 250 ms ago or earlier.
+-- A command is due while it is unanswered, and was never sent or was sent 250 ms ago or earlier.
 abbrev pub is_due : ℕ → Untaken → Bool
 is_due now u = is_none u.answer && (u.times == 0 || nat_le repeat_time (now - u.last))
 
--- A command is late while it is unanswered and was submitted more than 15,000 ms ago, whether it was ever given out or
+-- A command is late while it is unanswered and was submitted more than 15,000 ms ago, whether it was ever sent or
 -- not.
 abbrev pub is_late : ℕ → Untaken → Bool
 is_late now u = is_none u.answer && nat_lt longest_life (now - u.submitted)
@@ -38,7 +38,7 @@ abbrev pub first_due : ℕ → List Untaken → Option Untaken
 first_due now [] = None
 first_due now (u ∷ us) = if is_due now u then Some u else first_due now us
 
--- the command of the handle is given out now
+-- the command of the handle is sent now
 abbrev pub given_out : ℕ → ℕ → Untaken → Untaken
 given_out now h u =
     record {

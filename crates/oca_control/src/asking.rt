@@ -32,8 +32,8 @@ pub fn ask<E: End>(link: &mut Link, end: &mut E, request: Request<'_>, turns: u3
 /// Submits a command at the end's present moment and hands it to the end at once, and returns its handle.
 ///
 /// An end that keeps no time has the link's own moment, the greatest that it was told. All else that is due at the
-/// moment is given out with the command. Where an older one is due and had 20 sendings, the link is lost, and this one
-/// is not given out; else nothing is left to give out at that moment (`law_of_running`). Refusals, which change nothing
+/// moment is sent with the command. Where an older one is due and had 20 sendings, the link is lost, and this one
+/// is not sent; else nothing is left to send at that moment (`law_of_running`). Refusals, which change nothing
 /// and send nothing: `Lost` where the link is late at the moment ([`is_late`](crate::is_late)), then those of
 /// [`submit`](Link::submit).
 pub fn begin<E: End>(
@@ -202,7 +202,7 @@ fn take_one<E: End>(link: &mut Link, end: &mut E) -> bool
     turn(link, end).lost
 }
 
-/// How a command fares that the link refuses: `Lost` where the link is lost, else `Refused`.
+/// The outcome of a command that the link refuses: `Lost` where the link is lost, else `Refused`.
 pub fn refused(fault: ControlFault) -> Outcome
     ensures { result ≡ refused_by fault }
 {

@@ -47,7 +47,7 @@ pub fn drive<E: End>(link: &mut Link, end: &mut E, turns: u32) -> DriveReport
 ///
 /// `due` is called at this moment until it returns `Nothing` or `Lost`, and at most once more than the span has
 /// handles: these are all, since at most as many commands as the span has handles are untaken (`law_of_histories`), so
-/// that each is reached (`law_of_giving_out`). So nothing is left to give out at that moment, or the link is lost.
+/// that each is reached (`law_of_giving_out`). So nothing is left to send at that moment, or the link is lost.
 /// Where a send fails, it is counted. Nothing is received. A moment that is earlier than one already seen counts as the
 /// one already seen.
 pub fn give_out<E: End>(link: &mut Link, end: &mut E, now: u64) -> DriveReport

@@ -1,7 +1,7 @@
-//! What a link gives out.
+//! What a link sends.
 use oca_types::Handle;
 
-/// What a link gives out at a moment.
+/// What a link sends at a moment.
 #[derive(Clone, Copy, Debug, PartialEq, Eq)]
 pub enum Due {
     /// The command of this handle, for the first time or again.

@@ -15,10 +15,10 @@ use oca_pdu::law_one_list_of_messages;
 /// bits is left, the next handle is not below each untaken one plus the span, or the parameters have more than 1,445
 /// bytes.
 ///
-/// What is given out for a handle is the same bytes each time, a PDU of type 1 with its command alone; at most 20
+/// What is sent for a handle is the same bytes each time, a PDU of type 1 with its command alone; at most 20
 /// times, and at least 250 ms apart by the clock, which is the greatest moment so far. `due` gives the lowest handle
-/// that is untaken and unanswered and was not given out for 250 ms, or else a keep-alive after 2,500 ms, or else
-/// nothing; and the link is lost exactly where that handle was given out 20 times. A take of an untaken handle gives
+/// that is untaken and unanswered and was not sent for 250 ms, or else a keep-alive after 2,500 ms, or else
+/// nothing; and the link is lost exactly where that handle was sent 20 times. A take of an untaken handle gives
 /// the first answer that came to it in a well-formed datagram of the device since its submit, and nothing where none
 /// came: also where that answers a command that an earlier link of this address and port had under this handle. The
 /// next handle is at most an untaken one plus the span.
@@ -48,13 +48,13 @@ pub fn law_of_answering()
     ensures { EveryAnswerIsKept }
 {}
 
-/// Giving out goes on. A command is due while it is untaken and no answer came to it, and was never given out or last
-/// 250 ms ago or earlier. Where k commands are due at a moment, each of them is given out within k calls of `due` at
+/// Sending goes on. A command is due while it is untaken and no answer came to it, and was never sent or last
+/// 250 ms ago or earlier. Where k commands are due at a moment, each of them is sent within k calls of `due` at
 /// that moment, or the link is lost.
 ///
 /// Where a link is asked at least every `ms` milliseconds, from the submit of a command on, each time until it returns
-/// anything but `Send`, the command is given out within `ms` of its submit, and again less than `250 + ms` after each
-/// giving out, until an answer came, it was taken, or the link is lost. One of these comes within
+/// anything but `Send`, the command is sent within `ms` of its submit, and again less than `250 + ms` after each
+/// sending, until an answer came, it was taken, or the link is lost. One of these comes within
 /// `ms + 20 * (250 + ms)` of the submit: asked every 250 ms, the link gives a command out again in less than half a
 /// second, and has its answer or is lost after 10,250 ms at most.
 pub fn law_of_giving_out()
@@ -67,12 +67,12 @@ pub fn law_of_giving_out()
 /// What [`drive`](crate::drive), [`turn`](crate::turn), [`wait_for`](crate::wait_for), [`begin`](crate::begin) and
 /// [`ask`](crate::ask) do with a link is a run, over the moments of what the end delivered and those at which commands
 /// were begun. Where each of these moments is at most `ms` milliseconds after the latest one before it, and when the run
-/// began nothing was left to give out and each command had time left, the link is asked every `ms` milliseconds, which
+/// began nothing was left to send and each command had time left, the link is asked every `ms` milliseconds, which
 /// is the premise of [`law_of_giving_out`], or it is lost; `ms` is at most 500. A command has time left where the
 /// sendings that are left to it, `250 + ms` apart, end before it is late; so has each command that is begun in such a
 /// run, however many others are in flight, each by its own submit; and where none else waited when it was begun, whatever
 /// the link did before. After a [`begin`](crate::begin)
-/// nothing is left, so each command that is begun is given out at once, and from then on in time as long as it waits:
+/// nothing is left, so each command that is begun is sent at once, and from then on in time as long as it waits:
 /// with receives of at most 50 ms, again less than 300 ms after each sending.
 ///
 /// Of an end that tells what it delivers the premise is a fact of its state: its receives return within `ms` of one
@@ -89,8 +89,8 @@ pub fn law_of_running()
     ensures in_memory { EveryScriptIsKept }
 {}
 
-/// No copy of a command is given out too late. Where [`due`](crate::Link::due) is never called at a moment at which the
-/// link is late ([`is_late`](crate::is_late)), each copy of a command is given out at most 15,000 ms after the submit of
+/// No copy of a command is sent too late. Where [`due`](crate::Link::due) is never called at a moment at which the
+/// link is late ([`is_late`](crate::is_late)), each copy of a command is sent at most 15,000 ms after the submit of
 /// the command, by the clock, over every list of calls of a link.
 ///
 /// What [`give_in_time`](crate::give_in_time), [`turn`](crate::turn), [`begin`](crate::begin),

@@ -1,7 +1,7 @@
 //! The controller's link to a device: commands with their handles, their repeats and their answers, and keep-alives,
 //! over the datagrams of OCP.1 (AES70-3).
 //!
-//! Begin with [`Link`], which opens no socket and reads no clock: it is given datagrams and moments, and gives out
+//! Begin with [`Link`], which opens no socket and reads no clock: it is given datagrams and moments, and sends
 //! datagrams. Over an end of a network [`ask`] sends a command and waits for its answer; with several in flight
 //! [`begin`] sends each, and [`turn`] runs the link. These, [`wait_for`] and [`give_in_time`] send no copy of a command
 //! too late ([`is_late`]); [`give_out`] and [`drive`] do not look at that. Nothing here takes memory.

@@ -31,12 +31,12 @@ use oca_types::{
 use std::fmt;
 use std::marker::Model;
 
-/// A keep-alive is given out after so many milliseconds without anything.
+/// A keep-alive is sent after so many milliseconds without anything.
 const KEEP_ALIVE_MS: u64 = 2500;
 
 /// A controller's link to one device.
 ///
-/// Commands are submitted and get handles that rise by one. What is due is given out, a command again each 250 ms until
+/// Commands are submitted and get handles that rise by one. What is due is sent, a command again each 250 ms until
 /// its answer comes, and keep-alives in silence. Answers come in with the device's datagrams, and are taken by handle.
 /// A command that got no answer to 20 sendings loses the link. Moments are in milliseconds; one that is earlier than a
 /// moment already seen counts as the one already seen. No call takes memory: the commands, at most 32, lie in the link
@@ -96,7 +96,7 @@ impl Link {
         }
     }
 
-    /// Submits a command, to be given out when it is due, and returns its handle (AES70-3). `count` is ParamCount.
+    /// Submits a command, to be sent when it is due, and returns its handle (AES70-3). `count` is ParamCount.
     ///
     /// Refusals, in this order, each of which changes nothing and keeps no moment: `Lost`; `HandlesSpent`, after the
     /// handle 4294967295; `SpanFull`, where the next handle is not below the lowest untaken one plus the span;
@@ -149,11 +149,11 @@ impl Link {
         Ok(handle)
     }
 
-    /// Gives out what is due into the packet, which it empties first: the due command with the lowest handle, with
-    /// unchanged bytes, or a keep-alive of 5 seconds where nothing was given out for 2,500 ms. A command is due while
-    /// it is unanswered, and was never given out or was given out 250 ms ago or earlier.
+    /// Sends what is due into the packet, which it empties first: the due command with the lowest handle, with
+    /// unchanged bytes, or a keep-alive of 5 seconds where nothing was sent for 2,500 ms. A command is due while
+    /// it is unanswered, and was never sent or was sent 250 ms ago or earlier.
     ///
-    /// `Lost` where that command was given out 20 times, and from then on. The packet is empty at `Nothing` and `Lost`.
+    /// `Lost` where that command was sent 20 times, and from then on. The packet is empty at `Nothing` and `Lost`.
     pub fn due(&mut self, now: u64, packet: &mut Packet) -> Due
         ensures answer { result ≡ due_answer (decision now self.old) }
         ensures packet { packet.new.items ≡ due_bytes (decision now self.old) }
@@ -252,10 +252,11 @@ impl Link {
         self.table.next()
     }
 
-    /// The moment at which the last well-formed datagram came from the device, and at first that of the link's making.
+    /// The moment at which the last well-formed datagram from the device came; until the first one comes, the moment at
+    /// which the link was made.
     /// A datagram from another address does not move it, nor one that is not well-formed. A device that is there and
     /// has room echoes each keep-alive, so it lags by little more than 2,500 ms while the link is driven and no command
-    /// waits for its answer. While one waits it is given out again and no keep-alive leaves: a device that leaves it
+    /// waits for its answer. While one waits it is sent again and no keep-alive leaves: a device that leaves it
     /// unanswered, as one whose handle was used before from this address and port, is then not heard at all.
     pub fn last_heard(&self) -> u64
         ensures { result ≡ self.now.heard }

@@ -1,16 +1,16 @@
-//! How a command fared.
+//! The outcome of a command.
 use crate::answer::Answer;
 use crate::fault::ControlFault;
 use std::fmt;
 
-/// How a command fared that was asked over an end.
+/// The outcome of a command that was asked over an end.
 #[derive(Debug, Drop)]
 pub enum Outcome {
     /// It was answered.
     Answered(Answer),
     /// The link refused it, since no handle is left, the span is full or the parameters are too long.
     Refused(ControlFault),
-    /// The link is lost, or it is late: a copy of a command would be given out too late.
+    /// The link is lost, or it is late: a copy of a command would be sent too late.
     Lost,
     /// No answer came in the turns that were allowed.
     Unanswered,

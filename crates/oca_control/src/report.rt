@@ -1,7 +1,7 @@
 //! What a loop did with a link.
 use std::ops::Add;
 
-/// What the loop [`drive`](crate::drive) did, or a [`turn`](crate::turn), or what was given out. Two are added number
+/// What the loop [`drive`](crate::drive) did, or a [`turn`](crate::turn), or what was sent. Two are added number
 /// by number: a number that would pass 64 bits stays at its last value; lost is what either says.
 #[derive(Clone, Copy, Debug, PartialEq, Eq)]
 pub struct DriveReport {

@@ -22,14 +22,14 @@ use oca_types::{
 };
 use std::marker::Model;
 
-/// A command is given out again after so many milliseconds without an answer.
+/// A command is sent again after so many milliseconds without an answer.
 const REPEAT_MS: u64 = 250;
 
 /// How long after its submit a command may leave, in milliseconds (*profile*): one that is unanswered later is late, and
-/// no copy of it is given out. While its link is asked in time, its answer has come by then, or the link is lost.
+/// no copy of it is sent. While its link is asked in time, its answer has come by then, or the link is lost.
 pub const LONGEST_LIFE_MS: u64 = 15_000;
 
-/// A command is given out at most so often.
+/// A command is sent at most so often.
 const MOST_SENDINGS: u8 = 20;
 
 /// A place for one command and its answer. It is written in place: nothing of its size is moved.
@@ -115,7 +115,7 @@ impl Slot {
         self.waits() && now.saturating_sub(self.submitted) > LONGEST_LIFE_MS
     }
 
-    /// From which moment on the command is due: from the first on where it was never given out, else 250 ms after it
+    /// From which moment on the command is due: from the first on where it was never sent, else 250 ms after it
     /// last was. Nothing where that lies beyond 64 bits, or no command waits.
     pub fn due_from(&self) -> Option<u64>
         ensures { HoldsFrom (λ s. held_is_due s self.now) result }
@@ -143,7 +143,7 @@ impl Slot {
         self.held && !self.answered
     }
 
-    /// Whether the command may be given out once more.
+    /// Whether the command may be sent once more.
     pub fn may_repeat(&self) -> bool
         ensures { IfSome self.now (λ k. result ≡ nat_lt k.times most_sendings) }
     {

@@ -83,7 +83,7 @@ impl Table {
         self.next += 1;
     }
 
-    /// Gives the due command with the lowest handle out, or says that it was given out 20 times. Nothing where no
+    /// Sends the due command with the lowest handle, or says that it was sent 20 times. Nothing where no
     /// command is due.
     pub fn give_first(&mut self, now: u64, packet: &mut Packet) -> Option<Due>
         requires { packet.old.items ≡ [] }

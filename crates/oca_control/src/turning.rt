@@ -1,4 +1,4 @@
-//! A turn of a link over an end, in which no command is given out too late.
+//! A turn of a link over an end, in which no command is sent too late.
 ghost use Rattle.std.specs.Prelude.{◌≡◌, false};
 ghost use Rattle.oca_control.specs.Links.{late_at};
 ghost use Rattle.oca_control.specs.Turning.{GivesInTime, Turns};
@@ -15,10 +15,10 @@ use oca_types::Packet;
 const WAIT_MS: u64 = 50;
 
 /// Whether a link is late at this moment: a command is unanswered, and was submitted more than 15,000 ms before
-/// (*profile*), whether it was ever given out or not. A moment that is earlier than one already seen counts as the one
+/// (*profile*), whether it was ever sent or not. A moment that is earlier than one already seen counts as the one
 /// already seen.
 ///
-/// A link that is asked in time has its answer by then or is lost, so this finds a program that stood still. What was
+/// A link that is asked in time has its answer by then or is lost, so this finds a program that was suspended. What was
 /// asked of it long ago may not act now. And a device that hears nothing for 120 seconds forgets what it executed, and
 /// would execute a command once more that comes again: no copy leaves so late that one which the network holds for up to
 /// 100 seconds could come then. A link that is late stays so as long as the command is in it, and has no answer.
@@ -29,7 +29,7 @@ pub fn is_late(link: &Link, now: u64) -> bool
 }
 
 /// As [`give_out`], unless the link is late at this moment: then it changes nothing, hands over nothing, and reports
-/// that the link is lost. Nothing is left to give out at this moment where it does not report that.
+/// that the link is lost. Nothing is left to send at this moment where it does not report that.
 pub fn give_in_time<E: End>(link: &mut Link, end: &mut E, now: u64) -> DriveReport
     ensures gives { GivesInTime now link.old link.new (E.state end.old) (E.state end.new) result }
     ensures left { result.lost ≡ false → NothingIsLeft link.new }
@@ -40,12 +40,12 @@ pub fn give_in_time<E: End>(link: &mut Link, end: &mut E, now: u64) -> DriveRepo
     give_out(link, end, now)
 }
 
-/// A turn of a link over an end, and what was done: receives once, and gives out what is due in time.
+/// A turn of a link over an end, and what was done: receives once, and sends what is due in time.
 ///
 /// An end that keeps time receives until something is due ([`Link::next_due`]), and for at most 50 ms. A datagram goes
 /// to the link, however late it is. Then, at a datagram, at silence and at an oversize datagram, [`give_in_time`]
 /// follows. A failed receive does nothing else. At Closed nothing is done, and `turns` is 0. `lost` says that the link
-/// is lost or late: it will give out nothing more. After any other turn nothing is left to give out at the link's
+/// is lost or late: it will send nothing more. After any other turn nothing is left to send at the link's
 /// moment.
 pub fn turn<E: End>(link: &mut Link, end: &mut E) -> DriveReport
     ensures turns { Turns link.old link.new (E.state end.old) (E.state end.new) result }
@@ -91,7 +91,7 @@ fn end_of_turn(link: &Link, now: u64) -> u64
     }
 }
 
-/// Nothing was given out, since the link is late.
+/// Nothing was sent, since the link is late.
 fn late_report() -> DriveReport
     ensures { result ≡ lost_report }
 {

@@ -82,7 +82,7 @@ impl Keeping {
         self.places.clear();
     }
 
-    /// Whether something written is not stored: the store failed when it was handed the objects last.
+    /// Whether something that was written is not stored: true from a store that failed on until one succeeds.
     pub fn is_behind(&self) -> bool
         ensures { result ≡ self.now.is_behind }
     {

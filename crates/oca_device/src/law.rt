@@ -20,7 +20,9 @@ pub fn law_by_events()
     law_one_list_of_messages();
 }
 
-/// The answers to a datagram are grouped into PDUs in one way alone.
+/// Law: the answers to a datagram are grouped into PDUs in exactly one way, if the groups one after another are the
+/// answers in order, each group is one keep-alive or responses in a PDU of at most 1,472 bytes, and of two neighbours
+/// the first is full before the second (`Groups`). It does nothing at run time.
 pub fn law_of_groups()
     ensures { AnswersHaveOneGrouping }
 {}

@@ -75,7 +75,7 @@ runs_more {xs = xs} {ys = ys} f g =
     runs_of (delivered_more (delivered_of f) (delivered_of g)) (λ told. takes_more (f.taken told) (g.taken (f.telling ∙ told)))
     (counts_more xs ys _ _ _ f.sends g.sends)
 
--- one was heard, and the others were given out
+-- one was heard, and the others were sent
 pub runs_one : (x : Delivery) {h : Heard} {bytes : List ℕ} {all : List Sent} {k : ℕ} {a b c : EndState} → Receives h bytes a b → SendsAllBut k b c all →
     (IsTrue a.tells → b.delivered ≡ a.delivered ++ x ∷ []) → DeliversAndTakes (x ∷ []) all (cond (is_failed h) 1 0) k a c
 runs_one x {all = all} {k = k} {c = c} received sent grew =

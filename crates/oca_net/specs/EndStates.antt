@@ -65,7 +65,7 @@ pub record SendsAllBut (failed : ℕ) (old new : EndState) (all : List Sent) : T
   pub receives : new.receives ≡ old.receives
   pub sends : new.sends < last_u64 → new.sends ≡ old.sends + length all
 
--- These were delivered and these given out, and so many receives and sends failed: where the end tells, it delivered
+-- These were delivered and these sent, and so many receives and sends failed: where the end tells, it delivered
 -- the ones and took the others but for those whose send failed.
 pub record DeliversAndTakes (deliveries : List Delivery) (all : List Sent) (failed_receives failed_sends : ℕ)
     (old new : EndState) : Type 0 where

@@ -62,14 +62,14 @@ pub fn law_round_trip()
     law_written_is_read_back();
 }
 
-/// Over every schedule, where `0 < s` and `2 * s <= w + 1`: a link whose `due` is called at least every `ms`
-/// milliseconds, each time until it gives no command, gives each command that it submitted out to the device, within
-/// `ms` of its submit, and again less than `250 + ms` after each giving out, with the same bytes, until the link has
-/// the command's answer, which may have been taken since, or is lost. One of the two comes within
-/// `ms + 20 * (250 + ms)` of the submit. And as long as neither came, one copy that arrives at the device, and the one
+/// Over every schedule, where `0 < s` and `2 * s <= w + 1`: take a link whose `due` is called at least every `ms`
+/// milliseconds, each time until it returns no command. The link sends each command that it submitted to the device
+/// within `ms` of its submit, and again less than `250 + ms` after each transmission, with the same bytes. It does so
+/// until it has the command's answer (which may have been taken since), or is lost. One of the two comes within `ms +
+/// 20 * (250 + ms)` of the submit. And as long as neither came, one copy that arrives at the device, and the one
 /// response that comes back, are enough: that is a round trip of [`law_round_trip`], under its premises.
 ///
-/// What the device, the other links and the network do, and what is lost, doubled or overtaken, is left open.
+/// What the device, the other links and the network do, and what is lost, duplicated or reordered, is left open.
 pub fn law_getting_through()
     ensures { EveryCommandGetsThrough }
 {

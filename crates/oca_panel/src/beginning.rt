@@ -44,7 +44,9 @@ impl<E: End> Panel<E> {
     }
 }
 
-/// What the answer to a method of an object of the class says, by how its command fared.
+/// The answer to a method, read by the class of its object, from the outcome of its command. Faults: `Refused` with the
+/// status where that is not OK; `Unreadable` where the status is OK and the parameters are no answer to the method;
+/// `NotSubmitted` where the link refused the command; `Lost` and `Unanswered` as the outcome says.
 pub fn answer_of(class: Class, method: Method, outcome: &Outcome) -> Result<Answer, Trouble>
     ensures { result ≡ model_answered class method outcome.now }
 {

@@ -33,7 +33,8 @@ fn parameters_in(outcome: &Outcome) -> Result<&[u8], Trouble>
     }
 }
 
-/// Whether a command was carried out, or why it was not, by how it fared.
+/// Ok where the command was answered with status OK, whatever its parameters are. Faults: `Refused` with any other
+/// status; `NotSubmitted` where the link refused the command; `Lost` and `Unanswered` as the outcome says.
 pub fn done_in(outcome: &Outcome) -> Result<(), Trouble>
     ensures { result ≡ done_answered outcome.now }
 {

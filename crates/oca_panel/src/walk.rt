@@ -30,7 +30,7 @@ pub struct Place {
     pub container: Ono,
 }
 
-/// What an object says of itself.
+/// What was read of an object: its class and its role.
 #[derive(Debug, Drop)]
 pub struct Description {
     /// The fields of its class's identifier.

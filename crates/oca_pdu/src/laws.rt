@@ -27,7 +27,8 @@ pub fn law_reading()
     ensures { ReadingIsExact }
 {}
 
-/// What a writer appends to a packet is read back after the messages that it held.
+/// Law: where the PDUs before it and one more PDU together are a datagram, reading it gives the messages of the PDUs
+/// before and then those of that PDU. It does nothing at run time.
 pub fn law_written_is_read_back()
     ensures { WrittenIsReadBack }
 {}

@@ -98,14 +98,14 @@ fn octet_before(text: &[u8], end: u8) -> Option<(u64, &[u8])>
     Some((three, &text[4..]))
 }
 
-/// A moment in milliseconds: one to twenty decimal digits, in 64 bits.
+/// A moment in milliseconds: one to twenty decimal digits, at most 2^64 - 1. `None` where the text is anything else.
 pub fn moment(text: &[u8]) -> Option<u64>
     ensures { result ≡ moment_of text.now }
 {
     number(text, 20, u64::MAX)
 }
 
-/// What stands before and after the first such byte.
+/// The text before the first byte that is the separator, and the text after it; `None` where it has none.
 pub fn split_at_byte(text: &[u8], separator: u8) -> Option<(&[u8], &[u8])>
     ensures value { split_view result ≡ split_at separator text.now }
     ensures within { IfSome result (λ p. length p.0.now + length p.1.now + 1 ≡ length text.now) }
@@ -116,7 +116,8 @@ pub fn split_at_byte(text: &[u8], separator: u8) -> Option<(&[u8], &[u8])>
     }
 }
 
-/// The first field, and where a space ends it what stands after that space.
+/// The first field, which ends at the first space, and the text after that space; `None` in its place where there is no
+/// space.
 #[tactic(auto, using(crate::proofs::FieldLemmas::field_rules))]
 pub fn first_field(text: &[u8]) -> (&[u8], Option<&[u8]>)
     ensures value { fields text.now ≡ result.0.now ∷ fields_after (option_copied result.1) }
@@ -129,7 +130,8 @@ pub fn first_field(text: &[u8]) -> (&[u8], Option<&[u8]>)
     }
 }
 
-/// An address: `a.b.c.d` in decimal numbers of at most 255, one to three digits each, the first in the highest byte.
+/// An address: `a.b.c.d`, four decimal numbers of at most 255 with one to three digits each, the first in the highest
+/// byte. `None` where the text is anything else.
 #[tactic(auto, unfolding(crate::specs::Fields::address_of))]
 pub fn address(text: &[u8]) -> Option<u32>
     ensures { result ≡ address_of text.now }
