@@ -384,6 +384,7 @@ SAID_OF_EDITS = [
     (1, [f"proofs/m/f/{DIFFERS}", "fn a::m::f: not proved: its proof", CALLS, END], "f "),
     (1, ["fn a::m::f: not proved: the search did not prove a goal", CALLS, END], "f "),
     (1, [f"proofs/m/f/F.antt:1:2: {GONE}", "fn a::m::f: not proved: its proof", END], ()),
+    (1, [f"proofs/m/f/F.antt:1:2: {GONE}", "fn a::m::f: not proved: the search did not prove a goal", END], " "),
     (1, [CALLS, END], ()),
     (1, [f"proofs/m/h/{DIFFERS}", "fn a::m::h: not proved: its proof", END], " "),
     (1, [f"src/m.rt:1:2: {GONE}", END], ()),

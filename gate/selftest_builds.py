@@ -588,8 +588,8 @@ def takes_what_the_gate_left(folder):
         with patch.object(kit, "toolchain", lambda: tools), patch.object(edits, "rt", tools), patch.object(build, "build_all", build_all), \
                 patch.object(sys, "argv", ["library.py"]), within(folder), memory_at(folder / "memory-of-library"):
             stand = all(map(edits.stands, (low, high)))
-            got = library.main(), made, stand and "/out/rlib/" in low.rlib
-        found.append(is_same((0, [] if is_taken else [True], is_taken), got))
+            got = library.main(), made, stand, "/out/rlib/" in low.rlib
+        found.append(is_same((0, [] if is_taken else [True], is_taken, is_taken), got))
     return all(found)
 
 

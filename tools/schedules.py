@@ -143,7 +143,9 @@ def some_setting(r):
 
 
 def noise(r, schedule):
-    """Now and then a copy of what was sent before, a clock reading, or other bytes."""
+    """Now and then a copy of what was sent before, a clock reading, or other bytes; without r nothing."""
+    if not r:
+        return
     kind = r.randrange(14)
     schedule.now = later(r, schedule.now, [0, 0, 0, 1, 7])
     if kind == 0 and schedule.network.to_device:
@@ -264,53 +266,55 @@ def slow(r, window, span):
     return schedule
 
 
+def given_out(schedule, count, r):
+    """The numbers of the datagrams of so many new commands of the first link."""
+    numbers = []
+    for _ in range(count):
+        noise(r, schedule)
+        if r:
+            submit(r, schedule, 0)
+        else:
+            schedule.timed("submit", 0, 4097, 4, 1, 0, b"")
+    for _ in range(count):
+        noise(r, schedule)
+        said = schedule.timed("due", 0).split()
+        numbers += [int(said[1])] if said[0] == "sent" else []
+    return numbers
+
+
+def deliver(schedule, numbers, r):
+    for k in numbers:
+        noise(r, schedule)
+        schedule.timed("to-device", k)
+
+
+def take_others(schedule, pinned, order):
+    """All answers come but the one to this handle, in this order, and are taken."""
+    (_, link), sent = schedule.network.links[0], schedule.network.to_links
+    for k in order:
+        message = oca.check(sent[k][1])[0]
+        if message[0] == "response" and message[1] != pinned and any(u[0].handle == message[1] and u[3] is None for u in link.untaken):
+            schedule.timed("to-link", k)
+    for u in list(link.untaken):
+        if u[3] is not None and u[0].handle != pinned:
+            schedule.add("take", 0, u[0].handle)
+
+
 def directed(window, span, r=None):
     """The last command of a full span overtakes the others and stays untaken, while the others are answered and taken
     and as many more follow; then a copy of it comes. With r in another order, with noise, and several times."""
     schedule = Schedule(window, span, [(peer(0), r.choice([1, 1, 1000]) if r else 1)])
-    network, step = schedule.network, (lambda: noise(r, schedule)) if r else (lambda: None)
-    mixed = (lambda xs: r.sample(xs, len(xs))) if r else list
-
-    def give_out(count):
-        numbers = []
-        for _ in range(count):
-            step()
-            if r:
-                submit(r, schedule, 0)
-            else:
-                schedule.timed("submit", 0, 4097, 4, 1, 0, b"")
-        for _ in range(count):
-            step()
-            said = schedule.timed("due", 0).split()
-            numbers += [int(said[1])] if said[0] == "sent" else []
-        return numbers
-
-    def deliver(numbers):
-        for k in numbers:
-            step()
-            schedule.timed("to-device", k)
-
-    def take_others(pinned):
-        for k in mixed(range(len(network.to_links))):
-            message = oca.check(network.to_links[k][1])[0]
-            if message[0] == "response" and message[1] != pinned and any(u[0].handle == message[1] and u[3] is None
-                for u in network.links[0][1].untaken):
-                schedule.timed("to-link", k)
-        for u in list(network.links[0][1].untaken):
-            if u[3] is not None and u[0].handle != pinned:
-                schedule.add("take", 0, u[0].handle)
-
+    network, mixed = schedule.network, (lambda xs: r.sample(xs, len(xs))) if r else list
     for _ in range(r.choice([1, 1, 2]) if r and span < 20 else 1):
-        first = give_out(span)
-        untaken = network.links[0][1].untaken
+        first, untaken = given_out(schedule, span, r), network.links[0][1].untaken
         if not first or not untaken:
             break
         last = first[-1]
         pinned = oca.check(network.to_device[last][1])[0]
         pinned = pinned[2].handle if pinned[0] == "command" else untaken[-1][0].handle
-        deliver([last] + mixed(first[:-1]))
-        take_others(pinned)
-        deliver(mixed(give_out(span - 1)))
+        deliver(schedule, [last] + mixed(first[:-1]), r)
+        take_others(schedule, pinned, mixed(range(len(network.to_links))))
+        deliver(schedule, mixed(given_out(schedule, span - 1, r)), r)
         schedule.timed("to-device", last)
         if r:
             schedule.take_all()
