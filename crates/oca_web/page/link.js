@@ -168,7 +168,8 @@ async function poll() {
   }
   asking = false;
   drawLink();
-  if (!document.hidden || awaited.size) pollTimer = setTimeout(poll, again ? 0 : awaited.size ? pace = Math.min(40, 1.5 * pace) : 100);
+  const isOrderOut = awaited.size + posting > 0;
+  if (!document.hidden || isOrderOut) pollTimer = setTimeout(poll, again ? 0 : isOrderOut ? pace = Math.min(40, 1.5 * pace) : 100);
 }
 
 // A window that was hidden asked for nothing: what it shows counts as old until an answer comes.

@@ -90,10 +90,12 @@ async function post(batch) {
   const run = program.run;
   posting++;
   outPosted += batch.length;
-  let answer = null, fault = "";
+  let fault = "";
   try {
-    answer = await fetch("/orders", { method: "POST", headers: { "Content-Type": "application/json" }, body: bodyOf(batch), signal: AbortSignal.timeout(FETCH_MS) });
-    await taken(batch, answer);
+    const answer = fetch("/orders", { method: "POST", headers: { "Content-Type": "application/json" }, body: bodyOf(batch), signal: AbortSignal.timeout(FETCH_MS) });
+    pace = batch[0].gang ? 20 : 2;
+    poll();
+    await taken(batch, await answer);
   } catch (error) {
     fault = "the panel program gave no answer";
   }
@@ -101,7 +103,6 @@ async function post(batch) {
   outPosted -= batch.length;
   if (fault) for (const one of batch) end(one, "lost", fault);
   if (!posting && run === program.run) early.clear();
-  pace = batch[0].gang ? 20 : 2;
   sendReady();
   poll();
 }
