@@ -7,9 +7,9 @@ Usage: panel_trial.py BIN [PICTURES]    BIN is the folder with `ocapanel`, `ocad
                                         panel-tablet.png
        panel_trial.py --cases [NAME]    the cases in node alone, of those whose name holds NAME
 
-Where there is no node or no Chromium, what needs it is left out, which is said. The last line is 'N passed, M failed'.
+In the gate: panel_trial.py bin
 
-In the gate: panel_trial.py bin"""
+Where there is no node or no Chromium, what needs it is left out, which is said. The last line is 'N passed, M failed'."""
 import base64
 import contextlib
 import json
