@@ -41,6 +41,7 @@ WRONG = [
     ("a lost order says nothing", "orders.js", '  if (trouble === "lost" || trouble === "no answer") return end(one, "lost", "the device gave no answer");', '  if (trouble === "lost" || trouble === "no answer") return end(one, "done", "");', "each word of a result"),
     ("that an order was lost is forgotten when the state is read", "link.js", '  if (note && note.how === "lost") note.read = true;', "  if (!note) return;", "that an order was lost stays until"),
     ("too many orders are silent", "orders.js", '      if (now() > lastMoment(desk.flying)) end(desk.flying, "unsent", "not sent: it waited for 5 s");', '      if (now() > lastMoment(desk.flying)) end(desk.flying, "unsent", "");', "no room for an order"),
+    ("a result that comes out of turn is not asked for", "link.js", "const toldFrom = () => awaited.size ? Math.min(...awaited.keys()) : program.told;", "const toldFrom = () => program.told;", "results that come out of turn"),
     ("a block's trouble is not shown", "log.js", "  for (const row of rowsOf(strip)) {", "  for (const row of strip.rows) {", "a block's trouble is shown"),
     ("a label is ignored", "words.js", 'const nameOf = row => clean(row.label) || clean(row.role) || "object " + row.ono;', 'const nameOf = row => clean(row.role) || "object " + row.ono;', "a label goes before the role"),
     ("no note where the program is gone", "link.js", '  $("banner").hidden = !head;', '  $("banner").hidden = true;', "the program is gone"),
@@ -714,7 +715,7 @@ def started_without_cookies(browser):
 
 
 # How many rows there are of each part; a part that has fewer tried too little.
-ROWS = {"sources": 2, "node": 73, "wrong pages": 36, "chromium": 73, "by hand": 44, "looks": 20, "programs": 43}
+ROWS = {"sources": 2, "node": 74, "wrong pages": 38, "chromium": 74, "by hand": 44, "looks": 20, "programs": 43}
 
 
 def counted(name, part_of, *given):

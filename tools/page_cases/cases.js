@@ -335,6 +335,20 @@ const CASES = [
     await until(() => fake.bodies.length > 0 && !isOut(rows.get(11), "set"));
     return [[fake.tickets], words(11)];
   }],
+  ["results that come out of turn", [1, 0, "", "mute: refused: Locked by nobody"], async () => {
+    click(part(11));
+    await flying();
+    click(part(21));
+    await flying(2);
+    tell(2);
+    await until(() => awaited.size === 1);
+    await answered();
+    await answered();
+    const left = awaited.size;
+    tell(1, "Locked by nobody");
+    await until(() => !awaited.size);
+    return [left, awaited.size, words(21).replace("meter: a class that is not known here", ""), words(11)];
+  }],
   ["150 orders at once all end, and each that was lost is said", [150, 3, true, 0], async () => {
     await startedWith(manyMutes(150), "muted");
     fake.answer = orders => {

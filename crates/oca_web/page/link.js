@@ -86,7 +86,9 @@ async function get(path, most = FETCH_MS) {
   return answer.json();
 }
 
-const valuesPath = () => "/values?since=" + program.since + (program.run === null ? "" : "&run=" + program.run) + "&told=" + program.told + "&shown=" + shownRanges();
+// Results come in any order: those from the earliest on that is awaited.
+const toldFrom = () => awaited.size ? Math.min(...awaited.keys()) : program.told;
+const valuesPath = () => "/values?since=" + program.since + (program.run === null ? "" : "&run=" + program.run) + "&told=" + toldFrom() + "&shown=" + shownRanges();
 
 // Another run of the program: its tickets, its changes and perhaps its device are others. Nothing of the old one stays.
 function beginRun(values) {
