@@ -209,7 +209,7 @@ class Window:
 
     def place(self, what):
         """The middle of an element of the page, and its size."""
-        return self.run(f"(()=>{{const e={what};e.scrollIntoView({{block:'center'}});const r=e.getBoundingClientRect();return[r.x+r.width/2,r.y+r.height/2,r.width,r.height]}})()")
+        return self.run(f"(()=>{{const e={what};e.scrollIntoView({{'block':'center'}});const r=e.getBoundingClientRect();return[r.x+r.width/2,r.y+r.height/2,r.width,r.height]}})()")
 
     def mouse(self, kind, x, y, buttons=0):
         self.call("Input.dispatchMouseEvent", type=kind, x=x, y=y, button="left" if kind != "mouseMoved" or buttons else "none", buttons=buttons, clickCount=1)
