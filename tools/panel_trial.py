@@ -423,7 +423,7 @@ def locks(folder, device, one, two):
         holder.stdout.readline()
         if ono == BLOCK:
             one.run(f"{row(BLOCK)}.lock==='free'&&order({row(BLOCK)},'lock')")
-        one.holds(f"{row(ono, '.lock')}==='other'&&{row(MUTE, '.strip.message.textContent')}.includes('another controller')", f"a lock of a different controller is shown at {ono}")
+        one.holds(f"{idle(ono)}&&{row(ono, '.lock')}==='other'&&{row(MUTE, '.strip.message.textContent')}.includes('another controller')", f"a lock of a different controller is shown at {ono}")
         holder.stdin.close()
         holder.wait()
         one.holds(f"{row(ono, '.lock')}==='free'&&!{row(MUTE, '.strip.message.textContent')}.includes('locked by')", f"and no longer where it is taken off at {ono}")
