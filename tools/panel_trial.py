@@ -1,6 +1,6 @@
 #!/usr/bin/env python3
 """The panel's page: its table of cases in node and in Chromium, wrong pages that the table must refuse, and the page in Chromium with the
-programs: click, drag, keyboard, wheel, locks, many at once, two windows, a network that loses datagrams, programs that stop and begin
+programs: click, drag, keyboard, wheel, locks, labels, many at once, two windows, a network that loses datagrams, programs that stop and begin
 anew, another device, 4,096 objects, hostile texts, contrast, sizes, and no line in the console.
 
 Usage: panel_trial.py BIN [PICTURES]    BIN is the folder with `ocapanel`, `ocadev` and `ocactl`; PICTURES is a folder for panel.png and
@@ -281,7 +281,7 @@ def part(ono):
 
 
 def idle(ono):
-    return f"!!{row(ono)}&&!isOut({row(ono)},'set')&&!isOut({row(ono)},'lock')&&!isOut({row(ono)},'label')"
+    return f"!!{row(ono)}&&!isOut({row(ono)},'set')&&!isOut({row(ono)},'lock')"
 
 
 def shows(ono, value):
@@ -352,6 +352,7 @@ def by_hand(folder, device, browser, address):
     by_keys(folder, device, one)
     deliberate(folder, device, one)
     locks(folder, device, one, two)
+    labels(folder, device, two)
     many_at_once(folder, device, one)
     held_by_one(one, two)
     return one, two
@@ -407,7 +408,7 @@ def deliberate(folder, device, one):
 
 
 def locks(folder, device, one, two):
-    """Locks of this panel and of a different controller, in the strip's one menu; and a name."""
+    """Locks of this panel and of a different controller, in the strip's one menu."""
     one.click(row(MUTE, ".strip.menu"))
     one.wait("$('dialog').open")
     one.click("$('dialog').children[2].children[1].children[1]")
@@ -427,10 +428,19 @@ def locks(folder, device, one, two):
         holder.stdin.close()
         holder.wait()
         one.holds(f"{row(ono, '.lock')}==='free'&&!{row(MUTE, '.strip.message.textContent')}.includes('locked by')", f"and no longer where it is taken off at {ono}")
-    one.run(f"order({row(BLOCK)},'label','Lead <b>vocal</b>')")
-    two.holds(f"{row(MUTE, '.strip.name.textContent')}==='Lead <b>vocal</b>'", "a name that is given is shown in both windows, as a text")
-    one.run(f"order({row(BLOCK)},'label','')")
-    two.holds(f"{row(MUTE, '.strip.name.textContent')}==='channel 1'", "without a name the role is shown")
+
+
+def give_label(folder, device, ono, text):
+    """Another controller gives an object a label."""
+    data = text.encode()
+    ocactl(folder, device.port, "send", "--target", str(ono), "--level", "2", "--index", "9", "--count", "1", "--params", (len(text).to_bytes(2, "big") + data).hex())
+
+
+def labels(folder, device, two):
+    """A label that another controller gives is shown in place of the role, as a text."""
+    for label, name in [("Lead <b>vocal</b>", "Lead <b>vocal</b>"), ("\u202elacov", "\ufffdlacov"), ("", "channel 1")]:
+        give_label(folder, device, BLOCK, label)
+        two.holds(f"{row(MUTE, '.strip.name.textContent')}==={json.dumps(name)}", f"the label {label!r} is shown as {name!r}")
 
 
 def many_at_once(folder, device, one):
@@ -527,9 +537,10 @@ def pictures(folder, browser, place):
         with Device(folder) as device, Program(folder, device.port, "--no-token", "--units", str(Path(units, "units"))) as panel:
             one = Window(browser, panel.address)
             one.holds(LIVE, "the device of the pictures is shown", 30)
-            one.run("order(rows.get(100),'label','Stage box A')")
+            give_label(folder, device, 100, "Stage box A")
             for n, name in enumerate(NAMES):
-                one.run(f"order({row(4097 + 5 * n)},'label','{name}');change({row(4100 + 5 * n)},'{[-60, -35, 0, 45, -120, 20, -80, -300][n]}')")
+                give_label(folder, device, 4097 + 5 * n, name)
+                one.run(f"change({row(4100 + 5 * n)},'{[-60, -35, 0, 45, -120, 20, -80, -300][n]}')")
                 if n not in (4, 7):
                     one.run(f"change({row(4098 + 5 * n)},'unmuted')")
             one.holds(f"{row(4132, '.label')}==='Talkback'&&{shows(4135, '-300')}&&program.name==='Stage box A'", "its names and levels are set")
@@ -715,7 +726,7 @@ def started_without_cookies(browser):
 
 
 # How many rows there are of each part; a part that has fewer tried too little.
-ROWS = {"sources": 2, "node": 74, "wrong pages": 38, "chromium": 74, "by hand": 44, "looks": 20, "programs": 43}
+ROWS = {"sources": 2, "node": 71, "wrong pages": 38, "chromium": 71, "by hand": 45, "looks": 20, "programs": 43}
 
 
 def counted(name, part_of, *given):

@@ -585,14 +585,6 @@ const CASES = [
     await answered();
     return [...came, strip.menu.className];
   }],
-  ["a name is given", [{ ono: 10, label: "Lead vocal" }], async () => {
-    click(rows.get(11).strip.menu);
-    click(options()[0].lastElementChild);
-    options()[0].value = "Lead vocal";
-    click(answerNamed("Rename"));
-    await flying();
-    return sent();
-  }],
   ["search", [["channel 2"], "1 of 3 strips"], async () => {
     $("find").value = "channel 2";
     filter();
@@ -654,22 +646,6 @@ const CASES = [
     click(part(11));
     await pause(30);
     return [sent(), words(11)];
-  }],
-  ["a name that was given is marked until the device says it", ["another name: not yet", "channel 1"], async () => {
-    order(rows.get(10), "label", "Lead");
-    await flying();
-    const strip = rows.get(11).strip, came = [strip.role.textContent];
-    says(10, { label: "Lead" });
-    tell(1);
-    await until(() => !awaited.size && rows.get(10).label);
-    await answered();
-    return [...came, strip.role.textContent];
-  }],
-  ["a name that is too long", ["block: not sent: a name has at most 64 bytes"], async () => {
-    fake.answer = () => [422, { at: 0 }];
-    order(rows.get(10), "label", "x".repeat(65));
-    await until(() => words(11));
-    return [words(11)];
   }],
   ["a group that is folded stays so", [true, "▸", "1 strip · 1 muted"], async () => {
     await startedWith([fakeObjects[0], { ono: 50, in: 100, class: "block", role: "inputs", lockable: false, names: [] }, { ...fakeObjects[2], in: 50 }, fakeObjects[3]], "muted");
