@@ -47,6 +47,7 @@ WRONG = [
     ("no note where the program is gone", "link.js", '  $("banner").hidden = !head;', '  $("banner").hidden = true;', "the program is gone"),
     ("a program that is gone looks live", "link.js", '  if (programAge() > OLD_AFTER) return "stale";', "", "the program is gone"),
     ("what is wanted is drawn as what is so, during an order", "controls.js", '  put(button, words[row.value] || "–");', '  put(button, words[goal(row)] || "–");', "a control shows the device's word"),
+    ("what was read before a silence counts as what is so", "link.js", '  return opens && now() < program.opensAt ? "read" : state;', "  return state;", "after a silence of the device"),
     ("strips of another device stay", "link.js", "  clearStrips();", "", "another run of the program"),
     ("an order does not name its run", "orders.js", "  return JSON.stringify({ run: link.run, before: Math.max(0, before), orders });".replace("link", "program"), '  return JSON.stringify({ run: "71", before: Math.max(0, before), orders });', "another run of the program"),
     ("a held fader is moved by others", "orders.js", "const goal = row => row.want ?? row.value;", "const goal = row => row.value;", "a fader that is held"),
@@ -726,7 +727,7 @@ def started_without_cookies(browser):
 
 
 # How many rows there are of each part; a part that has fewer tried too little.
-ROWS = {"sources": 2, "node": 71, "wrong pages": 38, "chromium": 71, "by hand": 45, "looks": 20, "programs": 43}
+ROWS = {"sources": 2, "node": 72, "wrong pages": 40, "chromium": 72, "by hand": 45, "looks": 20, "programs": 43}
 
 
 def counted(name, part_of, *given):

@@ -441,6 +441,18 @@ const CASES = [
     await answered();
     return [program.state, $("banner").textContent.startsWith("192.0.2.7:65000 gives no answer for "), sent()];
   }],
+  ["after a silence of the device what is shown is read again before it is live", ["silent", "read", [], "live"], async () => {
+    fake.link.heard = 2100;
+    await answered();
+    const came = [program.state];
+    fake.link.heard = 20;
+    await until(() => program.state !== "silent");
+    came.push(program.state);
+    click(part(11));
+    came.push(sent());
+    await until(() => isOpen());
+    return [...came, program.state];
+  }],
   ["the device is lost", ["lost", "DEVICE LOST", true, []], async () => {
     Object.assign(fake.link, { heard: 6000, lost_for: 900 });
     await answered();
