@@ -26,7 +26,7 @@ as do is
 AbortSignal BigInt Boolean Date Error IntersectionObserver JSON Map Math Number Object Option Set String TypeError abs activeElement add addEventListener append ariaHasPopup
 ariaLabel assign at autocomplete body button children classList className clear clearTimeout click clientX clientY cloneNode close console contains createElement data dataset
 deltaX deltaY detail dir disabled disconnect document endsWith error exec fetch filter find firstChild firstElementChild flatMap floor focus forEach get getAttribute
-getBoundingClientRect getElementById has headers height hidden history id includes innerWidth inputMode isIntersecting join json key lastElementChild length location map matchMedia
+getBoundingClientRect getElementById has headers height hidden history id includes innerWidth inputMode isIntersecting join json key keys lastElementChild length location map matchMedia
 matches max maxLength message method min minHeight name now observe offsetHeight ok onblur onchange onclick oncontextmenu onfocus oninput onkeydown onkeyup onlostpointercapture
 onpointercancel onpointerdown onpointerleave onpointermove onpointerup onvisibilitychange open padStart passive pathname performance pointerId pointerType prepend preventDefault push remove
 removeAttribute repeat replace replaceChildren replaceState replaceWith role rootMargin round scrollIntoView scrollTo scrollY search select setAttribute setInterval setPointerCapture setProperty

@@ -335,6 +335,20 @@ const CASES = [
     await until(() => fake.bodies.length > 0 && !isOut(rows.get(11), "set"));
     return [[fake.tickets], words(11)];
   }],
+  ["results that come out of turn", [1, 0, "", "mute: refused: Locked by nobody"], async () => {
+    click(part(11));
+    await flying();
+    click(part(21));
+    await flying(2);
+    tell(2);
+    await until(() => awaited.size === 1);
+    await answered();
+    await answered();
+    const left = awaited.size;
+    tell(1, "Locked by nobody");
+    await until(() => !awaited.size);
+    return [left, awaited.size, words(21).replace("meter: a class that is not known here", ""), words(11)];
+  }],
   ["150 orders at once all end, and each that was lost is said", [150, 3, true, 0], async () => {
     await startedWith(manyMutes(150), "muted");
     fake.answer = orders => {
@@ -426,6 +440,18 @@ const CASES = [
     click(part(11));
     await answered();
     return [program.state, $("banner").textContent.startsWith("192.0.2.7:65000 gives no answer for "), sent()];
+  }],
+  ["after a silence of the device what is shown is read again before it is live", ["silent", "read", [], "live"], async () => {
+    fake.link.heard = 2100;
+    await answered();
+    const came = [program.state];
+    fake.link.heard = 20;
+    await until(() => program.state !== "silent");
+    came.push(program.state);
+    click(part(11));
+    came.push(sent());
+    await until(() => isOpen());
+    return [...came, program.state];
   }],
   ["the device is lost", ["lost", "DEVICE LOST", true, []], async () => {
     Object.assign(fake.link, { heard: 6000, lost_for: 900 });
@@ -571,14 +597,6 @@ const CASES = [
     await answered();
     return [...came, strip.menu.className];
   }],
-  ["a name is given", [{ ono: 10, label: "Lead vocal" }], async () => {
-    click(rows.get(11).strip.menu);
-    click(options()[0].lastElementChild);
-    options()[0].value = "Lead vocal";
-    click(answerNamed("Rename"));
-    await flying();
-    return sent();
-  }],
   ["search", [["channel 2"], "1 of 3 strips"], async () => {
     $("find").value = "channel 2";
     filter();
@@ -640,22 +658,6 @@ const CASES = [
     click(part(11));
     await pause(30);
     return [sent(), words(11)];
-  }],
-  ["a name that was given is marked until the device says it", ["another name: not yet", "channel 1"], async () => {
-    order(rows.get(10), "label", "Lead");
-    await flying();
-    const strip = rows.get(11).strip, came = [strip.role.textContent];
-    says(10, { label: "Lead" });
-    tell(1);
-    await until(() => !awaited.size && rows.get(10).label);
-    await answered();
-    return [...came, strip.role.textContent];
-  }],
-  ["a name that is too long", ["block: not sent: a name has at most 64 bytes"], async () => {
-    fake.answer = () => [422, { at: 0 }];
-    order(rows.get(10), "label", "x".repeat(65));
-    await until(() => words(11));
-    return [words(11)];
   }],
   ["a group that is folded stays so", [true, "▸", "1 strip · 1 muted"], async () => {
     await startedWith([fakeObjects[0], { ono: 50, in: 100, class: "block", role: "inputs", lockable: false, names: [] }, { ...fakeObjects[2], in: 50 }, fakeObjects[3]], "muted");

@@ -1,13 +1,13 @@
 // The link: what the program said last, when it was, and what that is worth now.
 const NOTHING_SINCE = "18446744073709551615";
-const SLOW_AFTER = 1000, OLD_AFTER = 2000, FETCH_MS = 2000, ALL_MS = 20000, LIFE_MS = 5000;
+const SLOW_AFTER = 1000, OLD_AFTER = 2000, FETCH_MS = 2000, ALL_MS = 20000, LIFE_MS = 5000, SETTLE_MS = 300;
 const STATES = {
   live: ["●", "LIVE"], slow: ["▲", "SLOW"], read: ["◌", "READING"], silent: ["✕", "DEVICE SILENT"], lost: ["✕", "DEVICE LOST"],
   stale: ["■", "NO PROGRAM"], shut: ["■", "NOT LET IN"],
 };
 const program = {
   run: null, epoch: null, since: NOTHING_SINCE, ahead: 0, heardAt: null, waitsSince: now(), heardClock: "", device: "", name: "", found: 0, told: 0,
-  news: null, readOnly: false, shut: false, state: "read",
+  news: null, opensAt: 0, readOnly: false, shut: false, state: "read",
 };
 let rows = new Map();
 
@@ -28,6 +28,14 @@ function stateNow() {
   return programAge() > SLOW_AFTER || deviceAge() > SLOW_AFTER ? "slow" : "live";
 }
 
+// What was read before a silence, or while no page looked, is read again before it counts as what is so.
+function settled(state) {
+  const opens = state === "live" || state === "slow";
+  if (!opens) program.opensAt = 0;
+  else if (!isOpen() && !program.opensAt) program.opensAt = now() + SETTLE_MS;
+  return opens && now() < program.opensAt ? "read" : state;
+}
+
 const stateWord = state => STATES[state][1].toLowerCase();
 
 // What is said over the page where it shows nothing that is so: a heading and what to do.
@@ -39,7 +47,7 @@ function warning(state) {
       old + "See whether ocapanel runs, and start it again. " + waits];
     case "silent": return [device + " gives no answer for " + seconds(deviceAge()) + ".", old + waits];
     case "lost": return [device + " is lost.", old + "See to the device's power and network. Locks of this panel may be gone. " + waits];
-    case "read": return now() - program.waitsSince > 1500 || program.found ? [device + " is being read: " + program.found + " objects so far.", "If this stays, see whether the address is right and the device is on."] : ["", ""];
+    case "read": return !program.opensAt && (now() - program.waitsSince > 1500 || program.found) ? [device + " is being read: " + program.found + " objects so far.", "If this stays, see whether the address is right and the device is on."] : ["", ""];
     default: return ["", ""];
   }
 }
@@ -55,7 +63,7 @@ function noteState(state) {
 
 // Draws what is so of the link: word, colour and shape, age, the device's name, and the warning.
 function drawLink() {
-  const state = stateNow(), sign = STATES[state][0], word = STATES[state][1], age = deviceAge(), [head, text] = warning(state);
+  const state = settled(stateNow()), sign = STATES[state][0], word = STATES[state][1], age = deviceAge(), [head, text] = warning(state);
   if (state !== program.state) noteState(state);
   document.body.dataset.state = state;
   document.body.classList.toggle("old", !isOpen());
@@ -86,7 +94,9 @@ async function get(path, most = FETCH_MS) {
   return answer.json();
 }
 
-const valuesPath = () => "/values?since=" + program.since + (program.run === null ? "" : "&run=" + program.run) + "&told=" + program.told + "&shown=" + shownRanges();
+// Results come in any order: those from the earliest on that is awaited.
+const toldFrom = () => awaited.size ? Math.min(...awaited.keys()) : program.told;
+const valuesPath = () => "/values?since=" + program.since + (program.run === null ? "" : "&run=" + program.run) + "&told=" + toldFrom() + "&shown=" + shownRanges();
 
 // Another run of the program: its tickets, its changes and perhaps its device are others. Nothing of the old one stays.
 function beginRun(values) {
@@ -168,7 +178,8 @@ async function poll() {
   }
   asking = false;
   drawLink();
-  if (!document.hidden || awaited.size) pollTimer = setTimeout(poll, again ? 0 : awaited.size ? pace = Math.min(40, 1.5 * pace) : 100);
+  const isOrderOut = awaited.size + posting > 0;
+  if (!document.hidden || isOrderOut) pollTimer = setTimeout(poll, again ? 0 : isOrderOut ? pace = Math.min(40, 1.5 * pace) : 100);
 }
 
 // A window that was hidden asked for nothing: what it shows counts as old until an answer comes.

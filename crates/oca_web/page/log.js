@@ -52,15 +52,13 @@ function log(what, came, isBad) {
   if (list.children.length > MOST_LINES) list.lastElementChild.remove();
 }
 
-const changeOf = one => one.kind === "set" ? "" : one.kind === "label" ? "name “" + clean(one.word) + "”" : one.kind;
-
 // Each order's end stands in the log: by itself, or in the line of the change of many that it belongs to.
 function tellEnd(one, how, words) {
   const row = rows.get(one.ono), ms = Math.round(now() - one.at);
   if (one.gang) return tellGang(one, how, words);
   if (how === "displaced" || how === "done" && row && (row.held || isOut(row, controlOf(one)))) return;
   if (how === "refused" || how === "unsent") changes = changes.filter(change => change.gang || change.list[0].ono !== one.ono || change.list[0].to !== one.word);
-  const value = one.kind === "set" && row ? shown(row, firstOf(one)) + " → " + shown(row, one.word) + unitName(row) : changeOf(one);
+  const value = one.kind === "set" && row ? shown(row, firstOf(one)) + " → " + shown(row, one.word) + unitName(row) : one.kind;
   log(one.name + ": " + value, words || "done, " + ms + " ms", how !== "done");
   drawUndo();
 }
