@@ -198,7 +198,7 @@ def told_so_far(run, wanted, seconds):
 def by_ocapanel(checks, folder, keeps_address):
     with Machines() as machines:
         relay = relayed(machines, folder)
-        panel = machines.start(machines.peers, f"{folder}/ocapanel", "--device", f"{DEVICE}:{PORT}", "--listen", "127.0.0.1:0", "--verbose")
+        panel = machines.start(machines.peers, f"{folder}/ocapanel", "--device", f"{DEVICE}:{PORT}", "--listen", "127.0.0.1:0", "--no-token", "--verbose")
         host = re.search(r"http://([\d.:]+)/", panel.stderr.readline())[1]
         page = machines.start(machines.peers, sys.executable, os.path.abspath(__file__), "order", host)
         executed = cut_between(machines, relay, keeps_address)

@@ -1,6 +1,6 @@
 #!/usr/bin/env python3
 """The panel in the browser, without a browser: hostile requests, slow clients, a network that loses 20 % each way, a
-device that goes and comes back, 4,096 objects, and nine connections.
+device that goes and comes back, 4,096 objects, more connections than there are places, and requests without the token.
 
 Usage: panel.py BIN     BIN is the folder with `ocapanel`, `ocadev` and `ocactl`
 
@@ -61,16 +61,17 @@ class Device:
 
 
 class Panel:
-    """`ocapanel` at a port that the system chose."""
+    """`ocapanel` at a port that the system chose, unless another is given, with no token unless `token` says so."""
 
-    def __init__(self, folder, device_port, *words, address=None, ip="127.0.0.1", notes=0, **more):
+    def __init__(self, folder, device_port, *words, address=None, ip="127.0.0.1", port=0, token=False, notes=0, **more):
         device = address or f"127.0.0.1:{device_port}"
-        self.process = subprocess.Popen([f"{folder}/ocapanel", "--device", device, "--listen", f"{ip}:0", *words],
+        words = (*words, *([] if token else ["--no-token"]))
+        self.process = subprocess.Popen([f"{folder}/ocapanel", "--device", device, "--listen", f"{ip}:{port}", *words],
                                         stdout=subprocess.DEVNULL, stderr=subprocess.PIPE, text=True, env=dict(os.environ, **more))
         self.notes = [self.process.stderr.readline() for _ in range(notes)]
         line = self.process.stderr.readline()
-        found = re.fullmatch(r"listening http://(127\.[\d.]+):(\d+)/\n", line)
-        self.told_ip, port = found.groups() if found else sys.exit(f"panel: ocapanel said {line!r}")
+        found = re.fullmatch(r"listening http://([\d.]+):(\d+)/(?:\?token=([\w-]+))?\n", line)
+        self.told_ip, port, self.token = found.groups() if found else sys.exit(f"panel: ocapanel said {line!r}")
         self.ip, self.port = ip, int(port)
         self.host = f"{ip}:{self.port}"
         self.since, self.epoch = 0, 0
@@ -103,6 +104,13 @@ class Panel:
         headers = {"Host": self.host, "Origin": f"http://{self.host}", "Content-Type": "application/json"}
         status, _, text = self.ask("POST", path, json.dumps(body), headers)
         return status, json.loads(text) if status == 202 else None
+
+    def orders(self, wanted, **more):
+        """The status and what is answered to many orders, for this run of the panel unless another is given."""
+        run = {"run": self.run if hasattr(self, "run") else self.get("/values")["run"]}
+        headers = {"Host": self.host, "Origin": f"http://{self.host}", "Content-Type": "application/json"}
+        status, _, text = self.ask("POST", "/orders", json.dumps(run | {"orders": wanted} | more), headers)
+        return status, json.loads(text) if text else None
 
     def look(self, extra="&first=0&count=512"):
         """Asks for what changed, as a page does that shows all."""
@@ -152,7 +160,9 @@ def words(folder):
     check(status == 0 and "--listen" in out and not err, "--help")
     status, out, err = run("--version")
     check(status == 0 and out.startswith("ocapanel "), "--version")
-    for given, note in [((), "--device"), ((*device, "--listen", "0.0.0.0:8080"), "this machine alone"), ((*device, "--listen", "192.0.2.1:8080"), "this machine alone"),
+    for given, note in [((), "--device"), ((*device, "--listen", "0.0.0.0:8080"), "one host"), ((*device, "--listen", "224.0.0.1:8080"), "one host"),
+                        ((*device, "--no-token", "--listen", "192.0.2.1:8080"), "this machine alone"), ((*device, "--no-token", "--listen", "0.0.0.0:8080"), "this machine alone"),
+                        ((*device, "--no-token", "--token", "f"), "both given"),
                         ((*device, "--span", "1"), "--span 1"), ((*device, "--span", "33"), "--span 33"), ((*device, "--port", "65536"), "--port"), ((*device, "--ip", "224.0.0.1"), "--ip 224.0.0.1"),
                         (("--device", "0.0.0.0:1"), "--device"), ((*device, "--listen", "localhost:1"), "--listen"), ((*device, "more"), "more"), ((*device, *device), "--device")]:
         status, out, err = run(*given)
@@ -264,8 +274,8 @@ def hostile(panel):
         (post(kind="application/x-www-form-urlencoded"), 415), (post(text="{"), 400), (post(text=""), 400), (post(text="[]"), 400), (post(text='{"ono":"4098","value":"muted"}'), 400),
         (post(text='{"ono":-1,"value":"muted"}'), 400), (post(text='{"ono":4294967296,"value":"muted"}'), 400), (post(text='{"ono":4098.5,"value":"muted"}'), 400),
         (post(text=f'{{"ono":{MUTE},"value":1}}'), 400), (post(text=f'{{"ono":{MUTE}}}'), 400), (post(text=f'{{"ono":{MUTE},"value":"Muted"}}'), 422),
-        (post(text=" " * 4096), 400),
-        (post(text="[" * 2000), 400), (post(text=" " * 4097), 413), (post(path="/nothing"), 404), (post(path="/values"), 405), (post(path="/tree"), 405), (post(path="/"), 405),
+        (post(text=" " * 16384), 400),
+        (post(text="[" * 2000), 400), (post(text=" " * 16385), 413), (post(path="/orders"), 400), (post(path="/nothing"), 404), (post(path="/values"), 405), (post(path="/tree"), 405), (post(path="/"), 405),
         (post(path="/set/"), 404), (post(path="//set"), 404), (post(path="/SET"), 404), (post(path=f"http://{own}/set"), 400), (post(path=f"http://evil.example/set"), 400),
         (post(method="PUT"), 405), (post(method="GET"), 405), (post(method="DELETE"), 405), (post(method="OPTIONS", more=("Access-Control-Request-Method: POST",)), 405),
         (post(method="post"), 405), (b"GET / HTTP/1.1\r\n\r\n", 400), (b"GET / HTTP/1.0\r\n\r\n", 421), (b"GET /values HTTP/1.1\r\nHost: evil.example\r\n\r\n", 421),
@@ -403,30 +413,35 @@ def little_by_little(panel):
         check(took is not None and took > 4, f"a connection that {name} little by little is closed after {took} s, not after 5")
 
 
-def nine(panel):
-    """Of nine connections with a request on each, the ninth is closed at once, however long the others take, and those
-    that rest give way."""
+def crowd(panel):
+    """128 connections with half a request on each cost a browser nothing: those that ask behind them are answered at once,
+    and of 32 visitors each keeps its connection."""
     time.sleep(0.2)
-    held = [socket.create_connection(("127.0.0.1", panel.port), timeout=10) for _ in range(8)]
-    for s in held:
-        s.sendall(b"GET / HT")
-    time.sleep(1.5)
-    ninth = socket.create_connection(("127.0.0.1", panel.port), timeout=3)
-    with contextlib.suppress(OSError):
-        ninth.sendall(f"GET / HTTP/1.1\r\nHost: {panel.host}\r\n\r\n".encode())
-    try:
-        check(ninth.recv(100) == b"", "the ninth is closed")
-    except ConnectionError:
-        check(True, "the ninth is closed")
-    except OSError:
-        check(False, "the ninth is closed: it waits")
-    for s in held:
-        s.sendall(f"TP/1.1\r\nHost: {panel.host}\r\n\r\n".encode())
-        check(s.recv(20).startswith(b"HTTP/1.1 200"), "the eight are answered")
-    time.sleep(3)
-    got = raw(panel, f"GET /values?since=0 HTTP/1.1\r\nHost: {panel.host}\r\n\r\n".encode())
-    check(got == 200, f"a connection that rests gives way: who comes behind it is answered {got}, not 200")
-    for s in [*held, ninth]:
+    request = f"GET /values?since=0 HTTP/1.1\r\nHost: {panel.host}\r\n\r\n".encode()
+    visitors = [socket.create_connection((panel.ip, panel.port), timeout=10) for _ in range(32)]
+
+    def answered():
+        count = 0
+        for s in visitors:
+            with contextlib.suppress(OSError):
+                s.sendall(request)
+                answer = s.recv(65536)
+                count += answer.startswith(b"HTTP/1.1 200")
+                while answer and not answer.endswith(b"]}"):
+                    answer = s.recv(65536)
+        return count
+
+    check(answered() == 32, "32 visitors are answered")
+    halves = [socket.create_connection((panel.ip, panel.port), timeout=10) for _ in range(140)]
+    for s in halves:
+        with contextlib.suppress(OSError):
+            s.sendall(b"GET / HT")
+    begun = time.monotonic()
+    got = [raw(panel, f"GET / HTTP/1.1\r\nHost: {panel.host}\r\n\r\n".encode()) for _ in range(10)]
+    print(f"ten new connections beside 140 half requests: {(time.monotonic() - begun) * 1000:.0f} ms")
+    check(got == 10 * [200], f"new connections beside 140 half requests are answered {got}")
+    check(answered() == 32, "the 32 visitors still have their connections")
+    for s in [*visitors, *halves]:
         s.close()
 
 
@@ -1203,21 +1218,24 @@ def a_mute(folder):
 
 
 def limits_of_orders(folder):
-    """The last 128 orders are told. Of a mute 64 orders wait behind one in flight, and one more is not taken; that is tried again
-    where the machine was so busy that the link was lost meanwhile."""
+    """The last 512 orders are told, by their tickets. Of a mute 256 orders wait behind one in flight, and one more is not taken; that
+    is tried again where the machine was so busy that the link was lost meanwhile."""
     with Served(oca.bench()) as device, Panel(folder, device.port) as panel:
         panel.wait(lambda v: v["walked"])
-        fared = [panel.fare("/set", 4097, "unmuted") for _ in range(130)]
+        fared = [panel.fare("/set", 4097, "unmuted") for _ in range(514)]
         told = [t["ticket"] for t in panel.get("/values?since=0")["told"]]
-        check((set(fared), told) == ({None}, list(range(3, 131))), f"of 130 orders are told: {told}, {set(fared)}")
+        check((set(fared), told) == ({None}, list(range(3, 515))), f"of 514 orders are told: {told}, {set(fared)}")
+        told = [t["ticket"] for t in panel.get("/values?since=0&told=510")["told"]]
+        check(told == list(range(510, 515)), f"from ticket 510 on are told: {told}")
     for _ in range(9):
         with Deaf(oca.bench(), SETS) as device, Panel(folder, device.port) as panel:
             panel.wait(lambda v: v["walked"])
             statuses = [panel.order("/set", 4097, "unmuted")[0]]
             panel.wait(lambda v: any(b"\0\0\x10\1\0\4\0\2" in data for data, _ in list(device.heard)))
-            statuses += [panel.order("/set", 4097, "unmuted")[0] for _ in range(65)]
+            statuses += [panel.order("/set", 4097, "unmuted")[0] for _ in range(257)]
+            some = [panel.orders([{"ono": 4097, "set": "muted"}])[0]]
             if not panel.look()["told"]:
-                check(statuses == 65 * [202] + [503], f"orders behind one without an answer: {statuses}")
+                check(statuses == 257 * [202] + [503] and some == [503], f"orders behind one without an answer: {statuses} {some}")
                 return
     check(False, "orders behind one without an answer are all lost")
 
@@ -1344,6 +1362,190 @@ def by_its_names(folder):
                 check(got == status, f"a panel at {ip} is ordered as {host} by a page of {page}: {got}, not {status}")
 
 
+def settled(panel, tickets):
+    """How orders with these tickets fared, once all are told."""
+    panel.wait(lambda _: all(t in panel.told for t in tickets))
+    return [panel.told.get(t, "not told") for t in tickets]
+
+
+def runs(folder):
+    """Each start has another run. A page of another run is answered all, its orders are refused, and nothing of them is
+    taken."""
+    with Device(folder) as device:
+        numbers = []
+        for _ in range(2):
+            with Panel(folder, device.port) as panel:
+                panel.wait(lambda v: v["walked"])
+                tree, values = panel.get("/tree"), panel.look()
+                numbers.append(values["run"])
+                here = f"127.0.0.1:{device.port}"
+                check(tree["run"] == values["run"] and re.fullmatch(r"\d+", values["run"]), f"the run: {tree['run']} {values['run']}")
+                check((tree["device"], values["device"], values["name"]) == (here, here, "root"), f"the device: {values}")
+                check(tree["found"] == values["found"] == len(tree["objects"]) == 42, f"found: {values['found']}")
+                since = values["change"]
+                for run, count in ((values["run"], 0), (str(int(values["run"]) ^ 1), 42), ("", 42), ("x", 42)):
+                    got = len(panel.get(f"/values?since={since}&run={run}")["objects"])
+                    check(got == count, f"a page of run {run!r} is told of {got} objects, not {count}")
+        check(numbers[0] != numbers[1], f"two runs: {numbers}")
+        with Panel(folder, device.port) as panel:
+            panel.wait(lambda v: v["walked"])
+            own = panel.look()["run"]
+            for run, status in ((numbers[0], 409), ("", 409), (own + "0", 409), (" " + own, 409), (int(own), 400), (None, 400), (own, 202)):
+                one = panel.order("/set", MUTE, "muted", run=run)[0]
+                more = panel.orders([{"ono": MUTE, "set": "muted"}], run=run)[0]
+                check(one == more == status, f"an order for run {run!r}: {one}, many: {more}, not {status}")
+            check(settled(panel, [1, 2]) == [None, None] and panel.orders([{"ono": MUTE, "lock": True}])[1] == {"tickets": [3]}, "the tickets of what was taken")
+
+
+def many_orders(folder):
+    """Many orders in one body are taken all or none, each with its ticket; locks among them."""
+    with Device(folder) as device, Panel(folder, device.port) as panel:
+        panel.wait(lambda v: v["walked"])
+        panel.run = panel.look()["run"]
+        good = {"ono": MUTE, "set": "muted"}
+        rows = [([], 400, None), ([good] * 65, 400, None), ([good, {"ono": 9, "set": "on"}], 404, {"at": 1}), ([good, good, {"ono": TRIM, "set": "loud"}], 422, {"at": 2}),
+                ([{"ono": 4097, "set": "on"}, good], 422, {"at": 0}), ([good, {"ono": MUTE}], 400, {"at": 1}), ([good, {"ono": MUTE, "lock": False}], 400, {"at": 1}),
+                ([good, 7], 400, {"at": 1}), ([good, {"set": "muted"}], 400, {"at": 1})]
+        for orders, status, body in rows:
+            got = panel.orders(orders)
+            check(got == (status, body), f"{orders[-1:]} is answered {got}, not {status} {body}")
+        for wrong in ({"orders": {}}, {"orders": None}, {"before": "7"}, {"before": -1}):
+            check(panel.orders([good], **wrong)[0] == 400, f"a body with {wrong}")
+        check(panel.look()["told"] == [] and panel.order("/set", MUTE, "unmuted") == (202, 1), "of those that were refused none was taken")
+        status, body = panel.orders([good, {"ono": TRIM, "set": "-30"}, {"ono": TRIM, "lock": True}])
+        check((status, body) == (202, {"tickets": [2, 3, 4]}), f"three orders: {status} {body}")
+        check(settled(panel, [1, 2, 3, 4]) == 4 * [None], f"how they fared: {panel.told}")
+        check((panel.value(MUTE), panel.value(TRIM), panel.shown[TRIM]["lock"]) == ("muted", "-30", "own"), f"what is shown where they are told: {panel.shown[MUTE]}")
+        check(command(device.port, 100, 2, 9, 1, oca.text_bytes("Stage A")) == 0, "another controller sets the label of the root")
+        check(panel.wait(lambda v: v["name"] == "Stage A", 60) is not None, "the label of the root is the device's name")
+        check(panel.fare("/unlock", TRIM) is None, "unlocked")
+        _, body = panel.orders([good | {"set": ("muted", "unmuted")[n % 2]} for n in range(64)])
+        tickets = body["tickets"]
+        _, more = panel.orders([{"ono": TRIM, "set": str(n)} for n in range(64)])
+        _, last = panel.orders([{"ono": TRIM, "set": str(n)} for n in range(22)])
+        tickets += more["tickets"] + last["tickets"]
+        check(settled(panel, tickets) == 150 * [None], f"150 orders at once are all told: {sum(t in panel.told for t in tickets)}")
+        values = panel.get("/values?since=0&told=0")
+        order = [t["ticket"] for t in values["told"]]
+        check(order == sorted(order) and len(order) > 150, "what is told stands by tickets")
+        now = values["now"]
+        _, body = panel.orders([good, {"ono": TRIM, "set": "5"}], before=now - 1)
+        check(settled(panel, body["tickets"]) == 2 * ["not sent: too late"] and panel.value(TRIM) == "21", f"many with a moment that has passed: {settled(panel, body['tickets'])}")
+
+
+def lost_stays_told(folder):
+    """That an order was lost is told also behind the walk with which the device returns, and a block whose lock went is free."""
+    with Device(folder) as device, Panel(folder, device.port) as panel:
+        panel.wait(lambda v: v["walked"])
+        os.kill(device.process.pid, signal.SIGSTOP)
+        _, ticket = panel.order("/set", MUTE, "muted")
+        check(panel.wait(lambda _: ticket in panel.told, 30) is not None and panel.told[ticket] == "lost", f"an order is lost: {panel.told}")
+        os.kill(device.process.pid, signal.SIGCONT)
+        panel.wait(lambda v: v["link"]["lost_for"] is None and v["walked"], 30)
+        told = {t["ticket"]: t["trouble"] for t in panel.get("/values?since=0&told=1")["told"]}
+        check(told == {ticket: "lost"}, f"behind the walk is told: {told}")
+        holder = subprocess.Popen([f"{folder}/ocactl", "lock", "--hold", "--device", f"127.0.0.1:{device.port}", "--port", str(free_port()), "4097"],
+                                  stdin=subprocess.PIPE, stdout=subprocess.PIPE, text=True)
+        check(holder.stdout.readline() == "4097 locked\n", "a different controller locks a block")
+        check(panel.wait(lambda _: panel.shown[4097]["lock"] == "other", 60) is not None, "a block's lock of a different controller is shown")
+        holder.stdin.close()
+        holder.wait()
+        check(panel.wait(lambda _: panel.shown[4097]["lock"] == "free", 60) is not None, "a block that can be listed again is free")
+
+
+def tokens(folder):
+    """Without the token nothing is answered but 401; with it the page, and its cookie opens all else."""
+    with tempfile.TemporaryDirectory() as room, Device(folder) as device:
+        path = Path(room) / "token"
+        for text, reason in ((b"", "is empty"), (b"\nabc\n", "is empty"), (b"x" * 129 + b"\n", "more than 128"), (b"a b\n", "other characters"), (b"\xc3\xa4\n", "other characters"), (b"a;b", "other characters"), (b'a"b', "other characters")):
+            path.write_bytes(text)
+            r = subprocess.run([f"{folder}/ocapanel", "--device", "127.0.0.1:9", "--listen", "127.0.0.1:0", "--token", str(path)], capture_output=True, text=True, timeout=30)
+            check(r.returncode == 2 and r.stderr.startswith(f"note: {path}: line 1: ") and reason in r.stderr.splitlines()[0], f"a token {text[:9]!r}: {r.returncode} {r.stderr!r}")
+        r = subprocess.run([f"{folder}/ocapanel", "--device", "127.0.0.1:9", "--token", f"{room}/none"], capture_output=True, text=True, timeout=30)
+        check(r.returncode == 1 and r.stderr.startswith(f"note: {room}/none: ") and r.stderr.endswith("read failed\n"), f"no such file: {r.stderr!r}")
+        made = []
+        for text in (None, None, "A-b_9" + 123 * "z"):
+            given = () if text is None else ("--token", str(path))
+            path.write_text(f"{text}\r\nmore\n")
+            with Panel(folder, device.port, *given, token=True) as panel:
+                made.append(panel.token)
+                check(panel.token == text or text is None and re.fullmatch("[0-9a-f]{32}", panel.token), f"the token: {panel.token}")
+                by_token(panel)
+        check(made[0] != made[1], f"two tokens that are made: {made}")
+
+
+def by_token(panel):
+    """What a panel with a token answers."""
+    name = f"ocapanel-{panel.port}"
+    status, headers, body = panel.ask("GET", f"/?token={panel.token}")
+    check(status == 200 and body.startswith(b"<!doctype html>"), f"the page with its token: {status}")
+    check(headers.get("set-cookie") == f"{name}={panel.token}; HttpOnly; SameSite=Strict; Path=/", f"the cookie: {headers.get('set-cookie')}")
+    good, wrong = f"{name}={panel.token}", f"{name}={panel.token[:-1]}{'1' if panel.token[-1] != '1' else '2'}"
+    rows = [("/", None, 401), ("/?token=", None, 401), (f"/?token={panel.token[:-1]}", None, 401), (f"/?token={panel.token}0", None, 401), (f"/?token={panel.token}&a=b", None, 401),
+            (f"/tree?token={panel.token}", None, 401), (f"/values?token={panel.token}", None, 401), ("/tree", None, 401), ("/values?since=0", None, 401), ("/nothing", None, 401),
+            ("/values?since=0", good, 200), ("/tree", good, 200), ("/", good, 200), ("/tree", f"a=b; {good}; c=d", 200), ("/tree", f"a=b;{good}", 200), ("/tree", wrong, 401), ("/tree", f"{wrong}; {good}", 200),
+            ("/tree", good + "0", 401), ("/tree", f"x{good}", 401), ("/tree", f"a=b, {good}", 401), ("/tree", f"{name}=", 401), ("/tree", panel.token, 401), ("/tree", good[:-1], 401), ("/tree", f"ocapanel={panel.token}", 401),
+            ("/tree", "a=" + 5000 * "x" + f"; {good}", 401), ("/tree", 7000 * ";", 401)]
+    for path, cookie, wanted in rows:
+        status, headers, body = panel.ask("GET", path, headers={"Host": panel.host} | ({} if cookie is None else {"Cookie": cookie}))
+        is_told = status != 401 or body == b"open the address that ocapanel printed\n" and headers["content-type"].startswith("text/plain")
+        check(status == wanted and is_told, f"{path} with {cookie!r:.60} is answered {status} {body[:60]}, not {wanted}")
+    for cookie, host, origin, wanted in ((good, panel.host, panel.host, 404), (None, panel.host, panel.host, 401), (wrong, panel.host, panel.host, 401), (good, panel.host, "evil.example", 403), (good, "evil.example", panel.host, 421)):
+        headers = {"Host": host, "Origin": f"http://{origin}", "Content-Type": "application/json"} | ({} if cookie is None else {"Cookie": cookie})
+        got = panel.ask("POST", "/lock", json.dumps({"ono": 9}), headers)[0]
+        check(got == wanted, f"an order with {cookie}, for {host}, of {origin}: {got}, not {wanted}")
+
+
+def only_shown(folder):
+    """A panel that only shows takes no order."""
+    with Device(folder) as device, Panel(folder, device.port, "--read-only") as panel:
+        panel.wait(lambda v: v["walked"])
+        values = panel.look()
+        check(values["read_only"] is True, "it says that it only shows")
+        headers = {"Host": panel.host, "Origin": f"http://{panel.host}", "Content-Type": "application/json"}
+        for path in ("/set", "/lock", "/unlock", "/orders", "/nothing"):
+            body = {"ono": MUTE, "value": "muted", "run": values["run"], "orders": [{"ono": MUTE, "set": "muted"}]}
+            status, _, text = panel.ask("POST", path, json.dumps(body), headers)
+            check((status, text) == (403, b'{"read_only":true}'), f"{path}: {status} {text}")
+        check(panel.look()["told"] == [] and panel.get("/values")["link"]["in_flight"] == 0, "nothing was ordered")
+
+
+def units(folder):
+    """Units stand in the tree; a line that is none is refused, with its number and the reason."""
+    with tempfile.TemporaryDirectory() as room, Device(folder) as device:
+        path = Path(room) / "units"
+        path.write_text("# units\n\nclass int16 0.1 dB\n  ono 4100\t-10 mV\r\nclass uint8 7 %\n")
+        with Panel(folder, device.port, "--units", str(path)) as panel:
+            wanted = [{"class": "int16", "ono": None, "factor": "0.1", "unit": "dB"}, {"class": None, "ono": 4100, "factor": "-10", "unit": "mV"},
+                      {"class": "uint8", "ono": None, "factor": "7", "unit": "%"}]
+            check(panel.get("/tree")["units"] == wanted, f"units: {panel.get('/tree')['units']}")
+        with Panel(folder, device.port) as panel:
+            check(panel.get("/tree")["units"] == [], "no units")
+        for line in ("class int16 0.1", "class int17 1 dB", "ono x 1 dB", "ono 4294967296 1 dB", "role 1 2 3", "ono 1 1. dB", "ono 1 .5 dB", "ono 1 1e3 dB", "ono 1 --1 dB", "ono 1 123456789012345678901 dB",
+                     "ono 1 1 12345678901234567", "ono 1 1 dB more", "\xff"):
+            path.write_bytes(b"# units\nono 1 1 dB\n" + line.encode("latin-1") + b"\n")
+            r = subprocess.run([f"{folder}/ocapanel", "--device", "127.0.0.1:9", "--listen", "127.0.0.1:0", "--units", str(path)], capture_output=True, text=True, timeout=30)
+            number = 1 if line == "\xff" else 3
+            check(r.returncode == 2 and r.stderr.startswith(f"note: {path}: line {number}: ") and r.stderr.endswith("bad words\n"), f"{line}: {r.returncode} {r.stderr!r}")
+
+
+def at_port_80(folder):
+    """At port 80 browsers leave the port out of Host and Origin; where the port can't be had this is left out."""
+    try:
+        with socket.socket() as s:
+            s.bind(("127.0.0.1", 80))
+    except OSError:
+        return
+    with Device(folder) as device, Panel(folder, device.port, port=80) as panel:
+        panel.wait(lambda v: v["walked"])
+        for host, status in (("127.0.0.1", 200), ("127.0.0.1:80", 200), ("localhost", 200), ("localhost:80", 200), ("127.0.0.2", 421), ("127.0.0.1:81", 421)):
+            got = panel.ask("GET", "/", headers={"Host": host})[0]
+            check(got == status, f"a panel at port 80 that is asked as {host} answers {got}, not {status}")
+        headers = {"Host": "127.0.0.1", "Origin": "http://127.0.0.1", "Content-Type": "application/json"}
+        got = panel.ask("POST", "/set", json.dumps({"ono": MUTE, "value": "muted"}), headers)[0]
+        check(got == 202, f"an order of its page: {got}")
+
+
 class Steady(threading.Thread):
     """A connection with a request each half second, for longer than one on which nothing moves is kept: 30 seconds."""
 
@@ -1376,7 +1578,8 @@ def main():
     spans(folder)
     for part in (bound_for, classes, seldom, of_other_classes, visible_first, often, newer_than_an_answer,
                  beside_an_order, late_orders, behind_untaken_answers, over_a_stop, asleep, failing, unwatched, troubled, ailing, counted, without_a_page, at_its_port,
-                 at_an_old_port, by_its_names, a_mute, limits_of_orders):
+                 at_an_old_port, by_its_names, a_mute, limits_of_orders,
+                 runs, many_orders, lost_stays_told, tokens, only_shown, units, at_port_80):
         part(folder)
     with Device(folder) as device, Panel(folder, device.port) as panel:
         page(panel)
@@ -1386,7 +1589,7 @@ def main():
         protected(panel)
         slow(panel)
         little_by_little(panel)
-        nine(panel)
+        crowd(panel)
     lossy(folder)
     gone_and_back(folder)
     many(folder)

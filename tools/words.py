@@ -204,7 +204,7 @@ HOST = "A.B.C.D:PORT, the address of one host (1.0.0.0 to 223.255.255.255) and a
 ADDRESS = "A.B.C.D, the address of one host (1.0.0.0 to 223.255.255.255), or 0.0.0.0"
 TEXTS = {"device": HOST, ("replay", "device"): "A.B.C.D:PORT", "listen": "A.B.C.D:PORT", "ip": ADDRESS,
          "params": "an even number of hexadecimal digits, 2 to 2890, or -"}
-FREE = {"tree", "keep"}  # any text names a file
+FREE = {"tree", "keep", "token", "units"}  # any text names a file
 # What each command wants besides the option that is bad.
 WANTED = {("ocadev", "serve"): {"port": "0"}, ("ocactl", "replay"): {"device": "127.0.0.1:9", "first-handle": "1"},
           ("ocactl", "send"): {"device": "127.0.0.1:9", "target": "1", "level": "1", "index": "1", "count": "0"}, ("ocapanel", ""): {"device": "127.0.0.1:9"},

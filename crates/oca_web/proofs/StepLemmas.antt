@@ -7,7 +7,7 @@ use Rattle.oca_panel.specs.declared.trouble.Trouble.{Trouble}
 use Rattle.oca_panel.specs.Panels.{PanelState, MaySettle}
 use Rattle.oca_web.specs.declared.ask.Ask.{Ask}
 use Rattle.oca_web.specs.Asking.{AsksOne}
-use Rattle.oca_web.specs.Views.{AsksQuestions, NoneAsked, OneAsked, TakesAnswers, NoneTaken, OneTaken}
+use Rattle.oca_web.specs.Views.{AsksQuestions, NoneAsked, OneAsked, next_behind, TakesAnswers, NoneTaken, OneTaken}
 use Rattle.oca_web.specs.declared.order.Sent.{Sent}
 use Rattle.oca_web.specs.Orders.{OrdersState, Steps, OneMore, SubmitsOrder, SubmitsFirst, SettlesOne, SettlesAt, NoneIsLeft}
 
@@ -50,16 +50,21 @@ takes_on p q r a (OneTaken {q = s} handle outcome before one) = OneTaken handle 
 
 pub ruleset answer_rules = (takes_none, takes_one, takes_on)
 
-pub asks_none : (p q : PanelState) → q ≡ p → AsksQuestions p q
-asks_none p q e = rw e NoneAsked
+pub asks_none : (n m : ℕ) (p q : PanelState) → m ≡ n → q ≡ p → AsksQuestions n p m q
+asks_none n m p q f e = rw (f, e) NoneAsked
 
-pub asks_one : (may : Bool) (ono : ℕ) (of : Option Class) (ask : Ask) (h : Option Handle) (p q : PanelState)
-    → AsksOne may ono of ask h p q → AsksQuestions p q
-asks_one may ono of ask (Some handle) p q h = OneAsked ono of ask handle NoneAsked h.1
-asks_one may ono of ask None p q h = rw h NoneAsked
+-- the next handle behind a question that was asked, or not
+abbrev pub behind_asked : Option Handle → ℕ → ℕ
+behind_asked (Some handle) n = next_behind n handle.0
+behind_asked None n = n
 
-pub asks_on : (p q r : PanelState) → AsksQuestions p q → AsksQuestions q r → AsksQuestions p r
-asks_on p q r a NoneAsked = a
-asks_on p q r a (OneAsked {q = s} ono of ask handle before one) = OneAsked ono of ask handle (asks_on p q s a before) one
+pub asks_one : (may : Bool) (ono : ℕ) (of : Option Class) (ask : Ask) (h : Option Handle) (n m : ℕ) (p q : PanelState)
+    → AsksOne may ono of ask h p q → m ≡ behind_asked h n → AsksQuestions n p m q
+asks_one may ono of ask (Some handle) n m p q h e = rw e (OneAsked ono of ask handle NoneAsked h.1)
+asks_one may ono of ask None n m p q h e = rw (e, h) NoneAsked
+
+pub asks_on : (n m k : ℕ) (p q r : PanelState) → AsksQuestions n p m q → AsksQuestions m q k r → AsksQuestions n p k r
+asks_on n m k p q r a NoneAsked = a
+asks_on n m k p q r a (OneAsked {m = l} {q = s} ono of ask handle before one) = OneAsked ono of ask handle (asks_on n m l p q s a before) one
 
 pub ruleset question_rules = (asks_none, asks_one, asks_on)

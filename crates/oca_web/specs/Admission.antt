@@ -1,6 +1,7 @@
--- Which requests are let in: those that name one of the panel's own hosts, and of those that change something only the
--- ones that a page of that very host sent, as JSON.
-use Rattle.std.specs.Prelude.{ℕ, List, [], codes, Bool, ◌&&◌, if◌then◌else◌, Option, Some, None}
+-- Which requests are let in: those that name one of the panel's own hosts, and bring its token where it has one; and of
+-- those that change something only the ones that a page of that very host sent, as JSON.
+use Rattle.std.specs.Prelude.{ℕ, ◌+◌, ◌==◌, List, [], ◌∷◌, codes, take, drop, length, Bool, true, false, ◌&&◌, ◌||◌, if◌then◌else◌}
+use Rattle.std.specs.Prelude.{Option, Some, None}
 use Rattle.std.specs.List.{list_any}
 use Rattle.std.specs.Str.{bytes_eq}
 use Rattle.std.specs.String.{string_bytes}
@@ -8,7 +9,10 @@ use Rattle.http.specs.declared.request.Request.{Request}
 use Rattle.http.specs.Request.{head_of}
 use Rattle.http_header.specs.HeaderMap.{get, Entries}
 use Rattle.http_header.specs.declared.value.HeaderValue.{HeaderValue}
+use Rattle.http_uri.specs.Uri.{uri_path, uri_query}
+use Rattle.oca_web.specs.declared.admission.Key.{Key}
 use Rattle.oca_web.specs.declared.admission.Name.{Name}
+use Rattle.oca_web.specs.declared.admission.Terms.{Terms}
 
 -- the bytes of a field; none where it is not there
 abbrev pub bytes_in : Option HeaderValue → List ℕ
@@ -37,9 +41,51 @@ abbrev pub lets_in : List Name → List ℕ → List ℕ → List ℕ → List �
 lets_in names method host origin kind =
     if bytes_eq (codes "POST") method then lets_post_in names host origin kind else has_host names host
 
--- whether the request is let in
-abbrev pub lets_request_in : List Name → Request (List ℕ) → Bool
-lets_request_in names r =
-    lets_in names (head_of r).method (field (head_of r).headers (codes "host"))
-    (field (head_of r).headers (codes "origin"))
-    (field (head_of r).headers (codes "content-type"))
+-- ---- the token
+
+-- a pair of a Cookie field ends with the field, or at a semicolon (RFC 6265, section 4.2.1)
+abbrev pub ends_here : List ℕ → Bool
+ends_here [] = true
+ends_here (b ∷ bs) = b == 59
+
+-- whether the field begins with this pair
+abbrev pub begins_with_pair : (pair : List ℕ) → List ℕ → Bool
+begins_with_pair pair field = bytes_eq (take (length pair) field) pair && ends_here (drop (length pair) field)
+
+-- what stands behind one blank
+abbrev pub behind_blank : List ℕ → List ℕ
+behind_blank [] = []
+behind_blank (b ∷ bs) = if b == 32 then bs else b ∷ bs
+
+-- whether this pair stands behind one of its semicolons
+abbrev pub has_later_pair : (pair : List ℕ) → List ℕ → Bool
+has_later_pair pair [] = false
+has_later_pair pair (b ∷ bs) = ((b == 59) && begins_with_pair pair (behind_blank bs)) || has_later_pair pair bs
+
+-- whether a Cookie field has this pair
+abbrev pub has_pair : (pair : List ℕ) → List ℕ → Bool
+has_pair pair field = begins_with_pair pair field || has_later_pair pair field
+
+-- whether a query is this one
+abbrev pub is_query : (wanted : List ℕ) → Option (List ℕ) → Bool
+is_query wanted None = false
+is_query wanted (Some query) = bytes_eq query wanted
+
+-- whether the token is brought: in the panel's own cookie, within the first 4,096 bytes of the field; and where the page is asked for, also in the query
+abbrev pub brings : Key → (path : List ℕ) → (query : Option (List ℕ)) → (cookies : List ℕ) → Bool
+brings key path query cookies = has_pair (string_bytes key.cookie) (take 4096 cookies)
+    || (bytes_eq path (codes "/") && is_query (string_bytes key.query) query)
+
+-- whether it is brought where there is one
+abbrev pub opens : Option Key → (path : List ℕ) → (query : Option (List ℕ)) → (cookies : List ℕ) → Bool
+opens None path query cookies = true
+opens (Some key) path query cookies = brings key path query cookies
+
+abbrev pub request_opens : Option Key → Request (List ℕ) → Bool
+request_opens key r = opens key (uri_path (head_of r).uri) (uri_query (head_of r).uri) (field (head_of r).headers (codes "cookie"))
+
+-- WHETHER THE REQUEST IS LET IN
+abbrev pub lets_request_in : Terms → Request (List ℕ) → Bool
+lets_request_in t r = lets_in t.names.items (head_of r).method (field (head_of r).headers (codes "host"))
+    (field (head_of r).headers (codes "origin")) (field (head_of r).headers (codes "content-type"))
+    && request_opens t.key r

@@ -1,6 +1,7 @@
 pub mod Admission
 pub mod Asking
 pub mod Objects
+pub mod Shows
 pub mod Polling
 pub mod Readings
 pub mod Orders

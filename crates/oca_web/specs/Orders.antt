@@ -1,7 +1,7 @@
 -- Orders: what pages want done with objects, in the order in which they came (*profile*).
-use Rattle.std.specs.Prelude.{◌≡◌, ◌⊎◌, ℕ, ◌+◌, ◌==◌, ◌||◌, Bool, true, false, if◌then◌else◌, List, [], ◌∷◌, ◌++◌}
-use Rattle.std.specs.Prelude.{length, nat_lt, ◌<◌, ◌≤◌, drop, remove, slice_get, Option, Some, None, Result, Ok, Err}
-use Rattle.std.specs.List.{list_any}
+use Rattle.std.specs.Prelude.{◌≡◌, ◌⊎◌, ℕ, ◌+◌, ◌==◌, ◌||◌, ◌&&◌, Bool, true, false, if◌then◌else◌, List, [], ◌∷◌, ◌++◌}
+use Rattle.std.specs.Prelude.{length, max, min, nat_le, nat_lt, ◌<◌, ◌≤◌, drop, insert, remove, slice_get, Option, Some, None, Result, Ok, Err}
+use Rattle.std.specs.List.{list_any, position}
 use Rattle.oca_types.specs.declared.class.Class.{Class}
 use Rattle.oca_types.specs.declared.class.Class.TheVariants as class
 use Rattle.oca_types.specs.declared.words.Ono.{Ono}
@@ -23,11 +23,12 @@ use Rattle.oca_web.specs.declared.order.Action.TheVariants as actions
 use Rattle.oca_web.specs.declared.order.NotDone.{NotDone}
 use Rattle.oca_web.specs.declared.order.NotDone.TheVariants as why
 use Rattle.oca_web.specs.declared.order.Order.{Order}
+use Rattle.oca_web.specs.declared.order.Wanted.{Wanted}
 use Rattle.oca_web.specs.declared.order.Sent.{Sent}
 use Rattle.oca_web.specs.declared.order.OrderResult.{OrderResult}
 
--- The orders that wait, the first that came first; those in flight under their handles; how the last ones fared, the
--- last of them last; and the ticket of the last order.
+-- The orders that wait, the first that came first; those in flight under their handles; how the last ones fared, by
+-- their tickets; and the ticket of the last order.
 pub record OrdersState : Type 0 where
   pub waiting : List Order
   pub in_flight : List Sent
@@ -68,10 +69,26 @@ with_order ono action last s = record s {
   tickets = s.tickets + 1;
 }
 
--- Where it was added, this is its ticket; where 64 wait, or no ticket is left, none was.
+-- Where it was added, this is its ticket; where 256 wait, or no ticket is left, none was.
 abbrev pub AddsTicket : Ono → Action → ℕ → OrdersState → Option ℕ → OrdersState → Type 0
 AddsTicket ono action last old (Some ticket) new = (ticket ≡ old.tickets + 1) × (new ≡ with_order ono action last old)
-AddsTicket ono action last old None new = (new ≡ old) × ((length old.waiting ≡ 64) ⊎ (old.tickets ≡ 18446744073709551615))
+AddsTicket ono action last old None new = (new ≡ old) × ((length old.waiting ≡ 256) ⊎ (old.tickets ≡ 18446744073709551615))
+
+-- MANY ORDERS WERE ADDED, in their order, each with the same last moment and a ticket of its own.
+abbrev pub with_all : List Wanted → ℕ → OrdersState → OrdersState
+with_all [] last s = s
+with_all (w ∷ ws) last s = with_all ws last (with_order w.ono w.action last s)
+
+-- whether there is room for so many, and a ticket for each
+abbrev pub has_room_for : ℕ → OrdersState → Bool
+has_room_for n s = nat_le (length s.waiting + n) 256 && nat_lt (s.tickets + n) 18446744073709551615
+
+-- Where there was room for all of them they were, and this is the ticket of the first; the others have those that follow.
+-- Where there was not, none was.
+abbrev pub AddsAll : List Wanted → ℕ → OrdersState → Option ℕ → OrdersState → Type 0
+AddsAll ws last old (Some first) new = (has_room_for (length ws) old ≡ true) × (first ≡ old.tickets + 1)
+    × (new ≡ with_all ws last old)
+AddsAll ws last old None new = (has_room_for (length ws) old ≡ false) × (new ≡ old)
 
 -- ---- an order is submitted
 
@@ -124,11 +141,24 @@ abbrev pub SubmitsFirst : ℕ → Bool → OrdersState → PanelState → Orders
 SubmitsFirst ahead true old before new after = SubmitsOrder ahead old before new after
 SubmitsFirst ahead false old before new after = (new ≡ old) × (after ≡ before) × IsHeldBack ahead old before
 
+-- the handle above those of all these orders
+abbrev pub above_all : List Sent → ℕ
+above_all [] = 0
+above_all (s ∷ sent) = max (min (s.handle.0 + 1) 4294967295) (above_all sent)
+
 -- ---- an order is answered
 
--- what is kept of how orders fared, with one more: at most 128
+-- one more stands before the first that has a greater ticket, and else behind all
+abbrev pub placed : Option ℕ → OrderResult → List OrderResult → List OrderResult
+placed (Some at) t results = insert results at t
+placed None t results = results ++ t ∷ []
+
+abbrev pub by_ticket : OrderResult → List OrderResult → List OrderResult
+by_ticket t results = placed (position (λ r. nat_lt t.ticket r.ticket) results) t results
+
+-- what is kept of how orders fared, with one more: at most 512
 abbrev pub with_result : List OrderResult → OrderResult → List OrderResult
-with_result results t = (if length results == 128 then drop 1 results else results) ++ t ∷ []
+with_result results t = by_ticket t (if length results == 512 then drop 1 results else results)
 
 -- why its command was not carried out
 abbrev pub not_done : Result Unit Trouble → Result Unit NotDone

@@ -1,5 +1,5 @@
 -- Which object is read again, and when (*profile*). Moments are in milliseconds.
-use Rattle.std.specs.Prelude.{◌≡◌, ℕ, ◌+◌, ◌-◌, ◌≤◌, nat_lt, nat_le, Bool, true, ◌&&◌, if◌then◌else◌, List, slice_get}
+use Rattle.std.specs.Prelude.{◌≡◌, ℕ, ◌+◌, ◌-◌, ◌≤◌, nat_lt, nat_le, Bool, true, ◌&&◌, not, if◌then◌else◌, List, slice_get}
 use Rattle.std.specs.Prelude.{Option, Some, None, ◌⊎◌, ◌<◌, ◌==◌, min, [], ◌∷◌, ◌++◌, length, slice_set}
 use Rattle.std.specs.List.{list_any, position}
 use Rattle.oca_net.specs.Ends.{last_u64}
@@ -30,17 +30,28 @@ abbrev pub page_asked : (now first visible : ℕ) → Page
 page_asked now first visible =
     record { first = first; count = min visible 512; until = min (now + 2500) last_u64 }
 
--- It is kept in the place of the first that showed the same; where none did, behind all others while fewer than eight
--- are kept, else in the place of another. All others stay.
+abbrev pub is_closed : ℕ → Page → Bool
+is_closed now p = not (is_live now p)
+
+-- It is to be kept in the place of the first that showed the same; where none did, of the first that is open no longer.
+abbrev pub or_else : Option ℕ → Option ℕ → Option ℕ
+or_else None other = other
+or_else (Some at) other = Some at
+
+abbrev pub place_for : ℕ → Page → List Page → Option ℕ
+place_for now page pages = or_else (position (shows_same page) pages) (position (is_closed now) pages)
+
+-- Where there is no such place it is kept behind all others while fewer than 128 are kept, else in the place of another.
+-- All others stay.
 abbrev pub KeepsPageAt : Option ℕ → Page → List Page → List Page → Type 0
 KeepsPageAt (Some at) page old new = new ≡ slice_set old at page
 KeepsPageAt None page old new =
-    ((length old < 8) × (new ≡ old ++ page ∷ []))
-    ⊎ ((8 ≤ length old) × ((at : ℕ) × (at < length old) × (new ≡ slice_set old at page)))
+    ((length old < 128) × (new ≡ old ++ page ∷ []))
+    ⊎ ((128 ≤ length old) × ((at : ℕ) × (at < length old) × (new ≡ slice_set old at page)))
 
 -- A PAGE ASKED FOR VALUES, and is kept.
-abbrev pub OpensPage : Page → List Page → List Page → Type 0
-OpensPage page old new = KeepsPageAt (position (shows_same page) old) page old new
+abbrev pub OpensPage : ℕ → Page → List Page → List Page → Type 0
+OpensPage now page old new = KeepsPageAt (place_for now page old) page old new
 
 -- at most ten times a second where a page shows it, and once in five seconds where none does
 abbrev pub pause_of : Bool → ℕ

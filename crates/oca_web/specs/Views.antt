@@ -1,5 +1,5 @@
 -- What a view of a device does over its panel (*profile*).
-use Rattle.std.specs.Prelude.{◌≡◌, ◌⊎◌, ℕ, ◌+◌, ◌-◌, ◌*◌, min, max, nat_le, nat_lt, Bool, true, false, Option, Result, Ok}
+use Rattle.std.specs.Prelude.{◌≡◌, ◌⊎◌, ℕ, ◌+◌, ◌-◌, ◌*◌, min, max, nat_le, nat_lt, Bool, true, false, if◌then◌else◌, Option, Result, Ok}
 use Rattle.std.specs.Prelude.{Err}
 use Rattle.oca_types.specs.declared.words.NoMemory.{NoMemory}
 use Rattle.oca_types.specs.declared.words.Handle.{Handle}
@@ -13,7 +13,7 @@ use Rattle.oca_panel.specs.Beginnings.{BeginsAsking}
 use Rattle.oca_web.specs.declared.ask.Ask.{Ask}
 use Rattle.oca_web.specs.declared.view.Reach.{Reach}
 use Rattle.oca_web.specs.Asking.{class_for, request_of_ask}
-use Rattle.oca_web.specs.Orders.{OrdersState, LosesOrders, NoneIsLeft, SettlesOrders, SubmitsOrders, with_passed, without_waiting}
+use Rattle.oca_web.specs.Orders.{OrdersState, above_all, LosesOrders, NoneIsLeft, SettlesOrders, SubmitsOrders, with_passed, without_waiting}
 
 -- THE PROGRAM'S CLOCK at a moment of the end, which it is so far ahead of: it never goes back.
 abbrev pub moment_noted : (ahead moment before : ℕ) → ℕ
@@ -39,11 +39,17 @@ pub data TakesAnswers : PanelState → PanelState → Type 0 where
   OneTaken : {p q r : PanelState} (handle : ℕ) (outcome : Outcome) → TakesAnswers p q → SettlesIn handle q r outcome
       → TakesAnswers p r
 
--- QUESTIONS WERE ASKED, one after another: each asks something to know an object, and sets nothing.
-pub data AsksQuestions : PanelState → PanelState → Type 0 where
-  NoneAsked : {p : PanelState} → AsksQuestions p p
-  OneAsked : {p q r : PanelState} (ono : ℕ) (of : Option Class) (ask : Ask) (handle : Handle) → AsksQuestions p q
-      → BeginsAsking ono (class_for of) (request_of_ask ask) (Ok handle) q r → AsksQuestions p r
+-- THE NEXT HANDLE of a view behind a command with this handle: it is above that one too.
+abbrev pub next_behind : (next handle : ℕ) → ℕ
+next_behind next handle = max next (min (handle + 1) 4294967295)
+
+-- QUESTIONS WERE ASKED, one after another: each asks something to know an object, and sets nothing. The view's next handle
+-- was the first of these numbers, and is the last: above the handle of each.
+pub data AsksQuestions : ℕ → PanelState → ℕ → PanelState → Type 0 where
+  NoneAsked : {n : ℕ} {p : PanelState} → AsksQuestions n p n p
+  OneAsked : {n m : ℕ} {p q r : PanelState} (ono : ℕ) (of : Option Class) (ask : Ask) (handle : Handle)
+      → AsksQuestions n p m q → BeginsAsking ono (class_for of) (request_of_ask ask) (Ok handle) q r
+      → AsksQuestions n p (next_behind m handle.0) r
 
 -- A TURN WAS TAKEN, and then the results of the orders that were answered were noted; what followed of it only took
 -- answers to questions.
@@ -69,12 +75,16 @@ pub record RenewsLost (reach : Reach) (next : ℕ) (old : OrdersState) (before :
 abbrev pub RestsBehind : (first next ahead : ℕ) → OrdersState → PanelState → Type 0
 RestsBehind first next ahead s p = (half_spent first next ≡ true) ⊎ NoneIsLeft ahead s p
 
+-- the next handle of a view once orders were submitted: above those of all that are in flight, where any could be
+abbrev pub next_with : (first next : ℕ) → OrdersState → ℕ
+next_with first next s = if half_spent first next then next else max next (above_all s.in_flight)
+
 -- Where the link is lost or late all orders are noted as lost, and those that waited for too long as not sent; and then
 -- those that wait are submitted, in their order and before any question, over the same panel where the link is not lost,
 -- and else over one with another link to the same device, whose first handle is the next one; this is the panel then. The
--- program's clock reads `now`, and is so far ahead of the end's.
+-- program's clock reads `now`, and is so far ahead of the end's. The view's next handle is then this one.
 pub record SubmitsAll (reach : Reach) (first next ahead now : ℕ) (old : OrdersState) (before : PanelState)
-    (new : OrdersState) (submitted : PanelState) : Type 0 where
+    (further : ℕ) (new : OrdersState) (submitted : PanelState) : Type 0 where
   pub is_lost : Bool
   pub between : OrdersState
   pub renewed : PanelState
@@ -83,10 +93,11 @@ pub record SubmitsAll (reach : Reach) (first next ahead now : ℕ) (old : Orders
   pub renews : is_lost ≡ true → IsRenewed reach.device next (span_size reach.span) before renewed
   pub submits : SubmitsOrders ahead (with_passed now between) renewed new submitted
   pub rests : RestsBehind first next ahead new submitted
+  pub above : further ≡ next_with first next new
 
--- What followed of it only asked questions.
-abbrev pub Continues : Reach → (first next ahead now : ℕ) → Result Unit NoMemory → OrdersState → PanelState → OrdersState
+-- What followed of it only asked questions. The view's next handle is the last of these numbers.
+abbrev pub Continues : Reach → (first next ahead now : ℕ) → Result Unit NoMemory → OrdersState → PanelState → ℕ → OrdersState
     → PanelState → Type 0
-Continues reach first next ahead now (Ok u) old before new after = (submitted : PanelState)
-    × SubmitsAll reach first next ahead now old before new submitted × AsksQuestions submitted after
-Continues reach first next ahead now (Err e) old before new after = Unit {0}
+Continues reach first next ahead now (Ok u) old before last new after = (further : ℕ) × (submitted : PanelState)
+    × SubmitsAll reach first next ahead now old before further new submitted × AsksQuestions further submitted last after
+Continues reach first next ahead now (Err e) old before last new after = Unit {0}

@@ -2,16 +2,21 @@
 //!
 //! Each function writes members into the `Writer` that it is given, in their order; `tree_json` and `values_json` own
 //! one.
-ghost use Rattle.std.specs.Prelude.{◌≡◌, [], ◌∷◌, ◌++◌, decimal, IfOk, OnOk};
+ghost use Rattle.std.specs.Prelude.{◌≡◌, ◌≤◌, ◌+◌, [], ◌∷◌, ◌++◌, decimal, length, IfOk, OnOk};
 ghost use Rattle.json.specs.Token.{key, number, string};
 ghost use Rattle.oca_panel.specs.TroubleWords.{trouble_words};
-ghost use Rattle.oca_web.specs.Results.{WritesResults, WritesResult, EndsWithResults, WritesTrouble, WritesValues};
+ghost use Rattle.oca_web.specs.Results.{WritesFrom, WritesResults, WritesResult, EndsTree, EndsWithResults, EndsWithRun, WritesTrouble};
+ghost use Rattle.oca_web.specs.Results.{WritesValues, run_tokens};
+ghost use Rattle.oca_web.specs.Sites.{EndsWithTickets, tickets_after, tickets_tokens};
 
+use crate::admission::Terms;
 use crate::inventory::Inventory;
 use crate::object::{Object, class_name, limits_of, word_in};
 use crate::objects::places_since;
-use crate::order::{NotDone, OrderResult};
+use crate::order::{NotDone, OrderResult, Wanted};
+use crate::units::{Unit, UnitOf};
 use crate::view::View;
+use itoa::Buffer;
 use json::Writer;
 use oca_model::{Reading, Value, word_of};
 use oca_panel::Trouble;
@@ -140,18 +145,89 @@ fn put_walk(out: &mut Writer, inventory: &Inventory) -> Result<(), AllocError> {
     put_truth(out, "walked", inventory.is_walked())
 }
 
-/// The objects, in the order in which they were found: a block stands before its members.
-fn put_tree(out: &mut Writer, inventory: &Inventory) -> Result<(), AllocError> {
+/// The device's address, and how many of its objects were found.
+fn put_device(alloc: Global, out: &mut Writer, view: &View) -> Result<(), AllocError> {
+    let device = view.reach().device;
+    let address = format!(in alloc; "{device}")?;
+    put_text(out, "device", address.as_str())?;
+    let found = view.inventory().objects().as_slice().len();
+    put_number(out, "found", found as u64)
+}
+
+/// The name of the device: the label of its root block, else its role.
+fn put_name(out: &mut Writer, objects: &[Object]) -> Result<(), AllocError> {
+    let name = match objects.first() {
+        Some(root) if !root.label.as_str().is_empty() => root.label.as_str(),
+        Some(root) => root.role.as_str(),
+        None => "",
+    };
+    put_text(out, "name", name)
+}
+
+/// The number of this run of the program: digits in a text, so that it stays exact.
+fn put_run(out: &mut Writer, run: u64) -> Result<(), AllocError>
+    ensures { OnOk result (out.new.tokens ≡ out.old.tokens ++ run_tokens run) }
+{
+    let mut digits = Buffer::new();
+    out.key("run")?;
+    out.string(digits.format(run))
+}
+
+/// What a unit is for: a class or an object, the other null.
+fn put_unit_of(out: &mut Writer, of: &UnitOf) -> Result<(), AllocError> {
+    out.key("class")?;
+    match of {
+        UnitOf::Class(name) => {
+            out.string(name.as_str())?;
+            out.key("ono")?;
+            out.null()
+        }
+        UnitOf::Ono(ono) => {
+            out.null()?;
+            put_number(out, "ono", u64::from(*ono))
+        }
+    }
+}
+
+/// A unit of values.
+fn put_unit(out: &mut Writer, unit: &Unit) -> Result<(), AllocError> {
     out.begin_object()?;
-    put_walk(out, inventory)?;
-    put_objects(out, inventory.objects().as_slice())?;
+    put_unit_of(out, &unit.of)?;
+    put_text(out, "factor", unit.factor.as_str())?;
+    put_text(out, "unit", unit.name.as_str())?;
+    out.end_object()
+}
+
+/// The units of values.
+fn put_units(out: &mut Writer, units: &[Unit]) -> Result<(), AllocError> {
+    out.key("units")?;
+    out.begin_array()?;
+    for unit in units {
+        put_unit(out, unit)?;
+    }
+    out.end_array()
+}
+
+/// The objects, in the order in which they were found: a block stands before its members.
+fn put_tree(alloc: Global, out: &mut Writer, view: &View, terms: &Terms) -> Result<(), AllocError>
+    ensures { OnOk result (EndsTree terms.now.run out.new.tokens) }
+{
+    out.begin_object()?;
+    put_walk(out, view.inventory())?;
+    put_device(alloc, out, view)?;
+    put_units(out, terms.units.as_slice())?;
+    put_objects(out, view.inventory().objects().as_slice())?;
+    put_run(out, terms.run)?;
     out.end_object()
 }
 
 /// The objects, in the order in which they were found: a block stands before its members.
-pub fn tree_json(alloc: Global, inventory: &Inventory) -> Result<Vec<u8>, AllocError> {
+#[tactic(auto, using(crate::proofs::ResultLemmas::tree_text))]
+pub fn tree_json(alloc: Global, view: &View, terms: &Terms) -> Result<Vec<u8>, AllocError>
+    ensures { IfOk result (λ v. EndsWithRun terms.now.run v.items) }
+{
     let mut out = Writer::new(Vec::new(alloc));
-    match put_tree(&mut out, inventory) {
+    match put_tree(alloc, &mut out, view, terms) {
         Ok(()) => Ok(out.into_inner()),
         Err(refused) => Err(refused),
     }
@@ -225,15 +301,35 @@ fn put_result(alloc: Global, out: &mut Writer, one: OrderResult) -> Result<(), A
     out.end_object()
 }
 
-/// How orders fared.
+/// How an order fared, where its ticket is this one or a greater one.
+fn put_from(
+    alloc: Global,
+    out: &mut Writer,
+    one: OrderResult,
+    ticket: u64,
+) -> Result<(), AllocError>
+    ensures { OnOk result (WritesFrom ticket one out.old.tokens out.new.tokens) }
+{
+    if one.ticket < ticket {
+        return Ok(());
+    }
+    put_result(alloc, out, one)
+}
+
+/// How orders fared, from this ticket on.
 #[tactic(auto, using(crate::proofs::ResultLemmas::results_first, crate::proofs::ResultLemmas::results_none))]
-fn put_orders(alloc: Global, out: &mut Writer, all: &[OrderResult]) -> Result<(), AllocError>
-    ensures { OnOk result (WritesResults all.now out.old.tokens out.new.tokens) }
+fn put_orders(
+    alloc: Global,
+    out: &mut Writer,
+    all: &[OrderResult],
+    ticket: u64,
+) -> Result<(), AllocError>
+    ensures { OnOk result (WritesResults ticket all.now out.old.tokens out.new.tokens) }
 {
     match all.split_first() {
         Some((first, rest)) => {
-            put_result(alloc, out, *first)?;
-            put_orders(alloc, out, rest)
+            put_from(alloc, out, *first, ticket)?;
+            put_orders(alloc, out, rest, ticket)
         }
         None => Ok(()),
     }
@@ -264,37 +360,98 @@ fn put_link(out: &mut Writer, view: &View) -> Result<(), AllocError> {
     out.end_object()
 }
 
+/// What an answer to /values is about, beside the view.
+#[derive(Clone, Copy)]
+pub struct Told {
+    /// The number of this run of the program.
+    pub run: u64,
+    /// Whether no order is taken.
+    pub read_only: bool,
+    /// The number of the change behind which objects are told.
+    pub since: u64,
+    /// The ticket from which on it is told how orders fared.
+    pub ticket: u64,
+}
+
 /// What changed, by a clock that reads so, and how the link is.
-fn put_update(alloc: Global, out: &mut Writer, view: &View, since: u64) -> Result<(), AllocError> {
+fn put_update(alloc: Global, out: &mut Writer, view: &View, told: Told) -> Result<(), AllocError> {
     let objects = view.inventory().objects();
     put_walk(out, view.inventory())?;
+    put_device(alloc, out, view)?;
+    put_name(out, objects.as_slice())?;
+    put_truth(out, "read_only", told.read_only)?;
     put_number(out, "now", view.news().now)?;
     put_number(out, "change", objects.changes())?;
-    put_changes(alloc, out, objects.as_slice(), since)?;
+    put_changes(alloc, out, objects.as_slice(), told.since)?;
     put_link(out, view)
 }
 
-/// The objects that changed after the change with this number, how the link is, and how the last orders fared.
-fn put_values(alloc: Global, out: &mut Writer, view: &View, since: u64) -> Result<(), AllocError>
-    ensures { OnOk result (WritesValues view.now.orders.results out.new.tokens) }
+/// The objects that changed, how the link is, and how the last orders fared.
+#[tactic(auto, using(crate::proofs::ResultLemmas::values_whole))]
+fn put_values(alloc: Global, out: &mut Writer, view: &View, told: Told) -> Result<(), AllocError>
+    ensures { OnOk result (WritesValues told.run told.ticket view.now.orders.results out.new.tokens) }
 {
     out.begin_object()?;
-    put_update(alloc, out, view, since)?;
+    put_update(alloc, out, view, told)?;
+    put_run(out, told.run)?;
     out.key("told")?;
     out.begin_array()?;
-    put_orders(alloc, out, view.orders().results())?;
+    put_orders(alloc, out, view.orders().results(), told.ticket)?;
     out.end_array()?;
     out.end_object()
 }
 
-/// The objects that changed after the change with this number, how the link is, and how the last orders fared.
+/// The objects that changed, how the link is, and how the last orders fared.
 #[tactic(auto, using(crate::proofs::ResultLemmas::results_text))]
-pub fn values_json(alloc: Global, view: &View, since: u64) -> Result<Vec<u8>, AllocError>
-    ensures { IfOk result (λ v. EndsWithResults view.now.orders.results v.items) }
+pub fn values_json(alloc: Global, view: &View, told: Told) -> Result<Vec<u8>, AllocError>
+    ensures { IfOk result (λ v. EndsWithResults told.run told.ticket view.now.orders.results v.items) }
 {
     let mut out = Writer::new(Vec::new(alloc));
-    match put_values(alloc, &mut out, view, since) {
+    match put_values(alloc, &mut out, view, told) {
         Ok(()) => Ok(out.into_inner()),
         Err(refused) => Err(refused),
     }
+}
+
+/// The tickets of orders, the first of them this one.
+#[tactic(auto, using(crate::proofs::TicketLemmas::ticket_rules))]
+fn put_tickets(out: &mut Writer, ticket: u64, wanted: &[Wanted]) -> Result<(), AllocError>
+    requires { ticket + length wanted.now ≤ 18446744073709551615 }
+    ensures { OnOk result (out.new.tokens ≡ out.old.tokens ++ tickets_after ticket wanted.now) }
+{
+    match wanted.split_first() {
+        Some((_, rest)) => {
+            out.u64(ticket)?;
+            put_tickets(out, ticket + 1, rest)
+        }
+        None => Ok(()),
+    }
+}
+
+/// The tickets of many orders, the first of them this one.
+#[tactic(auto, using(crate::proofs::TicketLemmas::tickets_text))]
+pub fn tickets_json(alloc: Global, first: u64, wanted: &[Wanted]) -> Result<Vec<u8>, AllocError>
+    requires { first + length wanted.now ≤ 18446744073709551615 }
+    ensures { IfOk result (λ v. EndsWithTickets first wanted.now v.items) }
+{
+    let mut out = Writer::new(Vec::new(alloc));
+    match put_all_tickets(&mut out, first, wanted) {
+        Ok(()) => Ok(out.into_inner()),
+        Err(refused) => Err(refused),
+    }
+}
+
+/// The object with the tickets of many orders.
+#[tactic(auto, using(crate::proofs::TicketLemmas::tickets_whole))]
+fn put_all_tickets(out: &mut Writer, first: u64, wanted: &[Wanted]) -> Result<(), AllocError>
+    requires count { first + length wanted.now ≤ 18446744073709551615 }
+    requires blank { out.old.tokens ≡ [] }
+    ensures { OnOk result (out.new.tokens ≡ tickets_tokens first wanted.now) }
+{
+    out.begin_object()?;
+    out.key("tickets")?;
+    out.begin_array()?;
+    put_tickets(out, first, wanted)?;
+    out.end_array()?;
+    out.end_object()
 }

@@ -1,4 +1,7 @@
 //! What is known of a device, and what is asked of it.
+ghost use Rattle.std.specs.Prelude.{◌≡◌};
+ghost use Rattle.oca_web.specs.Shows.{lock_behind, shown_listed, shown_read, tells_of_another_device};
+
 use crate::ask::{Ask, Asked, Question, class_for};
 use crate::object::{Lock, Object, Shown, reading_with};
 use crate::objects::Objects;
@@ -33,7 +36,7 @@ pub struct Inventory {
 }
 
 impl Inventory {
-    ghost use Rattle.std.specs.Prelude.{◌≡◌, true, false, length};
+    ghost use Rattle.std.specs.Prelude.{◌≡◌, ◌≢◌, true, false, length};
     ghost use Rattle.oca_web.specs.Readings.{AsksAgain};
     ghost use Rattle.oca_web.specs.Walking.{BeginsAnew, KeepsWalk};
 
@@ -264,7 +267,8 @@ impl Inventory {
         question: Question,
         answer: Result<Answer, Trouble>,
     ) -> Result<(), NoMemory>
-        ensures { KeepsWalk self.old self.new }
+        ensures walk { KeepsWalk self.old self.new }
+        ensures earlier { question.epoch ≢ self.old.epoch → self.new ≡ self.old }
     {
         if question.epoch != self.epoch {
             return Ok(());
@@ -312,20 +316,7 @@ impl Inventory {
         ensures { KeepsWalk self.old self.new }
     {
         if let Some(shown) = self.objects.shown(place) {
-            let lock = if shown.lock == Lock::Other {
-                Lock::Free
-            } else {
-                shown.lock
-            };
-            self.objects.show(
-                place,
-                Shown {
-                    reading: Some(reading),
-                    trouble: None,
-                    lock,
-                    ..shown
-                },
-            );
+            self.objects.show(place, shown_read(shown, reading));
         }
     }
 
@@ -371,22 +362,17 @@ impl Inventory {
         Ok(())
     }
 
-    /// The members of a block were listed: there is no trouble.
+    /// The members of a block were listed: there is no trouble, and no different controller locks it.
     fn show_listed(&mut self, place: usize)
         ensures { KeepsWalk self.old self.new }
     {
         if let Some(shown) = self.objects.shown(place) {
-            self.objects.show(
-                place,
-                Shown {
-                    trouble: None,
-                    ..shown
-                },
-            );
+            self.objects.show(place, shown_listed(shown));
         }
     }
 
-    /// Whether these are the members of a block that are known, but for those that stand in another one too.
+    /// Whether these are the members of a block that are known, with their classes, but for those that stand in another one
+    /// too.
     fn lists(&self, container: Ono, members: &Members) -> bool {
         let mut known = self
             .objects
@@ -396,7 +382,7 @@ impl Inventory {
         for member in members.as_slice() {
             match known.next() {
                 Some(object) => {
-                    if object.ono.0 != member.ono.0 {
+                    if object.ono.0 != member.ono.0 || object.class != member.class {
                         return false;
                     }
                 }
@@ -491,7 +477,9 @@ fn asks_of(class: Option<Class>) -> &'static [Ask] {
 
 /// Whether an object that was known refuses so because the device has other objects by now: BadONo, BadMethod, or an
 /// answer of another class.
-fn is_of_another_device(trouble: Trouble) -> bool {
+fn is_of_another_device(trouble: Trouble) -> bool
+    ensures { result ≡ tells_of_another_device trouble }
+{
     matches!(
         trouble,
         Trouble::Refused(5) | Trouble::Refused(11) | Trouble::Unreadable
@@ -526,5 +514,38 @@ fn forget_values(asked: &mut [Asked], place: usize) {
         if one.question.place == place && one.question.ask == Ask::Value {
             one.question.epoch = 0;
         }
+    }
+}
+
+/// The lock on an object that was read, or listed: no different controller holds one.
+fn lock_behind(lock: Lock) -> Lock
+    ensures { result ≡ lock_behind lock }
+{
+    match lock {
+        Lock::Own => Lock::Own,
+        Lock::Free | Lock::Other => Lock::Free,
+    }
+}
+
+/// What an object shows once it was read: this reading, no trouble, and no lock of a different controller.
+fn shown_read(shown: Shown, reading: Reading) -> Shown
+    ensures { result ≡ shown_read shown reading }
+{
+    Shown {
+        reading: Some(reading),
+        trouble: None,
+        lock: lock_behind(shown.lock),
+        ..shown
+    }
+}
+
+/// What a block shows once its members were listed: no trouble, and no lock of a different controller.
+fn shown_listed(shown: Shown) -> Shown
+    ensures { result ≡ shown_listed shown }
+{
+    Shown {
+        trouble: None,
+        lock: lock_behind(shown.lock),
+        ..shown
     }
 }

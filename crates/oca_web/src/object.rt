@@ -1,6 +1,7 @@
 //! What is known of an object.
 ghost use Rattle.std.specs.Prelude.{◌≡◌, ◌⊎◌};
 ghost use Rattle.oca_model.specs.Readings.{value_without_limits};
+ghost use Rattle.oca_web.specs.Shows.{name_of_class};
 
 use oca_model::{Flags, Names, Ranged, Reading, Value, word_of};
 use oca_panel::Trouble;
@@ -146,7 +147,9 @@ pub fn word_in(reading: Reading) -> Text {
 }
 
 /// The name of a class.
-pub fn class_name(class: Option<Class>) -> &'static str {
+pub fn class_name(class: Option<Class>) -> &'static str
+    ensures { result.now ≡ name_of_class class }
+{
     match class {
         None => "unknown",
         Some(Class::Block) => "block",
@@ -163,4 +166,24 @@ pub fn class_name(class: Option<Class>) -> &'static str {
         Some(Class::Uint32) => "uint32",
         Some(Class::Uint64) => "uint64",
     }
+}
+
+/// Whether this is the name of a class of this profile, as the page is told it.
+pub fn is_class_name(name: &str) -> bool {
+    matches!(
+        name,
+        "block"
+            | "mute"
+            | "polarity"
+            | "switch"
+            | "boolean"
+            | "int8"
+            | "int16"
+            | "int32"
+            | "int64"
+            | "uint8"
+            | "uint16"
+            | "uint32"
+            | "uint64"
+    )
 }

@@ -7,13 +7,13 @@ use oca_panel::Trouble;
 use oca_types::{Class, Handle, Ono};
 
 /// The most orders that wait.
-pub const MOST_WAITING: usize = 64;
+pub const MOST_WAITING: usize = 256;
 
 /// The most orders that are in flight: as many as a span has handles.
 pub const MOST_IN_FLIGHT: usize = 32;
 
 /// The most orders of which it is kept how they fared.
-pub const MOST_RESULTS: usize = 128;
+pub const MOST_RESULTS: usize = 512;
 
 /// What a page wants done with an object.
 #[derive(Clone, Copy, PartialEq, Eq)]
@@ -47,6 +47,15 @@ impl Action {
             Action::Unlock => Request::Unlock,
         }
     }
+}
+
+/// What is to be done with an object.
+#[derive(Clone, Copy, PartialEq, Eq)]
+pub struct Wanted {
+    /// The object.
+    pub ono: Ono,
+    /// What is to be done with it.
+    pub action: Action,
 }
 
 /// An order of a page.

@@ -1,9 +1,10 @@
 //! The orders of the pages: those that wait, those in flight, and how the last ones fared.
-ghost use Rattle.std.specs.Prelude.{◌≡◌};
-ghost use Rattle.oca_web.specs.Orders.{not_done};
+ghost use Rattle.std.specs.Prelude.{◌≡◌, ◌<◌, length, nat_lt, IfSome};
+ghost use Rattle.std.specs.List.{position};
+ghost use Rattle.oca_web.specs.Orders.{above_all, by_ticket, not_done};
 
 use crate::order::{
-    Action, MOST_IN_FLIGHT, MOST_RESULTS, MOST_WAITING, NotDone, Order, OrderResult, Sent,
+    Action, MOST_IN_FLIGHT, MOST_RESULTS, MOST_WAITING, NotDone, Order, OrderResult, Sent, Wanted,
 };
 use arrayvec::ArrayVec;
 use oca_control::ControlFault;
@@ -34,10 +35,10 @@ impl Model for Orders {
 }
 
 impl Orders {
-    ghost use Rattle.std.specs.Prelude.{◌≡◌, ◌∷◌, ◌++◌, remove, slice_get, length, [], Some};
+    ghost use Rattle.std.specs.Prelude.{◌≡◌, ◌≤◌, ◌<◌, ◌+◌, ◌∷◌, ◌++◌, remove, slice_get, length, [], Some};
     ghost use Rattle.oca_net.specs.Ends.{one_more};
-    ghost use Rattle.oca_web.specs.Orders.{AddsTicket, is_in_flight, lost_orders, no_orders, ready_of};
-    ghost use Rattle.oca_web.specs.Orders.{result_of, has_waiting, not_done, with_lost, with_passed, with_result};
+    ghost use Rattle.oca_web.specs.Orders.{AddsAll, AddsTicket, above_all, has_room_for, is_in_flight, lost_orders, no_orders, ready_of};
+    ghost use Rattle.oca_web.specs.Orders.{result_of, has_waiting, not_done, with_all, with_lost, with_order, with_passed, with_result};
     ghost use Rattle.oca_web.specs.Orders.{with_unsent, without_waiting};
 
     /// No orders.
@@ -60,7 +61,7 @@ impl Orders {
     }
 
     /// Adds an order behind all others, which must not be submitted after this moment, and returns its ticket. `None`
-    /// where 64 wait, which changes nothing.
+    /// where 256 wait, which changes nothing.
     pub fn add(&mut self, ono: Ono, action: Action, last: u64) -> Option<u64>
         ensures { AddsTicket ono action last self.old result self.new }
     {
@@ -76,6 +77,57 @@ impl Orders {
         });
         self.tickets = ticket;
         Some(ticket)
+    }
+
+    /// Whether there is room for so many orders more, and a ticket for each.
+    pub fn has_room(&self, count: usize) -> bool
+        ensures { result ≡ has_room_for count self.now }
+    {
+        count <= MOST_WAITING.saturating_sub(self.waiting.len())
+            && (count as u64) < u64::MAX - self.tickets
+    }
+
+    /// Adds many orders behind all others, in their order, which must not be submitted after this moment, and returns the
+    /// ticket of the first; the others have those that follow. `None` where 256 would wait before the last of them, or no
+    /// ticket would be left for it: this changes nothing.
+    pub fn add_all(&mut self, wanted: &[Wanted], last: u64) -> Option<u64>
+        ensures { AddsAll wanted.now last self.old result self.new }
+    {
+        if !self.has_room(wanted.len()) {
+            return None;
+        }
+        let first = self.tickets.saturating_add(1);
+        self.put_all(wanted, last);
+        Some(first)
+    }
+
+    /// Adds many orders, for which there is room.
+    #[tactic(auto, using(crate::proofs::OrderLemmas::many_rules))]
+    fn put_all(&mut self, wanted: &[Wanted], last: u64)
+        requires room { length self.old.waiting + length wanted.now ≤ 256 }
+        requires tickets { self.old.tickets + length wanted.now ≤ 18446744073709551615 }
+        ensures { self.new ≡ with_all wanted.now last self.old }
+    {
+        if let Some((first, rest)) = wanted.split_first() {
+            self.put(*first, last);
+            self.put_all(rest, last);
+        }
+    }
+
+    /// Adds an order, for which there is room.
+    fn put(&mut self, wanted: Wanted, last: u64)
+        requires room { length self.old.waiting < 256 }
+        requires tickets { self.old.tickets < 18446744073709551615 }
+        ensures { self.new ≡ with_order wanted.ono wanted.action last self.old }
+    {
+        let ticket = self.tickets + 1;
+        self.waiting.push(Order {
+            ticket,
+            ono: wanted.ono,
+            action: wanted.action,
+            last,
+        });
+        self.tickets = ticket;
     }
 
     /// Whether an order of this object is in flight.
@@ -136,31 +188,33 @@ impl Orders {
         !self.waiting.is_empty()
     }
 
-    /// Keeps how an order fared, and forgets the oldest of 128.
+    /// Keeps how an order fared, by its ticket, and forgets the lowest of 512.
     fn note_result(&mut self, order: Order, done: Result<(), NotDone>)
         ensures { self.new ≡ record self.old { results = with_result self.old.results (result_of order done) } }
     {
         if self.results.is_full() {
             self.results.remove(0);
         }
-        self.results.push(OrderResult {
+        let result = OrderResult {
             ticket: order.ticket,
             ono: order.ono,
             done,
-        });
+        };
+        put_by_ticket(&mut self.results, result);
     }
 
     /// The order in flight at this place came out so.
-    pub(crate) fn settle(&mut self, at: usize, sent: Sent, done: Result<(), Trouble>)
-        requires { slice_get self.old.in_flight at ≡ Some sent }
+    pub(crate) fn settle(&mut self, at: usize, sent: &Sent, done: Result<(), Trouble>)
+        requires { slice_get self.old.in_flight at ≡ Some sent.now }
         ensures { self.new ≡ record self.old {
           in_flight = remove self.old.in_flight at;
           results = with_result
-              self.old.results (result_of sent.order (not_done done));
+              self.old.results (result_of sent.now.order (not_done done));
         } }
     {
+        let order = sent.order;
         let _ = self.in_flight.pop_at(at);
-        self.note_result(sent.order, not_done(done));
+        self.note_result(order, not_done(done));
     }
 
     /// All orders are lost with the link: those in flight may have been carried out, and those that wait
@@ -225,7 +279,7 @@ impl Orders {
         self.drop_late(now);
     }
 
-    /// How the last orders fared, the last of them last, at most 128.
+    /// How the last orders fared, by their tickets, at most 512.
     pub fn results(&self) -> &[OrderResult]
         ensures { result.now ≡ self.now.results }
     {
@@ -233,11 +287,10 @@ impl Orders {
     }
 
     /// The handle above those of all orders in flight; 0 where none is.
-    pub(crate) fn next_handle(&self) -> u32 {
-        match self.in_flight.as_slice().last() {
-            Some(sent) => sent.handle.0.saturating_add(1),
-            None => 0,
-        }
+    pub(crate) fn next_handle(&self) -> u32
+        ensures { result ≡ above_all self.now.in_flight }
+    {
+        above_all(self.in_flight.as_slice())
     }
 
     /// The lowest handle of an order in flight.
@@ -247,6 +300,40 @@ impl Orders {
             lowest = lower(lowest, sent.handle.0);
         }
         lowest
+    }
+}
+
+/// Where the first result stands that has a greater ticket.
+#[tactic(auto, using(crate::proofs::OrderLemmas::placed_within))]
+fn place_behind(results: &[OrderResult], ticket: u64) -> Option<usize>
+    ensures place { result ≡ position (λ r. nat_lt ticket r.ticket) results.now }
+    ensures within { IfSome result (λ at. at < length results.now) }
+{
+    results.iter().position(|other| ticket < other.ticket)
+}
+
+/// Puts a result before the first with a greater ticket, and else behind all.
+fn put_by_ticket(results: &mut ArrayVec<OrderResult, MOST_RESULTS>, one: OrderResult)
+    requires { length results.old.items < 512 }
+    ensures { results.new.items ≡ by_ticket one results.old.items }
+{
+    match place_behind(results.as_slice(), one.ticket) {
+        Some(at) => results.insert(at, one),
+        None => results.push(one),
+    }
+}
+
+/// The handle above those of all these orders; 0 where there is none.
+#[tactic(auto, using(crate::proofs::OrderLemmas::above_rules))]
+fn above_all(sent: &[Sent]) -> u32
+    ensures { result ≡ above_all sent.now }
+{
+    match sent.split_first() {
+        Some((first, rest)) => {
+            let above = above_all(rest);
+            first.handle.0.saturating_add(1).max(above)
+        }
+        None => 0,
     }
 }
 

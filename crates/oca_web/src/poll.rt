@@ -1,7 +1,7 @@
 //! Which object is read again next, and when.
 ghost use Rattle.std.specs.Prelude.{◌≡◌, ◌<◌, IfSome, length};
 ghost use Rattle.std.specs.List.{position};
-ghost use Rattle.oca_web.specs.Polling.{KeepsPageAt, shows_same};
+ghost use Rattle.oca_web.specs.Polling.{KeepsPageAt, is_closed, place_for, shows_same};
 
 use crate::ask::Ask;
 use crate::object::Object;
@@ -29,10 +29,10 @@ const SELDOM: u32 = 32;
 /// The most objects that a page can say it shows.
 const MOST_VISIBLE: usize = 512;
 
-/// What is kept of how many pages show.
-const MOST_PAGES: usize = 8;
+/// How many ranges that pages show are kept.
+const MOST_PAGES: usize = 128;
 
-/// What a page showed when it asked for values.
+/// A range that a page showed when it asked for values: a page may show several.
 #[derive(Clone, Copy, PartialEq, Eq)]
 pub struct Page {
     /// Where the first object stands that it shows.
@@ -84,7 +84,7 @@ impl Page {
 /// others.
 #[derive(Drop)]
 pub struct Poll {
-    pub(crate) pages: ArrayVec<Page, 8>,
+    pub(crate) pages: ArrayVec<Page, MOST_PAGES>,
     begun: u64,
     at: usize,
     front: usize,
@@ -111,14 +111,14 @@ impl Poll {
 
     /// A page asked for values at this moment, which shows so many objects from this one on.
     pub fn open(&mut self, now: u64, first: usize, visible: usize)
-        ensures { OpensPage (page_asked now first visible) self.old.pages.items self.new.pages.items }
+        ensures { OpensPage now (page_asked now first visible) self.old.pages.items self.new.pages.items }
     {
         let page = Page {
             first,
             count: visible.min(MOST_VISIBLE),
             until: now.saturating_add(OPEN_MS),
         };
-        let place = place_of_same(self.pages.as_slice(), page);
+        let place = place_for(self.pages.as_slice(), page, now);
         keep_page(&mut self.pages, page, place);
     }
 
@@ -284,9 +284,29 @@ fn place_of_same(pages: &[Page], page: Page) -> Option<usize>
     pages.iter().position(|one| one.shows_same(&page))
 }
 
-/// Keeps a page at this place, or else behind all others, or where eight are kept in the place of the one that asked
+/// Where the first page is kept that is open no longer.
+#[tactic(auto, using(crate::proofs::PageLemmas::place_within))]
+fn place_of_closed(pages: &[Page], now: u64) -> Option<usize>
+    ensures place { result ≡ position (is_closed now) pages.now }
+    ensures within { IfSome result (λ at. at < length pages.now) }
+{
+    pages.iter().position(|one| !one.is_live(now))
+}
+
+/// Where a page is to be kept: where the first is that shows the same, or else the first that is open no longer.
+fn place_for(pages: &[Page], page: Page, now: u64) -> Option<usize>
+    ensures place { result ≡ place_for now page pages.now }
+    ensures within { IfSome result (λ at. at < length pages.now) }
+{
+    match place_of_same(pages, page) {
+        Some(at) => Some(at),
+        None => place_of_closed(pages, now),
+    }
+}
+
+/// Keeps a page at this place, or else behind all others, or where 128 are kept in the place of the one that asked
 /// longest ago.
-fn keep_page(pages: &mut ArrayVec<Page, 8>, page: Page, place: Option<usize>)
+fn keep_page(pages: &mut ArrayVec<Page, MOST_PAGES>, page: Page, place: Option<usize>)
     requires { IfSome place (λ at. at < length pages.old.items) }
     ensures { KeepsPageAt place page pages.old.items pages.new.items }
 {

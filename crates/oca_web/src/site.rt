@@ -1,12 +1,13 @@
 //! The service: which requests are let in, and what answers them.
-ghost use Rattle.std.specs.Prelude.{◌≡◌, ◌≢◌, IfErr, IfOk, Some};
+ghost use Rattle.std.specs.Prelude.{◌≡◌, ◌≢◌, ◌++◌, IfErr, IfOk, OnOk, Some};
 ghost use Rattle.serde_json.specs.View.{view};
-ghost use Rattle.oca_web.specs.Bodies.{last_in, ono_in};
+ghost use Rattle.oca_web.specs.Bodies.{last_in, names_run, ono_in, run_in};
 ghost use Rattle.oca_web.specs.Sites.{last_moment_for};
 
-use crate::admission::{Name, field, has_host, has_page, lets_in};
-use crate::answers::{tree_json, values_json};
-use crate::order::Action;
+use crate::admission::{Key, Terms, field, has_host, has_page, lets_in, opens};
+use crate::answers::{Told, tickets_json, tree_json, values_json};
+use crate::many::{Refusal, orders_in};
+use crate::order::{Action, Wanted};
 use crate::page::{PAGE, POLICY};
 use crate::view::{NoOrder, View};
 use bytes::{BufMut, Bytes};
@@ -20,13 +21,23 @@ use std::alloc::{AllocError, Global};
 /// An order may be submitted for so many milliseconds behind the moment at which its request was read.
 const ORDER_MS: u64 = 5000;
 
-/// The service over a view, at the host names by which it may be asked.
+/// The most ranges of places that a page shows.
+const MOST_SHOWN: u32 = 8;
+
+/// What a request without the token is told.
+const WHERE_TO_GO: &str = "open the address that ocapanel printed\n";
+
+/// What an order is told where none is taken.
+const READ_ONLY: &str = "{\"read_only\":true}";
+
+/// The service over a view, on the terms of the panel.
 #[derive(Drop)]
 pub struct Site {
     alloc: Global,
     view: View,
-    names: Vec<Name>,
+    terms: Terms,
     calls: u64,
+    admitted: u64,
     doubts: bool,
 }
 
@@ -35,16 +46,21 @@ impl Site {
     ghost use Rattle.serde_json.specs.View.{view};
     ghost use Rattle.oca_web.specs.Bodies.{IsOrderIn, IsOrderOf, IsValueIn, last_in, ono_in};
     ghost use Rattle.http_server.specs.Response.{IsBlank};
-    ghost use Rattle.oca_web.specs.Admission.{lets_request_in};
-    ghost use Rattle.oca_web.specs.Sites.{AnswersOrFails, IsActionFor, IsSetting, KeepsOrders, PostsOrder, TakesOrder};
+    ghost use Rattle.oca_web.specs.Admission.{lets_request_in, request_opens};
+    ghost use Rattle.oca_web.specs.Sites.{AnswersOrFails, IsActionFor, IsSetting, IsTurnedAway, KeepsOrders, PostsMany, PostsOne};
+    ghost use Rattle.oca_web.specs.Sites.{PostsOrder, TakesOrder, TakesOrders};
 
-    /// The service that answers to these names.
-    pub fn new(alloc: Global, view: View, names: Vec<Name>) -> Site {
+    /// The service over a view, on these terms.
+    pub fn new(alloc: Global, view: View, terms: Terms) -> Site
+        ensures view { result.view ≡ view }
+        ensures terms { result.terms ≡ terms }
+    {
         Site {
             alloc,
             view,
-            names,
+            terms,
             calls: 0,
+            admitted: 0,
             doubts: false,
         }
     }
@@ -59,7 +75,7 @@ impl Site {
     pub fn doubt(&mut self, doubts: bool)
         ensures doubts { self.new.doubts ≡ doubts }
         ensures view { self.new.view ≡ self.old.view }
-        ensures names { self.new.names ≡ self.old.names }
+        ensures terms { self.new.terms ≡ self.old.terms }
     {
         self.doubts = doubts;
     }
@@ -69,34 +85,68 @@ impl Site {
         self.calls
     }
 
+    /// How many requests were let in.
+    pub fn admitted(&self) -> u64 {
+        self.admitted
+    }
+
+    /// Whether a request brings the token, where the panel has one.
+    fn opens(&self, request: &Request<Bytes>) -> bool
+        ensures { result ≡ request_opens self.now.terms.key request.now }
+    {
+        let cookies = field(request.headers(), header::COOKIE);
+        let uri = request.uri();
+        opens(self.terms.key.as_ref(), uri.path(), uri.query(), cookies)
+    }
+
     /// Whether a request is let in.
     fn lets_in(&self, request: &Request<Bytes>) -> bool
-        ensures { result ≡ lets_request_in self.now.names.items request.now }
+        ensures { result ≡ lets_request_in self.now.terms request.now }
     {
         let headers = request.headers();
         let method = request.method().as_str().as_bytes();
         let host = field(headers, header::HOST);
         let origin = field(headers, header::ORIGIN);
         let kind = field(headers, header::CONTENT_TYPE);
-        lets_in(self.names.as_slice(), method, host, origin, kind)
+        lets_in(self.terms.names.as_slice(), method, host, origin, kind) && self.opens(request)
     }
 
-    /// The status of a request that is not let in: for another host, from another page, or of another kind.
+    /// The status of a request that is not let in: for another host, without the token, from another page, or of another
+    /// kind.
     fn refusal(&self, request: &Request<Bytes>) -> StatusCode
         ensures other { result ≢ 202 }
         ensures error { 400 ≤ result }
     {
         let headers = request.headers();
         let host = field(headers, header::HOST);
-        if !has_host(self.names.as_slice(), host) {
+        if !has_host(self.terms.names.as_slice(), host) {
             return StatusCode::MISDIRECTED_REQUEST;
         }
+        if !self.opens(request) {
+            return StatusCode::UNAUTHORIZED;
+        }
         let origin = field(headers, header::ORIGIN);
-        if has_page(self.names.as_slice(), host, origin) {
+        if has_page(self.terms.names.as_slice(), host, origin) {
             StatusCode::UNSUPPORTED_MEDIA_TYPE
         } else {
             StatusCode::FORBIDDEN
         }
+    }
+
+    /// Refuses a request that is not let in. One without the token is told where to get it.
+    fn turn_away(&self, request: &Request<Bytes>, response: &mut Response) -> Result<(), AllocError>
+        requires { response.old.body.items ≡ [] }
+        ensures { IfOk result (λ u. (response.new.status ≢ 202) × IsTurnedAway response.new) }
+    {
+        response.status = self.refusal(request);
+        if response.status != StatusCode::UNAUTHORIZED {
+            return Ok(());
+        }
+        response.add_header(
+            header::CONTENT_TYPE,
+            HeaderValue::from_static("text/plain; charset=utf-8"),
+        )?;
+        response.body.put_slice(WHERE_TO_GO.as_bytes())
     }
 
     /// Answers a request: one that is not let in with its refusal.
@@ -114,9 +164,9 @@ impl Site {
             return Ok(());
         }
         if !self.lets_in(request) {
-            response.status = self.refusal(request);
-            return Ok(());
+            return self.turn_away(request, response);
         }
+        self.admitted = self.admitted.saturating_add(1);
         if request.method().as_str() == "POST" {
             let body = request.body().as_slice();
             return self.post(request.uri().path(), body, response);
@@ -135,10 +185,10 @@ impl Site {
             return Ok(());
         }
         match path {
-            "/" => put_page(response),
+            "/" => self.get_page(response),
             "/tree" => self.get_tree(response),
             "/values" => self.get_values(request.uri().query(), response),
-            "/set" | "/lock" | "/unlock" => {
+            "/set" | "/lock" | "/unlock" | "/orders" => {
                 response.status = StatusCode::METHOD_NOT_ALLOWED;
                 Ok(())
             }
@@ -149,32 +199,126 @@ impl Site {
         }
     }
 
+    /// Answers with the page, and gives the token where there is one.
+    fn get_page(&self, response: &mut Response) -> Result<(), AllocError>
+        ensures { response.new.status ≡ response.old.status }
+    {
+        if let Some(key) = self.terms.key.as_ref() {
+            put_cookie(self.alloc, key, response)?;
+        }
+        put_page(response)
+    }
+
     /// Answers with the objects.
     fn get_tree(&self, response: &mut Response) -> Result<(), AllocError>
         ensures { response.new.status ≡ response.old.status }
     {
-        let text = tree_json(self.alloc, self.view.inventory())?;
+        let text = tree_json(self.alloc, &self.view, &self.terms)?;
         put_json(text.as_slice(), response)
     }
 
-    /// Answers with what changed, to a page that is open.
+    /// Answers with what changed, to a page that is open: to one of another run with all.
     fn get_values(&mut self, query: Option<&str>, response: &mut Response) -> Result<(), AllocError>
         ensures orders { self.new.view.orders ≡ self.old.view.orders }
-        ensures names { self.new.names ≡ self.old.names }
+        ensures terms { self.new.terms ≡ self.old.terms }
         ensures status { response.new.status ≡ response.old.status }
     {
-        let since = number_in(query, "since");
-        let first = number_in(query, "first").min(65_535) as usize;
-        let count = number_in(query, "count").min(65_535) as usize;
-        self.view.open(first, count);
-        let text = values_json(self.alloc, &self.view, since)?;
+        self.open(query);
+        let is_other = self.is_of_another_run(query);
+        let told = Told {
+            run: self.terms.run,
+            read_only: self.terms.read_only,
+            since: if is_other {
+                0
+            } else {
+                number_in(query, "since")
+            },
+            ticket: if is_other {
+                0
+            } else {
+                number_in(query, "told")
+            },
+        };
+        let text = values_json(self.alloc, &self.view, told)?;
         put_json(text.as_slice(), response)
+    }
+
+    /// Whether a query names another run of the program than this one.
+    fn is_of_another_run(&self, query: Option<&str>) -> bool {
+        let mut digits = Buffer::new();
+        match text_in(query, "run") {
+            Some(run) => run != digits.format(self.terms.run),
+            None => false,
+        }
+    }
+
+    /// A page is open that shows what its query says.
+    fn open(&mut self, query: Option<&str>)
+        ensures orders { self.new.view.orders ≡ self.old.view.orders }
+        ensures terms { self.new.terms ≡ self.old.terms }
+    {
+        match text_in(query, "shown") {
+            Some(ranges) => self.open_ranges(ranges, MOST_SHOWN),
+            None => {
+                let first = number_in(query, "first").min(65_535) as usize;
+                let count = number_in(query, "count").min(65_535) as usize;
+                self.view.open(first, count);
+            }
+        }
+    }
+
+    /// A page is open that shows these ranges of places, as `0-12,40-8`: the first place and how many. At most so many of
+    /// them are looked at.
+    fn open_ranges(&mut self, ranges: &str, most: u32)
+        ensures orders { self.new.view.orders ≡ self.old.view.orders }
+        ensures terms { self.new.terms ≡ self.old.terms }
+    {
+        if most == 0 {
+            return;
+        }
+        match ranges.split_once(',') {
+            Some((range, rest)) => {
+                self.open_range(range);
+                self.open_ranges(rest, most - 1);
+            }
+            None => self.open_range(ranges),
+        }
+    }
+
+    /// A page is open that shows this range of places.
+    fn open_range(&mut self, range: &str)
+        ensures orders { self.new.view.orders ≡ self.old.view.orders }
+        ensures terms { self.new.terms ≡ self.old.terms }
+    {
+        let (first, count) = range_in(range);
+        self.view.open(first, count);
     }
 
     /// Answers a request that orders something.
     fn post(&mut self, path: &str, body: &[u8], response: &mut Response) -> Result<(), AllocError>
         requires { response.old.body.items ≡ [] }
         ensures { PostsOrder path.now body.now result self.old response.new self.new }
+    {
+        if self.terms.read_only {
+            response.status = StatusCode::FORBIDDEN;
+            put_kind(response)?;
+            return response.body.put_slice(READ_ONLY.as_bytes());
+        }
+        if path == "/orders" {
+            return self.post_orders(body, response);
+        }
+        self.post_order(path, body, response)
+    }
+
+    /// Answers a request with one order.
+    fn post_order(
+        &mut self,
+        path: &str,
+        body: &[u8],
+        response: &mut Response,
+    ) -> Result<(), AllocError>
+        requires { response.old.body.items ≡ [] }
+        ensures { PostsOne path.now body.now result self.old response.new self.new }
     {
         match self.order_in(path, body) {
             Ok((ono, action, given)) => self.take_order(ono, action, given, response),
@@ -185,15 +329,57 @@ impl Site {
         }
     }
 
+    /// Answers a request with many orders: all of them are taken, or none.
+    fn post_orders(&mut self, body: &[u8], response: &mut Response) -> Result<(), AllocError>
+        requires { response.old.body.items ≡ [] }
+        ensures { PostsMany body.now result self.old response.new self.new }
+    {
+        match orders_in(self.alloc, &self.view, self.terms.run, body) {
+            Ok((wanted, given)) => self.take_orders(wanted.as_slice(), given, response),
+            Err(refusal) => put_refusal(self.alloc, refusal, response),
+        }
+    }
+
+    /// Takes many orders, and answers with their tickets. Where memory is refused none is taken.
+    fn take_orders(
+        &mut self,
+        wanted: &[Wanted],
+        given: Option<u64>,
+        response: &mut Response,
+    ) -> Result<(), AllocError>
+        requires { response.old.body.items ≡ [] }
+        ensures { TakesOrders result wanted.now given self.old response.new self.new }
+    {
+        if !self.view.has_room(wanted.len()) {
+            response.status = StatusCode::SERVICE_UNAVAILABLE;
+            return Ok(());
+        }
+        let text = tickets_json(self.alloc, self.view.next_ticket(), wanted)?;
+        put_json(text.as_slice(), response)?;
+        let last = last_moment(self.view.moment(), given, self.doubts);
+        if self.view.order_all(wanted, last).is_none() {
+            response.body.clear();
+            response.status = StatusCode::SERVICE_UNAVAILABLE;
+            return Ok(());
+        }
+        response.status = StatusCode::ACCEPTED;
+        Ok(())
+    }
+
     /// What is ordered: the path says the action, and the body the object, for `/set` its value, and the last moment at
-    /// which it may be submitted.
+    /// which it may be submitted. A body that names another run of the program orders nothing.
     fn order_in(&self, path: &str, body: &[u8]) -> Result<(Ono, Action, Option<u64>), StatusCode>
         ensures action { IfOk result (λ o. IsActionFor path.now o.1) }
-        ensures body { IfOk result (λ o. IsOrderIn body.now o.0 o.1 o.2) }
+        ensures body { IfOk result (λ o. IsOrderIn self.now.terms.run body.now o.0 o.1 o.2) }
         ensures refused { IfErr result (λ status. status ≢ 202) }
     {
         match Value::from_slice(self.alloc, body) {
-            Ok(wanted) => self.order_until(path, &wanted),
+            Ok(wanted) => {
+                if !is_for_run(&wanted, self.terms.run)? {
+                    return Err(StatusCode::CONFLICT);
+                }
+                self.order_until(path, &wanted)
+            }
             Err(_) => Err(StatusCode::BAD_REQUEST),
         }
     }
@@ -317,8 +503,21 @@ impl Service for Site {
     }
 }
 
+/// Whether a body is for this run of the program: it names it, or none.
+fn is_for_run(wanted: &Value, run: u64) -> Result<bool, StatusCode>
+    ensures is_so { IfOk result (λ is_so. is_so ≡ names_run run (run_in (view wanted.now))) }
+    ensures refused { IfErr result (λ status. status ≢ 202) }
+{
+    let mut digits = Buffer::new();
+    match wanted.get("run").and_then(Value::as_str) {
+        Some(named) => Ok(digits.format(run).as_bytes() == named.as_bytes()),
+        None if wanted.get("run").is_some() => Err(StatusCode::BAD_REQUEST),
+        None => Ok(true),
+    }
+}
+
 /// The number of the object that a body names.
-fn ono_in(wanted: &Value) -> Result<Ono, StatusCode>
+pub(crate) fn ono_in(wanted: &Value) -> Result<Ono, StatusCode>
     ensures body { IfOk result (λ o. ono_in (view wanted.now) ≡ Some o.0) }
     ensures refused { IfErr result (λ status. status ≢ 202) }
 {
@@ -333,7 +532,7 @@ fn ono_in(wanted: &Value) -> Result<Ono, StatusCode>
 
 /// The last moment at which an order may be submitted that a body gives, in milliseconds of the program's clock; `None`
 /// where it gives none. What is no such number is refused.
-fn last_in(wanted: &Value) -> Result<Option<u64>, StatusCode>
+pub(crate) fn last_in(wanted: &Value) -> Result<Option<u64>, StatusCode>
     ensures body { IfOk result (λ given. given ≡ last_in (view wanted.now)) }
     ensures refused { IfErr result (λ status. status ≢ 202) }
 {
@@ -359,19 +558,66 @@ fn last_moment(now: u64, given: Option<u64>, doubts: bool) -> u64
     }
 }
 
-/// The number that a query gives under this name; 0 where it gives none.
-fn number_in(query: Option<&str>, name: &str) -> u64 {
-    let Some(query) = query else {
-        return 0;
-    };
+/// The text that a query gives under this name.
+fn text_in<'a>(query: Option<&'a str>, name: &str) -> Option<&'a str> {
+    let query = query?;
     for part in query.split('&') {
-        if let Some((key, digits)) = part.split_once('=') {
+        if let Some((key, text)) = part.split_once('=') {
             if key == name {
-                return digits.parse::<u64>().unwrap_or(0);
+                return Some(text);
             }
         }
     }
-    0
+    None
+}
+
+/// The number that a query gives under this name; 0 where it gives none.
+fn number_in(query: Option<&str>, name: &str) -> u64 {
+    match text_in(query, name) {
+        Some(digits) => digits.parse::<u64>().unwrap_or(0),
+        None => 0,
+    }
+}
+
+/// The first place and how many, as `40-8`; no place where it is no such range.
+fn range_in(range: &str) -> (usize, usize) {
+    match range.split_once('-') {
+        Some((first, count)) => (place_in(first), place_in(count)),
+        None => (0, 0),
+    }
+}
+
+/// A number of places, at most 65,535.
+fn place_in(digits: &str) -> usize {
+    digits.parse::<u64>().unwrap_or(0).min(65_535) as usize
+}
+
+/// Gives the token in a cookie that scripts can't read, and that no other page's requests carry.
+fn put_cookie(alloc: Global, key: &Key, response: &mut Response) -> Result<(), AllocError>
+    ensures status { response.new.status ≡ response.old.status }
+    ensures body { response.new.body ≡ response.old.body }
+{
+    let cookie = key.cookie.as_str();
+    let text = format!(in alloc; "{cookie}; HttpOnly; SameSite=Strict; Path=/")?;
+    match HeaderValue::from_string(text) {
+        Ok(value) => response.add_header(header::SET_COOKIE, value),
+        Err(_) => Err(AllocError),
+    }
+}
+
+/// Refuses many orders: where one of them is the reason, its index is said.
+fn put_refusal(alloc: Global, refusal: Refusal, response: &mut Response) -> Result<(), AllocError>
+    ensures { OnOk result (response.new.status ≡ refusal.status) }
+{
+    response.status = refusal.status;
+    match refusal.at {
+        Some(at) => {
+            put_kind(response)?;
+            let text = format!(in alloc; "{{\"at\":{at}}}")?;
+            response.body.put_slice(text.as_str().as_bytes())
+        }
+        None => Ok(()),
+    }
 }
 
 /// The body is JSON.
@@ -387,7 +633,8 @@ fn put_kind(response: &mut Response) -> Result<(), AllocError>
 
 /// Answers with JSON.
 fn put_json(text: &[u8], response: &mut Response) -> Result<(), AllocError>
-    ensures { response.new.status ≡ response.old.status }
+    ensures status { response.new.status ≡ response.old.status }
+    ensures body { OnOk result (response.new.body.items ≡ response.old.body.items ++ text.now) }
 {
     put_kind(response)?;
     response.body.put_slice(text)

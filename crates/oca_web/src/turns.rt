@@ -54,7 +54,7 @@ pub fn settle_at<E: End>(
     let sent = orders.sent_at(at)?;
     let outcome = panel.try_finish(sent.handle)?;
     let done = done_in(&outcome);
-    orders.settle(at, sent, done);
+    orders.settle(at, &sent, done);
     Some((sent, done))
 }
 

@@ -5,7 +5,7 @@ ghost use Rattle.oca_web.specs.Bodies.{IsForWord};
 use crate::ask::Question;
 use crate::asking::{ask_one, leaves_half};
 use crate::inventory::Inventory;
-use crate::order::Action;
+use crate::order::{Action, Wanted};
 use crate::orders::{Orders, lower};
 use crate::turns::{lose_orders, settle_orders, submit_orders};
 use oca_model::{Value, value_from_word};
@@ -71,10 +71,10 @@ pub struct View {
 impl View {
     ghost use Rattle.std.specs.Prelude.{◌≡◌, ◌-◌, ◌==◌, ◌&&◌, IfOk, length};
     ghost use Rattle.oca_net.specs.Ends.{one_more};
-    ghost use Rattle.oca_web.specs.Orders.{AddsTicket, SettlesOrders, SubmitsOrders, has_orders, no_orders};
+    ghost use Rattle.oca_web.specs.Orders.{AddsAll, AddsTicket, SettlesOrders, SubmitsOrders, has_orders, has_room_for, no_orders};
     ghost use Rattle.oca_web.specs.Bodies.{IsForWord};
     ghost use Rattle.oca_web.specs.Views.{AsksQuestions, Continues, RenewsLost, RestsBehind, TakesAnswers, TurnsAndSettles};
-    ghost use Rattle.oca_web.specs.Views.{half_spent, moment_noted, orders_after, stood_still};
+    ghost use Rattle.oca_web.specs.Views.{half_spent, moment_noted, next_with, orders_after, stood_still};
     ghost use Rattle.oca_web.specs.Walking.{BeginsAnew, KeepsWalk, StaysOver};
 
     /// A view of a device of which nothing is known, over a panel whose first handle this is.
@@ -123,6 +123,13 @@ impl View {
     /// What is known of the device.
     pub fn inventory(&self) -> &Inventory {
         &self.inventory
+    }
+
+    /// Where the device is, and how many of its commands are in flight at most.
+    pub fn reach(&self) -> Reach
+        ensures { result ≡ self.now.reach }
+    {
+        self.reach
     }
 
     /// How the link is.
@@ -261,12 +268,29 @@ impl View {
     }
 
     /// Takes an order behind all others, which must not be submitted after this moment, and returns its ticket. `None`
-    /// where 64 wait, which changes nothing.
+    /// where 256 wait, which changes nothing.
     pub fn order(&mut self, ono: Ono, action: Action, last: u64) -> Option<u64>
         ensures orders { AddsTicket ono action last self.old.orders result self.new.orders }
         ensures rest { self.new ≡ record self.old { orders = self.new.orders } }
     {
         self.orders.add(ono, action, last)
+    }
+
+    /// Whether there is room for so many orders more, and a ticket for each.
+    pub fn has_room(&self, count: usize) -> bool
+        ensures { result ≡ has_room_for count self.now.orders }
+    {
+        self.orders.has_room(count)
+    }
+
+    /// Takes many orders behind all others, in their order, which must not be submitted after this moment, and returns the
+    /// ticket of the first; the others have those that follow. `None` where there is no room for all of them, which changes
+    /// nothing.
+    pub fn order_all(&mut self, wanted: &[Wanted], last: u64) -> Option<u64>
+        ensures orders { AddsAll wanted.now last self.old.orders result self.new.orders }
+        ensures rest { self.new ≡ record self.old { orders = self.new.orders } }
+    {
+        self.orders.add_all(wanted, last)
     }
 
     /// Takes one turn of the panel, which receives once and sends what is due, and takes the answers that came.
@@ -288,7 +312,7 @@ impl View {
     #[tactic(auto, using(crate::proofs::WalkLemmas::walk_rules))]
     pub fn go_on<E: End>(&mut self, panel: &mut Panel<E>) -> Result<(), NoMemory>
         ensures orders { Continues self.old.reach self.old.first_handle self.old.next_handle self.old.ahead
-            self.old.news.now result self.old.orders panel.old self.new.orders panel.new }
+            self.old.news.now result self.old.orders panel.old self.new.next_handle self.new.orders panel.new }
         ensures walk { StaysOver self.old.inventory self.new.inventory }
     {
         let now = self.news.now;
@@ -306,6 +330,7 @@ impl View {
     fn submit_all<E: End>(&mut self, panel: &mut Panel<E>, ahead: u64)
         ensures orders { SubmitsOrders ahead self.old.orders panel.old self.new.orders panel.new }
         ensures rests { RestsBehind self.old.first_handle self.old.next_handle ahead self.new.orders panel.new }
+        ensures next { self.new.next_handle ≡ next_with self.old.first_handle self.old.next_handle self.new.orders }
         ensures inventory { self.new.inventory ≡ self.old.inventory }
     {
         if self.is_spent() {
@@ -400,7 +425,7 @@ impl View {
     fn ask_all<E: End>(&mut self, panel: &mut Panel<E>) -> Result<(), NoMemory>
         ensures orders { self.new.orders ≡ self.old.orders }
         ensures walk { KeepsWalk self.old.inventory self.new.inventory }
-        ensures panel { AsksQuestions panel.old panel.new }
+        ensures panel { AsksQuestions self.old.next_handle panel.old self.new.next_handle panel.new }
     {
         for _ in 0..32u32 {
             if !self.may_ask() {
@@ -421,7 +446,7 @@ impl View {
     fn ask<E: End>(&mut self, panel: &mut Panel<E>, question: Question) -> bool
         ensures orders { self.new.orders ≡ self.old.orders }
         ensures walk { KeepsWalk self.old.inventory self.new.inventory }
-        ensures panel { AsksQuestions panel.old panel.new }
+        ensures panel { AsksQuestions self.old.next_handle panel.old self.new.next_handle panel.new }
     {
         let Some((ono, class)) = self.inventory.target_of(question.place) else {
             return true;
@@ -429,7 +454,7 @@ impl View {
         let may = self.may_ask();
         match ask_one(panel, ono, class, question.ask, may) {
             Some(handle) => {
-                self.next_handle = handle.0.saturating_add(1);
+                self.next_handle = self.next_handle.max(handle.0.saturating_add(1));
                 self.inventory.note_asked(handle, question);
                 true
             }

@@ -1,10 +1,11 @@
 -- What the options of the panel's program say (*profile*).
-use Rattle.std.specs.Prelude.{ℕ, ◌/◌, ◌==◌, nat_lt, List, Bool, codes, if◌then◌else◌, Option, Some, None}
+use Rattle.std.specs.Prelude.{ℕ, ◌/◌, ◌==◌, ◌&&◌, nat_lt, List, Bool, false, codes, if◌then◌else◌, is_some, Option, Some, None}
+use Rattle.std.specs.Str.{bytes_eq}
 use Rattle.clap.specs.declared.parser.matches.ArgMatches.{ArgMatches}
 use Rattle.oca_types.specs.declared.words.Peer.{Peer}
 use Rattle.oca_types.specs.Sizes.{span_size}
 use Rattle.oca_script.specs.Fields.{number_of, peer_of, then_in}
-use Rattle.oca_program.specs.Options.{given, read_as, read_or, sized, host_of, own_of}
+use Rattle.oca_program.specs.Options.{given, read_as, read_or, sized, host_of, is_host, own_of}
 use Rattle.ocapanel_cli.specs.declared.words.Serving.{Serving}
 
 -- where the device is
@@ -15,12 +16,29 @@ device_in words = read_as host_of (given words (codes "device"))
 abbrev pub at_own_machine : Peer → Option Peer
 at_own_machine p = if p.ip / 16777216 == 127 then Some p else None
 
-abbrev pub is_own_machine : List ℕ → Option Peer
-is_own_machine text = then_in (peer_of text) at_own_machine
+-- whether a flag stands among the words: its text is then `true`
+abbrev pub is_true : Option (List ℕ) → Bool
+is_true None = false
+is_true (Some text) = bytes_eq text (codes "true")
+
+abbrev pub has_flag : ArgMatches → List ℕ → Bool
+has_flag words flag = is_true (given words flag)
+
+-- an address of one host, 1.0.0.0 to 223.255.255.255; of this machine alone where no token is asked for
+abbrev pub at_network : (no_token : Bool) → Peer → Option Peer
+at_network no_token p = if no_token then at_own_machine p else (if is_host p.ip then Some p else None)
+
+abbrev pub listens_at : (no_token : Bool) → List ℕ → Option Peer
+listens_at no_token text = then_in (peer_of text) (at_network no_token)
 
 -- where browsers are listened to: 127.0.0.1:8080 unless given
 abbrev pub listen_in : ArgMatches → Option Peer
-listen_in words = read_or (record { ip = 2130706433; port = 8080 }) is_own_machine (given words (codes "listen"))
+listen_in words = read_or (record { ip = 2130706433; port = 8080 }) (listens_at (has_flag words (codes "no-token")))
+    (given words (codes "listen"))
+
+-- a file for the token is named only where a token is asked for
+abbrev pub names_token_in_vain : ArgMatches → Bool
+names_token_in_vain words = has_flag words (codes "no-token") && is_some (given words (codes "token"))
 
 -- a span: 2 to 32 in at most 3 digits, 16 unless given
 abbrev pub at_least_two : ℕ → Option ℕ
@@ -46,10 +64,20 @@ pub record PanelFields : Type 0 where
   pub span : ℕ
   pub ip : ℕ
   pub port : ℕ
+  pub no_token : Bool
+  pub read_only : Bool
 
 abbrev pub panel_fields : Serving → PanelFields
 panel_fields s =
-    record { device = s.device; listen = s.listen; span = span_size s.span; ip = s.ip; port = s.port }
+    record {
+      device = s.device;
+      listen = s.listen;
+      span = span_size s.span;
+      ip = s.ip;
+      port = s.port;
+      no_token = s.no_token;
+      read_only = s.read_only;
+    }
 
 -- WHAT THE OPTIONS SAY, where each has its form
 unfoldable pub panel_in : ArgMatches → Option PanelFields
@@ -59,4 +87,12 @@ panel_in words =
     then_in (panel_span_in words) (λ span.
     then_in (own_address_in words) (λ ip.
     then_in (local_port_in words) (λ port.
-    Some (record { device = device; listen = listen; span = span; ip = ip; port = port }))))))
+    if names_token_in_vain words then None else Some (record {
+      device = device;
+      listen = listen;
+      span = span;
+      ip = ip;
+      port = port;
+      no_token = has_flag words (codes "no-token");
+      read_only = has_flag words (codes "read-only");
+    }))))))

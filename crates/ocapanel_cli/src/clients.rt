@@ -1,4 +1,4 @@
-//! The connections of browsers: at most eight, none of which is waited for.
+//! The connections of browsers: at most 128, none of which is waited for.
 use http_server::{Config, Connection};
 use mio::net::TcpStream;
 use mio::{Interest, Poll, Token};
@@ -8,10 +8,10 @@ use std::hash::RandomState;
 use std::io;
 
 /// The most connections at once.
-const MOST: usize = 8;
+const MOST: usize = 128;
 
 /// The largest body of a request, in bytes.
-const MOST_BODY: usize = 4096;
+const MOST_BODY: usize = 16_384;
 
 /// A connection on which nothing moved is closed after so many milliseconds.
 const IDLE_MS: u64 = 30_000;
@@ -39,6 +39,8 @@ struct Client {
     begun: Option<u64>,
     /// Whether what waits on it may have come while the program stood still.
     doubts: bool,
+    /// Whether a request on it was let in so far.
+    is_known: bool,
 }
 
 /// What became of a connection.
@@ -92,11 +94,12 @@ impl Client {
     /// Reads, answers and writes once.
     fn step(&mut self, site: &mut Site, now: u64) -> Result<bool, ()> {
         let read = self.read(now)?;
-        let calls = site.calls();
+        let (calls, admitted) = (site.calls(), site.admitted());
         self.http.advance(site);
         if site.calls() != calls {
             self.begun = None;
         }
+        self.is_known = self.is_known || site.admitted() != admitted;
         let written = self.write(now)?;
         Ok(read || written)
     }
@@ -171,6 +174,7 @@ fn client_of(
         moved: now,
         begun: Some(now),
         doubts,
+        is_known: false,
     }
 }
 
@@ -202,8 +206,9 @@ impl Clients {
         }
     }
 
-    /// Lets a connection in, where there are fewer than eight or one of them rests; else it is closed. Where the system
-    /// or memory refuses something, it is closed too. `doubts` says that it may have come while the program stood still.
+    /// Lets a connection in, where there are fewer than 128, or another one gives way: the oldest of those on which no
+    /// request was let in so far, or else one that rests. Where none does it is closed, and also where the system or memory
+    /// refuses something. `doubts` says that it may have come while the program stood still.
     pub fn add(
         &mut self,
         stream: TcpStream,
@@ -212,7 +217,7 @@ impl Clients {
         now: u64,
         doubts: bool,
     ) {
-        if self.clients.len() < MOST || self.close_resting(now) {
+        if self.clients.len() < MOST || self.close_unknown() || self.close_resting(now) {
             self.keep(stream, poll, keys, now, doubts);
         }
     }
@@ -242,6 +247,25 @@ impl Clients {
     fn next_token(&mut self) -> Token {
         self.tokens = self.tokens.saturating_add(1);
         Token(self.tokens)
+    }
+
+    /// Closes the oldest connection on which no request was let in so far. Returns whether there was one.
+    fn close_unknown(&mut self) -> bool {
+        for place in 0..self.clients.len() {
+            if self.is_unknown_at(place) {
+                self.close(place);
+                return true;
+            }
+        }
+        false
+    }
+
+    /// Whether no request was let in so far on the connection at this place.
+    fn is_unknown_at(&self, place: usize) -> bool {
+        match self.clients.get(place) {
+            Some(client) => !client.is_known,
+            None => false,
+        }
     }
 
     /// Closes the first connection that rests. Returns whether there was one.

@@ -5,7 +5,11 @@
 #![tactic(auto)]
 
 pub mod clients;
+pub mod files;
 pub mod ready;
 pub mod run;
 pub mod serving;
+pub mod terms;
+pub mod token;
+pub mod units;
 pub mod words;

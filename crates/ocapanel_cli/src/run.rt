@@ -7,12 +7,12 @@ use std::alloc::Global;
 use std::convert::AsStr;
 use std::net::Net;
 use std::random::RandomSource;
-use std::rt::Clock;
+use std::rt::{Clock, Files};
 
 /// Runs the program on the words of its command line, its name first, and returns its exit status: 0 for a help text, 2
 /// where the words are bad, 1 where something could not be done. A fault is printed on `faults` as one line, behind one
 /// that begins with `note: ` where more is known.
-pub fn run<R: Net + RandomSource, N: Net + Clock, S: AsStr, W: Sink, F: Sink>(
+pub fn run<R: Net + RandomSource + Files, N: Net + Clock, S: AsStr, W: Sink, F: Sink>(
     alloc: Global,
     rt: &R,
     system: &N,
@@ -27,7 +27,7 @@ pub fn run<R: Net + RandomSource, N: Net + Clock, S: AsStr, W: Sink, F: Sink>(
 }
 
 /// Does what the words ask for.
-fn served<R: Net + RandomSource, N: Net + Clock, S: AsStr, W: Sink, F: Sink>(
+fn served<R: Net + RandomSource + Files, N: Net + Clock, S: AsStr, W: Sink, F: Sink>(
     alloc: Global,
     rt: &R,
     system: &N,
@@ -36,7 +36,7 @@ fn served<R: Net + RandomSource, N: Net + Clock, S: AsStr, W: Sink, F: Sink>(
     faults: &mut Printer<F>,
 ) -> Result<(), Failure> {
     match asked_for(alloc, words) {
-        Ok(Asked::Serve(serving)) => serve(alloc, rt, system, serving, faults),
+        Ok(Asked::Serve(serving, paths)) => serve(alloc, rt, system, serving, &paths, faults),
         Ok(Asked::Help(text)) => print_help(text.as_str(), printer),
         Err(failure) => Err(failure),
     }

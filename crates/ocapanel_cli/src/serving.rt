@@ -1,7 +1,8 @@
 //! The loop: one thread waits for the device's socket, the listener and the browsers' connections at once.
 use crate::clients::Clients;
 use crate::ready::Ready;
-use crate::words::Serving;
+use crate::terms::{Wishes, terms_of, wishes_of};
+use crate::words::{Paths, Serving};
 use mio::net::TcpListener;
 use mio::unix::SourceFd;
 use mio::{Events, Interest, Poll, Token};
@@ -10,15 +11,15 @@ use oca_panel::{OwnPort, Panel, Probed, Watched, probe};
 use oca_program::socket::bind_towards;
 use oca_program::{Failure, RunFault, note_other_port, print_note};
 use oca_script::{Printer, Sink};
-use oca_types::{Handle, LOOPBACK, NoMemory, Peer};
-use oca_web::{Name, Site, View};
-use std::alloc::{AllocError, Global};
+use oca_types::{Handle, NoMemory, Peer};
+use oca_web::{Site, Terms, View};
+use std::alloc::Global;
 use std::hash::RandomState;
 use std::io;
 use std::net::{Ipv4Addr, Net, SocketAddr, SocketAddrV4};
 use std::os::fd::AsRawFd;
 use std::random::RandomSource;
-use std::rt::Clock;
+use std::rt::{Clock, Files};
 use std::time::Duration;
 
 /// The token of the listener.
@@ -37,11 +38,27 @@ const ANSWER_MS: u64 = 4;
 const LONGEST_WAIT_MS: u64 = 1000;
 
 /// Serves until a call of the system fails, or memory is refused.
-pub fn serve<R: Net + RandomSource, N: Net + Clock, F: Sink>(
+pub fn serve<R: Net + RandomSource + Files, N: Net + Clock, F: Sink>(
     alloc: Global,
     rt: &R,
     system: &N,
     serving: Serving,
+    paths: &Paths,
+    faults: &mut Printer<F>,
+) -> Result<(), Failure> {
+    match wishes_of(alloc, rt, serving, paths) {
+        Ok(wishes) => serve_wished(alloc, rt, system, serving, wishes, faults),
+        Err(failure) => Err(failure),
+    }
+}
+
+/// Serves a panel of which this is wished.
+fn serve_wished<R: Net + RandomSource, N: Net + Clock, F: Sink>(
+    alloc: Global,
+    rt: &R,
+    system: &N,
+    serving: Serving,
+    wishes: Wishes,
     faults: &mut Printer<F>,
 ) -> Result<(), Failure> {
     let first = OwnPort::now(system).first_handle;
@@ -49,7 +66,7 @@ pub fn serve<R: Net + RandomSource, N: Net + Clock, F: Sink>(
     match bind_towards(alloc, system, ip, device, serving.port) {
         Ok(end) => {
             let end = Watched::new(end, device);
-            serve_over(alloc, rt, system, serving, first, end, faults)
+            serve_over(alloc, rt, system, serving, wishes, first, end, faults)
         }
         Err(failure) => Err(failure),
     }
@@ -65,18 +82,19 @@ fn serve_over<'a, R: Net + RandomSource, N: Net + Clock, F: Sink>(
     rt: &R,
     system: &'a N,
     serving: Serving,
+    wishes: Wishes,
     first: Handle,
     mut end: DeviceEnd<'a, N>,
     faults: &mut Printer<F>,
 ) -> Result<(), Failure> {
     if serving.port == 0 {
-        return serve_first(alloc, rt, system, serving, first, end, faults);
+        return serve_first(alloc, rt, system, serving, wishes, first, end, faults);
     }
     match probe(&mut end, serving.device, first) {
-        Probed::NotAnswering => serve_elsewhere(alloc, rt, system, serving, first, faults),
+        Probed::NotAnswering => serve_elsewhere(alloc, rt, system, serving, wishes, first, faults),
         Probed::Answering | Probed::NotHeard => {
             let next = Handle(first.0.saturating_add(1));
-            serve_first(alloc, rt, system, serving, next, end, faults)
+            serve_first(alloc, rt, system, serving, wishes, next, end, faults)
         }
     }
 }
@@ -87,6 +105,7 @@ fn serve_elsewhere<R: Net + RandomSource, N: Net + Clock, F: Sink>(
     rt: &R,
     system: &N,
     serving: Serving,
+    wishes: Wishes,
     first: Handle,
     faults: &mut Printer<F>,
 ) -> Result<(), Failure> {
@@ -95,7 +114,7 @@ fn serve_elsewhere<R: Net + RandomSource, N: Net + Clock, F: Sink>(
             let other = end.local().port;
             note_other_port(alloc, serving.device, serving.port, other, faults);
             let end = Watched::new(end, serving.device);
-            serve_first(alloc, rt, system, serving, first, end, faults)
+            serve_first(alloc, rt, system, serving, wishes, first, end, faults)
         }
         Err(failure) => Err(failure),
     }
@@ -107,6 +126,7 @@ fn serve_first<'a, R: Net + RandomSource, N: Net + Clock, F: Sink>(
     rt: &R,
     system: &'a N,
     serving: Serving,
+    wishes: Wishes,
     first: Handle,
     end: DeviceEnd<'a, N>,
     faults: &mut Printer<F>,
@@ -118,7 +138,19 @@ fn serve_first<'a, R: Net + RandomSource, N: Net + Clock, F: Sink>(
         made: end.now(),
     };
     match rounds_of(alloc, rt, serving, own) {
-        Ok(mut rounds) => { serve_site(alloc, rt, system, serving, own, &mut rounds, end, faults) }
+        Ok(mut rounds) => {
+            serve_site(
+                alloc,
+                rt,
+                system,
+                serving,
+                wishes,
+                own,
+                &mut rounds,
+                end,
+                faults,
+            )
+        }
         Err(failure) => Err(failure),
     }
 }
@@ -129,14 +161,33 @@ fn serve_site<'a, R: Net + RandomSource, N: Net + Clock, F: Sink>(
     rt: &R,
     system: &'a N,
     serving: Serving,
+    wishes: Wishes,
     own: Own,
     rounds: &mut Rounds,
     end: DeviceEnd<'a, N>,
     faults: &mut Printer<F>,
 ) -> Result<(), Failure> {
-    match site_of(alloc, serving, own, rounds.local) {
+    match terms_of(alloc, rt, rounds.local, wishes) {
+        Ok(terms) => serve_on(alloc, rt, system, serving, own, rounds, terms, end, faults),
+        Err(failure) => Err(failure),
+    }
+}
+
+/// Serves on these terms, first over this socket for the device.
+fn serve_on<'a, R: Net + RandomSource, N: Net + Clock, F: Sink>(
+    alloc: Global,
+    rt: &R,
+    system: &'a N,
+    serving: Serving,
+    own: Own,
+    rounds: &mut Rounds,
+    terms: Terms,
+    end: DeviceEnd<'a, N>,
+    faults: &mut Printer<F>,
+) -> Result<(), Failure> {
+    print_listening(alloc, rounds.local, &terms, faults);
+    match site_of(alloc, serving, own, terms) {
         Ok(mut site) => {
-            print_listening(alloc, rounds.local, faults);
             serve_ends(
                 alloc, rt, system, serving, own.first, rounds, &mut site, end, faults,
             )
@@ -324,19 +375,11 @@ fn rounds_with<R: Net>(
     }
 }
 
-/// The service at this address.
-fn site_of(alloc: Global, serving: Serving, own: Own, local: Peer) -> Result<Site, Failure> {
+/// The service over a view of the device, on these terms.
+fn site_of(alloc: Global, serving: Serving, own: Own, terms: Terms) -> Result<Site, Failure> {
     match View::new(alloc, serving.device, serving.span, own.first, own.made) {
-        Ok(view) => site_over(alloc, view, local),
+        Ok(view) => Ok(Site::new(alloc, view, terms)),
         Err(NoMemory) => Err(Failure::from(RunFault::NoMemory)),
-    }
-}
-
-/// The service over a view.
-fn site_over(alloc: Global, view: View, local: Peer) -> Result<Site, Failure> {
-    match names_of(alloc, local) {
-        Ok(names) => Ok(Site::new(alloc, view, names)),
-        Err(_) => Err(Failure::from(RunFault::NoMemory)),
     }
 }
 
@@ -359,53 +402,6 @@ fn local_of(listener: &TcpListener, asked: Peer) -> Peer {
             port: address.port(),
         },
         Err(_) => asked,
-    }
-}
-
-/// The names by which the panel may be asked: its address, and `localhost` for 127.0.0.1.
-fn names_of(alloc: Global, local: Peer) -> Result<Vec<Name>, AllocError> {
-    let mut names = Vec::new(alloc);
-    match put_names(alloc, &mut names, local) {
-        Ok(()) => Ok(names),
-        Err(refused) => Err(refused),
-    }
-}
-
-/// Adds the names by which the panel may be asked.
-fn put_names(alloc: Global, names: &mut Vec<Name>, local: Peer) -> Result<(), AllocError> {
-    put_name(alloc, names, format!(in alloc; "{local}"))?;
-    if local.ip == LOOPBACK {
-        let port = local.port;
-        put_name(alloc, names, format!(in alloc; "localhost:{port}"))?;
-    }
-    Ok(())
-}
-
-/// Adds a name, and the origin of its pages.
-fn put_name(
-    alloc: Global,
-    names: &mut Vec<Name>,
-    host: Result<String, AllocError>,
-) -> Result<(), AllocError> {
-    match host {
-        Ok(host) => put_host(alloc, names, host),
-        Err(refused) => Err(refused),
-    }
-}
-
-/// Adds a name, and the origin of its pages.
-fn put_host(alloc: Global, names: &mut Vec<Name>, host: String) -> Result<(), AllocError> {
-    match format!(in alloc; "http://{host}") {
-        Ok(origin) => push_name(names, Name { host, origin }),
-        Err(refused) => Err(refused),
-    }
-}
-
-/// Adds a name.
-fn push_name(names: &mut Vec<Name>, name: Name) -> Result<(), AllocError> {
-    match names.push(name) {
-        Ok(()) => Ok(()),
-        Err(_) => Err(AllocError),
     }
 }
 
@@ -439,9 +435,16 @@ fn watch(poll: &Poll, descriptor: i32) -> io::Result<()> {
         .register(&mut source, DEVICE, Interest::READABLE)
 }
 
-/// Prints where browsers are listened to.
-fn print_listening<F: Sink>(alloc: Global, local: Peer, faults: &mut Printer<F>) {
-    if let Ok(line) = format!(in alloc; "listening http://{local}/\n") {
+/// Prints the address of the page, with the token where one is asked for.
+fn print_listening<F: Sink>(alloc: Global, local: Peer, terms: &Terms, faults: &mut Printer<F>) {
+    let line = match terms.key.as_ref() {
+        Some(key) => {
+            let query = key.query.as_str();
+            format!(in alloc; "listening http://{local}/?{query}\n")
+        }
+        None => format!(in alloc; "listening http://{local}/\n"),
+    };
+    if let Ok(line) = line {
         let _ = faults.print(line.as_str().as_bytes());
         let _ = faults.flush();
     }

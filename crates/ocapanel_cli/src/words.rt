@@ -2,7 +2,8 @@
 ghost use Rattle.std.specs.Prelude.{◌≡◌};
 ghost use Rattle.std.specs.Option.{option_map};
 ghost use Rattle.oca_types.specs.Sizes.{span_size};
-ghost use Rattle.ocapanel_cli.specs.Words.{device_in, is_own_machine, listen_in, local_port_in, panel_fields, panel_in};
+ghost use Rattle.ocapanel_cli.specs.Words.{at_own_machine, device_in, has_flag, listen_in, listens_at};
+ghost use Rattle.ocapanel_cli.specs.Words.{local_port_in, names_token_in_vain, panel_fields, panel_in};
 ghost use Rattle.ocapanel_cli.specs.Words.{panel_span_in, panel_span_of as span_in_text};
 
 use clap::{ArgMatches, Command, Error};
@@ -10,7 +11,7 @@ use oca_program::form::bad_option;
 use oca_program::options::{
     help_or_failure, host_in, number_or, own_or, text_of, with_flag, with_option, with_required,
 };
-use oca_program::{Failure, Form, Rule, VERSION};
+use oca_program::{Failure, Form, Rule, RunFault, VERSION};
 use oca_script::field::{number, peer};
 use oca_types::{LOOPBACK, Peer, Span};
 use std::alloc::{AllocError, Global};
@@ -37,23 +38,36 @@ pub struct Serving {
     pub port: u16,
     /// Whether each change of the link is printed.
     pub verbose: bool,
+    /// Whether browsers are served that bring no token.
+    pub no_token: bool,
+    /// Whether the panel only shows, and takes no order.
+    pub read_only: bool,
+}
+
+/// The files that are read at the start.
+#[derive(Drop)]
+pub struct Paths {
+    /// That of the token; none where one is made.
+    pub token: Option<String>,
+    /// That of the units of values.
+    pub units: Option<String>,
 }
 
 /// What the words ask for.
 #[derive(Drop)]
 pub enum Asked {
     /// A panel.
-    Serve(Serving),
+    Serve(Serving, Paths),
     /// To print a help text.
     Help(String),
 }
 
 /// What stands behind the options in the help text.
 const EXAMPLE: &str =
-    "Only browsers on this machine can reach the panel. It serves at most 8 of their connections at once, and runs \
-    until you stop it.
+    "Open the address that is printed at the start: it has the token that a browser needs. The page is plain HTTP. \
+    The panel serves at most 128 connections at once, and runs until you stop it.
 
-Example: ocapanel --device 127.0.0.1:65000, and open http://127.0.0.1:8080/";
+Example: ocapanel --device 127.0.0.1:65000";
 
 /// An option with a value that need not be given: its name, what the value is called, and what it does.
 struct OptionRow {
@@ -63,12 +77,23 @@ struct OptionRow {
 }
 
 /// The options with a value that need not be given.
-const OPTIONS: [OptionRow; 4] = [
+const OPTIONS: [OptionRow; 6] = [
     OptionRow {
         name: "listen",
         value: "A.B.C.D:PORT",
-        help: "The address and port for browsers; the address is one of 127.0.0.0/8, and at port 0 the system chooses \
-            one [default: 127.0.0.1:8080]",
+        help: "The address and port for browsers: one address of this machine, with --no-token one of 127.0.0.0/8; at \
+            port 0 the system chooses one [default: 127.0.0.1:8080]",
+    },
+    OptionRow {
+        name: "token",
+        value: "FILE",
+        help: "The file whose first line is the token that browsers need: 1 to 128 letters, digits, '-' and '_' \
+            [default: one is made at each start]",
+    },
+    OptionRow {
+        name: "units",
+        value: "FILE",
+        help: "The file with the units of values, for the page to show",
     },
     OptionRow {
         name: "span",
@@ -93,10 +118,32 @@ const OPTIONS: [OptionRow; 4] = [
 const VERBOSE: &str =
     "Prints a line on standard error when the device is lost and when it is heard again";
 
+/// What the flag `no-token` does.
+const NO_TOKEN: &str = "Serves every program on this machine, with no token";
+
+/// What the flag `read-only` does.
+const READ_ONLY: &str = "Shows the objects, and takes no order";
+
 /// The whole program.
 fn command<'a>(alloc: Global) -> Result<Command<'a>, AllocError> {
     match with_values(alloc) {
-        Ok(so_far) => with_flag(alloc, so_far, "verbose", VERBOSE),
+        Ok(so_far) => with_flags(alloc, so_far),
+        Err(refused) => Err(refused),
+    }
+}
+
+/// With the flags.
+fn with_flags<'a>(alloc: Global, so_far: Command<'a>) -> Result<Command<'a>, AllocError> {
+    match with_flag(alloc, so_far, "no-token", NO_TOKEN) {
+        Ok(more) => with_last_flags(alloc, more),
+        Err(refused) => Err(refused),
+    }
+}
+
+/// With the last two flags.
+fn with_last_flags<'a>(alloc: Global, so_far: Command<'a>) -> Result<Command<'a>, AllocError> {
+    match with_flag(alloc, so_far, "read-only", READ_ONLY) {
+        Ok(more) => with_flag(alloc, more, "verbose", VERBOSE),
         Err(refused) => Err(refused),
     }
 }
@@ -179,23 +226,81 @@ const RULES: [Rule; 5] = [
     },
 ];
 
+/// The note where each option has its form, but a token is given and none is asked for.
+const TWO_WAYS: &str = "--token and --no-token are both given";
+
+/// The note where each option has its form, but with no token is listened at an address of the network.
+const OPEN_TO_ALL: &str =
+    "--listen is not an address of this machine alone: it must be one of 127.0.0.0/8 with --no-token, because the \
+    panel does not ask who connects";
+
+/// The note where each option has its form, but is listened at no address of one host.
+const NO_HOST: &str =
+    "--listen is not the address of one host: it must be one address of this machine, 1.0.0.0 to 223.255.255.255";
+
 /// The note where each option has its form.
-const ELSEWHERE: &str =
-    "--listen is not an address of this machine alone: it must be one of 127.0.0.0/8, because the panel does not ask \
-    who connects";
+fn elsewhere(words: &ArgMatches<'_>) -> &'static str {
+    if is_in_vain(words) {
+        TWO_WAYS
+    } else if flag(words, "no-token") {
+        OPEN_TO_ALL
+    } else {
+        NO_HOST
+    }
+}
 
 /// What the words ask for, the program's name first, or why they ask for nothing.
 pub fn asked_for<S: AsStr>(alloc: Global, words: &[S]) -> Result<Asked, Failure> {
     match matches_of(alloc, words) {
         Ok(matches) => match serving_of(&matches) {
-            Some(serving) => Ok(Asked::Serve(serving)),
-            None => Err(bad_option(alloc, &matches, &RULES, ELSEWHERE)),
+            Some(serving) => with_paths(alloc, serving, &matches),
+            None => Err(bad_option(alloc, &matches, &RULES, elsewhere(&matches))),
         },
         Err(error) => match help_or_failure(alloc, &error) {
             Ok(text) => Ok(Asked::Help(text)),
             Err(failure) => Err(failure),
         },
     }
+}
+
+/// A panel, with the files that are read at its start.
+fn with_paths(alloc: Global, serving: Serving, words: &ArgMatches<'_>) -> Result<Asked, Failure> {
+    match (
+        path_of(alloc, words, "token"),
+        path_of(alloc, words, "units"),
+    ) {
+        (Ok(token), Ok(units)) => Ok(Asked::Serve(serving, Paths { token, units })),
+        _ => Err(Failure::from(RunFault::NoMemory)),
+    }
+}
+
+/// The file that an option names.
+fn path_of(
+    alloc: Global,
+    words: &ArgMatches<'_>,
+    name: &str,
+) -> Result<Option<String>, AllocError> {
+    match text_of(words, name) {
+        Some(path) => Ok(Some(String::from_str(alloc, path)?)),
+        None => Ok(None),
+    }
+}
+
+/// Whether the words say this flag, whose text is then `true`.
+fn flag(words: &ArgMatches<'_>, name: &str) -> bool
+    ensures { result ≡ has_flag words.now name.now }
+{
+    match text_of(words, name) {
+        Some(text) => text.as_bytes() == b"true".as_slice(),
+        None => false,
+    }
+}
+
+/// Whether a file for the token is named where none is asked for.
+fn is_in_vain(words: &ArgMatches<'_>) -> bool
+    ensures { result ≡ names_token_in_vain words.now }
+{
+    flag(words, "no-token") && text_of(words, "token").is_some()
 }
 
 /// The panel that the options ask for.
@@ -208,13 +313,18 @@ fn serving_of(words: &ArgMatches<'_>) -> Option<Serving>
     let span = span_of(words)?;
     let ip = own_or(words, "ip", 0)?;
     let port = port_of(words)?;
+    if is_in_vain(words) {
+        return None;
+    }
     Some(Serving {
         device,
         listen,
         span,
         ip,
         port,
-        verbose: words.get_flag("verbose"),
+        verbose: flag(words, "verbose"),
+        no_token: flag(words, "no-token"),
+        read_only: flag(words, "read-only"),
     })
 }
 
@@ -225,21 +335,36 @@ fn device_of(words: &ArgMatches<'_>) -> Option<Peer>
     host_in(words, "device")
 }
 
-/// Where browsers are listened to: at an address of this machine alone, 127.0.0.1:8080 unless it is given.
+/// Where browsers are listened to: at 127.0.0.1:8080 unless it is given.
 fn listen_of(words: &ArgMatches<'_>) -> Option<Peer>
     ensures { result ≡ listen_in words.now }
 {
+    let no_token = flag(words, "no-token");
     match text_of(words, "listen") {
-        Some(text) => own_machine(text.as_bytes()),
+        Some(text) => listens_at(text.as_bytes(), no_token),
         None => Some(LISTEN),
     }
 }
 
-/// An address of this machine alone, with a port.
-fn own_machine(text: &[u8]) -> Option<Peer>
-    ensures { result ≡ is_own_machine text.now }
+/// An address of one host, with a port; of this machine alone where no token is asked for.
+fn listens_at(text: &[u8], no_token: bool) -> Option<Peer>
+    ensures { result ≡ listens_at no_token text.now }
 {
     let at = peer(text)?;
+    if no_token {
+        return own_machine(at);
+    }
+    if 0x0100_0000 <= at.ip && at.ip < 0xe000_0000 {
+        Some(at)
+    } else {
+        None
+    }
+}
+
+/// An address of this machine alone, 127.0.0.0/8.
+fn own_machine(at: Peer) -> Option<Peer>
+    ensures { result ≡ at_own_machine at }
+{
     if at.ip / 16_777_216 == 127 {
         Some(at)
     } else {

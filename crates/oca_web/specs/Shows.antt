@@ -1,0 +1,53 @@
+-- What an object shows behind an answer (*profile*).
+use Rattle.std.specs.Prelude.{ℕ, ◌==◌, ◌||◌, Bool, true, false, List, codes, Option, Some, None}
+use Rattle.oca_types.specs.declared.class.Class.{Class}
+use Rattle.oca_types.specs.declared.class.Class.TheVariants as class
+use Rattle.oca_model.specs.declared.reading.Reading.{Reading}
+use Rattle.oca_panel.specs.declared.trouble.Trouble.{Trouble}
+use Rattle.oca_panel.specs.declared.trouble.Trouble.TheVariants as trouble
+use Rattle.oca_web.specs.declared.object.Lock.{Lock}
+use Rattle.oca_web.specs.declared.object.Lock.TheVariants as locks
+use Rattle.oca_web.specs.declared.object.Shown.{Shown}
+
+-- WHOSE LOCK IS ON AN OBJECT THAT ANSWERED: a different controller's would have kept the answer back, so it is this
+-- panel's own where it was, and else none.
+abbrev pub lock_behind : Lock → Lock
+lock_behind locks.Own = locks.Own
+lock_behind locks.Free = locks.Free
+lock_behind locks.Other = locks.Free
+
+-- an object that was read
+abbrev pub shown_read : Shown → Reading → Shown
+shown_read s reading = record s { reading = Some reading; trouble = None; lock = lock_behind s.lock }
+
+-- a block whose members were listed
+abbrev pub shown_listed : Shown → Shown
+shown_listed s = record s { trouble = None; lock = lock_behind s.lock }
+
+-- THE DEVICE IS ANOTHER ONE BY NOW, where an object that was known refuses with BadONo or BadMethod (AES70-2, OcaStatus),
+-- or answers as one of another class does
+abbrev pub tells_of_another_device : Trouble → Bool
+tells_of_another_device (trouble.Refused status) = (status == 5) || (status == 11)
+tells_of_another_device trouble.Unreadable = true
+tells_of_another_device trouble.NoValue = false
+tells_of_another_device trouble.NoSuchWord = false
+tells_of_another_device (trouble.NotSubmitted fault) = false
+tells_of_another_device trouble.Lost = false
+tells_of_another_device trouble.Unanswered = false
+
+-- THE WORD FOR A CLASS, as pages are told it; one that is not of this profile is unknown.
+abbrev pub name_of_class : Option Class → List ℕ
+name_of_class None = codes "unknown"
+name_of_class (Some class.Block) = codes "block"
+name_of_class (Some class.Mute) = codes "mute"
+name_of_class (Some class.Polarity) = codes "polarity"
+name_of_class (Some class.Switch) = codes "switch"
+name_of_class (Some class.Boolean) = codes "boolean"
+name_of_class (Some class.Int8) = codes "int8"
+name_of_class (Some class.Int16) = codes "int16"
+name_of_class (Some class.Int32) = codes "int32"
+name_of_class (Some class.Int64) = codes "int64"
+name_of_class (Some class.Uint8) = codes "uint8"
+name_of_class (Some class.Uint16) = codes "uint16"
+name_of_class (Some class.Uint32) = codes "uint32"
+name_of_class (Some class.Uint64) = codes "uint64"

@@ -1,0 +1,169 @@
+//! The terms of a panel: the names by which it may be asked, its token, the number of this run, and units.
+use crate::token::{key_of, random_number, token_of};
+use crate::units::units_of;
+use crate::words::{Paths, Serving};
+use oca_program::{Failure, RunFault};
+use oca_types::{LOOPBACK, Peer};
+use oca_web::{Name, Terms, Unit};
+use std::alloc::{AllocError, Global};
+use std::net::Ipv4Addr;
+use std::random::RandomSource;
+use std::rt::Files;
+
+/// What the panel is asked for beside its address: the token, where it asks for one, the units, and whether it takes no
+/// order.
+#[derive(Drop)]
+pub struct Wishes {
+    /// The token, where one is asked for.
+    pub token: Option<String>,
+    /// The units of values.
+    pub units: Vec<Unit>,
+    /// Whether the panel only shows.
+    pub read_only: bool,
+}
+
+/// What the panel is asked for by the command line and the files that it names.
+pub fn wishes_of<R: RandomSource + Files>(
+    alloc: Global,
+    rt: &R,
+    serving: Serving,
+    paths: &Paths,
+) -> Result<Wishes, Failure> {
+    match token_wished(alloc, rt, serving, paths) {
+        Ok(token) => wishes_with(alloc, rt, serving, paths, token),
+        Err(failure) => Err(failure),
+    }
+}
+
+/// What the panel is asked for, with this token.
+fn wishes_with<F: Files>(
+    alloc: Global,
+    files: &F,
+    serving: Serving,
+    paths: &Paths,
+    token: Option<String>,
+) -> Result<Wishes, Failure> {
+    match units_of(alloc, files, named(&paths.units)) {
+        Ok(units) => Ok(Wishes {
+            token,
+            units,
+            read_only: serving.read_only,
+        }),
+        Err(failure) => Err(failure),
+    }
+}
+
+/// The token, where one is asked for.
+fn token_wished<R: RandomSource + Files>(
+    alloc: Global,
+    rt: &R,
+    serving: Serving,
+    paths: &Paths,
+) -> Result<Option<String>, Failure> {
+    if serving.no_token {
+        return Ok(None);
+    }
+    match token_of(alloc, rt, named(&paths.token)) {
+        Ok(token) => Ok(Some(token)),
+        Err(failure) => Err(failure),
+    }
+}
+
+/// The path of a file, where one is named.
+fn named(path: &Option<String>) -> Option<&str> {
+    match path {
+        Some(path) => Some(path.as_str()),
+        None => None,
+    }
+}
+
+/// The terms of a panel at this address, of which this is wished. Its run has a number of 64 random bits, so that no two
+/// runs have the same.
+pub fn terms_of<R: RandomSource>(
+    alloc: Global,
+    rt: &R,
+    local: Peer,
+    wishes: Wishes,
+) -> Result<Terms, Failure> {
+    match random_number(alloc, rt) {
+        Ok(run) => match terms_with(alloc, local, wishes, run) {
+            Ok(terms) => Ok(terms),
+            Err(_) => Err(Failure::from(RunFault::NoMemory)),
+        },
+        Err(failure) => Err(failure),
+    }
+}
+
+/// The terms of a panel at this address in a run with this number.
+fn terms_with(alloc: Global, local: Peer, wishes: Wishes, run: u64) -> Result<Terms, AllocError> {
+    let key = match wishes.token.as_ref() {
+        Some(token) => Some(key_of(alloc, token.as_str(), local.port)?),
+        None => None,
+    };
+    let names = names_of(alloc, local)?;
+    Ok(Terms {
+        names,
+        key,
+        run,
+        read_only: wishes.read_only,
+        units: wishes.units,
+    })
+}
+
+/// The names by which the panel may be asked: its address, and `localhost` for 127.0.0.1.
+fn names_of(alloc: Global, local: Peer) -> Result<Vec<Name>, AllocError> {
+    let mut names = Vec::new(alloc);
+    match put_names(alloc, &mut names, local) {
+        Ok(()) => Ok(names),
+        Err(refused) => Err(refused),
+    }
+}
+
+/// Adds the names by which the panel may be asked. At port 80 browsers leave the port out.
+fn put_names(alloc: Global, names: &mut Vec<Name>, local: Peer) -> Result<(), AllocError> {
+    let port = local.port;
+    put_name(alloc, names, format!(in alloc; "{local}"))?;
+    if port == 80 {
+        put_name(
+            alloc,
+            names,
+            format!(in alloc; "{}", Ipv4Addr::from(local.ip)),
+        )?;
+    }
+    if local.ip != LOOPBACK {
+        return Ok(());
+    }
+    put_name(alloc, names, format!(in alloc; "localhost:{port}"))?;
+    if port == 80 {
+        put_name(alloc, names, format!(in alloc; "localhost"))?;
+    }
+    Ok(())
+}
+
+/// Adds a name, and the origin of its pages.
+fn put_name(
+    alloc: Global,
+    names: &mut Vec<Name>,
+    host: Result<String, AllocError>,
+) -> Result<(), AllocError> {
+    match host {
+        Ok(host) => put_host(alloc, names, host),
+        Err(refused) => Err(refused),
+    }
+}
+
+/// Adds a name, and the origin of its pages.
+fn put_host(alloc: Global, names: &mut Vec<Name>, host: String) -> Result<(), AllocError> {
+    match format!(in alloc; "http://{host}") {
+        Ok(origin) => push_name(names, Name { host, origin }),
+        Err(refused) => Err(refused),
+    }
+}
+
+/// Adds a name.
+fn push_name(names: &mut Vec<Name>, name: Name) -> Result<(), AllocError> {
+    match names.push(name) {
+        Ok(()) => Ok(()),
+        Err(_) => Err(AllocError),
+    }
+}

@@ -1,0 +1,104 @@
+//! The token that browsers need.
+use crate::files::{bytes_of, refused};
+use oca_program::{Failure, RunFault};
+use oca_web::Key;
+use std::alloc::{AllocError, Global};
+use std::random::RandomSource;
+use std::rt::Files;
+
+/// The most bytes of a token.
+const MOST_BYTES: usize = 128;
+
+/// The token: the first line of the file at a path, or where none is given one of 128 random bits, in hexadecimal.
+pub fn token_of<R: RandomSource + Files>(
+    alloc: Global,
+    rt: &R,
+    path: Option<&str>,
+) -> Result<String, Failure> {
+    match path {
+        Some(path) => token_in_file(alloc, rt, path),
+        None => made(alloc, rt),
+    }
+}
+
+/// The token in the file at a path.
+fn token_in_file<F: Files>(alloc: Global, files: &F, path: &str) -> Result<String, Failure> {
+    match bytes_of(alloc, files, path) {
+        Ok(bytes) => token_in(alloc, path, first_line(bytes.as_slice())),
+        Err(failure) => Err(failure),
+    }
+}
+
+/// The first line, without its end.
+fn first_line(bytes: &[u8]) -> &[u8] {
+    let line = match bytes.iter().position(|byte| *byte == b'\n') {
+        Some(end) => bytes.get(..end).unwrap_or(bytes),
+        None => bytes,
+    };
+    line.strip_suffix(b"\r").unwrap_or(line)
+}
+
+/// The token that a line of the file at this path says: 1 to 128 letters, digits, `-` and `_`.
+fn token_in(alloc: Global, path: &str, line: &[u8]) -> Result<String, Failure> {
+    if line.is_empty() {
+        return Err(refused(alloc, path, 1, "the token is empty"));
+    }
+    if line.len() > MOST_BYTES {
+        return Err(refused(alloc, path, 1, "the token has more than 128 characters"));
+    }
+    if !line.iter().all(|byte| is_of_token(*byte)) {
+        let reason = "the token has other characters than letters, digits, - and _";
+        return Err(refused(alloc, path, 1, reason));
+    }
+    text_of(alloc, line)
+}
+
+/// Whether a token may have this byte.
+fn is_of_token(byte: u8) -> bool {
+    byte.is_ascii_alphanumeric() || byte == b'-' || byte == b'_'
+}
+
+/// Bytes of ASCII as a text.
+fn text_of(alloc: Global, bytes: &[u8]) -> Result<String, Failure> {
+    match str::from_utf8(bytes) {
+        Ok(text) => kept(String::from_str(alloc, text)),
+        Err(_) => Err(Failure::from(RunFault::BadWords)),
+    }
+}
+
+/// A text, where there was memory for it.
+fn kept(text: Result<String, AllocError>) -> Result<String, Failure> {
+    match text {
+        Ok(text) => Ok(text),
+        Err(_) => Err(Failure::from(RunFault::NoMemory)),
+    }
+}
+
+/// A token of 128 bits of the system's random numbers.
+fn made<R: RandomSource>(alloc: Global, rt: &R) -> Result<String, Failure> {
+    match (random_number(alloc, rt), random_number(alloc, rt)) {
+        (Ok(front), Ok(back)) => kept(format!(in alloc; "{front:016x}{back:016x}")),
+        (Err(failure), _) | (_, Err(failure)) => Err(failure),
+    }
+}
+
+/// A number of 64 bits of the system's random numbers.
+pub fn random_number<R: RandomSource>(alloc: Global, rt: &R) -> Result<u64, Failure> {
+    let mut bytes = [0u8; 8];
+    match rt.fill_bytes(&mut bytes) {
+        Ok(()) => Ok(u64::from_be_bytes(bytes)),
+        Err(reason) => Err(match format!(in alloc; "no random numbers: {reason}") {
+            Ok(note) => Failure::noted(RunFault::Socket, note),
+            Err(_) => Failure::from(RunFault::NoMemory),
+        }),
+    }
+}
+
+/// The token as browsers send it to a panel at this port: its cookie has the port in its name, since cookies of one
+/// host are those of all its ports.
+pub fn key_of(alloc: Global, token: &str, port: u16) -> Result<Key, AllocError> {
+    Ok(Key {
+        cookie: format!(in alloc; "ocapanel-{port}={token}")?,
+        query: format!(in alloc; "token={token}")?,
+    })
+}
