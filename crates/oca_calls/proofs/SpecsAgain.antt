@@ -13,6 +13,7 @@ use Rattle.oca_model.specs.declared.reading.Ranged.{Ranged}
 use Rattle.oca_model.specs.declared.reading.Reading.{Reading}
 use Rattle.oca_model.specs.declared.reading.Reading.TheVariants as readings
 use Rattle.oca_model.specs.Values.{IsOfItsType, class_of_value}
+use Rattle.oca_tree.proofs.NumberKinds.{same_kind, no_kind}
 use Rattle.oca_tree.specs.declared.object.NumberKind.{NumberKind}
 use Rattle.oca_tree.specs.declared.object.NumberKind.TheVariants as number_kinds
 use Rattle.oca_tree.specs.declared.object.Object.{Object}
@@ -64,27 +65,6 @@ same_class a b e = let f : Some a ≡ Some b = sym (number_back a) ∙ ap class_
 words_class : (v : Value) → (words_of v).class_number ≡ class_number (class_of_value v)
 words_class (values.Mute s) = refl
 words_class _ = refl
-
-abbrev kind_of_class : Class → Option NumberKind
-kind_of_class class.Int8 = Some number_kinds.Int8
-kind_of_class class.Int16 = Some number_kinds.Int16
-kind_of_class class.Int32 = Some number_kinds.Int32
-kind_of_class class.Int64 = Some number_kinds.Int64
-kind_of_class class.Uint8 = Some number_kinds.Uint8
-kind_of_class class.Uint16 = Some number_kinds.Uint16
-kind_of_class class.Uint32 = Some number_kinds.Uint32
-kind_of_class class.Uint64 = Some number_kinds.Uint64
-kind_of_class _ = None
-
-kind_back : (k : NumberKind) → kind_of_class (number_class k) ≡ Some k
-kind_back number_kinds.Int8 = refl
-kind_back _ = refl
-
-same_kind : (j k : NumberKind) → number_class j ≡ number_class k → j ≡ k
-same_kind j k e = let f : Some j ≡ Some k = sym (kind_back j) ∙ ap kind_of_class e ∙ kind_back k in cc
-
-no_kind : (c : Class) (k : NumberKind) → kind_of_class c ≡ None → c ≡ number_class k → ⊥
-no_kind c k n e = let f : None ≡ Some k = sym n ∙ ap kind_of_class e ∙ kind_back k in cc
 
 -- ---- what the words say of how an object is set
 

@@ -138,22 +138,6 @@ asked f (Ok x) r h e = let same : f x ≡ r = cc in subst SetsTexts same (h x re
 
 pub asked_texts : (of : Class) (method : Method) (count : ℕ) (params : List ℕ) (r : Request) → request_in of method count params ≡ Ok r → SetsTexts r
 unfolding request_in SetsTexts
-asked_texts of methods.GetClassIdentification count params r e = plainly requests.GetClassIdentification r count params tt e
-asked_texts of methods.GetLockable count params r e = plainly requests.GetLockable r count params tt e
-asked_texts of methods.LockTotal count params r e = plainly requests.LockTotal r count params tt e
-asked_texts of methods.Unlock count params r e = plainly requests.Unlock r count params tt e
-asked_texts of methods.GetRole count params r e = plainly requests.GetRole r count params tt e
-asked_texts of methods.LockReadonly count params r e = plainly requests.LockReadonly r count params tt e
-asked_texts of methods.GetEnabled count params r e = plainly requests.GetEnabled r count params tt e
-asked_texts of methods.GetLabel count params r e = plainly requests.GetLabel r count params tt e
-asked_texts of methods.GetOwner count params r e = plainly requests.GetOwner r count params tt e
-asked_texts of methods.GetMembers count params r e = plainly requests.GetMembers r count params tt e
-asked_texts of methods.GetMembersRecursive count params r e = plainly requests.GetMembersRecursive r count params tt e
-asked_texts of methods.GetPositionNames count params r e = plainly requests.GetPositionNames r count params tt e
-asked_texts of methods.GetPositionEnableds count params r e = plainly requests.GetPositionEnableds r count params tt e
-asked_texts of methods.GetState count params r e = plainly requests.Get r count params tt e
-asked_texts of methods.GetPosition count params r e = plainly requests.Get r count params tt e
-asked_texts of methods.GetSetting count params r e = plainly requests.Get r count params tt e
 asked_texts of methods.SetState count params r e = asked requests.Set (counted 1 count (value_in of params)) r (λ x q. tt) e
 asked_texts of methods.SetPosition count params r e = asked requests.Set (counted 1 count (value_in of params)) r (λ x q. tt) e
 asked_texts of methods.SetSetting count params r e = asked requests.Set (counted 1 count (value_in of params)) r (λ x q. tt) e
@@ -170,3 +154,4 @@ asked_texts of methods.SetPositionNames count params r e =
 asked_texts of methods.GetPositionEnabled count params r e = asked requests.GetPositionEnabled (counted 1 count (all (unsigned_at w16) params)) r (λ x q. tt) e
 asked_texts of methods.SetPositionEnabled count params r e = asked (λ x. requests.SetPositionEnabled x.0 x.1) (counted 2 count (all (pair_at (unsigned_at w16) bool_at) params)) r (λ x q. tt) e
 asked_texts of methods.SetPositionEnableds count params r e = asked (λ xs. requests.SetPositionEnableds (record { items = xs })) (counted 1 count (all (list_of_most 16 bool_at) params)) r (λ x q. tt) e
+asked_texts of _ count params r e = plainly _ r count params tt e

@@ -40,7 +40,7 @@ use Rattle.oca_pair.specs.Steps.{Step, Submit, ToDevice, after_step, after_steps
 use Rattle.oca_pair.specs.Premises.{StepFits, Fit}
 use Rattle.oca_pair.specs.InTime.{Departure, departures_in, AreInTime}
 use Rattle.oca_pair.specs.Saying.{OfEachAnswer, IsOfOneExecutionSince, RefusalsChangeNothing, OksSayWhatIsHeld, ReadingsWereHeld, SettingsWereMade, ClassesMetAreThoseAtFirst, CommandAsks, SetsObject, ReadSo, objects_left, objects_met}
-use Rattle.oca_pair.proofs.Saying.{tree_kept}
+use Rattle.oca_pair.proofs.Fixed.{tree_kept}
 use Rattle.oca_panel.specs.declared.trouble.Trouble.{Trouble}
 use Rattle.oca_panel.specs.declared.trouble.Trouble.TheVariants as trouble
 use Rattle.oca_panel.specs.Panels.{PanelState, AsksIn}

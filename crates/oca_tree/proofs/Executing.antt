@@ -25,7 +25,7 @@ use Rattle.oca_tree.specs.Typed.{answer_given, changed_by}
 use Rattle.oca_tree.specs.Execution.{kind_at, asked_at, status_of, by_status, carried_out, refused, execution}
 use Rattle.oca_tree.specs.Trees.{IsTree, IsSound}
 use Rattle.oca_tree.specs.Written.{is_ok}
-use Rattle.oca_tree.specs.PrivateSteps.{plain_request, status_of_fault, refusal_of, MayCall, IsRefusedAt, IsUnderstood, PutsAnswer, Executes}
+use Rattle.oca_tree.specs.PrivateSteps.{plain_request, status_of_fault, refusal_of, MayCall, IsRefusedAt, IsAskedRightly, PutsAnswer, Executes}
 use Rattle.oca_tree.proofs.Plain.{plain}
 use Rattle.oca_tree.proofs.Positions.{find_some, find_passes, place_found, with_object_at, same_element}
 use Rattle.oca_tree.proofs.Sound.{changed_place, changed_ono, changed_sound, written_tree}
@@ -51,7 +51,7 @@ module _ (o : Object) (peer : Peer) (c : CommandFields) (method : Method) (may :
   not_understood Unlisted asked = (λ tree. rw (may.0, may.1, asked) refl, refl)
 
   module _ (r : Request) (asked : request_in (class_of o.value) method c.count c.params ≡ Ok r) where
-    pub request_ok : fits_positions o.value r ≡ true → asks_out_of_range o.value r ≡ false → asks_invalid o r ≡ false → IsUnderstood r o peer c
+    pub request_ok : fits_positions o.value r ≡ true → asks_out_of_range o.value r ≡ false → asks_invalid o r ≡ false → IsAskedRightly r o peer c
     request_ok fits within valid = record {
       asked = rw may.0 asked;
       fits = fits;
@@ -63,10 +63,10 @@ module _ (o : Object) (peer : Peer) (c : CommandFields) (method : Method) (may :
     abbrev first : Bool → Bool → Bool → Option Status
     first fits out invalid = cond (not fits) (Some statuses.ParameterError) (cond out (Some statuses.ParameterOutOfRange) (cond invalid (Some statuses.InvalidRequest) None))
 
-    pub understood : refusal_of o r ≡ None → IsUnderstood r o peer c
+    pub understood : refusal_of o r ≡ None → IsAskedRightly r o peer c
     understood e = by (fits_positions o.value r) (asks_out_of_range o.value r) (asks_invalid o r) refl refl refl e
       where
-        by : (fits out invalid : Bool) → fits_positions o.value r ≡ fits → asks_out_of_range o.value r ≡ out → asks_invalid o r ≡ invalid → first fits out invalid ≡ None → IsUnderstood r o peer c
+        by : (fits out invalid : Bool) → fits_positions o.value r ≡ fits → asks_out_of_range o.value r ≡ out → asks_invalid o r ≡ invalid → first fits out invalid ≡ None → IsAskedRightly r o peer c
         by true false false f w v h = request_ok f w v
         by true false true f w v h = let no : ⊥ = cc in absurd no
         by true true invalid f w v h = let no : ⊥ = cc in absurd no
@@ -86,7 +86,7 @@ module _ (o : Object) (peer : Peer) (c : CommandFields) (method : Method) (may :
   no_bytes (b ∷ bytes) e = absurd (omega arith)
 
   -- a method that only reads and has no parameters, without any
-  pub plain_ok : (r : Request) → plain_request method ≡ Some r → c.count ≡ 0 → length c.params ≡ 0 → IsUnderstood r o peer c
+  pub plain_ok : (r : Request) → plain_request method ≡ Some r → c.count ≡ 0 → length c.params ≡ 0 → IsAskedRightly r o peer c
   plain_ok r is none empty =
       let p = plain method r is in
       let asked : request_in (class_of o.value) method c.count c.params ≡ Ok r = rw (none, no_bytes c.params empty) (p.asked (class_of o.value)) in
@@ -107,7 +107,7 @@ module _ (tree : List Object) (peer : Peer) (c : CommandFields) where
     pub exec_refused : (s : Status) → IsRefusedAt s o peer c → execution tree peer c ≡ refused tree s
     exec_refused s h = at_object ∙ h tree
 
-    module _ (r : Request) (asked : IsUnderstood r o peer c) where
+    module _ (r : Request) (asked : IsAskedRightly r o peer c) where
       abbrev long : ℕ
       long = length (answer_encoding (answer_given tree o r))
 
@@ -139,7 +139,7 @@ module _ (tree : List Object) (peer : Peer) (c : CommandFields) (i : ℕ) (o : O
       let numbered : (o.ono.0 == c.target) ≡ true = find_passes (has_number c.target) tree o found_at in
       with_object_at tree i c.target new (same ∙ eqb-true o.ono.0 c.target numbered) place
 
-  module _ (r : Request) (asked : IsUnderstood r o peer c) (out : List ℕ) where
+  module _ (r : Request) (asked : IsAskedRightly r o peer c) (out : List ℕ) where
     pub full_at : (s : Status) → PutsAnswer (Err s) [] out (answer_given tree o r) → execution tree peer c ≡ refused tree s
     full_at s (is, long) = exec_full tree peer c o found_at r asked (omega (arith, long)) ∙ ap (refused tree) (sym is)
 

@@ -1,13 +1,13 @@
 -- The integer type of a class of actuators.
-use Rattle.std.proofs.Common.{◌≡◌, ℕ, List, ◌++◌, refl, sym, ap, ◌∙◌}
+use Rattle.std.proofs.Common.{◌≡◌, refl, sym, ap, ◌∙◌}
 use Rattle.std.specs.Prelude.{Option, Some, None}
 use Rattle.oca_types.specs.declared.class.Class.{Class}
 use Rattle.oca_types.specs.declared.class.Class.TheVariants as class
 use Rattle.oca_tree.specs.declared.object.NumberKind.{NumberKind}
 use Rattle.oca_tree.specs.declared.object.NumberKind.TheVariants as kinds
-use Rattle.oca_model.specs.Readings.{reading_encoding, reading_count}
+use Rattle.oca_model.specs.Readings.{reading_count}
 use Rattle.oca_tree.specs.declared.object.Range.{Range}
-use Rattle.oca_tree.specs.Kinds.{number_class, number_encoding}
+use Rattle.oca_tree.specs.Kinds.{number_class}
 use Rattle.oca_tree.specs.Typed.{number_reading}
 
 abbrev pub kind_of : Class → Option NumberKind
@@ -31,23 +31,7 @@ same_kind j k e = let f : Some j ≡ Some k = sym (kind_back j) ∙ ap kind_of e
 pub no_kind : (c : Class) (k : NumberKind) → kind_of c ≡ None → c ≡ number_class k → ⊥
 no_kind c k n e = let f : None ≡ Some k = sym n ∙ ap kind_of e ∙ kind_back k in cc
 
--- ---- how a number is encoded
-
-module _ (range : Range) where
-  abbrev three : NumberKind → List ℕ
-  three k = number_encoding k range.setting ++ number_encoding k range.least ++ number_encoding k range.greatest
-
-  encoded_as : (k : NumberKind) → three k ≡ reading_encoding (number_reading k range)
-  unfolding number_encoding reading_encoding
-  encoded_as kinds.Int8 = refl
-  encoded_as _ = refl
-
-  counted_as : (k : NumberKind) → reading_count (number_reading k range) ≡ 3
-  counted_as kinds.Int8 = refl
-  counted_as _ = refl
-
-  pub number_encoded : number_encoding range.kind range.setting ++ number_encoding range.kind range.least ++ number_encoding range.kind range.greatest ≡ reading_encoding (number_reading range.kind range)
-  number_encoded = encoded_as range.kind
-
-  pub three_of : reading_count (number_reading range.kind range) ≡ 3
-  three_of = counted_as range.kind
+-- a number has three parameters
+pub three_of : (k : NumberKind) (range : Range) → reading_count (number_reading k range) ≡ 3
+three_of kinds.Int8 range = refl
+three_of _ range = refl

@@ -67,22 +67,6 @@ module _ (v : Value) where
 
   sets_by : (of : Class) (m : Method) (count : ℕ) (params : List ℕ) → request_in of m count params ≡ Ok (asked.Set v) → of ≡ class_of_value v
   unfolding request_in
-  sets_by of methods.GetClassIdentification count params e = absurd (bare_sets asked.GetClassIdentification (λ h. cc) count params e)
-  sets_by of methods.GetLockable count params e = absurd (bare_sets asked.GetLockable (λ h. cc) count params e)
-  sets_by of methods.LockTotal count params e = absurd (bare_sets asked.LockTotal (λ h. cc) count params e)
-  sets_by of methods.Unlock count params e = absurd (bare_sets asked.Unlock (λ h. cc) count params e)
-  sets_by of methods.GetRole count params e = absurd (bare_sets asked.GetRole (λ h. cc) count params e)
-  sets_by of methods.LockReadonly count params e = absurd (bare_sets asked.LockReadonly (λ h. cc) count params e)
-  sets_by of methods.GetEnabled count params e = absurd (bare_sets asked.GetEnabled (λ h. cc) count params e)
-  sets_by of methods.GetLabel count params e = absurd (bare_sets asked.GetLabel (λ h. cc) count params e)
-  sets_by of methods.GetOwner count params e = absurd (bare_sets asked.GetOwner (λ h. cc) count params e)
-  sets_by of methods.GetMembers count params e = absurd (bare_sets asked.GetMembers (λ h. cc) count params e)
-  sets_by of methods.GetMembersRecursive count params e = absurd (bare_sets asked.GetMembersRecursive (λ h. cc) count params e)
-  sets_by of methods.GetPositionNames count params e = absurd (bare_sets asked.GetPositionNames (λ h. cc) count params e)
-  sets_by of methods.GetPositionEnableds count params e = absurd (bare_sets asked.GetPositionEnableds (λ h. cc) count params e)
-  sets_by of methods.GetState count params e = absurd (bare_sets asked.Get (λ h. cc) count params e)
-  sets_by of methods.GetPosition count params e = absurd (bare_sets asked.Get (λ h. cc) count params e)
-  sets_by of methods.GetSetting count params e = absurd (bare_sets asked.Get (λ h. cc) count params e)
   sets_by of methods.SetState count params e = set_reads of count params e
   sets_by of methods.SetPosition count params e = set_reads of count params e
   sets_by of methods.SetSetting count params e = set_reads of count params e
@@ -94,6 +78,7 @@ module _ (v : Value) where
   sets_by of methods.SetPositionEnabled count params e = absurd (other_sets (λ x. asked.SetPositionEnabled x.0 x.1) (λ x h. cc) (counted 2 count (all (pair_at (unsigned_at w16) bool_at) params)) e)
   sets_by of methods.SetPositionNames count params e = absurd (other_sets (λ xs. asked.SetPositionNames (record { items = xs })) (λ x h. cc) (counted 1 count (all (list_of_most 16 text_at) params)) e)
   sets_by of methods.SetPositionEnableds count params e = absurd (other_sets (λ xs. asked.SetPositionEnableds (record { items = xs })) (λ x h. cc) (counted 1 count (all (list_of_most 16 bool_at) params)) e)
+  sets_by of _ count params e = absurd (bare_sets _ (λ h. cc) count params e)
 
 pub each_is_a_value : EachSettingIsAValue
 each_is_a_value o c value e = by (kind_at (Some o) c) e

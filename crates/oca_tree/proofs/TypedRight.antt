@@ -1,9 +1,9 @@
 -- What an object answers is an answer of its class, of the kind that the method has.
-use Rattle.std.proofs.Common.{◌≡◌, ℕ, zero, suc, ◌+◌, ◌*◌, ◌<◌, ◌≤◌, ◌^◌, Bool, true, false, cond, List, [], ◌∷◌, ◌++◌, length, refl, sym, ◌∙◌, subst, arith, lit<, lit≤, length-append}
-use Rattle.std.specs.Prelude.{Result, Ok, Err, ℤ, pos, negsuc, nat_abs, map, FitsSigned, ◌≤ℤ◌, ◌<ℤ◌, slice_index_or, ◌==◌, ◌&&◌}
+use Rattle.std.proofs.Common.{◌≡◌, ℕ, zero, suc, ◌+◌, ◌*◌, ◌<◌, ◌≤◌, Bool, true, false, cond, List, [], ◌∷◌, ◌++◌, length, refl, sym, ◌∙◌, subst, arith, lit<, lit≤, length-append}
+use Rattle.std.specs.Prelude.{Result, Ok, Err, ℤ, pos, negsuc, nat_abs, map, ◌≤ℤ◌, ◌<ℤ◌, slice_index_or, ◌==◌, ◌&&◌}
 use Rattle.std.specs.List.{All, flat_map}
 use Rattle.std.specs.Option.{option_map_or}
-use Rattle.std.specs.Int.{w8, w16, w32, w64, byte_len}
+use Rattle.std.specs.Int.{w16, w32}
 use Rattle.std.proofs.lemmas.Int.{ints}
 use Rattle.std.proofs.lemmas.List.{length-map}
 use Rattle.std.proofs.lemmas.List.Folds.{flat_map-map}
@@ -37,7 +37,7 @@ use Rattle.oca_tree.specs.declared.object.Range.{Range}
 use Rattle.oca_tree.specs.declared.object.Value.{Value as Held}
 use Rattle.oca_tree.specs.declared.object.Value.TheVariants as held
 use Rattle.oca_tree.specs.Copies.{names_in}
-use Rattle.oca_tree.specs.Kinds.{number_class, IsOfType}
+use Rattle.oca_tree.specs.Kinds.{number_class}
 use Rattle.oca_tree.specs.Objects.{class_of, members, descendants}
 use Rattle.oca_tree.specs.Places.{places, reaches}
 use Rattle.oca_tree.specs.Trees.{IsSound, IsSoundValue, IsSoundRange}
@@ -58,30 +58,11 @@ natural_fits most (negsuc n) fits = absurd (omega (arith, ints, fits))
 
 module _ (range : Range) (sound : IsSoundRange range) where
   number_right : (k : NumberKind) → range.kind ≡ k → Is (number_class k) shape.Reading (answers.Reading (number_reading k range))
-  number_right kinds.Int8 e =
-      let f : (z : ℤ) → IsOfType range.kind z → FitsSigned w8 z = λ z. rw e (λ h. h) in
-      record { answer = (refl, record { setting = f range.setting sound.setting; least = f range.least sound.least; greatest = f range.greatest sound.greatest }); shape = refl }
-  number_right kinds.Int16 e =
-      let f : (z : ℤ) → IsOfType range.kind z → FitsSigned w16 z = λ z. rw e (λ h. h) in
-      record { answer = (refl, record { setting = f range.setting sound.setting; least = f range.least sound.least; greatest = f range.greatest sound.greatest }); shape = refl }
-  number_right kinds.Int32 e =
-      let f : (z : ℤ) → IsOfType range.kind z → FitsSigned w32 z = λ z. rw e (λ h. h) in
-      record { answer = (refl, record { setting = f range.setting sound.setting; least = f range.least sound.least; greatest = f range.greatest sound.greatest }); shape = refl }
-  number_right kinds.Int64 e =
-      let f : (z : ℤ) → IsOfType range.kind z → FitsSigned w64 z = λ z. rw e (λ h. h) in
-      record { answer = (refl, record { setting = f range.setting sound.setting; least = f range.least sound.least; greatest = f range.greatest sound.greatest }); shape = refl }
-  number_right kinds.Uint8 e =
-      let f : (z : ℤ) → IsOfType range.kind z → nat_abs z < 256 ^ byte_len w8 = λ z. rw e (λ h. natural_fits (256 ^ byte_len w8) z h) in
-      record { answer = (refl, record { setting = f range.setting sound.setting; least = f range.least sound.least; greatest = f range.greatest sound.greatest }); shape = refl }
-  number_right kinds.Uint16 e =
-      let f : (z : ℤ) → IsOfType range.kind z → nat_abs z < 256 ^ byte_len w16 = λ z. rw e (λ h. natural_fits (256 ^ byte_len w16) z h) in
-      record { answer = (refl, record { setting = f range.setting sound.setting; least = f range.least sound.least; greatest = f range.greatest sound.greatest }); shape = refl }
-  number_right kinds.Uint32 e =
-      let f : (z : ℤ) → IsOfType range.kind z → nat_abs z < 256 ^ byte_len w32 = λ z. rw e (λ h. natural_fits (256 ^ byte_len w32) z h) in
-      record { answer = (refl, record { setting = f range.setting sound.setting; least = f range.least sound.least; greatest = f range.greatest sound.greatest }); shape = refl }
-  number_right kinds.Uint64 e =
-      let f : (z : ℤ) → IsOfType range.kind z → nat_abs z < 256 ^ byte_len w64 = λ z. rw e (λ h. natural_fits (256 ^ byte_len w64) z h) in
-      record { answer = (refl, record { setting = f range.setting sound.setting; least = f range.least sound.least; greatest = f range.greatest sound.greatest }); shape = refl }
+  number_right kinds.Uint8 e = record { answer = (refl, record { setting = natural_fits _ range.setting (rw e at sound.setting); least = natural_fits _ range.least (rw e at sound.least); greatest = natural_fits _ range.greatest (rw e at sound.greatest) }); shape = refl }
+  number_right kinds.Uint16 e = record { answer = (refl, record { setting = natural_fits _ range.setting (rw e at sound.setting); least = natural_fits _ range.least (rw e at sound.least); greatest = natural_fits _ range.greatest (rw e at sound.greatest) }); shape = refl }
+  number_right kinds.Uint32 e = record { answer = (refl, record { setting = natural_fits _ range.setting (rw e at sound.setting); least = natural_fits _ range.least (rw e at sound.least); greatest = natural_fits _ range.greatest (rw e at sound.greatest) }); shape = refl }
+  number_right kinds.Uint64 e = record { answer = (refl, record { setting = natural_fits _ range.setting (rw e at sound.setting); least = natural_fits _ range.least (rw e at sound.least); greatest = natural_fits _ range.greatest (rw e at sound.greatest) }); shape = refl }
+  number_right _ e = record { answer = (refl, record { setting = rw e at sound.setting; least = rw e at sound.least; greatest = rw e at sound.greatest }); shape = refl }
 
 abbrev can_be_read : Held → Bool
 can_be_read held.Block = false

@@ -152,7 +152,7 @@ IsMethodFor (Ok method) o peer c = MayCall method o peer c
 IsMethodFor (Err s) o peer c = IsRefusedAt s o peer c × (is_ok s ≡ false)
 
 -- The request is what the command asks of the object, and only its answer can be too long.
-pub record IsUnderstood (r : Request) (o : Object) (peer : Peer) (c : CommandFields) : Type 0 where
+pub record IsAskedRightly (r : Request) (o : Object) (peer : Peer) (c : CommandFields) : Type 0 where
   pub asked : asked_at (Some o) (kind_at (Some o) c) c ≡ Ok r
   pub fits : fits_positions o.value r ≡ true
   pub within : asks_out_of_range o.value r ≡ false
@@ -164,7 +164,7 @@ pub record IsUnderstood (r : Request) (o : Object) (peer : Peer) (c : CommandFie
 
 -- A command is understood at an object, or it is refused whatever the tree.
 abbrev pub IsRequestFor : Result Asked Status → Object → Peer → CommandFields → Type 0
-IsRequestFor (Ok r) o peer c = IsUnderstood (asked_by r) o peer c
+IsRequestFor (Ok r) o peer c = IsAskedRightly (asked_by r) o peer c
 IsRequestFor (Err s) o peer c = IsRefusedAt s o peer c × (is_ok s ≡ false)
 
 -- A command was carried out, or refused with nothing changed, as its execution says.

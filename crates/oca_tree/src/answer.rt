@@ -8,7 +8,6 @@ ghost use Rattle.oca_model.specs.Answers.{answer_encoding};
 ghost use Rattle.oca_model.specs.HeldRequests.{asked_by};
 ghost use Rattle.oca_model.specs.Lists.{list_encoding};
 ghost use Rattle.oca_model.specs.Readings.{reading_encoding};
-ghost use Rattle.oca_tree.specs.Kinds.{number_encoding};
 ghost use Rattle.oca_tree.specs.PrivateSteps.{is_listed, item_encoding, listed_answer, counted_as, PutsAnswer};
 ghost use Rattle.oca_tree.specs.PrivateSteps.{reading_answer, positions_answer};
 ghost use Rattle.oca_tree.specs.Requests.{asks_out_of_range};
@@ -16,10 +15,9 @@ ghost use Rattle.oca_tree.specs.Trees.{IsTree, IsSoundValue, IsSoundSwitch, IsSo
 ghost use Rattle.oca_tree.specs.Typed.{answer_given, number_reading, position_reading};
 ghost use Rattle.oca_tree.specs.declared.object.Object.{Object as AnObject};
 
-use crate::object::{Object, Range, Switch, Value};
+use crate::object::{NumberKind, Object, Range, Switch, Value};
 use crate::objects::Objects;
-use crate::put::put_number;
-use oca_model::{Asked, put_flags, put_names};
+use oca_model::{Asked, Ranged, Reading, put_flags, put_names};
 use oca_types::{
     MOST_PARAMETER_BYTES, Params, PutFault, Status, put_bool, put_class_identification, put_text,
     put_u8, put_u16, put_u32,
@@ -176,31 +174,59 @@ fn counted(count: u8, put: Result<(), PutFault>) -> Result<u8, Status>
     }
 }
 
-/// The setting of a number, its least and its greatest.
-fn put_limits(out: &mut Params, range: &Range) -> Result<(), PutFault>
-    requires { IsSoundRange range.now }
-    ensures { Puts result out.old.items out.new.items
-        (number_encoding range.now.kind range.now.setting ++ number_encoding range.now.kind range.now.least
-        ++ number_encoding range.now.kind range.now.greatest) }
-{
-    put_number(out, range.kind, range.setting)?;
-    put_number(out, range.kind, range.least)?;
-    put_number(out, range.kind, range.greatest)
-}
-
 /// What a number reads as.
-#[tactic(auto, using(crate::proofs::NumberKinds::number_encoded))]
-fn put_range(out: &mut Params, range: &Range) -> Result<(), PutFault>
+fn reading_of(range: &Range) -> Reading
     requires { IsSoundRange range.now }
-    ensures { Puts result out.old.items out.new.items (reading_encoding (number_reading range.now.kind range.now)) }
+    ensures { result ≡ number_reading range.now.kind range.now }
 {
-    put_limits(out, range)
+    match range.kind {
+        NumberKind::Int8 => Reading::Int8(Ranged {
+            setting: range.setting as i8,
+            least: range.least as i8,
+            greatest: range.greatest as i8,
+        }),
+        NumberKind::Int16 => Reading::Int16(Ranged {
+            setting: range.setting as i16,
+            least: range.least as i16,
+            greatest: range.greatest as i16,
+        }),
+        NumberKind::Int32 => Reading::Int32(Ranged {
+            setting: range.setting as i32,
+            least: range.least as i32,
+            greatest: range.greatest as i32,
+        }),
+        NumberKind::Int64 => Reading::Int64(Ranged {
+            setting: range.setting as i64,
+            least: range.least as i64,
+            greatest: range.greatest as i64,
+        }),
+        NumberKind::Uint8 => Reading::Uint8(Ranged {
+            setting: range.setting as u8,
+            least: range.least as u8,
+            greatest: range.greatest as u8,
+        }),
+        NumberKind::Uint16 => Reading::Uint16(Ranged {
+            setting: range.setting as u16,
+            least: range.least as u16,
+            greatest: range.greatest as u16,
+        }),
+        NumberKind::Uint32 => Reading::Uint32(Ranged {
+            setting: range.setting as u32,
+            least: range.least as u32,
+            greatest: range.greatest as u32,
+        }),
+        NumberKind::Uint64 => Reading::Uint64(Ranged {
+            setting: range.setting as u64,
+            least: range.least as u64,
+            greatest: range.greatest as u64,
+        }),
+    }
 }
 
-/// What a value reads as, with its limits; a block has nothing to read.
-#[inline]
+/// What a value reads as, with its limits; a block has nothing to read. It stands apart, so that a state is put in place.
+#[inline(never)]
 #[tactic(auto, unfolding(crate::specs::Trees::IsSoundValue, crate::specs::Typed::reading_held, oca_model::specs::Answers::answer_encoding, oca_model::specs::Readings::reading_encoding), using(crate::proofs::NumberKinds::three_of))]
-fn put_reading(out: &mut Params, value: &Value) -> Result<u8, Status>
+fn put_any_reading(out: &mut Params, value: &Value) -> Result<u8, Status>
     requires { IsSoundValue value.now }
     ensures { PutsAnswer result out.old.items out.new.items (reading_answer value.now) }
 {
@@ -210,7 +236,21 @@ fn put_reading(out: &mut Params, value: &Value) -> Result<u8, Status>
         Value::Polarity(state) => counted(1, put_u8(out, *state as u8)),
         Value::Switch(switch) => counted(3, put_position(out, switch)),
         Value::Boolean(truth) => counted(1, put_bool(out, *truth)),
-        Value::Number(range) => counted(3, put_range(out, range)),
+        Value::Number(range) => counted(3, reading_of(range).put(out)),
+    }
+}
+
+/// What a value reads as: at once where it is a state.
+#[inline(always)]
+#[tactic(auto, unfolding(crate::specs::Trees::IsSoundValue, crate::specs::Typed::reading_held, oca_model::specs::Answers::answer_encoding, oca_model::specs::Readings::reading_encoding), using(crate::proofs::NumberKinds::three_of))]
+fn put_reading(out: &mut Params, value: &Value) -> Result<u8, Status>
+    requires { IsSoundValue value.now }
+    ensures { PutsAnswer result out.old.items out.new.items (reading_answer value.now) }
+{
+    match value {
+        Value::Mute(mute) => counted(1, put_u8(out, *mute as u8)),
+        Value::Polarity(polarity) => counted(1, put_u8(out, *polarity as u8)),
+        _ => put_any_reading(out, value),
     }
 }
 

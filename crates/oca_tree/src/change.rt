@@ -47,10 +47,10 @@ fn set_value(value: &mut Value, setting: Setting)
     }
 }
 
-/// Sets what a request sets of a value; any other leaves it.
-#[inline(always)]
+/// Sets what a request sets of a value; any other leaves it. It stands apart, since names take 1 kB.
+#[inline(never)]
 #[tactic(auto, unfolding(oca_model::specs::HeldRequests::asked_by, crate::specs::Requests::asks_out_of_range, crate::specs::Trees::IsSoundValue))]
-fn change_value(value: &mut Value, request: Asked<'_>)
+fn change_any_value(value: &mut Value, request: Asked<'_>)
     requires sound { IsSoundValue value.old }
     requires there { asks_out_of_range value.old (asked_by request) ≡ false }
     ensures { value.new ≡ value_changed_by value.old (asked_by request.entry) }
@@ -78,6 +78,20 @@ fn change_value(value: &mut Value, request: Asked<'_>)
             }
         }
         _ => {}
+    }
+}
+
+/// Sets what a request sets of a value: at once where that is a value of its class.
+#[inline(always)]
+#[tactic(auto, unfolding(oca_model::specs::HeldRequests::asked_by, crate::specs::Requests::asks_out_of_range, crate::specs::Trees::IsSoundValue))]
+fn change_value(value: &mut Value, request: Asked<'_>)
+    requires sound { IsSoundValue value.old }
+    requires there { asks_out_of_range value.old (asked_by request) ≡ false }
+    ensures { value.new ≡ value_changed_by value.old (asked_by request.entry) }
+{
+    match request {
+        Asked::Set(setting) => set_value(value, setting),
+        other => change_any_value(value, other),
     }
 }
 

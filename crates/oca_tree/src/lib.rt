@@ -18,7 +18,6 @@ mod marks;
 mod object;
 mod objects;
 mod place;
-mod put;
 mod request;
 mod room;
 mod same;

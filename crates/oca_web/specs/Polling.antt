@@ -30,8 +30,8 @@ abbrev pub page_asked : (now first visible : ℕ) → Page
 page_asked now first visible =
     record { first = first; count = min visible 512; until = min (now + 2500) last_u64 }
 
-abbrev pub is_closed : ℕ → Page → Bool
-is_closed now p = not (is_live now p)
+abbrev pub is_open_no_longer : ℕ → Page → Bool
+is_open_no_longer now p = not (is_live now p)
 
 -- It is to be kept in the place of the first that showed the same; where none did, of the first that is open no longer.
 abbrev pub or_else : Option ℕ → Option ℕ → Option ℕ
@@ -39,7 +39,7 @@ or_else None other = other
 or_else (Some at) other = Some at
 
 abbrev pub place_for : ℕ → Page → List Page → Option ℕ
-place_for now page pages = or_else (position (shows_same page) pages) (position (is_closed now) pages)
+place_for now page pages = or_else (position (shows_same page) pages) (position (is_open_no_longer now) pages)
 
 -- Where there is no such place it is kept behind all others while fewer than 128 are kept, else in the place of another.
 -- All others stay.

@@ -1,7 +1,7 @@
 //! Which object is read again next, and when.
 ghost use Rattle.std.specs.Prelude.{◌≡◌, ◌<◌, IfSome, length};
 ghost use Rattle.std.specs.List.{position};
-ghost use Rattle.oca_web.specs.Polling.{KeepsPageAt, is_closed, place_for, shows_same};
+ghost use Rattle.oca_web.specs.Polling.{KeepsPageAt, is_open_no_longer, place_for, shows_same};
 
 use crate::ask::Ask;
 use crate::object::Object;
@@ -287,7 +287,7 @@ fn place_of_same(pages: &[Page], page: Page) -> Option<usize>
 /// Where the first page is kept that is open no longer.
 #[tactic(auto, using(crate::proofs::PageLemmas::place_within))]
 fn place_of_closed(pages: &[Page], now: u64) -> Option<usize>
-    ensures place { result ≡ position (is_closed now) pages.now }
+    ensures place { result ≡ position (is_open_no_longer now) pages.now }
     ensures within { IfSome result (λ at. at < length pages.now) }
 {
     pages.iter().position(|one| !one.is_live(now))

@@ -22,7 +22,7 @@ use Rattle.oca_program.specs.declared.fault.RunFault.{RunFault}
 use Rattle.oca_program.specs.declared.fault.RunFault.TheVariants as fault
 use Rattle.oca_textree.specs.Written.{text_of}
 use Rattle.ocadev_cli.specs.Words.{AskedFields, Replays, Serves, Shows, ShowsText, MakingFields, ServingFields}
-use Rattle.ocadev_cli.specs.Words.{ObjectSource, asked_by}
+use Rattle.ocadev_cli.specs.Words.{ObjectSource, task_asked}
 use Rattle.ocadev_cli.specs.CommandLine.{command_line}
 use Rattle.ocadev_cli.specs.Makings.{MakesObjects}
 use Rattle.ocadev_cli.specs.Keeping.{starting_objects}
@@ -150,7 +150,7 @@ DoesAsked (Some asked) ended had has was is = Does asked ended had has was is
 
 abbrev pub DoesCommand : Option (List ℕ × ArgMatches) → Result Unit RunFault → Input → Input → Output → Output → Type 0
 DoesCommand None ended had has was is = Stops fault.BadWords ended had has was is
-DoesCommand (Some (name, options)) ended had has was is = DoesAsked (asked_by name options) ended had has was is
+DoesCommand (Some (name, options)) ended had has was is = DoesAsked (task_asked name options) ended had has was is
 
 -- The command that matched words name was done, with its options.
 pub record Obeys (words : ArgMatches) (ended : Result Unit RunFault) (had has : Input) (was is : Output) : Type 0 where

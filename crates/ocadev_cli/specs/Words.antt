@@ -148,8 +148,8 @@ abbrev pub shown_by : ArgMatches → ObjectSource → AskedFields
 shown_by words objects = if has_flag words (codes "text") then ShowsText objects else Shows objects
 
 -- WHAT A COMMAND WITH THESE OPTIONS ASKS FOR; none where there is no such command, or where a value is not of its form.
-abbrev pub asked_by : List ℕ → ArgMatches → Option AskedFields
-asked_by name options =
+abbrev pub task_asked : List ℕ → ArgMatches → Option AskedFields
+task_asked name options =
     if bytes_eq name (codes "replay") then option_map Replays (making_in options)
     else if bytes_eq name (codes "serve") then option_map Serves (serving_in options)
     else if bytes_eq name (codes "show") then option_map (shown_by options) (objects_in options)

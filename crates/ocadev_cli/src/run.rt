@@ -9,7 +9,7 @@ ghost use Rattle.oca_net.specs.Sockets.{state_of_socket};
 ghost use Rattle.oca_device.specs.Devices.{Represents};
 ghost use Rattle.oca_script.specs.Ends.{input};
 ghost use Rattle.oca_script.specs.Printing.{WritesOut};
-ghost use Rattle.ocadev_cli.specs.Words.{asked_by, asked_fields, making_fields, serving_fields, object_source};
+ghost use Rattle.ocadev_cli.specs.Words.{task_asked, asked_fields, making_fields, serving_fields, object_source};
 ghost use Rattle.oca_textree.specs.Written.{text_of};
 ghost use Rattle.oca_program.specs.Faults.{PrintsFault, fault_in};
 ghost use Rattle.oca_program.specs.declared.fault.RunFault.TheVariants.{Read as read_failed};
@@ -138,7 +138,7 @@ fn commanded<N: Net + Clock + Files<File = File>, R: Source, W: Sink, F: Sink>(
     printer: &mut Printer<W>,
     faults: &mut Printer<F>,
 ) -> Result<(), Failure>
-    ensures { DoesAsked (asked_by name.now options.now) (fault_in result)
+    ensures { DoesAsked (task_asked name.now options.now) (fault_in result)
         (input (R.remaining reader.old) (R.failed reader.old)) (input (R.remaining reader.new) (R.failed reader.new))
         printer.old printer.new }
 {

@@ -5,7 +5,7 @@ ghost use Rattle.oca_types.specs.Sizes.{window_size, peer_count};
 ghost use Rattle.ocadev_cli.specs.Words.{window_of as window_in_text, window_in, peer_limit_of as peers_in_text};
 ghost use Rattle.ocadev_cli.specs.Words.{peers_in, channels_in, object_source, objects_in, making_fields, making_in};
 ghost use Rattle.ocadev_cli.specs.Words.{turns_in, has_flag, seconds_of as seconds_in_text, stats_in, serving_fields};
-ghost use Rattle.ocadev_cli.specs.Words.{serving_in, asked_fields, asked_by, shown_by as shown_fields, Replays, Serves};
+ghost use Rattle.ocadev_cli.specs.Words.{serving_in, asked_fields, task_asked, shown_by as shown_fields, Replays, Serves};
 ghost use Rattle.oca_program.specs.declared.fault.RunFault.TheVariants.{BadWords};
 ghost use Rattle.oca_program.specs.Commands.{AddsRules, MatchingGives, flag_rule, option_rule, required_rule};
 ghost use Rattle.oca_program.specs.Commands.{with_rules};
@@ -352,8 +352,8 @@ pub fn asked_for<'a>(
     name: &str,
     options: &ArgMatches<'a>,
 ) -> Result<Asked<'a>, Failure>
-    ensures ok { IfOk result (λ asked. asked_by name.now options.now ≡ Some (asked_fields asked)) }
-    ensures err { IfErr result (λ failure. (failure.fault ≡ BadWords) × (asked_by name.now options.now ≡ None)) }
+    ensures ok { IfOk result (λ asked. task_asked name.now options.now ≡ Some (asked_fields asked)) }
+    ensures err { IfErr result (λ failure. (failure.fault ≡ BadWords) × (task_asked name.now options.now ≡ None)) }
 {
     match asked_in(name, options) {
         Some(asked) => Ok(asked),
@@ -423,7 +423,7 @@ const TREE_AND_CHANNELS: &str =
 
 /// The same, where the options' values are of their forms.
 fn asked_in<'a>(name: &str, options: &ArgMatches<'a>) -> Option<Asked<'a>>
-    ensures { option_map asked_fields result ≡ asked_by name.now options.now }
+    ensures { option_map asked_fields result ≡ task_asked name.now options.now }
 {
     if name == "replay" {
         return replay_in(options);

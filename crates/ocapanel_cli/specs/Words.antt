@@ -17,12 +17,12 @@ abbrev pub at_own_machine : Peer → Option Peer
 at_own_machine p = if p.ip / 16777216 == 127 then Some p else None
 
 -- whether a flag stands among the words: its text is then `true`
-abbrev pub is_true : Option (List ℕ) → Bool
-is_true None = false
-is_true (Some text) = bytes_eq text (codes "true")
+abbrev pub says_true : Option (List ℕ) → Bool
+says_true None = false
+says_true (Some text) = bytes_eq text (codes "true")
 
-abbrev pub has_flag : ArgMatches → List ℕ → Bool
-has_flag words flag = is_true (given words flag)
+abbrev pub is_said : ArgMatches → List ℕ → Bool
+is_said words flag = says_true (given words flag)
 
 -- an address of one host, 1.0.0.0 to 223.255.255.255; of this machine alone where no token is asked for
 abbrev pub at_network : (no_token : Bool) → Peer → Option Peer
@@ -33,12 +33,12 @@ listens_at no_token text = then_in (peer_of text) (at_network no_token)
 
 -- where browsers are listened to: 127.0.0.1:8080 unless given
 abbrev pub listen_in : ArgMatches → Option Peer
-listen_in words = read_or (record { ip = 2130706433; port = 8080 }) (listens_at (has_flag words (codes "no-token")))
+listen_in words = read_or (record { ip = 2130706433; port = 8080 }) (listens_at (is_said words (codes "no-token")))
     (given words (codes "listen"))
 
 -- a file for the token is named only where a token is asked for
 abbrev pub names_token_in_vain : ArgMatches → Bool
-names_token_in_vain words = has_flag words (codes "no-token") && is_some (given words (codes "token"))
+names_token_in_vain words = is_said words (codes "no-token") && is_some (given words (codes "token"))
 
 -- a span: 2 to 32 in at most 3 digits, 16 unless given
 abbrev pub at_least_two : ℕ → Option ℕ
@@ -93,6 +93,6 @@ panel_in words =
       span = span;
       ip = ip;
       port = port;
-      no_token = has_flag words (codes "no-token");
-      read_only = has_flag words (codes "read-only");
+      no_token = is_said words (codes "no-token");
+      read_only = is_said words (codes "read-only");
     }))))))

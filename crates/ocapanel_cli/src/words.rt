@@ -2,7 +2,7 @@
 ghost use Rattle.std.specs.Prelude.{◌≡◌};
 ghost use Rattle.std.specs.Option.{option_map};
 ghost use Rattle.oca_types.specs.Sizes.{span_size};
-ghost use Rattle.ocapanel_cli.specs.Words.{at_own_machine, device_in, has_flag, listen_in, listens_at};
+ghost use Rattle.ocapanel_cli.specs.Words.{at_own_machine, device_in, is_said, listen_in, listens_at};
 ghost use Rattle.ocapanel_cli.specs.Words.{local_port_in, names_token_in_vain, panel_fields, panel_in};
 ghost use Rattle.ocapanel_cli.specs.Words.{panel_span_in, panel_span_of as span_in_text};
 
@@ -288,7 +288,7 @@ fn path_of(
 
 /// Whether the words say this flag, whose text is then `true`.
 fn flag(words: &ArgMatches<'_>, name: &str) -> bool
-    ensures { result ≡ has_flag words.now name.now }
+    ensures { result ≡ is_said words.now name.now }
 {
     match text_of(words, name) {
         Some(text) => text.as_bytes() == b"true".as_slice(),
