@@ -682,7 +682,7 @@ FEWEST = {
     "python3 tools/c_library.py bin": 26750, "python3 examples/run.py bin/ocadev": 4, "python3 tools/runs.py bin": 354,
     "python3 tools/ctl_runs.py bin": 123, "python3 tools/unreliable.py bin": 3746, "python3 tools/damaged.py bin": 103936,
     "python3 tools/fuzz.py bin 20": 200, "python3 tools/words.py bin": 812, "python3 tools/hands.py bin": 279,
-    "python3 tools/panel.py bin": 357, "python3 tools/panel_trial.py bin": 2, "python3 tools/network.py bin": 298, "python3 tools/keep.py bin": 360,
+    "python3 tools/panel.py bin": 357, "python3 tools/panel_trial.py bin": 3, "python3 tools/network.py bin": 298, "python3 tools/keep.py bin": 360,
     "python3 tools/standstill.py bin": 52, "python3 tools/neighbours.py bin": 1, "python3 tools/one_address.py bin": 1,
     "python3 tools/lossy.py bin 30": 2,
     "python3 tools/lossy.py bin directed": 2,
