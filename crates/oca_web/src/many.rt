@@ -116,7 +116,10 @@ fn put_wanted(known: &View, orders: &[Value], all: &mut Vec<Wanted>) -> Result<(
     match orders.split_first() {
         Some((first, rest)) => {
             put_first(known, first, all)?;
-            put_wanted(known, rest, all)
+            match put_wanted(known, rest, all) {
+                Ok(()) => Ok(()),
+                Err(refusal) => Err(refusal),
+            }
         }
         None => Ok(()),
     }
