@@ -96,6 +96,7 @@ none_exactly d e x k =
       delivered = ends.grew;
       failures = ends.failures;
       sent = λ _ w tree events h. takes_none e.taken e.taken refl;
+      sends = λ _ w tree events h. omega arith;
       following = refl;
       followed = λ _ w tree events h. sym (append-nil x.followed);
       holding = λ w tree events h. sym (append-nil k.held);
@@ -128,6 +129,14 @@ more_exactly {p} {q} {a} {b} {c} {e} {f} {g} {x} {y} {z} {k} {l} {m} {r} {s} h i
           subst (λ (xs : List Sent). TakesAllBut (r.failed_sends + s.failed_sends) e.taken g.taken xs) (sym (later_at_once w tree k.is_behind ds es events))
           (takes_more (h.sent told w tree events rep)
           (subst (λ (n : Bool). TakesAllBut s.failed_sends f.taken g.taken (at_once n w tree later es)) (h.unstored w tree events rep) (i.sent (h.telling ∙ told) w tree later there)));
+      sends = λ few w tree events rep.
+          let later = events_after_all ds events in
+          let behind = i.sends few w tree later (h.serves.represents w tree events rep) in
+          let before = h.sends (omega (arith, few, behind)) w tree events rep in
+          let same = ap (λ (n : Bool). length (at_once n w tree later es)) (h.unstored w tree events rep) in
+          let all = ap length (later_at_once w tree k.is_behind ds es events)
+          ∙ length-append (at_once k.is_behind w tree events ds) (at_once (behind_all k.is_behind w tree events ds) w tree later es) in
+          omega (arith, behind, before, same, all);
       following = i.following ∙ h.following;
       followed = λ told w tree events rep.
           let later = events_after_all ds events in
@@ -175,6 +184,7 @@ closed_exactly {q} {a} {b} {c} {e} {f} {g} {x} {y} {z} {k} {l} {m} {r} h i =
       failures = ends.failures;
       sent = λ told w tree events rep.
           subst (λ (t : List Sent). TakesAllBut r.failed_sends e.taken t (at_once k.is_behind w tree events h.deliveries)) (sym (i.received.taken (h.telling ∙ told))) (h.sent told w tree events rep);
+      sends = λ few w tree events rep. i.received.sends ∙ h.sends (omega (arith, few, i.received.sends)) w tree events rep;
       following = ap (λ (n : ElectronicsState). n.tells) i.electronics ∙ h.following;
       followed = λ told w tree events rep. ap (λ (n : ElectronicsState). n.followed) i.electronics ∙ h.followed told w tree events rep;
       holding = λ w tree events rep. ap (λ (n : KeepingState). n.held) i.keeping ∙ h.holding w tree events rep;
@@ -220,6 +230,10 @@ in_one x {all = all} {old = old} {new = new} {before = before} {after = after} {
           let now : List Sent = cond (answers_wait k.is_behind w tree events x) [] (sent_for w tree events x) in
           subst (λ (xs : List Sent). TakesAllBut r.failed_sends before.taken after.taken xs) (at_once_are w tree events rep ∙ sym (append-nil now))
           (subst (λ (t : List Sent). TakesAllBut r.failed_sends t after.taken all) (heard.taken told) (sent.taken (heard.telling ∙ told)));
+      sends = λ few w tree events rep.
+          let now : List Sent = cond (answers_wait k.is_behind w tree events x) [] (sent_for w tree events x) in
+          let as_many = ap length (at_once_are w tree events rep ∙ sym (append-nil now)) in
+          omega (arith, sent.sends few, heard.sends, as_many);
       following = telling;
       followed = λ told w tree events rep.
           followed told w tree events rep ∙ ap (λ (xs : List Followed). idle.followed ++ xs) (sym (append-nil (handed_of w tree events x)));
@@ -374,6 +388,7 @@ keeps_none b d e x s r is =
       delivered = ends.grew;
       failures = ends.failures;
       sent = λ _ w tree events h. takes_none e.taken e.taken refl;
+      sends = λ _ w tree events h. omega arith;
       following = refl;
       followed = λ _ w tree events h. sym (append-nil x.followed);
       storing = refl;
@@ -409,6 +424,14 @@ keeps_more {p} {q} {o} {a} {b} {c} {e} {f} {g} {x} {y} {z} {s} {t} {u} {m} {n} r
           (takes_more (h.sent told w tree events rep)
           (subst (λ (v : Bool). TakesAllBut k.report.failed_sends f.taken g.taken (sent_of_all v w tree later hs)) (h.unstored w tree events rep)
           (k.sent (h.telling ∙ told) w tree later (h.serves.represents w tree events rep))));
+      sends = λ few w tree events rep.
+          let later = events_after_all ds events in
+          let behind = k.sends few w tree later (h.serves.represents w tree events rep) in
+          let before = h.sends (omega (arith, few, behind)) w tree events rep in
+          let same = ap (λ (v : Bool). length (sent_of_all v w tree later hs)) (h.unstored w tree events rep) in
+          let together = ap length (later_sends w tree p gs hs events)
+          ∙ length-append (sent_of_all p w tree events gs) (sent_of_all (behind_groups p w tree events gs) w tree later hs) in
+          omega (arith, behind, before, same, together);
       following = k.following ∙ h.following;
       followed = λ told w tree events rep.
           let later = events_after_all ds events in
@@ -458,6 +481,9 @@ keeps_undue {a} {b} {e} {f} {x} {y} {k} {l} {s} {t} {r} q undue h' same =
       sent = λ told w tree events rep.
           let xs = at_once k.is_behind w tree events ds in
           subst (λ (ys : List Sent). TakesAllBut h.report.failed_sends e.taken f.taken ys) (sym (append-nil xs) ∙ sym (append-nil (xs ++ []))) (i.sent told w tree events rep);
+      sends = λ few w tree events rep.
+          let xs = at_once k.is_behind w tree events ds in
+          i.sends few w tree events rep ∙ ap (λ (ys : List Sent). e.sends + length ys) (sym (append-nil xs) ∙ sym (append-nil (xs ++ [])));
       following = i.following;
       followed = λ told w tree events rep. i.followed told w tree events rep ∙ ap (λ (xs : List Delivery). x.followed ++ handed w tree events xs) all;
       storing = ap (λ (v : StoreState). v.tells) same;
@@ -495,6 +521,15 @@ keeps_due {a} {b} {e} {f} {g} {x} {y} {k} {l} {m} {s} {t} {q} {r} {failed} none 
           let out : List Sent = cond settled.stored (waiting k.is_behind w tree events ds) [] in
           subst (λ (ys : List Sent). TakesAllBut (h.report.failed_sends + failed) e.taken g.taken ys) (sym (append-nil (xs ++ out)))
           (takes_more (i.sent told w tree events rep) (subst (λ (ys : List Sent). TakesAllBut failed f.taken g.taken (cond settled.stored ys [])) held (sends.taken (i.telling ∙ told))));
+      sends = λ few w tree events rep.
+          let xs = at_once k.is_behind w tree events ds in
+          let held : l.held ≡ waiting k.is_behind w tree events ds = i.holding w tree events rep ∙ ap (λ (ys : List Sent). ys ++ waiting k.is_behind w tree events ds) none in
+          let out : List Sent = cond settled.stored (waiting k.is_behind w tree events ds) [] in
+          let behind = sends.sends few in
+          let before = i.sends (omega (arith, few, behind)) w tree events rep in
+          let same = ap (λ (ys : List Sent). length (cond settled.stored ys [])) held in
+          let together = ap length (append-nil (xs ++ out)) ∙ length-append xs out in
+          omega (arith, behind, before, same, together);
       following = i.following;
       followed = λ told w tree events rep. i.followed told w tree events rep ∙ ap (λ (xs : List Delivery). x.followed ++ handed w tree events xs) all;
       storing = settled.stores.telling;

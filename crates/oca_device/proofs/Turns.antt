@@ -136,6 +136,7 @@ turns_none d e =
       delivered = ends.grew;
       sent = λ _ w tree events h. takes_none e.taken e.taken refl;
       failures = ends.failures;
+      sends = λ _ w tree events h. omega arith;
     }
 
 -- one turn more
@@ -151,6 +152,12 @@ turns_more {a} {b} {c} {e} {f} {g} {r} {s} x y =
           subst (λ (xs : List Sent). TakesAllBut (r.failed_sends + s.failed_sends) e.taken g.taken xs) (sym (later_sent w tree x.deliveries y.deliveries events))
           (takes_more (x.sent told w tree events h) (y.sent (x.telling ∙ told) w tree (events_after_all x.deliveries events) (x.serves.represents w tree events h)));
       failures = ends.failures;
+      sends = λ few w tree events h.
+          let behind = y.sends few w tree (events_after_all x.deliveries events) (x.serves.represents w tree events h) in
+          let before = x.sends (omega (arith, few, behind)) w tree events h in
+          let all = ap length (later_sent w tree x.deliveries y.deliveries events)
+          ∙ length-append (sent_in_all w tree events x.deliveries) (sent_in_all w tree (events_after_all x.deliveries events) y.deliveries) in
+          omega (arith, behind, before, all);
     }
 
 -- and then Closed
@@ -165,6 +172,7 @@ turns_closed {a} {b} {c} {e} {f} {g} {r = r} x y =
       sent = λ told w tree events h.
           subst (λ (t : List Sent). TakesAllBut r.failed_sends e.taken t (sent_in_all w tree events x.deliveries)) (sym (y.received.taken (x.telling ∙ told))) (x.sent told w tree events h);
       failures = ends.failures;
+      sends = λ few w tree events h. y.received.sends ∙ x.sends (omega (arith, few, y.received.sends)) w tree events h;
     }
 
 -- the same with electronics
@@ -259,6 +267,9 @@ heard_one x {h} {bytes} {all} {old} {new} {before} {mid} {after} {idle} {moved} 
           subst (λ (xs : List Sent). TakesAllBut r.failed_sends before.taken after.taken xs) (replies_are w tree events rep ∙ sym (append-nil (sent_for w tree events x)))
           (subst (λ (t : List Sent). TakesAllBut r.failed_sends t after.taken all) (heard.taken told) (sent.taken (heard.telling ∙ told)));
       failures = ends.failures;
+      sends = λ few w tree events rep.
+          let as_many = ap length (replies_are w tree events rep ∙ sym (append-nil (sent_for w tree events x))) in
+          omega (arith, sent.sends few, heard.sends, as_many);
     } in
     record {
       serves = record {

@@ -133,7 +133,7 @@ sent_of_all behind w tree events (g ∷ groups) =
 
 -- A DEVICE SERVED AN END AND KEPT ITS OBJECTS IN A STORE: there are groups of deliveries that it served; behind each
 -- with answers that wait the store was handed the objects, and these answers left only where it said that it holds
--- them. What was written and is not stored is told before and after. A number of the report that would pass 64 bits
+-- them. The end was handed just as many datagrams. What was written and is not stored is told before and after. A number of the report that would pass 64 bits
 -- stays at its last value.
 pub record ServesKeeping (behind is_behind : Bool) (old new : DeviceState) (before after : EndState)
     (idle moved : ElectronicsState) (had has : StoreState) (returned : Report) : Type 0 where
@@ -148,6 +148,8 @@ pub record ServesKeeping (behind is_behind : Bool) (old new : DeviceState) (befo
   pub sent : IsTrue before.tells → (w : DeviceSizes) (tree : List Object) (events : List Event) →
       Represents w old tree events →
       TakesAllBut report.failed_sends before.taken after.taken (sent_of_all behind w tree events groups)
+  pub sends : after.sends < last_u64 → (w : DeviceSizes) (tree : List Object) (events : List Event) →
+      Represents w old tree events → after.sends ≡ before.sends + length (sent_of_all behind w tree events groups)
   pub following : moved.tells ≡ idle.tells
   pub followed : IsTrue idle.tells → (w : DeviceSizes) (tree : List Object) (events : List Event) →
       Represents w old tree events →

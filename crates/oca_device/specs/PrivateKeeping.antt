@@ -1,5 +1,5 @@
 -- What is taken in and held until the objects are stored.
-use Rattle.std.specs.Prelude.{◌≡◌, ℕ, ◌+◌, ◌<◌, IsTrue, Bool, ◌&&◌, not, if◌then◌else◌, List, [], ◌++◌, map}
+use Rattle.std.specs.Prelude.{◌≡◌, ℕ, ◌+◌, ◌<◌, IsTrue, Bool, ◌&&◌, not, if◌then◌else◌, List, [], ◌++◌, length, map}
 use Rattle.std.specs.Prelude.{Option, Some, None}
 use Rattle.oca_types.specs.declared.words.Peer.{Peer}
 use Rattle.oca_types.specs.Sizes.{DeviceSizes}
@@ -40,6 +40,8 @@ pub record TakesExactly (due : Bool) (old new : DeviceState) (before after : End
   pub sent : IsTrue before.tells → (w : DeviceSizes) (tree : List Object) (events : List Event) →
       Represents w old tree events →
       TakesAllBut report.failed_sends before.taken after.taken (at_once was.is_behind w tree events deliveries)
+  pub sends : after.sends < last_u64 → (w : DeviceSizes) (tree : List Object) (events : List Event) →
+      Represents w old tree events → after.sends ≡ before.sends + length (at_once was.is_behind w tree events deliveries)
   pub following : moved.tells ≡ idle.tells
   pub followed : IsTrue idle.tells → (w : DeviceSizes) (tree : List Object) (events : List Event) →
       Represents w old tree events →

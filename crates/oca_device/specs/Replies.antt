@@ -40,7 +40,8 @@ pub record Serves (deliveries : List Delivery) (old new : DeviceState) (report :
   pub reported : (w : DeviceSizes) (tree : List Object) (events : List Event) → Represents w old tree events →
       report ≡ record (report_of w tree events deliveries) { failed_sends = report.failed_sends }
 
--- A DEVICE SERVED AN END: there are deliveries that it served, and the report counts the calls of the end that failed.
+-- A DEVICE SERVED AN END: there are deliveries that it served, the report counts the calls of the end that failed, and
+-- the end was handed just as many datagrams as are sent for these deliveries.
 -- Where the end tells, these deliveries are what it delivered, and it took what was sent for them but for those whose
 -- send failed.
 pub record ServesEnd (old new : DeviceState) (before after : EndState) (report : Report) : Type 0 where
@@ -53,3 +54,5 @@ pub record ServesEnd (old new : DeviceState) (before after : EndState) (report :
       TakesAllBut report.failed_sends before.taken after.taken (sent_in_all w tree events deliveries)
   pub failures : after.failures < last_u64 →
       after.failures ≡ before.failures + (report.failed_receives + report.failed_sends)
+  pub sends : after.sends < last_u64 → (w : DeviceSizes) (tree : List Object) (events : List Event) →
+      Represents w old tree events → after.sends ≡ before.sends + length (sent_in_all w tree events deliveries)

@@ -1,6 +1,6 @@
 -- What a panel says is so.
 use Rattle.std.proofs.Common.{◌≡◌, ℕ, ◌==◌, Bool, true, false, List, [], ◌∷◌, ◌++◌, Option, Some, None, Result, Ok, Err, refl, sym, ap, ◌∙◌, subst, inl, inr, eqb-true, append_assoc, ◌≢◌}
-use Rattle.std.specs.Prelude.{if◌then◌else◌}
+use Rattle.std.specs.Prelude.{if◌then◌else◌, map}
 use Rattle.std.specs.List.{slice_get, AllByRecursion}
 use Rattle.std.specs.Option.{option_map, option_and_then}
 use Rattle.oca_types.specs.declared.class.Class.{Class}
@@ -9,6 +9,7 @@ use Rattle.oca_types.specs.declared.class.Method.{Method}
 use Rattle.oca_types.specs.declared.class.Method.TheVariants as method
 use Rattle.oca_types.specs.declared.words.Peer.{Peer}
 use Rattle.oca_types.specs.Peers.{RequestFields}
+use Rattle.oca_types.specs.Reading.{text_at}
 use Rattle.oca_pdu.specs.Laws.{ReadingIsExact}
 use Rattle.oca_model.specs.declared.answer.Answer.{Answer as Typed}
 use Rattle.oca_model.specs.declared.answer.Answer.TheVariants as answers
@@ -19,16 +20,17 @@ use Rattle.oca_model.specs.declared.request.Request.{Request as Asked}
 use Rattle.oca_model.specs.declared.request.Request.TheVariants as asked
 use Rattle.oca_model.specs.declared.value.Value.{Value}
 use Rattle.oca_model.specs.Answers.{answer_in, answer_count, shaped_in, shape_of}
-use Rattle.oca_model.specs.Members.{class_at, class_id_at, class_id_in, class_in, class_with}
+use Rattle.oca_model.specs.declared.member.Member.{Member}
+use Rattle.oca_model.specs.Members.{class_at, class_id_at, class_id_in, class_in, class_with, members_at, members_in}
 use Rattle.oca_model.specs.Parameters.{whole}
 use Rattle.oca_model.specs.Readings.{reading_in, value_without_limits}
-use Rattle.oca_model.specs.Requests.{IsRequest}
+use Rattle.oca_model.specs.Requests.{AskedBy, IsRequest}
 use Rattle.oca_model.specs.Values.{class_of_value, get_method}
 use Rattle.oca_tree.specs.declared.object.LockKind.TheVariants.{Total}
 use Rattle.oca_tree.specs.declared.object.Object.{Object}
-use Rattle.oca_tree.specs.Objects.{class_of, object_of, with_object}
+use Rattle.oca_tree.specs.Objects.{class_of, members, object_of, with_object}
 use Rattle.oca_tree.specs.Readers.{class_of_ono}
-use Rattle.oca_tree.specs.Typed.{answer_given, changed_by}
+use Rattle.oca_tree.specs.Typed.{answer_given, changed_by, member_of}
 use Rattle.oca_control.specs.declared.answer.Answer.{Answer}
 use Rattle.oca_control.specs.declared.outcome.Outcome.{Outcome}
 use Rattle.oca_control.specs.declared.outcome.Outcome.TheVariants as outcomes
@@ -39,16 +41,17 @@ use Rattle.oca_pair.specs.Networks.{Network, PeerLink, opening}
 use Rattle.oca_pair.specs.Steps.{Step, Submit, ToDevice, after_step, after_steps}
 use Rattle.oca_pair.specs.Premises.{StepFits, Fit}
 use Rattle.oca_pair.specs.InTime.{Departure, departures_in, AreInTime}
-use Rattle.oca_pair.specs.Saying.{OfEachAnswer, IsOfOneExecutionSince, RefusalsChangeNothing, OksSayWhatIsHeld, ReadingsWereHeld, SettingsWereMade, ClassesMetAreThoseAtFirst, CommandAsks, SetsObject, ReadSo, objects_left, objects_met}
+use Rattle.oca_pair.specs.Saying.{OfEachAnswer, is_of_every_class, IsOfOneExecutionSince, RefusalsChangeNothing, OksSayWhatIsHeld, ReadingsWereHeld, SettingsWereMade, ClassesMetAreThoseAtFirst, CommandAsks, SetsObject, ReadSo, objects_left, objects_met}
 use Rattle.oca_pair.proofs.Fixed.{tree_kept}
 use Rattle.oca_panel.specs.declared.trouble.Trouble.{Trouble}
 use Rattle.oca_panel.specs.declared.trouble.Trouble.TheVariants as trouble
 use Rattle.oca_panel.specs.Panels.{PanelState, AsksIn}
-use Rattle.oca_panel.specs.Objects.{IsRequestTo, AsksFor, AsksClass, ReadsBy, ReadsFor, ReadsObject}
-use Rattle.oca_panel.specs.Outcomes.{on_ok, parameters_answered, readable, read_from, done_or_trouble, done_answered, known_class, class_of_fields, class_answered}
+use Rattle.oca_panel.specs.Objects.{IsRequestTo, AsksFor, AsksClass, Reads, ReadsBy, ReadsFor, ReadsObject}
+use Rattle.oca_panel.specs.Outcomes.{on_ok, parameters_answered, readable, read_from, done_or_trouble, done_answered, known_class, class_of_fields, class_answered, fields_answered, text_answered}
+use Rattle.oca_panel.specs.Walks.{Describes, DescribesFrom, both}
 use Rattle.oca_promise.specs.Doings.{Plays}
 use Rattle.oca_promise.specs.Calls.{OfAnAnswer, KeepsInNetworks}
-use Rattle.oca_promise.specs.Promises.{IsRightAtFirst, CallKeeps, WasSetTo, EverySetKeeps, HadReading, EveryReadingKeeps, WasLocked, WasUnlocked, EveryLockKeeps, EveryUnlockKeeps, WasRefused, EveryRefusedSetKeeps, HadClass, GetKeeps, EveryGetKeeps}
+use Rattle.oca_promise.specs.Promises.{IsRightAtFirst, CallKeeps, WasSetTo, EverySetKeeps, HadReading, EveryReadingKeeps, WasLocked, WasUnlocked, EveryLockKeeps, EveryUnlockKeeps, WasRefused, EveryRefusedSetKeeps, HadClass, EveryClassKeeps, GetKeeps, EveryGetKeeps, HadText, EveryTextKeeps, EveryRoleKeeps, EveryLabelKeeps, HadMembers, EveryMembersKeep, HadFields, DescriptionKeeps, EveryDescriptionKeeps}
 use Rattle.oca_promise.proofs.Keeping.{calls_keep}
 use Rattle.oca_promise.proofs.Playing.{played_link, after_both}
 
@@ -330,8 +333,7 @@ had_class target of request a to ok in_is h p later called ((said, met), oks) ri
     let same : of ≡ class_of by.object.value = same_class of (class_of by.object.value) (sym read ∙ its ∙ ap Some (class_answer said.execution.objects by.object)) in
     ap (λ (t : ℕ). class_of_ono called.tree t) (sym to.object) ∙ sym (met said request.target) ∙ ap (λ (x : Option Object). option_map (λ (y : Object). class_of y.value) x) by.there ∙ ap Some (sym same)
 
-classes_keep : OfEachAnswer IsOfOneExecutionSince → OfEachAnswer OksSayWhatIsHeld → OfEachAnswer ClassesMetAreThoseAtFirst → ReadingIsExact → (target : ℕ) (of : Class) (old new : PanelState) → AsksClass target old new (Ok of) →
-    CallKeeps target class.Block asked.GetClassIdentification (HadClass target of) old new
+pub classes_keep : OfEachAnswer IsOfOneExecutionSince → OfEachAnswer OksSayWhatIsHeld → OfEachAnswer ClassesMetAreThoseAtFirst → ReadingIsExact → EveryClassKeeps
 classes_keep between oks met law target of old new (o, f, e) =
     let params = class_said o of e in
     let ok = ok_parameters o params.0 params.1 in
@@ -419,3 +421,178 @@ gets_keep between oks reads met law target value old new (read, asks, e) = by_re
     by_reading : (r : Result Reading Trouble) → ReadsObject target old new r → Ok value ≡ on_ok value_without_limits r → GetKeeps target value old new
     by_reading (Ok reading) (mid, of, class_asked, value_asked) q = by_class mid reading of (let same : value ≡ value_without_limits reading = cc in sym same) class_asked value_asked
     by_reading (Err t) a q = absurd (cc)
+
+-- ---- texts
+
+same_text : (a b : List ℕ) → Some (answers.Text a) ≡ Some (answers.Text b) → a ≡ b
+same_text a b e = cc
+
+abbrev OfOks : OfAnAnswer
+OfOks = Both IsOfOneExecutionSince OksSayWhatIsHeld
+
+had_text : (r : Asked) (m : Method) (text_of : Object → List ℕ) → IsRequest r → is_of_every_class r ≡ true → AskedBy class.Block r m → shape_of m ≡ shape.Text →
+    ((tree : List Object) (o : Object) → answer_given tree o r ≡ answers.Text (text_of o)) →
+    (target : ℕ) (text : List ℕ) (request : RequestFields) (a : Answer) → IsRequestTo target class.Block r request → a.status ≡ 0 → whole (text_at a.params.items) ≡ Some text →
+    (h : ℕ) (p : Peer) (later : List Step) (called : Network) → OfOks p (command_under h request) (answer_fields a) later called → HadText text_of target text p (command_under h request) (answer_fields a) later called
+had_text r m text_of is_request every by_method shape_is_text gives target text request a to ok in_is h p later called (said, oks) right =
+    let by = oks class.Block r right.0 right.1 (asks_of class.Block r target h request is_request to) ok said in
+    let its = (by.answers (inr every)).said m by_method in
+    let shaped : shaped_in (shape_of m) class.Block a.params.items ≡ Some (answers.Text text) =
+    ap (λ (x : Shape). shaped_in x class.Block a.params.items) shape_is_text ∙ ap (λ (x : Option (List ℕ)). option_map answers.Text x) in_is in
+    let read = answer_is_shaped class.Block m a.count a.params.items (answers.Text text) _ its shaped in (
+      said,
+      by.object,
+      ap (λ (t : ℕ). object_of said.execution.objects t) (sym to.object) ∙ by.there,
+      same_text text (text_of by.object) (sym read ∙ its ∙ ap Some (gives said.execution.objects by.object)),
+    )
+
+texts_keep : OfEachAnswer IsOfOneExecutionSince → OfEachAnswer OksSayWhatIsHeld → ReadingIsExact →
+    (r : Asked) (m : Method) (text_of : Object → List ℕ) → IsRequest r → is_of_every_class r ≡ true → AskedBy class.Block r m → shape_of m ≡ shape.Text →
+    ((tree : List Object) (o : Object) → answer_given tree o r ≡ answers.Text (text_of o)) → EveryTextKeeps r text_of
+texts_keep between oks law r m text_of is_request every by_method shape_is_text gives target text old new (o, f, e) =
+    let params = read_parameters (λ ps. whole (text_at ps)) (parameters_answered o) text e in
+    let ok = ok_parameters o params.0 params.1 in
+    record {
+      request = f.request;
+      asks = f.calls;
+      answer = answer_fields ok.answer;
+      keeps = follows OfOks (HadText text_of target text) f.request (answer_fields ok.answer) old new
+          (had_text r m text_of is_request every by_method shape_is_text gives target text f.request ok.answer f.calls ok.ok (ap (λ ps. whole (text_at ps)) ok.params_are ∙ params.2))
+          (answered_call OfOks (also IsOfOneExecutionSince OksSayWhatIsHeld between oks) law target class.Block r old new o ok.answer f ok.is);
+    }
+
+role_answer : (tree : List Object) (o : Object) → answer_given tree o asked.GetRole ≡ answers.Text o.role
+unfolding answer_given
+role_answer tree o = refl
+
+label_answer : (tree : List Object) (o : Object) → answer_given tree o asked.GetLabel ≡ answers.Text o.label
+unfolding answer_given
+label_answer tree o = refl
+
+pub roles_keep : OfEachAnswer IsOfOneExecutionSince → OfEachAnswer OksSayWhatIsHeld → ReadingIsExact → EveryRoleKeeps
+roles_keep between oks law = texts_keep between oks law asked.GetRole method.GetRole (λ o. o.role) tt refl refl refl role_answer
+
+pub labels_keep : OfEachAnswer IsOfOneExecutionSince → OfEachAnswer OksSayWhatIsHeld → ReadingIsExact → EveryLabelKeeps
+labels_keep between oks law = texts_keep between oks law asked.GetLabel method.GetLabel (λ o. o.label) tt refl refl refl label_answer
+
+-- ---- members
+
+members_answer : (tree : List Object) (o : Object) → answer_given tree o asked.GetMembers ≡ answers.Members (record { items = map member_of (members tree o.ono.0) })
+unfolding answer_given
+members_answer tree o = refl
+
+abbrev members_told : Option Typed → List Member
+members_told (Some (answers.Members ms)) = ms.items
+members_told other = []
+
+same_members : (a b : List Member) → Some (answers.Members (record { items = a })) ≡ Some (answers.Members (record { items = b })) → a ≡ b
+same_members a b e = ap members_told e
+
+numbers_listed : (xs : List Object) → map (λ m. m.ono.0) (map member_of xs) ≡ map (λ o. o.ono.0) xs
+numbers_listed [] = refl
+numbers_listed (x ∷ xs) = ap (λ (l : List ℕ). x.ono.0 ∷ l) (numbers_listed xs)
+
+members_read : (bytes numbers : List ℕ) → members_in bytes ≡ Some numbers → (xs : List Member) × (members_at bytes ≡ Some xs) × (map (λ m. m.ono.0) xs ≡ numbers)
+members_read bytes numbers e = by (members_at bytes) e
+  where
+    by : (o : Option (List Member)) → option_map (map (λ m. m.ono.0)) o ≡ Some numbers → (xs : List Member) × (o ≡ Some xs) × (map (λ m. m.ono.0) xs ≡ numbers)
+    by None q = absurd (cc)
+    by (Some xs) q = (xs, refl, cc)
+
+number_of_found : (tree : List Object) (number : ℕ) (o : Object) → object_of tree number ≡ Some o → o.ono.0 ≡ number
+number_of_found [] number o e = absurd (cc)
+number_of_found (x ∷ xs) number o e = by (x.ono.0 == number) refl (number_of_found xs number o) e
+  where
+    by : (b : Bool) → (x.ono.0 == number) ≡ b → (object_of xs number ≡ Some o → o.ono.0 ≡ number) → (let r : Option Object = if b then Some x else object_of xs number in r) ≡ Some o → o.ono.0 ≡ number
+    by true t later q = let same : x ≡ o = cc in ap (λ (y : Object). y.ono.0) (sym same) ∙ eqb-true x.ono.0 number t
+    by false t later q = later q
+
+abbrev MembersAll : OfAnAnswer
+MembersAll = Both (Both IsOfOneExecutionSince ClassesMetAreThoseAtFirst) OksSayWhatIsHeld
+
+had_members : (target : ℕ) (numbers : List ℕ) (request : RequestFields) (a : Answer) → IsRequestTo target class.Block asked.GetMembers request → a.status ≡ 0 → members_in a.params.items ≡ Some numbers →
+    (h : ℕ) (p : Peer) (later : List Step) (called : Network) → MembersAll p (command_under h request) (answer_fields a) later called → HadMembers target numbers p (command_under h request) (answer_fields a) later called
+had_members target numbers request a to ok in_is h p later called ((said, met), oks) right class_is =
+    let class_here = ap (λ (t : ℕ). class_of_ono called.tree t) to.object ∙ class_is in
+    let by = oks class.Block asked.GetMembers right.0 right.1 (asks_of class.Block asked.GetMembers target h request tt to) ok said in
+    let same = object_class said.execution.objects request.target by.object class.Block by.there (met said request.target ∙ class_here) in
+    let its = (by.answers (inl same)).said method.GetMembers refl in
+    let listed = members_read a.params.items numbers in_is in
+    let read = answer_is_shaped class.Block method.GetMembers a.count a.params.items (answers.Members (record { items = listed.0 })) _ its
+    (ap (λ (x : Option (List Member)). option_map (λ (ms : List Member). answers.Members (record { items = ms })) x) listed.1) in
+    let are : listed.0 ≡ map member_of (members said.execution.objects by.object.ono.0) =
+    same_members listed.0 (map member_of (members said.execution.objects by.object.ono.0)) (sym read ∙ its ∙ ap Some (members_answer said.execution.objects by.object)) in
+    let at : by.object.ono.0 ≡ target = number_of_found said.execution.objects request.target by.object by.there ∙ to.object in (
+      said,
+      sym listed.2 ∙ ap (map (λ m. m.ono.0)) are ∙ numbers_listed (members said.execution.objects by.object.ono.0)
+          ∙ ap (λ (n : ℕ). map (λ o. o.ono.0) (members said.execution.objects n)) at,
+    )
+
+pub members_keep : OfEachAnswer IsOfOneExecutionSince → OfEachAnswer OksSayWhatIsHeld → OfEachAnswer ClassesMetAreThoseAtFirst → ReadingIsExact → EveryMembersKeep
+members_keep between oks met law target numbers old new (o, f, e) =
+    let params = read_parameters members_in (parameters_answered o) numbers e in
+    let ok = ok_parameters o params.0 params.1 in
+    record {
+      request = f.request;
+      asks = f.calls;
+      answer = answer_fields ok.answer;
+      keeps = follows MembersAll (HadMembers target numbers) f.request (answer_fields ok.answer) old new
+          (had_members target numbers f.request ok.answer f.calls ok.ok (ap members_in ok.params_are ∙ params.2))
+          (answered_call MembersAll (also (Both IsOfOneExecutionSince ClassesMetAreThoseAtFirst) OksSayWhatIsHeld (also IsOfOneExecutionSince ClassesMetAreThoseAtFirst between met) oks) law target class.Block asked.GetMembers old new o ok.answer f ok.is);
+    }
+
+-- ---- a description
+
+no_class_read : (count : ℕ) (params : List ℕ) (x : Typed) → class_in params ≡ None → answer_in class.Block method.GetClassIdentification count params ≡ Some x → None ≡ Some x
+unfolding answer_in
+no_class_read count params x none e =
+    sym (ap (λ (o : Option Class). option_and_then (λ (b : Typed). let r : Option Typed = if count == answer_count b then Some b else None in r) (option_map answers.Class o)) none) ∙ e
+
+had_fields : (target : ℕ) (fields : List ℕ) (request : RequestFields) (a : Answer) → IsRequestTo target class.Block asked.GetClassIdentification request → a.status ≡ 0 → class_id_in a.params.items ≡ Some fields →
+    (h : ℕ) (p : Peer) (later : List Step) (called : Network) → ClassAll p (command_under h request) (answer_fields a) later called → HadFields target fields p (command_under h request) (answer_fields a) later called
+had_fields target fields request a to ok in_is h p later called ((said, met), oks) right = by (class_in a.params.items) refl
+  where
+    by : (o : Option Class) → class_in a.params.items ≡ o → class_of_ono called.tree target ≡ class_with fields
+    by None e =
+        let answered = oks class.Block asked.GetClassIdentification right.0 right.1 (asks_of class.Block asked.GetClassIdentification target h request tt to) ok said in
+        let none = no_class_read a.count a.params.items _ e ((answered.answers (inr refl)).said method.GetClassIdentification refl) in
+        absurd (cc)
+    by (Some of) e = had_class target of request a to ok e h p later called ((said, met), oks) right ∙ sym e ∙ class_by_fields a.params.items fields in_is
+
+fields_keep : OfEachAnswer IsOfOneExecutionSince → OfEachAnswer OksSayWhatIsHeld → OfEachAnswer ClassesMetAreThoseAtFirst → ReadingIsExact → (target : ℕ) (fields : List ℕ) (old new : PanelState) →
+    Reads target class.Block asked.GetClassIdentification fields_answered old new (Ok fields) → CallKeeps target class.Block asked.GetClassIdentification (HadFields target fields) old new
+fields_keep between oks met law target fields old new (o, f, e) =
+    let params = read_parameters class_id_in (parameters_answered o) fields e in
+    let ok = ok_parameters o params.0 params.1 in
+    record {
+      request = f.request;
+      asks = f.calls;
+      answer = answer_fields ok.answer;
+      keeps = follows ClassAll (HadFields target fields) f.request (answer_fields ok.answer) old new
+          (had_fields target fields f.request ok.answer f.calls ok.ok (ap class_id_in ok.params_are ∙ params.2))
+          (answered_call ClassAll (also (Both IsOfOneExecutionSince ClassesMetAreThoseAtFirst) OksSayWhatIsHeld (also IsOfOneExecutionSince ClassesMetAreThoseAtFirst between met) oks) law target class.Block asked.GetClassIdentification old new o ok.answer f ok.is);
+    }
+
+abbrev pair_told : Result (List ℕ × List ℕ) Trouble → List ℕ × List ℕ
+pair_told (Ok p) = p
+pair_told (Err t) = ([], [])
+
+pub descriptions_keep : OfEachAnswer IsOfOneExecutionSince → OfEachAnswer OksSayWhatIsHeld → OfEachAnswer ClassesMetAreThoseAtFirst → ReadingIsExact → EveryDescriptionKeeps
+descriptions_keep between oks met law target fields role old new (read, mid, asks, from) = by read asks from
+  where
+    by_role : (fs : List ℕ) (r : Result (List ℕ) Trouble) → Reads target class.Block asked.GetClassIdentification fields_answered old mid (Ok fs) →
+        Reads target class.Block asked.GetRole text_answered mid new r → (let x : Result (List ℕ × List ℕ) Trouble = Ok (fields, role) in x) ≡ both fs r → DescriptionKeeps target fields role old new
+    by_role fs (Err t) one two q = absurd (cc)
+    by_role fs (Ok text) one two q =
+        let same_fields : fs ≡ fields = sym (ap (λ (r : Result (List ℕ × List ℕ) Trouble). (pair_told r).0) q) in
+        let same_role : text ≡ role = sym (ap (λ (r : Result (List ℕ × List ℕ) Trouble). (pair_told r).1) q) in
+        record {
+          between = mid;
+          class_call = fields_keep between oks met law target fields old mid
+              (subst (λ (x : List ℕ). Reads target class.Block asked.GetClassIdentification fields_answered old mid (Ok x)) same_fields one);
+          role_call = roles_keep between oks law target role mid new (subst (λ (x : List ℕ). Reads target class.Block asked.GetRole text_answered mid new (Ok x)) same_role two);
+        }
+
+    by : (r : Result (List ℕ) Trouble) → Reads target class.Block asked.GetClassIdentification fields_answered old mid r → DescribesFrom r target mid new (Ok (fields, role)) → DescriptionKeeps target fields role old new
+    by (Err t) one (same, q) = absurd (cc)
+    by (Ok fs) one (r, two, q) = by_role fs r one two q

@@ -1,6 +1,7 @@
--- WHAT A PANEL SAYS, in its own words (profile): what `set`, `get`, `reading_of`, `lock` and `unlock` tell is so of the
--- device's objects, in each network in which the call is made.
-use Rattle.std.specs.Prelude.{◌≡◌, ℕ, true, List, [], ◌++◌, Some, None, Ok, Err}
+-- WHAT A PANEL SAYS, in its own words (profile): what `set`, `get`, `reading_of`, `class`, `role`, `label`, `members`,
+-- `lock` and `unlock` tell, and what a walk finds of an object, is so of the device's objects, in each network in which
+-- the call is made.
+use Rattle.std.specs.Prelude.{◌≡◌, ℕ, true, List, [], ◌++◌, map, Some, None, Ok, Err}
 use Rattle.std.specs.List.{All, slice_get}
 use Rattle.oca_types.specs.declared.class.Class.{Class}
 use Rattle.oca_types.specs.declared.class.Class.TheVariants as class
@@ -11,11 +12,12 @@ use Rattle.oca_model.specs.declared.reading.Reading.{Reading}
 use Rattle.oca_model.specs.declared.request.Request.{Request as Asked}
 use Rattle.oca_model.specs.declared.request.Request.TheVariants as asked
 use Rattle.oca_model.specs.declared.value.Value.{Value}
+use Rattle.oca_model.specs.Members.{class_with}
 use Rattle.oca_model.specs.Readings.{value_without_limits}
 use Rattle.oca_model.specs.Values.{class_of_value, get_method, IsOfItsType}
 use Rattle.oca_tree.specs.declared.object.LockKind.TheVariants.{Total}
 use Rattle.oca_tree.specs.declared.object.Object.{Object}
-use Rattle.oca_tree.specs.Objects.{object_of, with_object}
+use Rattle.oca_tree.specs.Objects.{members, object_of, with_object}
 use Rattle.oca_tree.specs.Readers.{class_of_ono}
 use Rattle.oca_tree.specs.Trees.{IsTree}
 use Rattle.oca_tree.specs.TypedLaws.{IsOfItsTypes}
@@ -30,8 +32,9 @@ use Rattle.oca_pair.specs.InTime.{AreInTime}
 use Rattle.oca_pair.specs.Saying.{IsOfOneExecutionSince, ChangedNothing, SetsObject, ReadSo, objects_left}
 use Rattle.oca_panel.specs.declared.trouble.Trouble.TheVariants as trouble
 use Rattle.oca_panel.specs.Panels.{PanelState, AsksIn}
-use Rattle.oca_panel.specs.Objects.{IsRequestTo, Reads, ReadsBy, SetsValue, GetsValue}
-use Rattle.oca_panel.specs.Outcomes.{done_answered}
+use Rattle.oca_panel.specs.Objects.{AsksClass, IsRequestTo, Reads, ReadsBy, SetsValue, GetsValue}
+use Rattle.oca_panel.specs.Outcomes.{done_answered, fields_answered, members_answered, text_answered}
+use Rattle.oca_panel.specs.Walks.{Describes}
 use Rattle.oca_promise.specs.Doings.{Doing, AreOfDevice, Plays}
 use Rattle.oca_promise.specs.Calls.{OfAnAnswer, IsDoneByCall, KeepsInNetworks}
 
@@ -120,6 +123,11 @@ EveryRefusedSetKeeps =
 abbrev pub HadClass : ℕ → Class → OfAnAnswer
 HadClass target of p c answer later called = IsRightAtFirst called.tree → class_of_ono called.tree target ≡ Some of
 
+abbrev pub EveryClassKeeps : Type 0
+EveryClassKeeps =
+    (target : ℕ) (of : Class) (old new : PanelState) → AsksClass target old new (Ok of) →
+    CallKeeps target class.Block asked.GetClassIdentification (HadClass target of) old new
+
 pub record GetKeeps (target : ℕ) (value : Value) (old new : PanelState) : Type 0 where
   pub of : Class
   pub reading : Reading
@@ -144,3 +152,52 @@ abbrev pub EveryGetKeeps : Type 0
 EveryGetKeeps =
     (target : ℕ) (value : Value) (old new : PanelState) → GetsValue target old new (Ok value) →
     GetKeeps target value old new
+
+-- ---- ROLE AND LABEL: the text is that of the object as the only execution of the question, which lies between the call
+-- and its return, met it.
+abbrev pub HadText : (Object → List ℕ) → ℕ → List ℕ → OfAnAnswer
+HadText text_of target text p c answer later called = IsRightAtFirst called.tree →
+    (said : IsOfOneExecutionSince p c answer later called)
+    × (object : Object) × (object_of said.execution.objects target ≡ Some object) × (text ≡ text_of object)
+
+abbrev pub EveryTextKeeps : Asked → (Object → List ℕ) → Type 0
+EveryTextKeeps question text_of =
+    (target : ℕ) (text : List ℕ) (old new : PanelState) →
+    Reads target class.Block question text_answered old new (Ok text) →
+    CallKeeps target class.Block question (HadText text_of target text) old new
+
+abbrev pub EveryRoleKeeps : Type 0
+EveryRoleKeeps = EveryTextKeeps asked.GetRole (λ o. o.role)
+
+abbrev pub EveryLabelKeeps : Type 0
+EveryLabelKeeps = EveryTextKeeps asked.GetLabel (λ o. o.label)
+
+-- ---- MEMBERS: the numbers are those of the block's members, in their order, as the only execution of the question met
+-- them.
+abbrev pub HadMembers : ℕ → List ℕ → OfAnAnswer
+HadMembers target numbers p c answer later called =
+    IsRightAtFirst called.tree → class_of_ono called.tree target ≡ Some class.Block →
+    (said : IsOfOneExecutionSince p c answer later called)
+    × (numbers ≡ map (λ o. o.ono.0) (members said.execution.objects target))
+
+abbrev pub EveryMembersKeep : Type 0
+EveryMembersKeep =
+    (target : ℕ) (numbers : List ℕ) (old new : PanelState) →
+    Reads target class.Block asked.GetMembers members_answered old new (Ok numbers) →
+    CallKeeps target class.Block asked.GetMembers (HadMembers target numbers) old new
+
+-- ---- WHAT A WALK FINDS of an object that it describes: the first call asks the class, and its fields are those of the
+-- object's class; the second asks the role, and that is the object's.
+abbrev pub HadFields : ℕ → List ℕ → OfAnAnswer
+HadFields target fields p c answer later called =
+    IsRightAtFirst called.tree → class_of_ono called.tree target ≡ class_with fields
+
+pub record DescriptionKeeps (target : ℕ) (fields role : List ℕ) (old new : PanelState) : Type 0 where
+  pub between : PanelState
+  pub class_call : CallKeeps target class.Block asked.GetClassIdentification (HadFields target fields) old between
+  pub role_call : CallKeeps target class.Block asked.GetRole (HadText (λ o. o.role) target role) between new
+
+abbrev pub EveryDescriptionKeeps : Type 0
+EveryDescriptionKeeps =
+    (target : ℕ) (fields role : List ℕ) (old new : PanelState) → Describes target old new (Ok (fields, role)) →
+    DescriptionKeeps target fields role old new

@@ -2,7 +2,8 @@
 ghost use Rattle.oca_pair.specs.Saying.{IsOfOneExecutionSince, RefusalsChangeNothing};
 ghost use Rattle.oca_promise.specs.Calls.{EveryAnsweredCallKeeps, EveryCallIsInTime};
 ghost use Rattle.oca_promise.specs.Promises.{EverySetKeeps, EveryRefusedSetKeeps, EveryReadingKeeps, EveryGetKeeps};
-ghost use Rattle.oca_promise.specs.Promises.{EveryLockKeeps, EveryUnlockKeeps};
+ghost use Rattle.oca_promise.specs.Promises.{EveryLockKeeps, EveryUnlockKeeps, EveryClassKeeps, EveryRoleKeeps};
+ghost use Rattle.oca_promise.specs.Promises.{EveryLabelKeeps, EveryMembersKeep, EveryDescriptionKeeps};
 
 use oca_pair::law_of_what_is_said;
 use oca_pdu::law_reading;
@@ -13,7 +14,8 @@ use oca_pdu::law_reading;
 ///
 /// Once: each answer is that of the only execution of the command that the call asked, and this lies between the call
 /// and its return. Refused: a refusal changed nothing. Set: what `set` confirms was set. Get: what `get` returns is what
-/// the object held at a moment between. Reading, lock and unlock likewise.
+/// the object held at a moment between. Reading, lock, unlock, class, role, label and members likewise. Describes: what
+/// a walk tells of an object, its class and its role, are the object's.
 pub fn law_of_calls()
     ensures once { EveryAnsweredCallKeeps IsOfOneExecutionSince }
     ensures in_time { EveryCallIsInTime }
@@ -24,6 +26,11 @@ pub fn law_of_calls()
     ensures get { EveryGetKeeps }
     ensures lock { EveryLockKeeps }
     ensures unlock { EveryUnlockKeeps }
+    ensures class { EveryClassKeeps }
+    ensures role { EveryRoleKeeps }
+    ensures label { EveryLabelKeeps }
+    ensures members { EveryMembersKeep }
+    ensures describes { EveryDescriptionKeeps }
 {
     law_of_what_is_said();
     law_reading();

@@ -97,6 +97,10 @@ statuses_in (KeepAlive form) = []
 abbrev pub response_statuses : List Msg → List ℕ
 response_statuses ms = flat_map statuses_in ms
 
+-- the messages of packets, one packet after another
+abbrev pub messages_of_packets : List (List ℕ) → List Msg
+messages_of_packets packets = flat_map (λ p. read_or_none (read_datagram p)) packets
+
 -- THE STATUSES OF THESE MESSAGES were kept, in order, behind those that there were: the first 1,472 of all.
 abbrev pub KeepsStatuses : List Msg → List ℕ → List ℕ → Type 0
 KeepsStatuses ms old new = take largest_datagram new ≡ take largest_datagram (old ++ response_statuses ms)

@@ -156,6 +156,7 @@ impl<'l, 'p, 'n, L: Files> Disk for FileDisk<'l, 'p, 'n, L> {
 
     ghost state = { λ _. silent_disk };
 
+    /// Writes the objects to the new file, which is made first.
     fn write_new(&mut self, tree: &Tree) -> io::Result<()> {
         let file = self.make_new()?;
         let written = file.try_clone()?;
@@ -163,6 +164,7 @@ impl<'l, 'p, 'n, L: Files> Disk for FileDisk<'l, 'p, 'n, L> {
         print_state(self.alloc, tree, &mut Printer::new(ToWriter::new(file)))
     }
 
+    /// Waits until the new file is on the disk; refused where none was written.
     fn sync_new(&mut self) -> io::Result<()> {
         match self.made.take() {
             Some(file) => file.sync_all(),
@@ -170,10 +172,12 @@ impl<'l, 'p, 'n, L: Files> Disk for FileDisk<'l, 'p, 'n, L> {
         }
     }
 
+    /// Renames the new file to the path.
     fn replace(&mut self) -> io::Result<()> {
         fs::rename(self.files, self.fresh, self.path)
     }
 
+    /// Waits until the folder of the path is on the disk.
     fn sync_folder(&mut self) -> io::Result<()> {
         fs::open(self.files, folder_of(self.path))?.sync_all()
     }

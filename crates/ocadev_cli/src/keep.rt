@@ -439,7 +439,7 @@ impl<'d, 'p, 'f, D: Disk, F: Sink> Store for FileStore<'d, 'p, 'f, D, F> {
             && self.tracing.next <= now
         {
             self.tracing.next = now.saturating_add(self.tracing.every);
-            print_progress_report(&self.report, device, self.faults);
+            let _ = print_progress_report(&self.report, device, self.faults);
         }
     }
 }

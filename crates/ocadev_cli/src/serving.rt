@@ -1,5 +1,8 @@
 //! Serving an end until it is stopped, turn by turn with a line for each datagram, and with the state kept in a store.
-ghost use Rattle.std.specs.Prelude.{◌≡◌, ◌≤◌, ◌<◌, ◌==◌, ◌||◌, not, IsTrue};
+ghost use Rattle.std.specs.Prelude.{◌≡◌, ◌≤◌, ◌<◌, ◌==◌, ◌||◌, length, not, IsTrue};
+ghost use Rattle.oca_script.specs.Printing.{WritesOut};
+ghost use Rattle.oca_tree.specs.Locks.{lock_count};
+ghost use Rattle.ocadev_cli.specs.Printing.{stats_text};
 ghost use Rattle.oca_net.specs.Ends.{last_u64};
 ghost use Rattle.oca_device.specs.Reports.{added, capped, no_turns};
 ghost use Rattle.ocadev_cli.specs.Runs.{turns_until};
@@ -11,7 +14,7 @@ use oca_device::{
     Device, Keeping, NoElectronics, Outbox, Report, Store, serve, serve_keeping, serve_with,
 };
 use oca_net::End;
-use oca_script::{Printer, Sink};
+use oca_script::{Printer, Sink, WriteFailed};
 
 /// How many rounds of 2^32 - 1 turns are 2^64 - 1 turns.
 const ROUNDS: u64 = 4_294_967_297;
@@ -199,15 +202,22 @@ fn print_progress<E: End, F: Sink>(
     let now = end.now();
     if tracing.next <= now {
         tracing.next = now.saturating_add(tracing.every);
-        print_progress_report(report, device, faults);
+        let _ = print_progress_report(report, device, faults);
     }
 }
 
 /// Prints the report so far, with how many sessions there are and how many locks are held.
-pub fn print_progress_report<F: Sink>(report: &Report, device: &Device, faults: &mut Printer<F>) {
+pub fn print_progress_report<F: Sink>(
+    report: &Report,
+    device: &Device,
+    faults: &mut Printer<F>,
+) -> Result<(), WriteFailed>
+    ensures { WritesOut result faults.old faults.new
+        (stats_text report.now (length device.now.sessions.sessions) (lock_count device.now.tree)) }
+{
     let sessions = device.sessions() as u64;
     let locks = device.tree().lock_count() as u64;
-    let _ = print_stats(report, sessions, locks, faults);
+    print_stats(report, sessions, locks, faults)
 }
 
 /// What both did, where a number that would pass 64 bits stays at its last value.

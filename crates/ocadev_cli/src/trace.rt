@@ -1,10 +1,10 @@
 //! What is printed of each datagram.
-ghost use Rattle.std.specs.Prelude.{◌≡◌, ◌+◌, ◌++◌, ◌≤◌, codes, decimal, length, Err};
+ghost use Rattle.std.specs.Prelude.{◌≡◌, ◌+◌, ◌++◌, ◌≤◌, [], codes, decimal, length, Err};
 ghost use Rattle.std.specs.List.{flat_map};
 ghost use Rattle.oca_types.specs.Addresses.{peer_text};
 ghost use Rattle.oca_script.specs.Ends.{output};
 ghost use Rattle.oca_script.specs.Printing.{Prints, WritesOut};
-ghost use Rattle.ocadev_cli.specs.Effects.{commands_effects};
+ghost use Rattle.ocadev_cli.specs.Effects.{KeepsStatuses, commands_effects, messages_of_packets};
 ghost use Rattle.ocadev_cli.specs.Traces.{PrintsTurn, datagram_line, failed_sends_text, malformed_text, outcome_text};
 ghost use Rattle.ocadev_cli.specs.Traces.{reused_count_text, served_text, written_text};
 ghost use Rattle.oca_pdu.specs.Reading.{read_datagram};
@@ -143,8 +143,10 @@ pub fn print_heard<F: Sink>(
     }
 }
 
-/// The statuses of the responses among the answers to a datagram.
-pub fn statuses_of(answers: &Outbox) -> Packet {
+/// The statuses of the responses among the answers to a datagram, at most 1,472.
+pub fn statuses_of(answers: &Outbox) -> Packet
+    ensures { KeepsStatuses (messages_of_packets answers.now) [] result.items }
+{
     let mut statuses = Packet::new();
     for packet in answers.packets() {
         keep_statuses(&mut statuses, packet.as_slice());

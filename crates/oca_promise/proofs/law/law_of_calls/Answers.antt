@@ -1,6 +1,6 @@
 use Rattle.oca_promise.proofs.Doing.{every_call_does}
 use Rattle.oca_promise.proofs.Keeping.{calls_keep}
-use Rattle.oca_promise.proofs.Promises.{sets_keep, refused_sets_keep, readings_keep, gets_keep, locks_keep, unlocks_keep}
+use Rattle.oca_promise.proofs.Promises.{sets_keep, refused_sets_keep, readings_keep, gets_keep, locks_keep, unlocks_keep, classes_keep, roles_keep, labels_keep, members_keep, descriptions_keep}
 use Rattle.oca_promise.proofs.law.law_of_calls.Goals as goal
 
 pub returns : goal.returns
@@ -17,4 +17,9 @@ returns c =
       get = gets_keep said.between said.ok said.reads said.met law;
       lock = locks_keep said.between said.ok law;
       unlock = unlocks_keep said.between said.ok law;
+      class = classes_keep said.between said.ok said.met law;
+      role = roles_keep said.between said.ok law;
+      label = labels_keep said.between said.ok law;
+      members = members_keep said.between said.ok said.met law;
+      describes = descriptions_keep said.between said.ok said.met law;
     }
