@@ -455,7 +455,8 @@ texts_keep between oks law r m text_of is_request every by_method shape_is_text 
     record {
       request = f.request;
       asks = f.calls;
-      answer = answer_fields ok.answer;
+      answer = ok.answer;
+      answered = subst (λ (x : Outcome). AsksIn f.request old new x) ok.is f.asks;
       keeps = follows OfOks (HadText text_of target text) f.request (answer_fields ok.answer) old new
           (had_text r m text_of is_request every by_method shape_is_text gives target text f.request ok.answer f.calls ok.ok (ap (λ ps. whole (text_at ps)) ok.params_are ∙ params.2))
           (answered_call OfOks (also IsOfOneExecutionSince OksSayWhatIsHeld between oks) law target class.Block r old new o ok.answer f ok.is);
@@ -535,7 +536,8 @@ members_keep between oks met law target numbers old new (o, f, e) =
     record {
       request = f.request;
       asks = f.calls;
-      answer = answer_fields ok.answer;
+      answer = ok.answer;
+      answered = subst (λ (x : Outcome). AsksIn f.request old new x) ok.is f.asks;
       keeps = follows MembersAll (HadMembers target numbers) f.request (answer_fields ok.answer) old new
           (had_members target numbers f.request ok.answer f.calls ok.ok (ap members_in ok.params_are ∙ params.2))
           (answered_call MembersAll (also (Both IsOfOneExecutionSince ClassesMetAreThoseAtFirst) OksSayWhatIsHeld (also IsOfOneExecutionSince ClassesMetAreThoseAtFirst between met) oks) law target class.Block asked.GetMembers old new o ok.answer f ok.is);
@@ -567,7 +569,8 @@ fields_keep between oks met law target fields old new (o, f, e) =
     record {
       request = f.request;
       asks = f.calls;
-      answer = answer_fields ok.answer;
+      answer = ok.answer;
+      answered = subst (λ (x : Outcome). AsksIn f.request old new x) ok.is f.asks;
       keeps = follows ClassAll (HadFields target fields) f.request (answer_fields ok.answer) old new
           (had_fields target fields f.request ok.answer f.calls ok.ok (ap class_id_in ok.params_are ∙ params.2))
           (answered_call ClassAll (also (Both IsOfOneExecutionSince ClassesMetAreThoseAtFirst) OksSayWhatIsHeld (also IsOfOneExecutionSince ClassesMetAreThoseAtFirst between met) oks) law target class.Block asked.GetClassIdentification old new o ok.answer f ok.is);
