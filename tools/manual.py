@@ -9,7 +9,7 @@ In a page a command is a `.SS` of the section COMMANDS, and an option of it, beh
 \\-\\-NAME`. Options that several commands have are in the section COMMON OPTIONS, where a `.SS` lists the commands: `replay and serve`, or `All
 commands`, or `All commands but replay`.
 
-Where groff is installed, it must find nothing to warn of. The step is tried itself, by pages that are wrong. The last line is 'N passed, M
+A page is titled by its name, the day of its version and that version. Where groff is installed, it must find nothing to warn of. The step is tried itself, by pages that are wrong. The last line is 'N passed, M
 failed'."""
 import re
 import shutil
@@ -188,6 +188,15 @@ def ends_told(text, program):
     return faults
 
 
+def title_of(program, folder):
+    """The title of a program's page: its name, the day on which its version was set, by the newest one in CHANGELOG.md, and that version, as the
+    program says it."""
+    version = subprocess.run([f"{folder}/{program}", "--version"], capture_output=True, text=True, timeout=30, check=True).stdout.split()[1]
+    date = re.search(r"^## \[(.+)\] - ([\d-]+)$", (PAGES.parent / "CHANGELOG.md").read_text(), re.MULTILINE)
+    day = date[2] if date and date[1] == version else "of no day"
+    return f'.TH {program.upper()} 1 {day} "Rouxcanyon {version}" "User Commands"'
+
+
 def is_found(name, there, other, folder):
     """Whether a page that is wrong so differs from the program."""
     text = (PAGES / f"{name}.1").read_text()
@@ -202,6 +211,7 @@ def main():
         faults, count = faults_of(page.read_text(), f"{folder}/{name}")
         faults += warnings_of(page) + ends_told(page.read_text(), name)
         checks.all_but(count + len(ENDED[name]), [f"{name}.1: {fault}" for fault in faults])
+        checks.expect(f"{name}.1 is titled otherwise than {title_of(name, folder)}", page.read_text().startswith(title_of(name, folder) + "\n"))
     faults, count = explanations(folder)
     checks.all_but(count, faults)
     for name, there, other in WRONG:
