@@ -1176,6 +1176,7 @@ static void keeps(void) {
 /* Sockets: each call of a closed one, of a null pointer, and two that talk. */
 static void sockets(void) {
     struct oca_socket one = OCA_SOCKET_INIT, two = OCA_SOCKET_INIT, third = OCA_SOCKET_INIT;
+    static const uint8_t large[70000] = {0};
     uint8_t bytes[9] = {0};
     size_t len = 77;
     uint32_t ip = 77;
@@ -1212,7 +1213,7 @@ static void sockets(void) {
     same("a receive until a moment that is past", end.receive(end.context, before - 1, bytes, 9, &len, &ip, &port) || end.receive(end.context, 0, bytes, 9, &len, &ip, &port), 0);
     same("a receive until then", end.receive(end.context, before + 30, bytes, 9, &len, &ip, &port), 0);
     same("it waited", oca_socket_now() >= before + 30, 1);
-    same("a datagram that is too large", oca_socket_send(&one, bytes, 70000, 0x7F000001, 9) == OCA_SOCKET_SYSTEM && strcmp(one.call, "sendto") == 0 && one.error != 0, 1);
+    same("a datagram that is too large", oca_socket_send(&one, large, sizeof large, 0x7F000001, 9) == OCA_SOCKET_SYSTEM && strcmp(one.call, "sendto") == 0 && one.error != 0, 1);
     oca_socket_close(&one);
     same("closed", !one.is_open && one.call == NULL && oca_socket_wait(&one, 0) == OCA_SOCKET_CLOSED, 1);
     oca_socket_close(&two);
