@@ -109,14 +109,16 @@ pub fn read_names(params: &[u8]) -> Option<Names>
     read_list(params)
 }
 
-/// Appends the names of positions as an OcaList of texts (AES70-3). Refusal: `Full`.
+/// Appends the names of positions as an OcaList of texts (AES70-3). Refusal: `Full`, where the parameters would pass
+/// their room; a part of the list may then stand behind them, so discard them.
 pub fn put_names(params: &mut Params, names: &Names) -> Result<(), PutFault>
     ensures { Puts result params.old.items params.new.items (list_encoding text_encoding names.now.items) }
 {
     put_list(params, names.as_slice())
 }
 
-/// Appends which positions are enabled, as an OcaList of Booleans (AES70-3). Refusal: `Full`.
+/// Appends which positions are enabled, as an OcaList of Booleans (AES70-3). Refusal: `Full`, where the parameters
+/// would pass their room; a part of the list may then stand behind them, so discard them.
 pub fn put_flags(params: &mut Params, flags: &Flags) -> Result<(), PutFault>
     ensures { Puts result params.old.items params.new.items (list_encoding bool_encoding flags.now.items) }
 {

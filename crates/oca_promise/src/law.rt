@@ -13,9 +13,11 @@ use oca_pdu::law_reading;
 /// [`law_of_what_is_said`](oca_pair::law_of_what_is_said) hold.
 ///
 /// Once: each answer is that of the only execution of the command that the call asked, and this lies between the call
-/// and its return. Refused: a refusal changed nothing. Set: what `set` confirms was set. Get: what `get` returns is what
-/// the object held at a moment between. Reading, lock, unlock, class, role, label and members likewise. Describes: what
-/// a walk tells of an object, its class and its role, are the object's.
+/// and its return. In time: no call sends while its link is late, if no stranger's datagram was delivered. Refused: a
+/// refusal changed no object. Set: what `set` confirms was set, if the object is of the value's class. Get: what `get`
+/// returns is what the object held at a moment between. Reading likewise, if the object is of the class that was given;
+/// members, if it is a block; lock, unlock, class, role and label. Describes: what a walk tells of an object, its class
+/// and its role, are the object's. Over an end that does not tell, deliveries and answer are some that fit the call.
 pub fn law_of_calls()
     ensures once { EveryAnsweredCallKeeps IsOfOneExecutionSince }
     ensures in_time { EveryCallIsInTime }
