@@ -30,7 +30,7 @@ struct oca_outcome oca_panel_state(struct oca_panel *panel) {
 }
 
 /* Sends all that is due. */
-static struct oca_outcome give_out(struct oca_panel *panel) {
+static struct oca_outcome send_due(struct oca_panel *panel) {
     uint8_t bytes[OCA_MOST_BYTES] = {0};
     uint32_t due = OCA_DUE_NOTHING, handle = 0;
     size_t len = 0;
@@ -58,7 +58,7 @@ static struct oca_outcome turn_until(struct oca_panel *panel, uint64_t until) {
     if (oca_link_next_due(&panel->link, &due) == OCA_DONE && due < until) until = due;
     if (panel->end.receive(panel->end.context, until, bytes, sizeof bytes, &len, &ip, &port) && len <= OCA_MOST_BYTES)
         (void)oca_link_datagram(&panel->link, ip, port, bytes, len, now_of(panel), &reception, &answered);
-    return give_out(panel);
+    return send_due(panel);
 }
 
 struct oca_outcome oca_panel_turn(struct oca_panel *panel) {
@@ -71,7 +71,7 @@ enum oca_result oca_panel_begin(struct oca_panel *panel, uint32_t ono, uint32_t 
     if (state.asked == OCA_ASKED_LATE) return OCA_LOST;
     if (!panel->link.is_open) return OCA_CLOSED;
     const enum oca_result taken = oca_link_call(&panel->link, ono, method, count, params, params_len, now_of(panel), handle);
-    if (taken == OCA_DONE) (void)give_out(panel);
+    if (taken == OCA_DONE) (void)send_due(panel);
     return taken;
 }
 
@@ -125,7 +125,7 @@ enum oca_result oca_flight_push(struct oca_flight *flight, uint32_t handle, void
     return OCA_DONE;
 }
 
-/* Takes the command in front out, once it is known how it fared. */
+/* Takes the first command out, once it is known how it came out. */
 static struct oca_outcome take_first(struct oca_flight *flight, struct oca_outcome outcome, void **item) {
     *item = flight->items[flight->first % 32];
     if (outcome.asked == OCA_ASKED_UNANSWERED) return outcome;
@@ -271,7 +271,7 @@ static void walk_put(struct oca_walk *walk, uint32_t ono, uint32_t container) {
     walk->places[first].container = container;
 }
 
-/* Whether a walk can't go on after a question that fared so. */
+/* Whether a walk can't go on after a question that ended so. */
 static bool ends_at(struct oca_outcome outcome) { return outcome.asked == OCA_ASKED_NOT_SENT || outcome.asked == OCA_ASKED_UNANSWERED; }
 
 struct oca_outcome oca_panel_walk(struct oca_panel *panel, struct oca_walk *walk, oca_visitor visit, void *context) {

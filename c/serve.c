@@ -26,7 +26,7 @@ static bool store_objects(struct oca_server *server) {
     return server->stored == OCA_STORE_DONE;
 }
 
-/* Stores what was set at the front; where that fails, again a second later. */
+/* Stores what was set at the local front panel; where that fails, again a second later. */
 static void store_front(struct oca_server *server, bool at_once) {
     hold(server);
     const bool wanted = server->is_set && server->store;
@@ -72,7 +72,7 @@ static enum oca_result take_in(struct oca_server *server, const uint8_t *bytes, 
     return OCA_DONE;
 }
 
-/* Until when to wait for a datagram: until a clock reading changes something, or what was set at the front is to be stored again. */
+/* Until when to wait for a datagram: until a clock reading changes something, or what was set at the local front panel is to be stored again. */
 static uint64_t wait_until(struct oca_server *server, uint64_t until) {
     uint64_t lapse = 0;
     hold(server);

@@ -9,7 +9,8 @@ import re
 import sys
 from pathlib import Path
 
-HEADER = Path(__file__).resolve().parent.parent / "include/oca.h"
+TOP = Path(__file__).resolve().parent.parent
+HEADER = TOP / "include/oca.h"
 CALL = r"^(?:static inline )?(?:(?:enum|struct) oca_\w+|const char|u?int\d+_t|size_t|void) \*?(oca_\w+)\([^)]*\)"
 
 
@@ -37,6 +38,9 @@ ANSWERS = [
     (r"oca_device_keep", "CLOSED NOT_STARTED TOO_SMALL"),
     (r"oca_spec_restore", "BAD_TEXT BAD_RANGE BAD_SIZE OTHER_KIND OUT_OF_RANGE"),
     (r"oca_device_set", f"CLOSED NOT_STARTED {SET} NO_VALUE"),
+    (r"oca_device_set_label", "BAD_TEXT CLOSED NOT_STARTED NO_OBJECT"),
+    (r"oca_device_(set_enabled|set_failing|is_failing)", "CLOSED NOT_STARTED NO_OBJECT"),
+    (r"oca_device_unlock", "CLOSED NOT_STARTED NOTHING NO_OBJECT"),
     (r"oca_device_set_\w+", f"CLOSED NOT_STARTED {SET}"),
     (r"oca_link_(submit|ask|call)|oca_panel_begin", f"CLOSED {SUBMITTED}"),
     (r"oca_panel_begin_[sg]et", f"CLOSED {SUBMITTED} NO_VALUE"),
@@ -79,8 +83,7 @@ def comment_in(text):
 
 
 def declarations(text):
-    """The calls that a paragraph of the header declares, each with its declaration, and its enums, structs and types of
-    functions by name."""
+    """The calls that a paragraph of the header declares, each with its declaration, and its enums, structs and types of functions by name."""
     calls = {found[1]: found[0] + ";" for found in re.finditer(CALL, text, re.M) if found[1] not in HELPERS}
     types = {found[1]: found[0] for found in re.finditer(r"^((?:struct|enum) oca_\w+) \{[^}]*\};", text, re.M)}
     types.update({found[1]: found[0] for found in re.finditer(r"^typedef \w+ \(\*(oca_\w+)\)\([^)]*\);", text, re.M)})
@@ -118,9 +121,20 @@ def roff(text):
     return re.sub(r"^([.'])", r"\\&\1", safe, flags=re.M)
 
 
+def day_of(version):
+    """The day on which a version was set: that of the newest version in CHANGELOG.md, if it is this one."""
+    newest = re.search(r"^## \[(.+)\] - ([\d-]+)$", (TOP / "CHANGELOG.md").read_text(), re.M)
+    return newest[2] if newest and newest[1] == version else "of no day"
+
+
+def title(name, section, version, kind):
+    """The first line of a page: its name, its section, the day of its version, that version, and what it belongs to."""
+    return f'.TH {name} {section} {day_of(version.split()[-1])} "{version}" "{kind}"'
+
+
 def page(name, said, declared, types, general, answers, version):
     about = said.split("\n")[0].split(". ")[0].split("; ")[0].rstrip(".")
-    parts = [f'.TH {name} 3 "" "oca {version}" "OCA (AES70) for C"', ".SH NAME", f"{name} \\- {about}", ".SH SYNOPSIS", ".nf", "#include <oca.h>", "",
+    parts = [title(name, 3, f"oca {version}", "OCA (AES70) for C"), ".SH NAME", f"{name} \\- {about}", ".SH SYNOPSIS", ".nf", "#include <oca.h>", "",
              *[roff(of) + "\n" for of in types], roff(declared), ".fi", ".SH DESCRIPTION", said]
     if re.search("enum oca_((store|socket)_)?result oca_", declared):
         parts += [".SH RETURN VALUE", ".nf", roff(answers), ".fi"]

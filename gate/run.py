@@ -40,7 +40,7 @@ TABLE = []  # a line for each command that has ended
 WRONG = []  # lines that say what failed
 PROVED = re.compile(r"rt: (\S+) (?:proved$|is kept: )")  # what `rt ci` says of a crate that it has proved
 ENDED = "(ended)"
-SAYS_WRONG = re.compile(r"FAILED|NOT (PROVED|REFUSED|TRIED|BUILT)|is not what its file")
+SAYS_WRONG = re.compile(r"WRONG: |FAILED|NOT (PROVED|REFUSED|TRIED|BUILT)|is not what its file")
 MOST_WRONG = 12  # so many of these lines are shown at the end
 
 

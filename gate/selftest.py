@@ -32,43 +32,17 @@ from selftest_tools import checks, edits, lossy, snippets
 import panel
 import runs
 import unreliable
+from tables import data
 
 HERE = Path(__file__).resolve().parent
 GOOD = "3 1 echo '3 passed, 0 failed'"
-
-# what the steps are, the steps, whether the gate passes, and what its last line is
-CASES = [
-    ("a step that passes what it must", GOOD, True, "3 passed, 0 failed"),
-    ("a step that passes more", "2 1 echo '3 passed, 0 failed'", True, "3 passed, 0 failed"),
-    ("a step that counts nothing and ends well", "1 1 true", True, "1 passed, 0 failed"),
-    ("two paragraphs", f"{GOOD}\n{GOOD}\n\n1 1 true", True, "7 passed, 0 failed"),
-    ("a step that tries nothing", "1 1 echo '0 passed, 0 failed'", False, "0 passed, 1 failed"),
-    ("a step that tries too little", "4 1 echo '3 passed, 0 failed'", False, "3 passed, 1 failed"),
-    ("a step with a failed check", "1 1 echo '3 passed, 2 failed'", False, "3 passed, 2 failed"),
-    ("a step with a failed check and status 1", "1 1 echo '3 passed, 2 failed'; exit 1", False, "3 passed, 2 failed"),
-    ("a step that ends badly behind a good count", "3 1 echo '3 passed, 0 failed'; exit 1", False, "3 passed, 1 failed"),
-    ("a step that crashes", "1 1 python3 -c 'raise SystemError'", False, "0 passed, 1 failed"),
-    ("a step that is killed", "1 1 kill -9 $$", False, "0 passed, 1 failed"),
-    ("a step that prints more behind its count", "3 1 echo '3 passed, 0 failed'; echo 'and died'", False, "1 passed, 1 failed"),
-    ("a step whose last line has a count and more", "3 1 echo 'of 3 passed, 0 failed: crashed'", False, "1 passed, 1 failed"),
-    ("a step that hangs", "1 0.01 sleep 600", False, "0 passed, 1 failed"),
-    ("a step that hangs behind a good count", "3 0.02 echo '3 passed, 0 failed'; sleep 600", False, "0 passed, 1 failed"),
-    ("a command that is not there", "1 1 ./no-such-command", False, "0 passed, 1 failed"),
-    ("a failed step between good ones", f"{GOOD}\n1 1 false\n{GOOD}", False, "6 passed, 1 failed"),
-    ("a step without a least number", f"{GOOD}\npython3 x.py", False, "3 passed, 1 failed"),
-    ("a least number of 0", f"{GOOD}\n0 1 true", False, "3 passed, 1 failed"),
-    ("no step", "# nothing\n", False, "0 passed, 1 failed"),
-    ("a step beside others that fails", f"&1 1 false\n{GOOD}\n\n{GOOD}", False, "6 passed, 1 failed"),
-    ("a step beside others that tries too little", f"& 4 1 echo '3 passed, 0 failed'\n\n{GOOD}", False, "6 passed, 1 failed"),
-    ("a step beside others that hangs", f"&1 0.01 sleep 600\n{GOOD}", False, "3 passed, 1 failed"),
-    ("a step beside others gives way", f"&1 1 test $(nice) -eq 19\n1 1 test $(nice) -eq {os.nice(0)}\n{GOOD}", True, "5 passed, 0 failed"),
-]
-
+DATA = data("gate")
 
 def gate_over(folder, steps):
     """The status of the gate over these steps, its last line, and what it tells of what failed."""
     (folder / "steps").write_text(steps + "\n")
-    ran = subprocess.run([sys.executable, str(HERE / "run.py"), "steps", str(folder / "steps")], capture_output=True, text=True, timeout=120)
+    words, env = [sys.executable, str(HERE / "run.py"), "steps", str(folder / "steps")], dict(os.environ, NICE=str(os.nice(0)))
+    ran = subprocess.run(words, env=env, capture_output=True, text=True, timeout=120)
     told = [line.removeprefix("gate: wrong: ") for line in ran.stdout.splitlines() if line.startswith("gate: wrong: ")]
     return ran.returncode, run.last_line(ran.stdout), sorted(told)
 
@@ -166,17 +140,6 @@ def waits_for_proofs(_):
     return all(found) and real(1_000_000) and not real(0)
 
 
-# what `rt ci` does, how many checks it is to pass, and what is counted of it
-OF_CI = [
-    ("rt ci that passes", "echo 'proved'; echo '3 passed, 0 failed (1 kept)'; echo '3 passed, 0 failed'", 3, (3, 0)),
-    ("rt ci that passes too little", "echo '3 passed, 0 failed'", 4, (3, 1)),
-    ("rt ci that fails", "echo '3 passed, 2 failed'; exit 1", 3, (3, 2)),
-    ("rt ci that ends badly behind a good count", "echo '3 passed, 0 failed'; exit 1", 3, (3, 1)),
-    ("rt ci that says nothing", "true", 3, (1, 1)),
-    ("rt ci that is not there", "./no-such-command", 3, (0, 1)),
-]
-
-
 def is_counted(_, command, least, wanted):
     """Whether so many checks are counted of a command that is watched."""
     return is_same(wanted, said(run.watched, command, least)[0])
@@ -200,14 +163,6 @@ def knows_what_is_waited_for(folder):
     return found == ["a", None, None, None]
 
 
-# What `rt ci` counts, what the steps count, the tools that no step runs, the lanes, what the environment says, whether `rt ci` takes names, and
-# whether the crate that others wait for is asked for before.
-OF_ALL = [((3, 0), (5, 0), [], 3, {}, True, True), ((3, 1), (5, 0), [], 3, {"CI": "false"}, True, True), ((3, 0), (5, 1), [], 2, {}, True, True),
-          ((3, 0), (5, 0), ["x.py"], 3, {"RT_JOBS": "0"}, True, True), ((3, 0), (5, 0), [], 3, {"RT_JOBS": ""}, True, True),
-          ((3, 0), (5, 0), [], 1, {}, True, False), ((3, 0), (5, 0), [], 3, {"RT_JOBS": "3"}, True, False),
-          ((3, 0), (5, 0), [], 3, {"CI": "true"}, True, False), ((3, 0), (5, 0), [], 3, {}, False, False)]
-
-
 def counts_all(_):
     """The whole gate passes only where `rt ci`, its steps and their list do: each of them is made to fail alone. It calls
     `rt ci` without other words, on as many lanes as there are, for as many checks as that is to pass, and every step of
@@ -215,7 +170,7 @@ def counts_all(_):
     true, `rt ci` of the crate that all others wait for, whose failure is left to the other call."""
     words = lambda steps: [(it.least, it.minutes, it.command) for it in steps]
     steps, found, wanted, places = [words(part) for part in run.paragraphs(HERE / "steps")], [], [], set()
-    for of_ci, of_steps, missing, lanes, says, takes_names, is_first in OF_ALL:
+    for of_ci, of_steps, missing, lanes, says, takes_names, is_first in DATA.of_all:
         asked, failed = [], of_ci[1] + of_steps[1] + len(missing)
         watched = lambda command, least, note=None: asked.append((command, least)) or places.add(writes()) or (of_ci if note else (0, 1))
         ran = lambda given, _, early: asked.append(([words(part) for part in given], early)) or [of_steps]
@@ -336,31 +291,10 @@ def builds_as_asked(_):
     return is_same([first, 0, second, 0, third, 7, fourth, 0, 1], found)
 
 
-# Lines that stand in a document, what was printed, and whether that is the same.
-SESSIONS = [
-    (["a"], ["a"], True), (["a"], ["b"], False), (["a"], ["a", "b"], False), (["a", "b"], ["a"], False),
-    (["b"], ["a", "b"], False),
-    (["a.c"], ["abc"], False), (["a ... c"], ["a b c"], True), (["a ... c"], ["a b d"], False),
-    (["..."], ["a", "b"], True),
-    (["a", "...", "b"], ["a", "b"], True), (["a", "...", "b"], ["a", "c", "d", "b"], True),
-    (["a", "...", "b"], ["a", "c"], False), (["quiet 12 ms"], ["quiet 7 ms"], True),
-    (["quiet 12 ms"], ["quiet x ms"], False), (["at 12 ms"], ["at 7 ms"], False), ([], [], True), ([], ["a"], False),
-]
-# Lines of code that stand in a document, and whether they stand so in the file with these lines.
-FILE = ["fn f() {", "    g();", "    h();", "}", "fn g() {}"]
-PIECES = [
-    (["fn f() {", "    g();"], True), (["g();", "h();"], True), (["h();", "g();"], False), (["g();", "}"], False),
-    (["g()"], False),
-    (["fn f() {", "...", "}"], True), (["fn f() {", "// ...", "fn g() {}"], True),
-    (["fn g() {}", "...", "fn f() {"], False),
-    (["g();", "...", "g();"], False), (["none"], False),
-]
-
-
 def compares_documents(_):
     """`snippets.py` sees where a session prints otherwise, and where a piece of code is not in its file."""
-    wrong = [it for it in SESSIONS if snippets.is_like(it[0], it[1]) != it[2]]
-    wrong += [it for it in PIECES if snippets.is_in(it[0], "\n".join(FILE)) != it[1]]
+    wrong = [it for it in DATA.sessions if snippets.is_like(it[0], it[1]) != it[2]]
+    wrong += [it for it in DATA.pieces if snippets.is_in(it[0], "\n".join(DATA.file)) != it[1]]
     blocks = list(snippets.blocks("a\n\n    $ b\n    c\n\nd\n```sh x/y\ne\n```\n"))
     return is_same([], wrong) and is_same([(3, "", ["$ b", "c"]), (8, "sh x/y", ["e"])], blocks)
 
@@ -375,23 +309,6 @@ def lists_each_edit(_):
     return refused == [("a.edit", False), ("b.edits", True), ("c", True)]
 
 
-# What the prover says of a copy of a crate: its status, its lines, and which of three edits it refuses by that: one of `m::f`, one of `m::g`, which
-# calls it, and one of no function.
-DIFFERS, GONE = "F.antt:1:2: error: the two sides differ", "error: `x` is not in scope"
-CALLS, END = "fn a::m::g: not proved: it calls a::m::f", "logic=not-proved"
-SAID_OF_EDITS = [
-    (0, ["logic=proved"], ()),
-    (1, [f"proofs/m/f/{DIFFERS}", "fn a::m::f: not proved: its proof", CALLS, END], "f "),
-    (1, ["fn a::m::f: not proved: the search did not prove a goal", CALLS, END], "f "),
-    (1, [f"proofs/m/f/F.antt:1:2: {GONE}", "fn a::m::f: not proved: its proof", END], ()),
-    (1, [f"proofs/m/f/F.antt:1:2: {GONE}", "fn a::m::f: not proved: the search did not prove a goal", END], " "),
-    (1, [CALLS, END], ()),
-    (1, [f"proofs/m/h/{DIFFERS}", "fn a::m::h: not proved: its proof", END], " "),
-    (1, [f"src/m.rt:1:2: {GONE}", END], ()),
-    (2, [f"proofs/m/f/{DIFFERS}", "it ended"], ()),
-]
-
-
 def answered(lines, texts=()):
     """What the prover says of a copy of a crate with these texts, where these lines tell of what is not proved."""
     told = "\n".join([*lines, "logic=not-proved" if lines else "logic=proved"]) + "\n"
@@ -404,53 +321,18 @@ def judges_edits(_):
     functions = {"f": [edits.Function(["m"], None, "f", 0, 1)], "g": [edits.Function(["m"], None, "g", 2, 3)], " ": []}
     tried = {name: SimpleNamespace(functions=its) for name, its in functions.items()}
     found, told = [], []
-    for status, lines, _ in SAID_OF_EDITS:
+    for status, lines, _ in DATA.said_of_edits:
         answer = edits.Answer(SimpleNamespace(returncode=status, stdout="\n".join(lines) + "\n"), {})
         found.append([name for name in tried if answer.refuses(tried[name].functions)])
         told += [answer.reason(tried[name]) for name in tried if name not in found[-1]]
-    return found == [list(refused) for *_, refused in SAID_OF_EDITS] and all(told)
-
-
-# A crate with a function that two edits change, one that none does, and a method of a trait; the copies that one check has of it, behind that
-# function: as it stands, and with the second edit.
-SOURCE = """/// Counts.
-#[tactic(auto,
-    using(a::b))]
-pub fn f(n: u8) -> u8 {
-    n + 1
-}
-
-impl Default for T {
-    fn default() -> T {
-        T(1)
-    }
-}
-"""
-COPIES = """
-/// Counts.
-#[tactic(auto,
-    using(a::b))]
-pub fn f_edited_1(n: u8) -> u8 {
-    n + 3
-}
-
-/// Counts.
-#[tactic(auto,
-    using(a::b))]
-pub fn f_as_it_stands(n: u8) -> u8 {
-    n + 1
-}
-"""
-OF_F = "use Rattle.a.proofs.m.f.Goals as goal\nx : goal.f.proofs.m.fine\n"
-# Of which functions the prover says in the check that a goal fails, and which of the two edits are refused by that.
-SAID_OF_COPIES = [("f f_edited_1", "a b"), ("f", "a"), ("f_edited_1", "b"), ("f f_edited_1 f_as_it_stands", "a"), ("", "")]
+    return found == [list(refused) for *_, refused in DATA.said_of_edits] and all(told)
 
 
 def copies_edits(_):
     """A further edit of a function is tried in a copy of it, with a copy of its proof and a copy as it stands, which must be proved; a further one of
     a method of a trait, or of two functions, in another check. Edits that are left are tried without copies."""
     with tempfile.TemporaryDirectory() as folder:
-        for name, text in (("src/m.rt", SOURCE), ("proofs/m/f/Answers.antt", OF_F)):
+        for name, text in (("src/m.rt", DATA.source), ("proofs/m/f/Answers.antt", DATA.of_f)):
             Path(folder, name).parent.mkdir(parents=True)
             Path(folder, name).write_text(text)
         crate = SimpleNamespace(folder=folder, name="a")
@@ -463,12 +345,12 @@ def copies_edits(_):
         alone = [it.edits() for it in edits.grouped(of.values(), crate)]
         is_grouped = is_grouped and alone == [[of["a"], of["c"]], [of["b"], of["d"]]]
         texts = groups[0].texts(crate, groups[0].copies(crate))
-        behind = SOURCE.replace("n + 1\n}\n", "n + 2\n}\n" + COPIES).replace("T(1)", "T(2)")
+        behind = DATA.source.replace("n + 1\n}\n", "n + 2\n}\n" + DATA.copies).replace("T(1)", "T(2)")
         names = ["f_as_it_stands", "f_edited_1"]
-        proofs = {f"proofs/m/{it}/Answers.antt": OF_F.replace("proofs.m.f.", f"proofs.m.{it}.") for it in names}
+        proofs = {f"proofs/m/{it}/Answers.antt": DATA.of_f.replace("proofs.m.f.", f"proofs.m.{it}.") for it in names}
         is_copied = texts == {"src/m.rt": behind, **proofs}
-        return is_grouped and is_copied and [judged_copies(crate, of, told) for told, _ in SAID_OF_COPIES] == [
-            refused.split() for _, refused in SAID_OF_COPIES]
+        return is_grouped and is_copied and [judged_copies(crate, of, told) for told, _ in DATA.said_of_copies] == [
+            refused.split() for _, refused in DATA.said_of_copies]
 
 
 def judged_copies(crate, of, told):
@@ -484,76 +366,18 @@ def judged_copies(crate, of, told):
     return refused if is_told and asked == [["m::f", "m::f_as_it_stands", "m::f_edited_1"]] else None
 
 
-# Functions of a file with what stands in their bodies, and whether that can be left out where only `touched` is checked.
-BODIES = """pub const fn full() -> bool {
-    true
-}
-
-#[cycle(around)]
-fn round(n: u8) -> u8 {
-    round(n)
-}
-
-pub fn law()
-    ensures { here }
-{}
-
-pub fn touched(n: u8) -> u8 {
-    other(n)
-}
-
-#[tactic(auto)]
-pub fn other(
-    n: u8,
-) -> u8
-    requires { n < 9 }
-{
-    let m = n;
-    m + 2
-}
-
-impl Copy for T {}
-
-extern "C" {
-    fn write(
-        n: u8,
-    ) -> u8;
-}
-
-impl Default for T {
-    fn default() -> T {
-        T(1)
-    }
-}
-
-impl T {
-    pub fn of(n: u8) -> T {
-        T(n)
-    }
-}
-"""
-EMPTY = BODIES.replace("    let m = n;\n    m + 2\n", "    #[tactic(none)] unreachable!();\n\n").replace(
-    "        T(n)\n", "        #[tactic(none)] unreachable!();\n")
-# What the prover says of `touched` and others where these are empty, and where they are not; whether the edit of `touched` is refused, and how many
-# checks that takes.
-LEMMA = f"proofs/Lemmas.antt:1:2: {GONE}"
-OPEN, ALSO = (f"fn a::m::{it}: no proof: the search did not prove a goal" for it in ("touched", "other"))
-SAID_OF_EMPTY = [([OPEN, ALSO], [], True, 1), ([OPEN, LEMMA], [], False, 2), ([OPEN, LEMMA], [OPEN], True, 2),
-                 ([ALSO], [OPEN], False, 1), ([OPEN, "fn a::m::full: no proof: the search did not prove a goal"], [], False, 2)]
-
-
 def empties_functions(_):
     """Functions that no edit touches are checked without their bodies and proofs, but for those of traits, constants,
     cycles and C; where anything else than what was changed fails then, they are checked once more with them."""
     with tempfile.TemporaryDirectory() as folder:
         Path(folder, "src").mkdir()
-        Path(folder, "src/m.rt").write_text(BODIES)
+        Path(folder, "src/m.rt").write_text(DATA.bodies)
         Path(folder, "one.edit").write_text("file: src/m.rt\nold: other(n)\nnew: 1 + other(n)\n")
         crate = SimpleNamespace(folder=folder, name="a")
         edit = edits.Edit(Path(folder, "one.edit"), crate)
         texts, empty = edits.emptied(crate, {}, edit.functions)
-        found = [texts == {"src/m.rt": EMPTY}, [it.path() for it in empty] == ["m::other", "m::T::of"]]
-        for without_bodies, whole, is_refused, checks in SAID_OF_EMPTY:
+        found = [texts == {"src/m.rt": DATA.empty}, [it.path() for it in empty] == ["m::other", "m::T::of"]]
+        for without_bodies, whole, is_refused, checks in DATA.said_of_empty:
             asked, trial = [], edits.Trial(crate, folder)
 
             def checked(texts, paths, without):
@@ -566,29 +390,11 @@ def empties_functions(_):
         return all(found)
 
 
-# Functions with a clause that is wanted of them alone and others; those whose contract is narrowed where `f` and `g` are checked, and where `h`,
-# which calls `g`, is too.
-CONTRACT = """    requires { n < 9 }
-    ensures low { result < 9 }
-    ensures high {
-        0 < result
-    }
-    ensures* kept { n }
-"""
-PROMISES = "".join(f"/// Counts.\npub fn {name}(\n    n: u8,\n) -> u8\n{CONTRACT}{{\n    {body}\n}}\n\n"
-                   for name, body in (("f", "n + 1"), ("g", "n + f(n)"), ("h", "g(n)"), ("by_hand", "n + 2")))
-NARROW = CONTRACT.replace("    ensures high {\n        0 < result\n    }\n", "\n\n\n")
-# The clause that an edit of `f` names, what the prover says of `f`, narrowed and alone, and what is told of the edit.
-SAID_OF_CLAUSES = [("low", ["f"], ["f"], "refused"), ("low", [], ["f"], "FAILED: the clause low does not refuse it"),
-                   ("low", [], [], "FAILED: NOT REFUSED"), ("none", ["f"], ["f"], "FAILED: its function ensures no clause none"),
-                   ("kept", ["f"], ["f"], "FAILED: its function ensures no clause kept")]
-
-
 def narrows_contracts(_):
     """Where edits name the clauses that refuse them, their functions ensure those alone, but for a function that other
     code in the check calls, and one whose proof is by hand. An edit that another clause refuses has failed."""
     with tempfile.TemporaryDirectory() as folder:
-        for name, text in (("src/m.rt", PROMISES), ("proofs/m/by_hand/Answers.antt", ""), ("f.edit", "n + 1"), ("g.edit", "n + f(n)"),
+        for name, text in (("src/m.rt", DATA.promises), ("proofs/m/by_hand/Answers.antt", ""), ("f.edit", "n + 1"), ("g.edit", "n + f(n)"),
                            ("h.edit", "    g(n)"), ("by_hand.edit", "n + 2")):
             Path(folder, name).parent.mkdir(parents=True, exist_ok=True)
             Path(folder, name).write_text(text if "/" in name else f"clause: low\nfile: src/m.rt\nold: {text}\nnew: {text} + 1\n")
@@ -599,10 +405,10 @@ def narrows_contracts(_):
             groups = edits.grouped([of[it] for it in names.split()], crate, True)
             texts, _ = edits.emptied(crate, groups[0].texts(crate, []), [of[it].functions[0] for it in names.split()])
             texts, paths = edits.narrowed(crate, texts, groups[0].wanted(crate, []))
-            wanted = {name: "\n    n: u8,\n) -> u8\n" + (NARROW if name == narrow else CONTRACT) for name in of}
+            wanted = {name: "\n    n: u8,\n) -> u8\n" + (DATA.narrow if name == narrow else DATA.contract) for name in of}
             starts = {name: texts["src/m.rt"].split(f"fn {name}(")[1].startswith(wanted[name]) for name in of}
             found += [len(groups) == 1, paths == ({f"m::{narrow}"} if narrow else set()), all(starts.values())]
-        return all(found) and all(told_of_clause(crate, *row) for row in SAID_OF_CLAUSES)
+        return all(found) and all(told_of_clause(crate, *row) for row in DATA.said_of_clauses)
 
 
 def told_of_clause(crate, clause, narrow, whole, wanted):
@@ -621,20 +427,9 @@ def told_of_clause(crate, clause, narrow, whole, wanted):
     return said(trial.told)[1].strip().split(": ", 1)[1].startswith(wanted)
 
 
-# What becomes of two steps, how they stand then, and the commands that are lost by it.
-STEPS = "# two\n 3 1  a b\n\n&2 1  c\n"
-OF_STEPS = [
-    ("nothing", STEPS, []), ("another is added", STEPS + "9 9 d\n", []), ("their order changes, and what they may take", "2 5 c\n4 1 a b\n", []),
-    ("one is taken away", " 3 1  a b\n", ["c"]), ("all are taken away", "", ["a b", "c"]), ("one names fewer checks", STEPS.replace("3 1", "2 1"), ["a b"]),
-    ("a word of one changes", STEPS.replace("a b", "a c"), ["a b"]), ("one is made a comment", "# 3 1  a b\n2 1 c\n", ["a b"]),
-    ("one is taken away, and why is told", "2 1 c\n# was: 3 1 a b: of c\n", []), ("and why is left out", "2 1 c\n# was: 3 1 a b\n", ["a b"]),
-    ("and why is told of fewer checks", "2 1 c\n# was: 2 1 a b: of c\n", ["a b"]), ("one names fewer checks, and why is told",
-     STEPS.replace("3 1", "2 1") + "# was: 3 1 a b: less\n", []), ("one stands twice", STEPS + "2 1 c\n", ["c"])]
-
-
 def is_lost(_, now, wanted):
     """Whether these commands are lost where the two steps stand so."""
-    return is_same(wanted, lost(STEPS, now))
+    return is_same([*wanted], lost(DATA.steps, now))
 
 
 def lost(before, now):
@@ -678,31 +473,17 @@ def stands_on_its_sources(_):
     return len(wanted) > 100 and not missing
 
 
-# What a program prints on each example, by the text that is expected, with its status; and whether the examples pass.
-OF_EXAMPLES = [("said", 0, True), ("''", 0, False), ("said[:-1]", 0, False), ("said[:len(said) // 2]", 0, False),
-               ("said + '\\n'", 0, False), ("'x' + said", 0, False), ("said", 1, False)]
-PRINTS = """#!{python}
-import sys
-from pathlib import Path
-given = sys.stdin.read()
-script = next(it for it in Path({examples!r}).glob("*.script") if it.read_text() == given)
-said = script.with_suffix(".expected").read_text()
-sys.stdout.write({text})
-sys.exit({status})
-"""
-
-
 def compares_examples(folder):
     """`examples/run.py` passes where each example prints just what is expected, with status 0."""
     program, examples, found = folder / "program", run.TOP / "examples", []
     count = len(list(examples.glob("*.script")))
-    for text, status, _ in OF_EXAMPLES:
-        program.write_text(PRINTS.format(python=sys.executable, examples=str(examples), text=text, status=status))
+    for text, status, _ in DATA.of_examples:
+        program.write_text(DATA.prints.format(python=sys.executable, examples=str(examples), text=text, status=status))
         program.chmod(0o755)
         ran = subprocess.run([sys.executable, str(examples / "run.py"), str(program)], capture_output=True, text=True, timeout=120)
         found.append((ran.returncode, run.last_line(ran.stdout)))
     ends = {True: (0, f"{count} passed, 0 failed"), False: (1, f"0 passed, {count} failed")}
-    return count > 0 and found == [ends[good] for _, _, good in OF_EXAMPLES]
+    return count > 0 and found == [ends[good] for _, _, good in DATA.of_examples]
 
 
 def judges_lossy_runs(_):
@@ -761,22 +542,15 @@ def carries_badly(_):
     return is_carried_badly(network, waits, order) and all(way == (number % 3 == 0) for way, number in order)
 
 
-# Runs of programs that end or print otherwise than they must, but for the first.
-DIFFERENT = [(1, b"a\n", b"bad words\n"), (0, b"a\n", b"bad words\n"), (1, b"a\n", b""), (1, b"a", b"bad words\n"), (1, b"a\nb", b"bad words\n"),
-             (1, b"a\n", b"note: more\nbad words\n")]
-
-
 def counts_what_differs(_):
     """What ends or prints otherwise, or is not so, has failed, also in tools that count in a way of their own."""
-    refused, its = unreliable.Runs("", ""), runs.Runs(None)
-    its.ran = lambda *_: SimpleNamespace(returncode=1, stdout=b"a\n", stderr=b"note: more\nbad words\n")
-    before = list(panel.COUNTS)
-    for row in DIFFERENT:
-        said(its.gives, ["a"], b"", *row)
+    refused, its, before = unreliable.Runs("", ""), runs.Runs(""), (panel.ITS.passed, panel.ITS.failed)
+    for status, prints, fault in DATA.different:
+        said(its.compare, ["a"], {"status": status, "prints": prints, "fault": fault}, (1, b"a\n", b"note: more\nbad words\n"))
     found = [said(panel.check, True, "so")[0] is True, said(panel.check, False, "not so")[0] is False]
     said(refused.expect, True, "so")
     said(refused.expect, False, "not so")
-    found += [[a - b for a, b in zip(panel.COUNTS, before)] == [1, 1], refused.wrong == 1]
+    found += [(panel.ITS.passed - before[0], panel.ITS.failed - before[1]) == (1, 1), refused.wrong == 1]
     return all(found) and (its.passed, its.failed) == (1, 5)
 
 
@@ -811,8 +585,8 @@ def tools_with_checks():
     return [(name, importlib.import_module(name)) for name in names]
 
 
-ROWS = [(what, functools.partial(is_as_wanted, steps=steps, passes=passes, last=last)) for what, steps, passes, last in CASES] + [
-    (what, functools.partial(is_counted, command=command, least=least, wanted=wanted)) for what, command, least, wanted in OF_CI] + [
+ROWS = [(what, functools.partial(is_as_wanted, steps=steps, passes=passes, last=last)) for what, steps, passes, last in DATA.cases] + [
+    (what, functools.partial(is_counted, command=command, least=least, wanted=wanted)) for what, command, least, wanted in DATA.of_ci] + [
     (f"a gate that signal {number} ends", functools.partial(ends_when_told, number=number)) for number in (signal.SIGTERM, signal.SIGINT, signal.SIGHUP)] + [
     ("a gate under nohup goes on", functools.partial(ends_when_told, number=signal.SIGTERM, before=signal.SIGHUP)),
     ("a tool that no step runs is found", finds_what_is_left_out), ("the least of rt ci", knows_the_least),
@@ -826,7 +600,7 @@ ROWS = [(what, functools.partial(is_as_wanted, steps=steps, passes=passes, last=
     ("edits.py empties functions", empties_functions), ("edits.py narrows contracts", narrows_contracts),
     ("checks.py forgives no lateness", forgives_no_lateness), ("checks.py tells a verdict", tells_a_verdict), ("lossy.py judges runs", judges_lossy_runs),
     ("lossy.py carries badly", carries_badly), ("tools count what differs", counts_what_differs)] + [
-    (f"of two steps {what}", functools.partial(is_lost, now=now, wanted=wanted)) for what, now, wanted in OF_STEPS] + [
+    (f"of two steps {what}", functools.partial(is_lost, now=now, wanted=wanted)) for what, now, wanted in DATA.of_steps] + [
     (f"{name}.py sees differences", functools.partial(sees_differences, tool=tool)) for name, tool in tools_with_checks()]
 
 

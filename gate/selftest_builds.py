@@ -23,6 +23,9 @@ import run
 sys.path.insert(0, str(run.TOP / "tools"))
 import edits
 import own_ports
+from tables import data
+
+DATA = data("gate_of_builds")
 
 
 def said(call, *given):
@@ -143,22 +146,14 @@ def takes_what_stands(folder):
     """`build.py` takes a library that it has built of the same sources over the same libraries; it builds what is gone or another, and what
     stands above it. A crate is not built where its source was changed while it was built, or one of a crate below since that was built, or
     where a library below is not the one that was; nor what stands above it."""
-    asked = []
+    asked, found = [], []
     made = lambda name, *below: fake_library(folder / "standing", name, below, asked)
     a, d = made("a"), made("d")
     b = made("b", a)
     c, e = made("c", a, b), made("e", a, d)
-    found, crates, call, call_e = [], [a, b, c, d, e], b.call, e.call
-
-    def again(change=lambda: None):
-        asked.clear()
-        change()
-        is_built, told = built(crates)
-        found.append((is_built, "".join(sorted(name for name, *_ in asked)), "NOT BUILT, begin again" in told))
-
-    def changed_meanwhile(*words):
-        b.stamp = lambda: "third"
-        return call(*words)
+    call, call_e = b.call, e.call
+    has = lambda it, text: lambda: setattr(it, "stamp", lambda: text)
+    calls = lambda it, how: lambda: setattr(it, "call", how)
 
     def changes_before():
         a.stamp = lambda: "third"
@@ -168,32 +163,23 @@ def takes_what_stands(folder):
         Path(it.rlib, "format").write_text("replaced")
         return call_e(*words)
 
-    again()
-    again()
-    again(lambda: setattr(b, "stamp", lambda: "second"))
-    again(lambda: Path(a.rlib, "format").write_text("another"))
-    again(lambda: shutil.rmtree(d.rlib))
-    again(lambda: (setattr(b, "stamp", lambda: "of before"), setattr(b, "call", changed_meanwhile)))
-    again(lambda: setattr(b, "call", call))
-    again()
-    again(lambda: build.note_of(b).write_text(""))
-    again(lambda: setattr(b, "stamp", changes_before))
-    again(lambda: setattr(b, "stamp", lambda: "of before"))
-    for it in (a, d):
-        again(lambda: (setattr(e, "stamp", lambda name=it.name: f"over {name}"), setattr(e, "call", functools.partial(replaced, it))))
-        again(lambda: setattr(e, "call", call_e))
-    wanted = [(True, it, False) for it in ("abcde", "", "bc", "abce", "de")] + [(False, "b", True), (True, "bc", False), (True, "", False)]
-    wanted += [(True, "bc", False), (False, "", True), (True, "abce", False)]
-    return found == [*wanted, (False, "e", True), (True, "abce", False), (False, "e", True), (True, "de", False)]
+    def over(it):
+        """A crate whose library below is replaced while it is built."""
+        return lambda: (has(e, f"over {it.name}")(), calls(e, functools.partial(replaced, it))())
 
-
-# Which crates are begun, in their order, where so many of so many processors are idle and others wait long for these, of which some run; and with how
-# many processes.
-SHARES = [("ab", 4, 4, "", "a2 b2"), ("ab", 4, 4, "a", "a3 b1"), ("abcde", 4, 4, "", "a1 b1 c1 d1"), ("abcde", 4, 4, "b", "a1 b3"),
-          ("a", 8, 8, "", "a4"), ("a", 8, 8, "a", "a4"), ("ab", 2, 2, "a", "a1 b1"), ("ab", 1, 4, "a", "a1"), ("abc", 0, 4, "", ""),
-          ("a", 1, 1, "a", "a1"), ("", 4, 4, "", ""), ("ab", 3, 4, "ab", "a2 b1"), ("abc", 4, 4, "ac", "a2 b1 c1"), ("ab", 3, 4, "az", "a2 b1"),
-          ("ab", 3, 4, "a", "a3"), ("abc", 4, 4, "bc", "a1 b2 c1"), ("abcd", 8, 8, "ad", "a4 b1 c1 d2"), ("abcde", 8, 8, "a", "a4 b1 c1 d1 e1"),
-          ("abc", 8, 8, "ab", "a4 b4"), ("abc", 4, 4, "abc", "a2 b2"), ("ab", 5, 5, "ab", "a2 b3"), ("a", 32, 32, "a", "a4")]
+    meanwhile = lambda: (has(b, "of before")(), calls(b, lambda *words: has(b, "third")() or call(*words))())
+    rows = [(lambda: None, True, "abcde", False), (lambda: None, True, "", False), (has(b, "second"), True, "bc", False),
+            (lambda: Path(a.rlib, "format").write_text("another"), True, "abce", False), (lambda: shutil.rmtree(d.rlib), True, "de", False),
+            (meanwhile, False, "b", True), (calls(b, call), True, "bc", False), (lambda: None, True, "", False),
+            (lambda: build.note_of(b).write_text(""), True, "bc", False), (lambda: setattr(b, "stamp", changes_before), False, "", True),
+            (has(b, "of before"), True, "abce", False), (over(a), False, "e", True), (calls(e, call_e), True, "abce", False),
+            (over(d), False, "e", True), (calls(e, call_e), True, "de", False)]
+    for change, *_ in rows:
+        asked.clear()
+        change()
+        is_built, told = built([a, b, c, d, e])
+        found.append([is_built, "".join(sorted(name for name, *_ in asked)), "NOT BUILT, begin again" in told])
+    return is_same([wanted for _, *wanted in rows], found)
 
 
 def begun_with(crates, number, goes_on=None, until=None):
@@ -227,7 +213,7 @@ def shares_processors(_):
     """`build.py` begins as many crates as processors are idle, those first that others wait for longest, with processes for the processors
     that no other waits for, and more for the crates that begin long chains; never more in all."""
     shared = lambda ready, idle, number, long: " ".join(f"{name}{jobs}" for name, jobs in build.shares([*ready], idle, number, [*long]))
-    return is_same([wanted for *_, wanted in SHARES], [shared(*row) for *row, _ in SHARES])
+    return is_same([wanted for *_, wanted in DATA.shares], [shared(*row) for *row, _ in DATA.shares])
 
 
 def begins_in_order(_):
@@ -441,28 +427,6 @@ def keeps_others_out(folder):
     return len(asked) == 2 and {*asked} == {(f"/tmp/oca-own-ports-{os.getuid()}", "alone")}
 
 
-# What `make` runs by Python or `sh` for each goal, as it is and with settings, in a folder without programs.
-BUILD = ["gate/build.py bin ocadev ocactl", "examples/run.py bin/ocadev"]
-PANEL = "gate/build.py bin ocapanel"
-TRIALS = "gate/build.py bin trials"
-KIND, OTHER = "x86_64-unknown-linux-gnu", "aarch64-unknown-linux-gnu"
-LIBRARY, INSTALL = f"gate/library.py {KIND}", "gate/install.sh install"
-GOALS = {
-    "test": ["gate/run.py"], "demo": ["examples/run.py"], "build": BUILD, "ocapanel": [PANEL],
-    "lossy": [*BUILD, "tools/lossy.py bin 200 1", "tools/lossy.py bin directed"],
-    "fuzz": [*BUILD, "tools/fuzz.py bin 60 1"], "world": [TRIALS, "tools/world.py bin 8000 1"],
-    "law": [TRIALS, "tools/law.py bin 2000 1"], "panel-trial": [*BUILD, PANEL, "tools/panel_trial.py bin"],
-    "lossy COMMANDS=7 SEED=3": [*BUILD, "tools/lossy.py bin 7 3", "tools/lossy.py bin directed"],
-    "fuzz SECONDS=7 SEED=3": [*BUILD, "tools/fuzz.py bin 7 3"],
-    "world SCHEDULES=7 SEED=3": [TRIALS, "tools/world.py bin 7 3"],
-    "law HISTORIES=7 SEED=3": [TRIALS, "tools/law.py bin 7 3"],
-    f"install-library TARGET={OTHER}": [f"gate/library.py {OTHER}", f"{INSTALL} library {OTHER}"],
-    "library": [LIBRARY], "install-library": [LIBRARY, f"{INSTALL} library {KIND}"],
-    "install": [LIBRARY, f"{INSTALL} library {KIND}", *BUILD, PANEL, f"{INSTALL} programs"],
-    "uninstall": [f"gate/install.sh uninstall {it}" for it in ("programs", f"library {KIND}")],
-    "bench": [*BUILD, "bench/run.py bin", "bench/core.py bin", "bench/memory.py bin", "bench/sockets.py bin"]}
-
-
 def stand_in(file, text):
     """Puts a program of the shell there."""
     file.parent.mkdir(parents=True, exist_ok=True)
@@ -481,11 +445,12 @@ def make_fails_with(goal, folder):
     for name in ("python3", "sh"):
         stand_in(top / f"path/{name}", f'echo "$*" >> "{log}"\necho "said by $*"\n[ "$*" != "$FAILS" ]')
     (top / "Makefile").write_text((run.TOP / "Makefile").read_text())
-    for fails in ("", *GOALS[goal]):
+    for fails in ("", *DATA.goals[goal]):
         log.write_text("")
         env = dict(without_make(), PATH=f"{top}/path:{os.environ['PATH']}", FAILS=fails)
         ran = subprocess.run(["make", "-C", top, *goal.split()], env=env, capture_output=True, text=True, timeout=60)
-        wanted = GOALS[goal][:GOALS[goal].index(fails) + 1] if fails else GOALS[goal]
+        runs = [*DATA.goals[goal]]
+        wanted = runs[:runs.index(fails) + 1] if fails else runs
         said = [line.removeprefix("said by ") for line in ran.stdout.splitlines() if line.startswith("said by ")]
         if (ran.returncode == 0) != (not fails) or log.read_text().splitlines() != wanted or said != wanted:
             print(f"make {goal}, where {fails or 'nothing'} fails: status {ran.returncode}, {log.read_text()!r}")
@@ -609,21 +574,14 @@ def leaves_no_old_library(folder):
     return found == [(0, "new"), (1, False), (5, False), (5, "new"), (1, False), (5, False), (0, True)]
 
 
-# Stand-ins for what installs the library: each fails where FAILS names it, and else makes the file behind -o.
-COMPILER = """for it in "$@"; do case $it in -c) what=compile ;; -shared) what=link ;; esac; done
-[ "$what" != "$FAILS" ] || exit 1
-while [ $# -gt 1 ]; do [ "$1" != -o ] || echo made > "$2"; shift; done"""
-INSTALLS = ["", "compile", "link", "archive", "pages", "no library", "no header", "no program", "no page"]
-
-
 def installs_whole(folder):
     """`install.sh` fails where the compiler, the linker, the archiver or the pages fail, or where a file is missing that it is to install."""
     kind, found = f"{os.uname().machine}-unknown-linux-gnu", []
-    for at, fails in enumerate(INSTALLS):
+    for at, fails in enumerate(DATA.installs):
         top = folder / f"install-{at}"
         for name in ("gate", "include", "man", "c"):
             shutil.copytree(run.TOP / name, top / name, ignore=shutil.ignore_patterns("__pycache__"))
-        stand_in(top / "path/cc", COMPILER)
+        stand_in(top / "path/cc", DATA.compiler)
         stand_in(top / "path/ar", '[ "$FAILS" != archive ]')
         stand_in(top / "path/python3", '[ "$FAILS" != pages ] && mkdir -p "$2" && echo page > "$2/oca_page.3"')
         files = {"no library": "made.a", "no header": "include/oca.h", "no program": "bin/ocactl", "no page": "man/ocapanel.1"}
@@ -638,12 +596,12 @@ def installs_whole(folder):
             found.append(ran.returncode == 0)
     wanted = [True, True] + [False, True] * 6 + [True, False] * 2
     if found != wanted:
-        print(f"install.sh: {[INSTALLS[at // 2] for at, it in enumerate(wanted) if found[at] != it]}")
+        print(f"install.sh: {[DATA.installs[at // 2] for at, it in enumerate(wanted) if found[at] != it]}")
     return found == wanted
 
 
 # What is tried, each in a folder of its own.
-ROWS = [(f"make {goal} fails with what it runs", functools.partial(make_fails_with, goal)) for goal in GOALS] + [
+ROWS = [(f"make {goal} fails with what it runs", functools.partial(make_fails_with, goal)) for goal in DATA.goals] + [
     (".ci/run runs the gate", ci_runs_the_gate), ("build.py proves each library", proves_each_library),
     ("build.py takes what stands", takes_what_stands), ("build.py shares the processors", shares_processors),
     ("build.py begins crates in order", begins_in_order), ("build.py gives long chains more", gives_long_chains_more),

@@ -21,25 +21,17 @@ import lossy
 import neighbours
 import snippets
 import unreliable
+from tables import data
+
+DATA = data("gate_of_tools")
 
 # What the prover says where a proof names what is no more.
 GONE = "error: `x` is not in scope"
 
-# The functions of a crate of which edits are tried, and the edits: what an edit changes of them and into what, and what is told of it. A body `wrong`
-# is refused by the goal of its own function, `gone` only names what a proof has not, and any other one is proved.
-BODIES = {"f": "fine\n    more", "g": "good", "h": "hale", "i": "intact"}
-TRIED = {
-    "a_f": ("fine", "wrong f", "refused"), "b_f_again": ("fine", "wrong f", "refused"),
-    "c_g": ("good", "wrong g", "refused"), "d_h_is_right": ("hale", "right", "FAILED: NOT REFUSED"),
-    "e_i_is_gone": ("intact", "gone", "FAILED: only a proof file"),
-    "f_stands_no_more": ("never", "wrong", "FAILED: an 'old:' text is in"), "g_i": ("intact", "wrong i", "refused"),
-    "h_h": ("hale", "wrong h", "refused"), "i_number": ("N = 1", "N = 2", "refused"),
-    "j_number": ("N = 1", "N = 1 ", "FAILED"), "k_f_is_right": ("more", "right", "FAILED: NOT REFUSED")}
-GOOD_ONES = ("a_f", "b_f_again", "c_g", "g_i", "h_h", "i_number")
 KEPT = []  # of which crates the prover was asked, what was kept there before, False where nothing was to be kept, and where it writes
 
 
-def crate_of_edits(folder, name, edits, bodies=BODIES, constant=""):
+def crate_of_edits(folder, name, edits, bodies=DATA.bodies, constant=""):
     """A crate with these functions, one of which may be constant, and edits, whose libraries are built."""
     crate = folder / "crates" / name
     for part in ("src", "wrong"):
@@ -47,7 +39,7 @@ def crate_of_edits(folder, name, edits, bodies=BODIES, constant=""):
     functions = "".join(f"{'const ' * (it == constant)}fn {it}() {{\n    {body}\n}}\n" for it, body in bodies.items())
     (crate / "src/lib.rt").write_text(f"const N = 1;\n{functions}")
     for edit in edits:
-        old, new, _ = TRIED[edit]
+        old, new, _ = DATA.tried[edit]
         (crate / f"wrong/{edit}.edit").write_text(f"file: src/lib.rt\nold: {old}\nnew: {new}\n")
     return FakeCrate(name=name, folder=str(crate), below=list, count=lambda _: 1)
 
@@ -79,13 +71,13 @@ def told_by_edits(folder, crates, words, most=60):
 def tries_edits_in_groups(folder):
     """`edits.py` tells of each edit of each crate what the prover says of that one, with whatever others it is tried,
     and fails where one is not refused, names what is gone, or stands no more."""
-    crates = [crate_of_edits(folder, name, edits) for name, edits in (("a", TRIED), ("b", GOOD_ONES), ("c", ["d_h_is_right"]))]
+    crates = [crate_of_edits(folder, name, edits) for name, edits in (("a", DATA.tried), ("b", DATA.good_ones), ("c", ["d_h_is_right"]))]
     right = True
-    every = {"a": TRIED, "b": GOOD_ONES, "c": ["d_h_is_right"]}
-    for words, its, most in (([], every, 60), ([], every, 3), (["b"], {"b": GOOD_ONES}, 60), (["a"], {"a": TRIED}, 60),
+    every = {"a": DATA.tried, "b": DATA.good_ones, "c": ["d_h_is_right"]}
+    for words, its, most in (([], every, 60), ([], every, 3), (["b"], {"b": DATA.good_ones}, 60), (["a"], {"a": DATA.tried}, 60),
                              (["c"], {"c": ["d_h_is_right"]}, 60)):
         status, told, last = told_by_edits(folder, crates, words, most)
-        wanted = {f"{name}/wrong/{edit}": TRIED[edit][2] for name, edits in its.items() for edit in edits}
+        wanted = {f"{name}/wrong/{edit}": DATA.tried[edit][2] for name, edits in its.items() for edit in edits}
         good = sum(it == "refused" for it in wanted.values())
         wrong = [it for it in {*told, *wanted} if not told.get(it, "").startswith(wanted.get(it, "none"))]
         ends = (int(good < len(wanted)), f"{good} passed, {len(wanted) - good} failed")
@@ -115,17 +107,10 @@ def keeps_for_more_groups(folder):
 
 def sees_what_is_not_proved(folder):
     """`edits.py` counts no edit of a crate as refused where a function fails that none touches, and that it can't empty."""
-    crate = crate_of_edits(folder, "a", ["a_f", "c_g", "h_h"], dict(BODIES, i="wrong as it is"), "i")
+    crate = crate_of_edits(folder, "a", ["a_f", "c_g", "h_h"], dict(DATA.bodies, i="wrong as it is"), "i")
     status, told, last = told_by_edits(folder, [crate], [])
     are_so = [it.startswith("FAILED: i is not proved") for it in told.values()]
     return (status, last, are_so) == (1, "0 passed, 3 failed", [True] * 3)
-
-
-# How the programs print on each script, by what the reference says of it, and whether there is no difference.
-OF_SCRIPTS = [("cat out; cat err >&2; exit 2", True), ("cat out; cat err >&2", False), ("cat err >&2; exit 2", False),
-              ("cat out; exit 2", False), ("cat out out; cat err >&2; exit 2", False),
-              ("cat out err; cat err >&2; exit 2", False), ("head -c 6 out; cat err >&2; exit 2", False),
-              ("cat err >&2; cat err >&2; cat out; exit 2", False)]
 
 
 def compares_scripts(folder):
@@ -136,7 +121,7 @@ def compares_scripts(folder):
     (place / "out").write_text("answer\n")
     (place / "err").write_text("fault\n")
     script_of = lambda letter: lambda r: drawn.append(r.random()) or (["words", letter], b"a line\nand more\n", lambda _: (b"answer\n", "fault", 2))
-    cases = [(what, OF_SCRIPTS[0][0], good) for what, good in OF_SCRIPTS]
+    cases = [(what, DATA.of_scripts[0][0], good) for what, good in DATA.of_scripts]
     for device, link, good in cases + [(link, device, good) for device, link, good in cases]:
         for name, what, letter in (("ocadev", device, "d"), ("ocactl", link, "l")):
             heard = f'[ "$*" = "words {letter}" ] && grep -q line || exit 9'
@@ -157,46 +142,18 @@ def ran_as(tool, *words):
     return status, run.last_line(told), told
 
 
-# A document whose sessions and pieces of code are as they stand, and what of it is changed so that one of them is not.
-DOCUMENT = """A text.
-
-    $ bin/says one
-    one
-    $ bin/says two
-    ...
-
-More of it:
-
-```sh
-$ cat code/of.txt
-first
-second
-```
-
-And code:
-
-```c code/of.txt
-second
-```
-"""
-CHANGED = [("", ""), ("    one", "    other"), ("says two\n    ...", "says two\n    one"),
-           ("bin/says one", "bin/says-not one"), ("bin/says one", "says-not one"), ("first\n", ""), ("second\n", ""),
-           ("first\n", "third\n"), ("$ cat code/of.txt", "$ cat code/none.txt"),
-           ("c code/of.txt\nsecond", "c code/of.txt\nthird"), ("c code/of.txt\n", "c code/none.txt\n")]
-
-
 def runs_what_documents_say(folder):
     """`snippets.py` finds each session and piece of code of each of its documents, and fails where one of them is not so."""
     top, found = folder / "documents", []
     stand_in(folder / "says-bin/says", 'echo "$*"')
     (top / "code").mkdir(parents=True)
     (top / "code/of.txt").write_text("first\nsecond\n")
-    for old, new in CHANGED:
-        (top / "A.md").write_text(DOCUMENT)
-        (top / "B.md").write_text(DOCUMENT.replace(old, new, 1))
+    for old, new in DATA.changed:
+        (top / "A.md").write_text(DATA.document)
+        (top / "B.md").write_text(DATA.document.replace(old, new, 1))
         with patch.multiple(snippets, TOP=top, DOCUMENTS=["A.md", "B.md"]):
             found.append(ran_as(snippets, str(folder / "says-bin"))[:2])
-    return is_same([(0, "6 passed, 0 failed")] + [(1, "5 passed, 1 failed")] * len(CHANGED[1:]), found)
+    return is_same([(0, "6 passed, 0 failed")] + [(1, "5 passed, 1 failed")] * len(DATA.changed[1:]), found)
 
 
 def finds_what_documents_say(_):
@@ -215,33 +172,17 @@ def finds_what_documents_say(_):
     return len(wanted) > 15 and not missing
 
 
-# A doc comment with an example, a test with it, and what of them is changed so that it stands in no test.
-DOCUMENTED = "    /// A call.\n    ///\n    /// ```\n    /// let a = of(1)?;\n    /// if a { b() }\n    /// ```\n    fn of() {}\n"
-WITH_IT = "#[test]\nfn it() {\n    let a = of(1)?;\n    if a { b() }\n}\n"
-
-
 def finds_examples(folder):
     """`snippets.py` finds each example of a doc comment, and fails where no test has it as it stands."""
     top, found = folder / "documented", []
     for name in ("a", "a_tests"):
         (top / f"crates/{name}/src/in").mkdir(parents=True)
-    for old, new in (("", ""), ("of(1)?", "of(2)?"), ("    if a { b() }\n", ""), ("let a", "let b"), (WITH_IT, "")):
-        (top / "crates/a/src/in/lib.rt").write_text(DOCUMENTED)
-        (top / "crates/a_tests/src/in/tests.rt").write_text(WITH_IT.replace(old, new, 1))
+    for old, new in (("", ""), ("of(1)?", "of(2)?"), ("    if a { b() }\n", ""), ("let a", "let b"), (DATA.with_it, "")):
+        (top / "crates/a/src/in/lib.rt").write_text(DATA.documented)
+        (top / "crates/a_tests/src/in/tests.rt").write_text(DATA.with_it.replace(old, new, 1))
         with patch.multiple(snippets, TOP=top, DOCUMENTS=[]):
             found.append(ran_as(snippets, "none")[:2])
     return found == [(0, "1 passed, 0 failed")] + [(1, "0 passed, 1 failed")] * 4
-
-
-# Documents, and the lines of their tables that are wrong. Of the good ones each has a table.
-TABLES = [
-    ("a\n\n| b | c |\n|---|---|\n| d | e |\n\nf\n", []), ("| b |\n| :-: |\n", []), ("1. a\n\n   | b |\n   |--|\n   | |\n", []),
-    ("| b | `c\\|d` |\n|---|---|\n| a\\|b | c |\n", []), ("```\n| b | c\n|---|\n```\n\n| b |\n|---|", []),
-    ("a | b |---|---| c\n", [1]), ("text |---|\n\n| b |\n|---|\n", [1]), ("| b | c | |---|---|\n| d | e |\n", [1]),
-    ("| b | c |\n|---|\n| d | e |\n", [1]), ("| b | c |\n|---|---|\n| d |\n", [1]), ("| b | c |\n|---|---|\n| d | e | f |\n", [1]),
-    ("| b | c |\n|---|---|\n| d | e\n", [1]), ("| b | c |\n|---|---|\n| d | e | |---|\n", [1]), ("a\n\n| b | c |\n\n|---|---|\n", [3, 5]),
-    ("| b | c |\n|---|---|\n| d | `e|f` |\n", [1]), ("| b |\n|---|\n| d |\n|---|\n", [1]), ("| b |\n", [1]),
-    ("| b |\n|---|\n\na\n\n| b |\n|---|\n| c | d |\n", [6])]
 
 
 def refuses_broken_tables(folder):
@@ -249,7 +190,7 @@ def refuses_broken_tables(folder):
     top, found = folder / "tables", []
     (top / "docs").mkdir(parents=True)
     for name in ("README.md", "docs/A.md"):
-        for text, wrong in TABLES:
+        for text, wrong in DATA.tables:
             (top / name).write_text(text)
             with patch.multiple(snippets, TOP=top, DOCUMENTS=[]):
                 status, last, told = ran_as(snippets, "none")
@@ -260,113 +201,15 @@ def refuses_broken_tables(folder):
     return all(found)
 
 
-# The sources of a library, and the rows of what is public of it.
-LIBRARY = {
-    "lib.rt": """//! What it is: a
-//! sample. And more.
-//!
-//! Not this.
-mod a;
-pub mod b;
-mod c;
-
-pub use a::{Named, Open, Shape, call};
-pub use oca_other::Other;
-""",
-    "a.rt": """/// A [`Named`](Named) thing, whose (e.g. own)
-/// name it is. More.
-///
-/// # Examples
-#[derive(Clone)]
-pub struct Named {
-    /// Its size.
-    pub size: u8,
-    pub ghost least: { 1 },
-    hidden: u8,
-}
-
-impl Default for Named {
-    /// Not this.
-    fn default() -> Named {}
-}
-
-impl<'a> Named {
-    pub(crate) fn within(&self) {}
-
-    fn own(&self) {}
-
-    /// Its size.
-    pub fn size<F: Field>(
-        &self,
-        at: u8,
-    ) -> u8
-        ensures { result }
-    {
-        self.size
-    }
-}
-
-/// No name of it is used.
-pub struct Unused;
-
-impl Unused {
-    /// Nor this.
-    pub fn unused(&self) {}
-}
-
-/// What is open.
-pub trait Open: Copy {
-    /// How large.
-    const SIZE: usize;
-
-    /// Opens it | or not.
-    fn open(&mut self) -> bool
-        requires { so };
-}
-
-/// Its shape.
-pub enum Shape {
-    /// One.
-    One = 1,
-    Two(u8),
-}
-
-/// Calls.
-pub fn call(at: &mut [u8]) {
-    pub_fn();
-}
-
-fn not_this() {}
-""",
-    "b.rt": "/// By its path.\npub const B: u8 = 1;\n\n/// Two.\npub struct Two(u8, pub u16);\n",
-    "c.rt": "/// Not this.\npub fn hidden() {}\n"}
-LISTED = [
-    ("struct Named { size: u8 }", "A `Named` thing, whose (e.g. own) name it is. Has `Default`."),
-    ("Named::size<F: Field>(&self, at: u8) -> u8", "Its size."), ("trait Open", "What is open."),
-    ("Open::SIZE: usize", "How large."), ("Open::open(&mut self) -> bool", "Opens it | or not."),
-    ("enum Shape { One = 1, Two(u8) }", "Its shape."), ("fn call(at: &mut [u8])", "Calls."),
-    ("const b::B: u8 = 1", "By its path."), ("struct b::Two(u8, u16)", "Two.")]
-
-
 def lists_what_is_public(folder):
     """`api.py` lists each public item of a library, and no other, with the first sentence of its comment."""
     source = folder / "crates/a/src"
     source.mkdir(parents=True)
-    for name, text in LIBRARY.items():
+    for name, text in DATA.library.items():
         (source / name).write_text(text)
     with patch.object(api, "TOP", folder):
         rows, about = api.listed("a"), api.about("a")
-    return is_same(([], [], LISTED, "What it is: a sample."), ([it for it in rows if it not in LISTED], [it for it in LISTED if it not in rows], rows, about))
-
-
-# What a peer says of its questions beside silent hosts, and alone: asked, answered, the slowest in ms, how many datagrams came; and how many checks
-# of these two pass and fail (alone, all being well is no check of its own).
-OF_NEIGHBOURS = [
-    ((20, 20, 5, 4000), (20, 20, 3, 0), 1, 0), ((20, 20, 103, 2000), (20, 20, 3, 0), 1, 0),
-    ((20, 20, 104, 4000), (20, 20, 3, 0), 0, 1), ((20, 19, 5, 4000), (20, 20, 3, 0), 0, 1),
-    ((20, 0, 5, 4000), (20, 20, 3, 0), 0, 1), ((0, 0, 0, 4000), (20, 20, 3, 0), 0, 1),
-    ((19, 20, 5, 4000), (20, 20, 3, 0), 0, 1), ((20, 20, 5000, 4000), (20, 20, 3, 0), 0, 1),
-    ((20, 20, 5, 1999), (20, 20, 3, 0), 0, 1), ((20, 20, 5, 4000), (20, 19, 3, 0), 1, 1)]
+    return is_same(([*DATA.listed], "What it is: a sample."), (rows, about))
 
 
 def judged_neighbours(told, alone):
@@ -392,7 +235,7 @@ def judges_neighbours(_):
     total = sum(int.from_bytes(head[at:at + 2], "big") for at in range(0, 20, 2))
     found = [is_same((0xffff, 31), ((total & 0xffff) + (total >> 16), len(sent))), is_same((b"\x45\0\0\x1f", b"\x40\x11"), (head[:4], head[8:10])),
              is_same((b"\x0a\x5b\0\x64\x0a\x5b\0\1", b"\x23\x28\xfd\xe8\0\x0b\0\0abc"), (head[12:], udp))]
-    for told, alone, passed, failed in OF_NEIGHBOURS:
+    for told, alone, passed, failed in DATA.of_neighbours:
         ends = (int(failed > 0), f"{count - 1 + passed} passed, {failed} failed", True)
         found.append(is_same(ends, judged_neighbours(told, alone)))
     return count > 1 and all(found)
@@ -427,13 +270,13 @@ def named_in(tree, modules):
 
 
 def imported(tree):
-    """The modules that a piece of code imports, by what they are called there; those of which it imports names, by theirs."""
+    """The modules that a piece of code imports, by what they are called there; those of which it imports names, by these."""
     found = {}
     for it in ast.walk(tree):
         if isinstance(it, ast.Import):
             found.update({name.asname or name.name: name.name for name in it.names})
         elif isinstance(it, ast.ImportFrom):
-            found[f"from {it.module}"] = it.module
+            found.update({name.asname or name.name: it.module for name in it.names})
     return found
 
 
@@ -451,96 +294,37 @@ def looks_up(tree):
 
 def uncalled(folders):
     """The functions and methods of the modules of these folders that nothing names but they themselves: neither their own module nor one that imports
-    it. What a decorator takes is named by that, and what has a name of Python's by Python."""
+    it; of a method nor the module whose class its own one is made from. What a decorator takes is named by that, and what has a name of Python's by
+    Python."""
     trees = {file: ast.parse(file.read_text()) for folder in folders for file in sorted(folder.glob("*.py"))}
     modules = {file: imported(tree) for file, tree in trees.items()}
     names = {file: named_in(tree, modules[file]) for file, tree in trees.items()}
     texts = set().union(*map(texts_in, trees.values()))
     found = []
     for file, tree in trees.items():
-        methods = {it for of in ast.walk(tree) if isinstance(of, ast.ClassDef) for it in of.body}
+        classes = [of for of in ast.walk(tree) if isinstance(of, ast.ClassDef)]
+        homes = {of: [modules[file].get(getattr(getattr(base, "value", base), "id", "")) for base in of.bases] for of in classes}
+        above = {it: homes[of] for of in classes for it in of.body}
         users = [names[it] for it in trees if it != file and file.stem in modules[it].values()]
         for it in (it for it in ast.walk(tree) if isinstance(it, ast.FunctionDef) and not it.decorator_list):
-            name, of_others = ("." + it.name,) * 2 if it in methods else (it.name, f"{file.stem}.{it.name}")
+            name, of_others = ("." + it.name,) * 2 if it in above else (it.name, f"{file.stem}.{it.name}")
             count = names[file][name] - named_in(it, modules[file])[name] + sum(its[of_others] for its in users)
-            is_python = re.fullmatch("__.*__|do_[A-Z]+", it.name) or it.name in texts and it in methods and looks_up(tree)
+            count += sum(its[name] for other, its in names.items() if other.stem in above.get(it, []))
+            is_python = re.fullmatch("__.*__|do_[A-Z]+", it.name) or it.name in texts and it in above and looks_up(tree)
             found += [] if count or is_python else [f"{file.name}:{it.lineno}: {it.name}"]
     return found
-
-
-# Modules, and which of their functions nothing calls.
-MODULES = {
-    "lib.py": """def used():
-    pass
-
-def left():
-    left()
-
-class C:
-    def __init__(self):
-        self.a()
-
-    def a(self):
-        pass
-
-    def b(self, d):
-        # self.c()
-        return "c"
-
-    def c(self, left=0):
-        return left
-
-def d():
-    pass
-""",
-    "by.py": """import lib as of
-
-@of.used
-def taken():
-    pass
-
-of.C().b(d=1)
-""",
-    "table.py": """class T:
-    def run(self):
-        getattr(self, name())()
-
-    def to_do(self):
-        pass
-
-    def not_done(self):
-        pass
-
-def name():
-    return "to-do"
-
-T().run()
-""",
-    "alone.py": """def left(used):
-    used = [d for d in used]
-    return used
-
-def used():
-    pass
-
-def d():
-    pass
-
-TABLE = [used]
-"""}
-UNCALLED = ["alone.py:1: left", "alone.py:8: d", "lib.py:18: c", "lib.py:21: d", "lib.py:4: left", "table.py:8: not_done"]
 
 
 def calls_all_that_it_has(folder):
     """Each function of the tools and of the gate is named by another piece of them; one that is not is found."""
     place = folder / "modules"
     place.mkdir()
-    for name, text in MODULES.items():
+    for name, text in DATA.modules.items():
         (place / name).write_text(text)
     left = uncalled([run.TOP / it for it in ("tools", "gate", "bench", "examples", "examples/python")])
     for it in left:
         print(f"nothing calls {it}")
-    return sorted(uncalled([place])) == UNCALLED and not left
+    return sorted(uncalled([place])) == [*DATA.uncalled] and not left
 
 
 # a definition of a spec: its line begins with its name, or with what it is and its name
@@ -558,7 +342,8 @@ def defined_twice(top):
 
 def finds_names_defined_twice(folder):
     """A name has one definition in all specs; where it has two, the name is found."""
-    for name, text in (("one", "abbrev pub same : A\n"), ("two", "pub record same (n : A) : Type 0 where\n  pub other : A\n"), ("three", "pub other : A\nother = a\n")):
+    texts = {"one": "abbrev pub same : A\n", "two": "pub record same (n : A) : Type 0 where\n  pub other : A\n", "three": "pub other : A\nother = a\n"}
+    for name, text in texts.items():
         (folder / "crates" / name / "specs").mkdir(parents=True)
         (folder / "crates" / name / "specs" / "Names.antt").write_text(text)
     found = defined_twice(run.TOP)
@@ -606,38 +391,13 @@ def fails_each_in_turn(_):
     return not wrong
 
 
-# A device of one number, which it answers with and sets by what it is asked; before each answer it keeps a number.
-KEEPER = """import os
-import socket
-import struct
-import sys
-import time
-keep = sys.argv[sys.argv.index("--keep") + 1]
-value = int(open(keep).read()) if os.path.exists(keep) else 0
-end = socket.socket(socket.AF_INET, socket.SOCK_DGRAM)
-end.bind(("127.0.0.1", 0))
-print(f"listening 127.0.0.1:{end.getsockname()[1]}", file=sys.stderr, flush=True)
-while True:
-    data, peer = end.recvfrom(2000)
-    time.sleep(0.004)
-    if data[25] == 2:
-        value = struct.unpack(">h", data[27:29])[0]
-    with open(f"{keep}.new", "w") as file:
-        file.write(f"{KEPT}")
-    os.replace(f"{keep}.new", keep)
-    end.sendto(data[:18] + bytes(2) + struct.pack(">h", value), peer)
-"""
-# Which number it keeps, and whether that is as it is to be.
-OF_KEEPERS = [("{value}", True), ("0", False), ("{value - 3}", False), ("{value + 3}", False), ("", False)]
-
-
 def sees_what_is_not_kept(folder):
     """`keep.py` kills a device, and finds one that comes back with less than was answered, with more than was set, or not at all."""
     found = []
-    for at, (kept, is_well) in enumerate(OF_KEEPERS):
+    for at, (kept, is_well) in enumerate(DATA.of_keepers):
         place = folder / f"keeper-{at}"
         stand_in(place / "ocadev", f"exec '{sys.executable}' '{place}/device.py' \"$@\"")
-        (place / "device.py").write_text(KEEPER.replace("{KEPT}", kept))
+        (place / "device.py").write_text(DATA.keeper.replace("{KEPT}", kept))
         its = keep.Checks(str(place))
         with patch.multiple(keep, KILLS=3, random=SimpleNamespace(uniform=lambda *_: 0.15)):
             said(keep.kills, its, str(place))

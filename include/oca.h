@@ -2,23 +2,23 @@
  * liboca_c.a and a heap of your own: three functions, whose signatures and rules are in c/malloc.c and examples/c/heap.c.
  * Built by `make install-library` it runs on every x86-64, and on every AArch64, with Linux; it needs 64 bits.
  *
- * A device is one struct oca_device, and a link one struct oca_link, zeroed before the first call: then it is closed. A call
- * answers OCA_DONE, or another number of enum oca_result; what it would have told is then not to be read (but how many there
- * are, with OCA_TOO_SMALL). Texts are bytes and a length, in UTF-8.
+ * A device is one struct oca_device, and a link one struct oca_link, zeroed before the first call: then it is closed. A call answers
+ * OCA_DONE, or another number of enum oca_result. After any number but OCA_DONE do not read what the call would have written, except the
+ * count or length that comes with OCA_TOO_SMALL. Texts are bytes and a length, in UTF-8.
  * Addresses and ports are in the host's byte order: 127.0.0.1 is 0x7F000001. Moments are in milliseconds, of a clock that does
  * not go back. Nothing here opens a file or a socket or reads a clock but oca_store_.., oca_socket_.. and oca_serve.., and nothing starts a
  * thread.
  *
  * What the caller promises, at every call (no proof sees the C side):
- *  - each pointer is not null (but at a close and where it is said), also where its length is 0, and leads to that much memory that holds values (zero what is only
- *    written to); no two parameters of a call overlap;
+ *  - no pointer is null, also if its length is 0 (a close takes a null pointer, and other calls where it is said); each points to as much
+ *    memory as is said, which was written before (set to zero what a call only writes to); no two parameters of a call overlap;
  *  - a bool is 0 or 1;
  *  - the struct is as the last call left it, or zeroed; it may be moved, but never copied and both copies used;
  *  - one call at a time for a struct; another thread may make the next one, ordered by a lock, a start or a join; none from a
  *    signal handler or from the forked child of a process with threads;
  *  - enough stack (docs/EMBEDDING.md has figures).
  * Only the calls that open and start take memory, by malloc, realloc and free or by a heap of the program's own, whose blocks are
- * aligned to 16; close gives it back. Behind OCA_NO_MEMORY at an opening or at a start the struct is closed. */
+ * aligned to 16; close gives it back. After OCA_NO_MEMORY from an opening or a start the struct is closed. */
 #ifndef OCA_H
 #define OCA_H
 #include <stdbool.h>
@@ -28,7 +28,7 @@
 extern "C" {
 #endif
 
-/* A pointer that is null, and a result that nobody looks at, are warned of where the compiler can; on others this is empty. */
+/* Where the compiler can, it warns of a null pointer and of a result that nobody looks at; for other compilers these are empty. */
 #if defined(__GNUC__)
 #define OCA_NONNULL __attribute__((nonnull))
 #define OCA_CHECKED __attribute__((nonnull, warn_unused_result))
@@ -39,15 +39,16 @@ extern "C" {
 #define OCA_LOOKED_AT
 #endif
 
-/* The version of this header: 65,536 for each major one, 256 for each minor one, 1 for each patch. A library of the same major
- * version and at least this minor one keeps what this header says. */
-#define OCA_VERSION 0x010700u
+/* The version of this header (OCA_VERSION), and that of the library that is linked (oca_version), to be compared: 65,536 for each major
+ * one, 256 for each minor one, 1 for each patch. A library of the same major version and at least this minor one keeps what this header
+ * says. */
+#define OCA_VERSION 0x010800u
 uint32_t oca_version(void);
 
 enum oca_result {
     OCA_DONE = 0,
     /* Of an addition, the first that applies: no room for another object; the number is below 4,096; it is taken; the container is
-     * no block; the object would stand at depth 9; a role that is empty or above 64 bytes; a setting outside its range. Before all of
+     * no block; depth 9; a role that is empty or above 64 bytes; a setting outside its range. Before all of
      * them: more than 16 names (OCA_BAD_RANGE); a name above 64 bytes, a role or a name that is no UTF-8 (OCA_BAD_TEXT). */
     OCA_FULL = 1, OCA_RESERVED = 2, OCA_TAKEN = 3, OCA_NO_SUCH_BLOCK = 4, OCA_TOO_DEEP = 5, OCA_BAD_TEXT = 6, OCA_BAD_RANGE = 7,
     OCA_NO_MEMORY = 8,
@@ -56,14 +57,14 @@ enum oca_result {
     OCA_NOT_STARTED = 11, /* the device is not started */
     OCA_STARTED = 12,     /* it is, so its tree is fixed */
     OCA_NOTHING = 13,     /* there is no such packet, object, setting, lock, moment or answer */
-    OCA_TOO_SMALL = 14,   /* there was not room for all where it was to go, or might not have been */
+    OCA_TOO_SMALL = 14,   /* there was no room for all that was to be written, or there might not have been */
     OCA_BAD_SIZE = 15,    /* a room outside 1 to 4,096, a window or a number of peers outside 1 to 64, a room for packets outside 1 to 122, a span outside
                              1 to 32, another struct */
-    /* Of a setting at the front, the first that applies: no such object; a block; another kind of value; out of range. */
+    /* Of a setting at the local front panel, the first that applies: no such object; a block; another kind of value; out of range. */
     OCA_NO_OBJECT = 16, OCA_NO_SETTING = 17, OCA_OTHER_KIND = 18, OCA_OUT_OF_RANGE = 19,
     /* Of a submission, the first that applies: the link is lost; no handle is left; the span is full; above 1,445 bytes. */
     OCA_LOST = 20, OCA_HANDLES_SPENT = 21, OCA_SPAN_FULL = 22, OCA_TOO_LONG = 23,
-    OCA_NO_VALUE = 24 /* the words are those of no value, or the answer gives none of the class */
+    OCA_NO_VALUE = 24 /* the struct holds no value, or the answer gives no value of the class */
 };
 
 /* A result in words, for a log. */
@@ -139,7 +140,7 @@ enum oca_fault {
     OCA_FAULT_COUNT = 7, OCA_FAULT_MESSAGE_SIZE = 8, OCA_FAULT_TRUNCATED = 9
 };
 
-/* The classes, by the numbers that an object's is told by. */
+/* The numbers of the classes: oca_device_object and oca_panel_class tell an object's class by one of them. */
 enum oca_class {
     OCA_CLASS_BLOCK = 1, OCA_CLASS_MUTE = 2, OCA_CLASS_POLARITY = 3, OCA_CLASS_SWITCH = 4, OCA_CLASS_BOOLEAN = 5, OCA_CLASS_INT8 = 6,
     OCA_CLASS_INT16 = 7, OCA_CLASS_INT32 = 8, OCA_CLASS_INT64 = 9, OCA_CLASS_UINT8 = 10, OCA_CLASS_UINT16 = 11, OCA_CLASS_UINT32 = 12,
@@ -160,45 +161,74 @@ struct oca_value { uint32_t class_number, zero; uint64_t bits; };
 /* A value, and the least and the greatest that the object can be set to: of a position and of an integer; else both are the value. */
 struct oca_reading { struct oca_value value, least, greatest; };
 
-/* The value of a class with these bits, and one of each class. */
+/* The value of the class with this number (enum oca_class) and with these bits. */
 static inline struct oca_value oca_value_of(uint32_t class_number, uint64_t bits) {
     struct oca_value value = {class_number, 0, bits};
     return value;
 }
+
+/* The value of an OcaMute: muted, or unmuted. */
 static inline struct oca_value oca_mute(bool muted) { return oca_value_of(OCA_CLASS_MUTE, muted ? OCA_MUTED : OCA_UNMUTED); }
+
+/* The value of an OcaPolarity: inverted, or not inverted. */
 static inline struct oca_value oca_polarity(bool inverted) { return oca_value_of(OCA_CLASS_POLARITY, inverted ? OCA_INVERTED : OCA_NON_INVERTED); }
+
+/* The value of an OcaSwitch: a position. */
 static inline struct oca_value oca_position(uint16_t position) { return oca_value_of(OCA_CLASS_SWITCH, position); }
+
+/* The value of an OcaBooleanActuator: true or false. */
 static inline struct oca_value oca_boolean(bool setting) { return oca_value_of(OCA_CLASS_BOOLEAN, setting ? 1 : 0); }
+
+/* The value of an OcaInt8Actuator. */
 static inline struct oca_value oca_int8(int8_t setting) { return oca_value_of(OCA_CLASS_INT8, (uint64_t)(int64_t)setting); }
+
+/* The value of an OcaInt16Actuator. */
 static inline struct oca_value oca_int16(int16_t setting) { return oca_value_of(OCA_CLASS_INT16, (uint64_t)(int64_t)setting); }
+
+/* The value of an OcaInt32Actuator. */
 static inline struct oca_value oca_int32(int32_t setting) { return oca_value_of(OCA_CLASS_INT32, (uint64_t)(int64_t)setting); }
+
+/* The value of an OcaInt64Actuator. */
 static inline struct oca_value oca_int64(int64_t setting) { return oca_value_of(OCA_CLASS_INT64, (uint64_t)setting); }
+
+/* The value of an OcaUint8Actuator. */
 static inline struct oca_value oca_uint8(uint8_t setting) { return oca_value_of(OCA_CLASS_UINT8, setting); }
+
+/* The value of an OcaUint16Actuator. */
 static inline struct oca_value oca_uint16(uint16_t setting) { return oca_value_of(OCA_CLASS_UINT16, setting); }
+
+/* The value of an OcaUint32Actuator. */
 static inline struct oca_value oca_uint32(uint32_t setting) { return oca_value_of(OCA_CLASS_UINT32, setting); }
+
+/* The value of an OcaUint64Actuator. */
 static inline struct oca_value oca_uint64(uint64_t setting) { return oca_value_of(OCA_CLASS_UINT64, setting); }
 
-/* A value within limits, and one of a class without; and the number of a signed value. */
+/* A reading: a value, with the least and the greatest of its class's limits (of a switch the first and the last position, enabled or not). */
 static inline struct oca_reading oca_within(struct oca_value value, struct oca_value least, struct oca_value greatest) {
     struct oca_reading reading = {value, least, greatest};
     return reading;
 }
+
+/* A reading of a class without limits: both limits are the value. */
 static inline struct oca_reading oca_alone(struct oca_value value) { return oca_within(value, value, value); }
+
+/* The number of a value of a class of signed integers. */
 static inline int64_t oca_value_signed(struct oca_value value) { return (int64_t)value.bits; }
 
-/* The bytes of the value as a set method has them for its one parameter: 1 to 8, and how many they are. OCA_NO_VALUE where the words are
- * those of no value. */
+/* The bytes of the value as a set method has them for its one parameter: 1 to 8, and how many they are. OCA_NO_VALUE if the struct holds no
+ * such value. */
 enum oca_result oca_value_put(const struct oca_value *value, uint8_t *out, size_t out_len, size_t *len) OCA_NONNULL;
 
-/* What the parameters of an answer give of an object of the class that was read. OCA_NO_VALUE where they are no such answer, and for a
- * block. */
+/* Reads the value and its limits from the parameters of the answer to oca_get_request of the same class. OCA_NO_VALUE if they are no such
+ * answer, and for a block. */
 enum oca_result oca_value_read(uint32_t class_number, const uint8_t *params, size_t params_len, struct oca_reading *reading) OCA_NONNULL;
 
 /* The word for a value, 1 to 20 bytes, without a 0 behind it, and how many they are: "muted", "unmuted", "non-inverted", "inverted", "on",
- * "off", and a position and an integer in decimal digits. OCA_NO_VALUE where the words are those of no value. */
+ * "off", and a position and an integer in decimal digits. OCA_NO_VALUE if the struct holds no such value. */
 enum oca_result oca_value_text(const struct oca_value *value, uint8_t *out, size_t out_len, size_t *len) OCA_NONNULL;
 
-/* The same word as a C string, for a log; an empty one where there is no such value: oca_value_word(oca_int16(-60)).text is "-60". */
+/* The word for a value, as oca_value_text writes it, as a C string for a log: oca_value_word(oca_int16(-60)).text is "-60". The string is
+ * empty if the struct holds no such value. */
 struct oca_word { char text[24]; };
 static inline struct oca_word oca_value_word(struct oca_value value) {
     struct oca_word word = {{0}};
@@ -210,14 +240,17 @@ static inline struct oca_word oca_value_word(struct oca_value value) {
 }
 
 /* The value of an object of the class that a word names: one of the class's words as oca_value_text puts them, or an integer of its type in
- * decimal digits with or without a sign. OCA_NO_VALUE for any other word, and for a block, and then nothing is written. */
+ * decimal digits with or without a sign. For a switch the word is the number of a position, and not the position's name. OCA_NO_VALUE for any
+ * other word, and for a block, and then nothing is written. */
 enum oca_result oca_value_from_text(uint32_t class_number, const uint8_t *text, size_t text_len, struct oca_value *value) OCA_NONNULL;
 
 /* What is asked of an object: the method's level and index, ParamCount, and so many bytes of parameters. */
 struct oca_request { uint16_t level, index; uint8_t count, size; uint8_t params[8]; };
 
-/* What sets an object to the value, and what reads an object of the class. OCA_NO_VALUE where there is no such value, and for a block. */
+/* The request that sets an object to the value. OCA_NO_VALUE if the struct holds no such value, and for a block. */
 enum oca_result oca_set_request(const struct oca_value *value, struct oca_request *request) OCA_NONNULL;
+
+/* The request that reads the value of an object of the class. OCA_NO_VALUE if there is no such class, and for a block. */
 enum oca_result oca_get_request(uint32_t class_number, struct oca_request *request) OCA_NONNULL;
 
 /* ---- objects ---- */
@@ -225,7 +258,7 @@ enum oca_result oca_get_request(uint32_t class_number, struct oca_request *reque
 /* A text: a role, a label or the name of a switch's position: how many bytes it has, at most 64, and they, in UTF-8. In a table: {3, "off"}. */
 struct oca_name { uint8_t size; uint8_t text[64]; };
 
-/* The text that a C string spells; one above 64 bytes is refused where it is added. */
+/* The text of a C string. A string above 64 bytes makes a text that each call refuses. */
 static inline struct oca_name oca_name_of(const char *text) {
     struct oca_name name = {0, {0}};
     while (name.size < 64 && text[name.size]) {
@@ -258,13 +291,13 @@ struct oca_class_id { uint16_t count, fields[16]; uint32_t class_number; };
 enum oca_result oca_class_read(const uint8_t *params, size_t params_len, struct oca_class_id *id) OCA_NONNULL;
 uint32_t oca_class_with(const uint16_t *fields, size_t fields_len) OCA_NONNULL;
 
-/* An object, as it is added and as it is read, so that a device can be made again as it was: its class with its setting and its limits (a
- * block's class is OCA_CLASS_BLOCK, and nothing else of its reading is looked at; the limits of a mute, a polarity, a Boolean and a position
- * are not looked at either), whether it can be locked and is enabled (0 no, any other byte yes), its role, its label, and of a switch
- * its positions: how many there are, the name of each, and which are enabled. There is no pointer in it, and no byte between its fields.
- * Its size comes first, also where it is to be written, and the zeros are 0: a struct of another size than the library's, or with another
- * byte there, is refused with OCA_BAD_SIZE. Of one that is only written to the size alone is looked at: struct oca_spec spec =
- * OCA_SPEC_INIT; */
+/* An object, as it is added and as it is read, so that a device can be made again as it was. It has the class with the setting and its
+ * limits, whether the object can be locked and is enabled (0 no, any other byte yes), its role and its label. Of a switch it has the
+ * positions too: how many there are, the name of each, and which are enabled. A block's class is OCA_CLASS_BLOCK, and nothing else of its
+ * reading is looked at; nor are the limits of a mute, a polarity, a Boolean and a position. There is no pointer in it, and no byte between
+ * its fields. Its size comes first, also where it is to be written, and the zeros are 0: a struct of another size than the library's, or
+ * with another byte there, is refused with OCA_BAD_SIZE. If a call only writes to the struct, it looks at the size alone: struct oca_spec
+ * spec = OCA_SPEC_INIT; */
 struct oca_spec {
     uint32_t size;
     uint8_t lockable, enabled;
@@ -275,15 +308,18 @@ struct oca_spec {
 };
 #define OCA_SPEC_INIT {(uint32_t)sizeof(struct oca_spec), 1, 1, 0, {{0, 0, 0}, {0, 0, 0}, {0, 0, 0}}, {0, {0}}, {0, {0}}, {{0, {0}}}, {0}, {0}}
 
-/* An object of this role that is read so, lockable and enabled, with an empty label and no positions; a block; and one more position of a
- * switch, enabled. */
+/* Describes an object with this role and this reading, which is lockable and enabled and has an empty label and no positions. */
 static inline struct oca_spec oca_spec_of(const char *role, struct oca_reading reading) {
     struct oca_spec spec = OCA_SPEC_INIT;
     spec.reading = reading;
     spec.role = oca_name_of(role);
     return spec;
 }
+
+/* Describes a block with this role, which is lockable and enabled and has an empty label. */
 static inline struct oca_spec oca_spec_of_block(const char *role) { return oca_spec_of(role, oca_alone(oca_value_of(OCA_CLASS_BLOCK, 0))); }
+
+/* Adds one more position of a switch to the description: with this name, enabled. */
 static inline void oca_spec_position(struct oca_spec *spec, const char *name) {
     if (spec->positions < 16) {
         spec->names[spec->positions] = oca_name_of(name);
@@ -292,11 +328,11 @@ static inline void oca_spec_position(struct oca_spec *spec, const char *name) {
     if (spec->positions < 17) spec->positions++;
 }
 
-/* Brings what was stored of an object into the struct that says what it is to be: its value, its label, whether it is enabled, and of a switch
- * the names of its positions and which are enabled. Its role, its limits and whether it can be locked stay. So a new version of a program may
- * change those. The first that applies, and then nothing is changed: OCA_BAD_SIZE; OCA_OTHER_KIND where they are of two classes, or have not as
- * many positions; OCA_BAD_RANGE for more than 16 positions; OCA_BAD_TEXT for a stored label or name that is none; OCA_OUT_OF_RANGE where the
- * value is none, outside the limits of the struct, or no position. */
+/* Brings what was stored of an object into the struct that says what it is to be: its value, its label, whether it is enabled, and of a
+ * switch the names of its positions and which are enabled. Its role, its limits and whether it can be locked stay. So a new version of a
+ * program may change those. The first that applies, and then nothing is changed: OCA_BAD_SIZE; OCA_OTHER_KIND for two classes, or two
+ * numbers of positions; OCA_BAD_RANGE for more than 16 positions; OCA_BAD_TEXT for a stored label or name that is no UTF-8 or has more than
+ * 64 bytes; OCA_OUT_OF_RANGE for a stored value that is none, or that the struct does not allow. */
 enum oca_result oca_spec_restore(struct oca_spec *spec, const struct oca_spec *stored) OCA_NONNULL;
 
 /* ---- the device ---- */
@@ -309,8 +345,8 @@ struct oca_device { void *at; bool is_open; };
 /* Opens a device that has its root alone (the block 100), with room for so many objects, the root counted: 1 to 4,096. */
 enum oca_result oca_device_open(struct oca_device *device, uint16_t room) OCA_CHECKED;
 
-/* The same with what was stored of the root: its label, and whether it is enabled; all else of the struct but its size and its zeros is
- * not looked at. The first that applies: OCA_BAD_SIZE, OCA_BAD_TEXT for a label that is none, OCA_NO_MEMORY. */
+/* Opens a device as oca_device_open does, with what was stored of the root: its label, and whether it is enabled. Of the rest of the struct
+ * only its size and its zeros are looked at. The first that applies: OCA_BAD_SIZE, OCA_BAD_TEXT for a label that is no UTF-8 or has more than 64 bytes, OCA_NO_MEMORY. */
 enum oca_result oca_device_open_with(struct oca_device *device, uint16_t room, const struct oca_spec *root) OCA_CHECKED;
 
 /* Closes a device and gives its memory back; a closed one stays closed, and at a null pointer nothing is done. */
@@ -321,11 +357,12 @@ static inline void oca_device_close_any(struct oca_device *device) {
 #define oca_device_close(device) oca_device_close_any(device)
 
 /* Adds an object to the tree, in a block that is there (the root is the block 100), before the start. Before what enum oca_result has of an
- * addition: OCA_BAD_SIZE; OCA_BAD_RANGE for more than 16 positions; OCA_BAD_TEXT for a role, a label or a name that is none; OCA_NO_VALUE
- * where the words of the reading are those of none. */
+ * addition: OCA_BAD_SIZE; OCA_BAD_RANGE for more than 16 positions; OCA_BAD_TEXT for a role, a label or a name that is no UTF-8 or has more
+ * than 64 bytes; OCA_NO_VALUE if the reading is none that an object can have. */
 enum oca_result oca_device_add(struct oca_device *device, uint32_t container, uint32_t ono, const struct oca_spec *spec) OCA_CHECKED;
 
-/* The same with the fields one by one. `muted` and `inverted` are the states at first. */
+/* Adds an object of one class to the tree, as oca_device_add does, with the fields one by one. `muted` and `inverted` are the states at
+ * first. */
 enum oca_result oca_device_add_block(struct oca_device *device, uint32_t container, uint32_t ono, const uint8_t *role, size_t role_len, bool lockable) OCA_CHECKED;
 enum oca_result oca_device_add_mute(struct oca_device *device, uint32_t container, uint32_t ono, const uint8_t *role, size_t role_len, bool lockable, bool muted) OCA_CHECKED;
 enum oca_result oca_device_add_polarity(struct oca_device *device, uint32_t container, uint32_t ono, const uint8_t *role, size_t role_len, bool lockable, bool inverted) OCA_CHECKED;
@@ -339,25 +376,24 @@ enum oca_result oca_device_add_uint16(struct oca_device *device, uint32_t contai
 enum oca_result oca_device_add_uint32(struct oca_device *device, uint32_t container, uint32_t ono, const uint8_t *role, size_t role_len, bool lockable, uint32_t setting, uint32_t least, uint32_t greatest) OCA_CHECKED;
 enum oca_result oca_device_add_uint64(struct oca_device *device, uint32_t container, uint32_t ono, const uint8_t *role, size_t role_len, bool lockable, uint64_t setting, uint64_t least, uint64_t greatest) OCA_CHECKED;
 
-/* A switch with 1 to 16 positions, all enabled, and the one that it stands at, counted from 0. */
+/* Adds a switch with 1 to 16 positions, which are all enabled, and with the position at which it is first, counted from 0. */
 enum oca_result oca_device_add_switch(struct oca_device *device, uint32_t container, uint32_t ono, const uint8_t *role, size_t role_len, bool lockable, const struct oca_name *names, size_t names_len, uint16_t position) OCA_CHECKED;
 
 /* Starts the device, with reply windows of this size (1 to 64; 32 is usual; at least twice the panels' span less one) and sessions of so
- * many peers (1 to 64; 16 is usual).
- * Where it is started already it is OCA_STARTED, whatever is asked for. OCA_NO_MEMORY loses the objects and closes the struct: each call
- * then answers OCA_CLOSED, and it can be opened anew. */
+ * many peers (1 to 64; 16 is usual). If it is started already, the result is OCA_STARTED, whatever is asked for. OCA_NO_MEMORY loses the
+ * objects and closes the struct: each call then answers OCA_CLOSED, and it can be opened again. */
 enum oca_result oca_device_start(struct oca_device *device, uint8_t window, uint8_t peers) OCA_CHECKED;
 
-/* The same for a small device: with room for so many packets that answer a datagram (1 to 122), of some 1,480 bytes each. oca_device_start
- * has room for 122, as many as a datagram can ask for. All commands of a datagram are executed, whatever the room; the first packets are
- * kept, and the others are left out, as if the network had lost them: a controller that sends such a command again gets the retained
+/* Starts a small device as oca_device_start does, but with room for `packets` packets that answer a datagram (1 to 122), of some 1,480
+ * bytes each. oca_device_start has room for 122, as many as a datagram can ask for. All commands of a datagram are executed, whatever the room; the first packets are
+ * kept, and the others are left out, as if the network had lost those: a controller that sends such a command again gets the retained
  * reply. A datagram is never answered with more packets than it has commands and keep-alives, so nothing is left out of what answers a
  * controller that has fewer commands in flight than there is room for packets, and at most one keep-alive in a datagram. */
 enum oca_result oca_device_start_within(struct oca_device *device, uint8_t window, uint8_t peers, size_t packets) OCA_CHECKED;
 
-/* What became of a datagram. `kind` is 0 for one that was served, with how many of its commands were executed, were duplicates, were
- * too old and asked something else under a known handle; 1 for a malformed one, with its first fault (1 to 9) and where it lies; 2
- * where there was no room for its sender. A later version may have further fields: each is a word. */
+/* What became of a datagram. `kind` is 0 for one that was served: then come how many of its commands were executed, were duplicates, were too
+ * old, and asked something else under a known handle. It is 1 for a malformed one, with its first fault (1 to 9) and where it lies, and 2 where
+ * there was no room for its sender. A later version may have further fields: each is a word. */
 struct oca_verdict { uint32_t kind, executed, kept, old, reused, fault, at; };
 
 /* Hands a datagram over. Its answers are then there until the next one, all for its sender. The verdict goes to `words` words. */
@@ -366,38 +402,39 @@ static inline enum oca_result oca_device_datagram(struct oca_device *device, uin
     return oca_device_datagram_words(device, ip, port, bytes, len, now, &verdict->kind, sizeof *verdict / sizeof verdict->kind);
 }
 
-/* How many packets the last datagram's answers are (none before the first datagram), and the bytes of each, by its index from 0: OCA_NOTHING
- * behind the last. */
+/* How many packets answer the last datagram (none before the first datagram), and the bytes of each, by its index from 0; OCA_NOTHING for
+ * an index after the last. */
 enum oca_result oca_device_packets(struct oca_device *device, size_t *count) OCA_NONNULL;
 enum oca_result oca_device_packet(struct oca_device *device, size_t i, uint8_t *out, size_t out_len, size_t *len) OCA_NONNULL;
 
-/* Whether packets that answer the last datagram were left out, since there was no room for them (oca_device_start_within). */
+/* Whether packets that answer the last datagram were left out, since there was no room for them (oca_device_start_within); false before the
+ * first datagram. */
 enum oca_result oca_device_left_out(struct oca_device *device, bool *left_out) OCA_NONNULL;
 
 /* The numbers of the objects that the last datagram wrote to, in order, each as often as it was; none before the first datagram. Each
  * command that writes and was executed with the status OCA_STATUS_OK counts: a value, also one that was there before, a label, whether the object is
  * enabled, names and flags of positions. A lock, a refused command and a duplicate do not. Clock
- * readings and settings at the front leave them. `count` is how many there are; where `out` has room for fewer it gets the first of
+ * readings and settings at the local front panel leave them. `count` is how many there are; where `out` has room for fewer it gets the first of
  * them, and the answer is OCA_TOO_SMALL. */
 enum oca_result oca_device_written(struct oca_device *device, uint32_t *out, size_t out_len, size_t *count) OCA_NONNULL;
 
-/* Whether the answers to the last datagram wait until the objects are stored, for a device of which what was answered with OCA_STATUS_OK is to
- * be there after a power cut. They do where the datagram wrote to an object (oca_device_written lists one); and, while something that
- * datagrams wrote is not stored, where it held a duplicate, whose answer is that of an earlier command. So store the objects (oca_store_save),
- * say so by oca_device_stored, and then send the packets. Where they cannot be stored, send none of them: for the controller it is as if the
- * network had lost them, and its next copy of the command, which finds the retained reply, waits too. Other answers leave at once. None wait
- * before the first datagram. */
+/* Whether the answers to the last datagram wait until the objects are stored, for a device of which what was answered with OCA_STATUS_OK is
+ * to be there after a power cut. They do if the datagram wrote to an object (oca_device_written lists one). While something that datagrams
+ * wrote is not stored, they also do if the datagram held a duplicate, whose answer is that of an earlier command. So store the objects
+ * (oca_store_save), say so by oca_device_stored, and then send the packets. Where they cannot be stored, send none of them: for the
+ * controller it is as if the network had lost them, and its next copy of the command, which finds the retained reply, waits too. Other
+ * answers leave at once. None wait before the first datagram. */
 enum oca_result oca_device_waits(struct oca_device *device, bool *waits) OCA_NONNULL;
 
-/* Notes that the objects are stored as they are now, before the next datagram is handed over: no answers wait then. What is set at the front
+/* Notes that the objects are stored as they are now, before the next datagram is handed over: no answers wait then. What is set at the local front panel
  * makes none wait. */
 enum oca_result oca_device_stored(struct oca_device *device) OCA_NONNULL;
 
-/* Hands a clock reading over, in silence: sessions and locks lapse by it. */
+/* Hands a clock reading over when no datagram comes: sessions and locks lapse by it. */
 enum oca_result oca_device_tick(struct oca_device *device, uint64_t now) OCA_NONNULL;
 
-/* The earliest moment, not before the device's own, at which a clock reading changes the objects or the sessions: a loop may sleep
- * until then where no datagram comes. OCA_NOTHING where there is none within 64 bits, as where there is no session. */
+/* The earliest moment, not before the device's own, at which a clock reading changes the objects or the sessions: a loop may sleep until
+ * then if no datagram comes. OCA_NOTHING if there is no such moment within 64 bits, for example because there is no session. */
 enum oca_result oca_device_next_lapse(struct oca_device *device, uint64_t *moment) OCA_NONNULL;
 
 /* Sets an object at the local front panel; locks do not bind it. A state is 1 or 2, as in AES70-2. */
@@ -407,12 +444,33 @@ enum oca_result oca_device_set_truth(struct oca_device *device, uint32_t ono, bo
 enum oca_result oca_device_set_signed(struct oca_device *device, uint32_t ono, int64_t number) OCA_NONNULL;
 enum oca_result oca_device_set_unsigned(struct oca_device *device, uint32_t ono, uint64_t number) OCA_NONNULL;
 
-/* The same by a value of the object's class: OCA_OTHER_KIND for one of another class, as for a polarity's at a mute, and for an integer of
- * another type. OCA_NO_VALUE, before all others but OCA_CLOSED and OCA_NOT_STARTED, where the words are those of no value. */
+/* Sets an object at the local front panel to a value of the object's class; locks do not bind it. OCA_OTHER_KIND for a value of another class, such as a
+ * polarity's for a mute, or an integer of another type. OCA_NO_VALUE if the struct holds no such value; only OCA_CLOSED and OCA_NOT_STARTED come before it. */
 enum oca_result oca_device_set(struct oca_device *device, uint32_t ono, const struct oca_value *value) OCA_NONNULL;
 
-/* How an object is set: kind 1 a state, 2 a position, 3 a truth (0 or 1), 4 a number, `negative` (0 or 1) where it is below 0.
- * OCA_NOTHING for a block and where the object is not there. */
+/* Gives an object a label of `label_len` bytes of UTF-8, 0 to 64, at the local front panel; locks do not bind it. The first that applies:
+ * OCA_BAD_TEXT for bytes that are no UTF-8, OCA_NO_OBJECT if there is no such object, OCA_BAD_TEXT for a longer label. */
+enum oca_result oca_device_set_label(struct oca_device *device, uint32_t ono, const uint8_t *label, size_t label_len) OCA_NONNULL;
+
+/* Enables or disables an object at the local front panel; locks do not bind it. OCA_NO_OBJECT if there is no such object. */
+enum oca_result oca_device_set_enabled(struct oca_device *device, uint32_t ono, bool enabled) OCA_NONNULL;
+
+/* Takes the lock off an object at the local front panel, whoever holds it (oca_device_lock tells who). OCA_NO_OBJECT if there is no such object;
+ * OCA_NOTHING if it is not locked. The peer is told nothing of it: it keeps its session and its other locks, and may lock the object again. */
+enum oca_result oca_device_unlock(struct oca_device *device, uint32_t ono) OCA_NONNULL;
+
+/* Says whether the hardware of an object refuses to be changed, until the next such call for the object. While it refuses, each command that is
+ * executed and whose method writes is answered OCA_STATUS_PROCESSING_FAILED if no other status refuses it, and changes nothing; a duplicate of an
+ * earlier command gets its retained reply. Commands that read or lock are answered, and the calls of the local front panel change the object as
+ * before. No struct of this library stores it. OCA_NO_OBJECT if there is no such object. */
+enum oca_result oca_device_set_failing(struct oca_device *device, uint32_t ono, bool failing) OCA_NONNULL;
+
+/* Tells what oca_device_set_failing said last of the hardware of an object; false if it said nothing since the start. OCA_NO_OBJECT if there is
+ * no such object, and then nothing is written. */
+enum oca_result oca_device_is_failing(struct oca_device *device, uint32_t ono, bool *failing) OCA_NONNULL;
+
+/* The setting of an object. Its kind is 1 for a state, 2 for a position, 3 for a truth (0 or 1) and 4 for a number; `negative` is 1 if the
+ * number is below 0, and otherwise 0. OCA_NOTHING for a block, and if the object is not there. */
 struct oca_setting { uint32_t kind, negative; uint64_t magnitude; };
 enum oca_result oca_device_setting(struct oca_device *device, uint32_t ono, struct oca_setting *setting) OCA_NONNULL;
 
@@ -420,29 +478,30 @@ enum oca_result oca_device_setting(struct oca_device *device, uint32_t ono, stru
  * version may have further words before the role. */
 struct oca_object { uint32_t ono, container, class_number, role_size; uint8_t role[64]; };
 
-/* How many objects there are, the root counted; and what each is, by its index from 0 at the root in order of adding: OCA_NOTHING
- * behind the last. The words go to `words` words, and the role to `role_len` bytes, as far as there is room. */
+/* How many objects there are, the root counted; and what each is, by its index in order of adding, from 0 for the root; OCA_NOTHING for an
+ * index after the last. The words go to `words` words, and the role to `role_len` bytes, as far as there is room. */
 enum oca_result oca_device_objects(struct oca_device *device, size_t *count) OCA_NONNULL;
 enum oca_result oca_device_object_words(struct oca_device *device, size_t index, uint32_t *object, size_t words, uint8_t *role, size_t role_len) OCA_NONNULL;
 static inline enum oca_result oca_device_object(struct oca_device *device, size_t index, struct oca_object *object) {
     return oca_device_object_words(device, index, &object->ono, offsetof(struct oca_object, role) / sizeof object->ono, object->role, sizeof object->role);
 }
 
-/* What an object is now, by its index from 0 at the root in order of adding: an addition of the struct makes the same object again, but for
- * its lock, and of the root oca_device_open_with does. OCA_BAD_SIZE, where the struct does not say its size; OCA_NOTHING behind the last. So a device saves what was set, by peers and at its
- * front; oca_device_object has the object's number and that of its block. */
+/* What an object is now, by its index from 0 at the root in order of adding: an addition of the struct makes the same object again, except
+ * that it is not locked and that its hardware does not refuse; for the root oca_device_open_with does so. OCA_BAD_SIZE if the struct does not
+ * say its size; OCA_NOTHING after the last. So a device saves what was set, by peers and at its local front panel; oca_device_object has the object's number and that of its
+ * block. */
 enum oca_result oca_device_spec(struct oca_device *device, size_t index, struct oca_spec *spec) OCA_NONNULL;
 
-/* The same by the object's number. OCA_NOTHING where it is not there. */
+/* What the object with this number is now, as oca_device_spec writes it. OCA_NOTHING if there is no such object. */
 enum oca_result oca_device_spec_of(struct oca_device *device, uint32_t ono, struct oca_spec *spec) OCA_NONNULL;
 
 /* Which peers have a session at the device's present moment: how many they are, and the address and port of each, by its index from 0 in
- * order of opening: OCA_NOTHING behind the last. A session ends 120,000 ms after its peer was heard last. */
+ * order of opening; OCA_NOTHING for an index after the last. A session ends 120,000 ms after its peer was heard last. */
 enum oca_result oca_device_peers(struct oca_device *device, size_t *count) OCA_NONNULL;
 enum oca_result oca_device_peer(struct oca_device *device, size_t index, uint32_t *ip, uint16_t *port) OCA_NONNULL;
 
-/* The lock of an object, which binds this object alone, also where it is a block: kind 1 keeps other peers from all access, 2 from all but reading; and the peer that holds it. OCA_NOTHING
- * where the object is not locked or not there. */
+/* The lock of an object, and the peer that holds it: kind 1 keeps other peers from all access, kind 2 from all but reading. The lock of a
+ * block does not lock its members. OCA_NOTHING if the object is not locked or not there. */
 enum oca_result oca_device_lock(struct oca_device *device, uint32_t ono, uint32_t *kind, uint32_t *ip, uint16_t *port) OCA_NONNULL;
 
 /* What a device keeps of an object over a stop: its number, that of its block, and what it is. There is no pointer in it, and no byte between
@@ -453,9 +512,9 @@ struct oca_kept { uint32_t ono, container; struct oca_spec spec; };
  * are more. Between the first and the last of them nothing else is to be called for the device. */
 enum oca_result oca_device_keep(struct oca_device *device, struct oca_kept *kept, size_t room, size_t *count) OCA_NONNULL;
 
-/* Opens a device with this root, and adds an object to it, as oca_device_open_with and oca_device_add do, but as they were kept: each with what
- * oca_spec_restore brings in of the one that was kept under its number. Where none was, or what was kept cannot be so any more, it is as the
- * struct says. `count` may be 0. */
+/* Opens a device with this root, and adds an object to it, as oca_device_open_with and oca_device_add do, but as they were kept:
+ * oca_spec_restore brings what was kept under its number into a copy of the struct. If nothing was kept under it, or oca_spec_restore
+ * refuses that, the object is as the struct says. `count` may be 0. */
 enum oca_result oca_device_open_kept(struct oca_device *device, uint16_t room, const struct oca_spec *root, const struct oca_kept *kept, size_t count) OCA_CHECKED;
 enum oca_result oca_device_add_kept(struct oca_device *device, uint32_t container, uint32_t ono, const struct oca_spec *spec, const struct oca_kept *kept, size_t count) OCA_CHECKED;
 
@@ -498,9 +557,9 @@ static inline const char *oca_store_text(uint32_t result) {
     }
 }
 
-/* A store: zeroed, it is closed; struct oca_store store = OCA_STORE_INIT; Of the last call of it that answered OCA_STORE_SYSTEM `call` is the
- * name of the call of the system that failed, as "fsync", and `error` its errno; else they are a null pointer and 0. The other fields are its
- * own. One call at a time; the struct may be moved, but never copied and both copies used. */
+/* A store: zeroed, it is closed; struct oca_store store = OCA_STORE_INIT; If its last call answered OCA_STORE_SYSTEM, `call` is the name of
+ * the call of the system that failed, such as "fsync", and `error` its errno; otherwise they are a null pointer and 0. The other fields are
+ * its own. One call at a time; the struct may be moved, but never copied and both copies used. */
 struct oca_store { bool is_open; int folder, lock, error; const char *call; char name[256]; };
 #define OCA_STORE_INIT {false, 0, 0, 0, NULL, {0}}
 
@@ -510,9 +569,10 @@ struct oca_store { bool is_open; int folder, lock, error; const char *call; char
  * closed. */
 enum oca_store_result oca_store_open(const char *path, struct oca_store *store) OCA_LOOKED_AT;
 
-/* Reads what was stored last, into room for so many bytes, and tells how many it is; of what is not OCA_STORE_DONE the room may hold anything,
- * and the length is 0, but of OCA_STORE_TOO_SMALL, where it is how many they are. OCA_STORE_NOTHING where there is no file: a new device.
- * OCA_STORE_BROKEN: it is empty, cut off, longer than it was or changed, or it is of something else; it stays as it is. */
+/* Reads what was stored last, into room for so many bytes, and tells how many it is. After any result but OCA_STORE_DONE the room may hold
+ * anything; the length is then 0, except after OCA_STORE_TOO_SMALL: then it is the number of bytes that were stored. OCA_STORE_NOTHING
+ * where there is no file: a new device. OCA_STORE_BROKEN: it is empty, cut off, longer than it was or changed, or it is of something else;
+ * it stays as it is. */
 enum oca_store_result oca_store_load(struct oca_store *store, void *out, size_t room, size_t *length) OCA_LOOKED_AT;
 
 /* Stores these bytes in the place of what was stored before. OCA_STORE_DONE: they are there after any stop, a power cut among them, as far as
@@ -532,7 +592,7 @@ struct oca_link { void *at; bool is_open; };
 /* A closed one: struct oca_link link = OCA_LINK_INIT; */
 #define OCA_LINK_INIT {NULL, false}
 
-/* Opens a link to the device at this address. Its first command gets this handle, and the handles of untaken commands lie within
+/* Opens a link to the device at this address. Its first command gets this handle, and the handles in flight lie within
  * the span (1 to 32; 16 is usual). */
 enum oca_result oca_link_open(struct oca_link *link, uint32_t ip, uint16_t port, uint32_t first_handle, uint64_t now, uint8_t span) OCA_CHECKED;
 
@@ -546,19 +606,24 @@ static inline void oca_link_close_any(struct oca_link *link) {
 /* Submits a command, of at most 1,445 bytes of parameters, and tells its handle. Then call oca_link_due. */
 enum oca_result oca_link_submit(struct oca_link *link, uint32_t target, uint16_t level, uint16_t index, uint8_t count, const uint8_t *params, size_t params_len, uint64_t now, uint32_t *handle) OCA_CHECKED;
 
-/* The same for what sets or reads a value, and for a method of enum oca_method. */
+/* Submits a request that sets or reads a value, as oca_set_request and oca_get_request make it, and tells the handle of the command. */
 static inline enum oca_result oca_link_ask(struct oca_link *link, uint32_t target, const struct oca_request *request, uint64_t now, uint32_t *handle) {
     return oca_link_submit(link, target, request->level, request->index, request->count, request->params, request->size, now, handle);
 }
+
+/* Submits a command by a method of enum oca_method, with its parameters, and tells the handle of the command. */
 static inline enum oca_result oca_link_call(struct oca_link *link, uint32_t target, uint32_t method, uint8_t count, const uint8_t *params, size_t params_len, uint64_t now, uint32_t *handle) {
     return oca_link_submit(link, target, (uint16_t)(method >> 16), (uint16_t)method, count, params, params_len, now, handle);
 }
 
-/* Gives out what is due at the moment; call it until it tells nothing or lost. `out` has room for 1,472 bytes. */
+/* Puts what is due at the moment into `out`, to be sent; call it until `due` is OCA_DUE_NOTHING or OCA_DUE_LOST: then `len` and `handle`
+ * are 0. For OCA_DUE_COMMAND `handle` is that of the command, for OCA_DUE_KEEP_ALIVE it is 0. `out` has room for 1,472 bytes: with less the
+ * result is always OCA_TOO_SMALL, whatever is due, and nothing is changed. */
 enum oca_due { OCA_DUE_NOTHING = 0, OCA_DUE_COMMAND = 1, OCA_DUE_KEEP_ALIVE = 2, OCA_DUE_LOST = 3 };
 enum oca_result oca_link_due(struct oca_link *link, uint64_t now, uint8_t *out, size_t out_len, size_t *len, uint32_t *due, uint32_t *handle) OCA_NONNULL;
 
-/* Takes a datagram that came from an address: it told nothing new, answered so many commands, is a stranger's, or is malformed. */
+/* Takes a datagram that came from an address. `reception` says what it was: it held nothing new, answered `answered` commands, came from a
+ * stranger, or was malformed. */
 enum oca_reception { OCA_NOTHING_NEW = 0, OCA_ANSWERED = 1, OCA_STRANGER = 2, OCA_MALFORMED = 3 };
 enum oca_result oca_link_datagram(struct oca_link *link, uint32_t ip, uint16_t port, const uint8_t *bytes, size_t len, uint64_t now, uint32_t *reception, uint32_t *answered) OCA_NONNULL;
 
@@ -569,22 +634,22 @@ enum oca_result oca_link_next_due(struct oca_link *link, uint64_t *moment) OCA_N
 /* The lowest handle whose answer came and was not taken yet; OCA_NOTHING where there is none. */
 enum oca_result oca_link_answered(struct oca_link *link, uint32_t *handle) OCA_NONNULL;
 
-/* Whether the command under a handle is in flight: it was submitted, and has no answer so far. Where it is not, and oca_link_take gives no
- * answer, its answer was taken, or no command has that handle. */
+/* Whether the command under a handle is unanswered (despite the name: a command whose answer came and was not taken is still in flight, and
+ * gives false). If this gives false and oca_link_take gives no answer, the answer was taken before, or no command has that handle. */
 enum oca_result oca_link_in_flight(struct oca_link *link, uint32_t handle, bool *in_flight) OCA_NONNULL;
 
 /* The handle that the next command gets: a link that is opened after this one to the same device begins there or above. OCA_NOTHING
  * after the last one, 4294967295. */
 enum oca_result oca_link_next_handle(struct oca_link *link, uint32_t *handle) OCA_NONNULL;
 
-/* The moment at which the last well-formed datagram came from the device, and at first that of the opening. */
+/* The moment at which the last well-formed datagram came from the device; before the first one, the moment of the opening. */
 enum oca_result oca_link_last_heard(struct oca_link *link, uint64_t *moment) OCA_NONNULL;
 
-/* Whether the link is lost: a command got no answer to 20 sendings. It stays so; answers that still come are taken as before. */
+/* Whether the link is lost: a command got no answer to 20 transmissions. It stays so; answers that still come are taken as before. */
 enum oca_result oca_link_is_lost(struct oca_link *link, bool *lost) OCA_NONNULL;
 
-/* Whether the link is late at a moment: a command was submitted more than 15,000 ms before it and has no answer, sent or not, as where the
- * program stood still. Nothing is to act so late: do not call oca_link_due, and open a new link. */
+/* Whether the link is late at a moment: a command was submitted more than 15,000 ms before that moment and has no answer, whether it was
+ * sent or not, for example because the program was suspended. No command is to act so late: do not call oca_link_due, and open a new link. */
 enum oca_result oca_link_is_late(struct oca_link *link, uint64_t now, bool *late) OCA_NONNULL;
 
 /* Takes the answer to a command: its status and ParamCount, and its parameters. `out` has room for 1,452 bytes. */
@@ -592,11 +657,11 @@ enum oca_result oca_link_take(struct oca_link *link, uint32_t handle, uint32_t *
 
 /* ---- the panel ---- */
 
-/* The caller's socket, by which a panel reaches its device: the size of the struct first, what the three functions are handed, and they.
- * `now` reads the clock. `send` hands a datagram to the device; what is not sent is as if lost. `receive` waits for a datagram until that
- * moment at most, puts it into room for `out_len` bytes with its length and its sender, and answers whether there was one: one that is
- * longer than the room has that length or more, and is dropped. It may answer sooner that there is none. None of them calls the panel or
- * its link. */
+/* The caller's socket, by which a panel reaches its device: first the size of the struct, then what each of the three functions is handed,
+ * then the functions. `now` reads the clock. `send` hands a datagram to the device; what is not sent is as if lost. `receive` waits for a
+ * datagram until that moment at most, puts it into room for `out_len` bytes with its length and its sender, and answers whether there was
+ * one: one that is longer than the room has that length or more, and is dropped. It may answer sooner that there is none. None of them
+ * calls the panel or its link. */
 struct oca_end {
     size_t size;
     void *context;
@@ -613,7 +678,7 @@ struct oca_panel { struct oca_link link; struct oca_end end; uint32_t wait_ms; }
 /* What became of what was asked. OCA_ASKED_DONE: the device did it. OCA_ASKED_REFUSED: it refused, with a status of enum oca_status.
  * OCA_ASKED_UNREADABLE: its answer is none to what was asked. OCA_ASKED_NO_VALUE: nothing of the object's class can be asked so, or there
  * is no such value; it was not sent. OCA_ASKED_NOT_SENT: the link did not take it, with a result of enum oca_result. OCA_ASKED_LOST and
- * OCA_ASKED_LATE: the link is lost, or stood still too long, and sends nothing any more: it may have been carried out, or not, and a new
+ * OCA_ASKED_LATE: the link is lost, or late, and sends nothing any more: it may have been carried out, or not, and a new
  * panel is to be opened. OCA_ASKED_UNANSWERED: no answer came in the time that the panel waits; it stays in flight, under the handle that
  * `result` has. Wait for it again by oca_panel_finish: until its answer is taken, no command can be begun whose handle is the span or more
  * above it (OCA_SPAN_FULL). Where the panel waits for 10,500 ms, longer than a link retransmits, an answer comes or the link is lost.
@@ -636,11 +701,11 @@ static inline struct oca_outcome oca_outcome_of(uint32_t asked, uint32_t status,
     return outcome;
 }
 
-/* A port to bind the panel's socket to, the other one, and a first handle that is safe there, by the time of day: the handle rises by 100,000
- * a second, faster than commands are answered, so that each run at that port goes on above the last one. When it would reach 2,147,483,648,
- * every six hours, it begins again at 0, and it is the other port's turn. So a program that runs often takes one session of the device, and
- * not one more each time, each of which the device keeps for two minutes. The time of day is in seconds and microseconds since the beginning
- * of 1970, and is not to be set back. */
+/* A port to bind the panel's socket to, the other one, and a first handle that is safe there, by the time of day. The handle rises by 100,000 a
+ * second, faster than commands are answered, so that each run at that port goes on above the last one. When it would reach 2,147,483,648, every six
+ * hours, it begins again at 0, and it is the other port's turn. So a program that runs often takes one session of the device, and not one more each
+ * time, each of which the device keeps for two minutes. The time of day is in seconds and microseconds since the beginning of 1970, and is not to
+ * be set back. `other` is the port of the next six hours: if `port` is in use, do not bind `other`, but port 0. */
 struct oca_own_port { uint16_t port, other; uint32_t first_handle; };
 static inline struct oca_own_port oca_own_port(uint64_t seconds, uint32_t microseconds) {
     const uint64_t since = seconds * 100000 + microseconds / 10;
@@ -658,19 +723,20 @@ static inline struct oca_own_port oca_own_port(uint64_t seconds, uint32_t micros
  * OCA_OPEN where the panel is open; OCA_BAD_SIZE also for a struct of another size. */
 enum oca_result oca_panel_open(struct oca_panel *panel, const struct oca_end *end, uint32_t ip, uint16_t port, uint32_t first_handle, uint8_t span, uint32_t wait_ms);
 
-/* Closes a panel and gives its memory back; a closed one stays closed, and at a null pointer nothing is done. */
+/* Closes a panel and gives its memory back; a closed one stays closed, and at a null pointer nothing is done. Commands that are in flight
+ * may still be carried out. The caller's socket stays open. */
 void oca_panel_close(struct oca_panel *panel);
 
 /* Whether the panel can go on: OCA_ASKED_DONE, or OCA_ASKED_LOST or OCA_ASKED_LATE; OCA_ASKED_NOT_SENT with OCA_CLOSED where it is closed. */
 struct oca_outcome oca_panel_state(struct oca_panel *panel);
 
-/* Takes one turn: receives once, for at most 50 ms or until something is due, whichever is sooner, and sends what is due, keep-alives too. Tells what
- * oca_panel_state does: of a link that this turn finds lost or late that it is. */
+/* Takes one turn: receives once, for at most 50 ms or until something is due, whichever is sooner, and sends what is due, keep-alives too.
+ * Returns what oca_panel_state returns: OCA_ASKED_LOST or OCA_ASKED_LATE also if only this turn finds it. */
 struct oca_outcome oca_panel_turn(struct oca_panel *panel);
 
-/* Submits a command by a method of enum oca_method, or one that sets or reads an object by its value, sends it at once and tells its handle:
- * several can be in flight, in the order in which they were begun. What the link refuses, or what has no value, changes nothing; of a link
- * that is late it is OCA_LOST. */
+/* Submits a command by a method of enum oca_method, or one that sets or reads an object by its value, sends it at once and tells its
+ * handle. Several can be in flight, in the order in which they were begun. If the link refuses it, or there is no such value, nothing is
+ * changed. A link that is late answers OCA_LOST. */
 enum oca_result oca_panel_begin(struct oca_panel *panel, uint32_t ono, uint32_t method, uint8_t count, const uint8_t *params, size_t params_len, uint32_t *handle);
 enum oca_result oca_panel_begin_set(struct oca_panel *panel, uint32_t ono, struct oca_value value, uint32_t *handle);
 enum oca_result oca_panel_begin_get(struct oca_panel *panel, uint32_t ono, uint32_t class_number, uint32_t *handle);
@@ -678,29 +744,32 @@ enum oca_result oca_panel_begin_get(struct oca_panel *panel, uint32_t ono, uint3
 /* An answer: ParamCount, and its parameters. */
 struct oca_answer { uint32_t count; size_t params_len; uint8_t params[OCA_MOST_ANSWER]; };
 
-/* How a command that was begun fared, where that is known without a turn, and then its answer is taken; else OCA_ASKED_UNANSWERED, which
- * changes nothing. */
+/* How a command that was begun came out, if that is known without a turn; its answer is then taken. Otherwise it is OCA_ASKED_UNANSWERED,
+ * which changes nothing. `answer` is written for OCA_ASKED_DONE and OCA_ASKED_REFUSED alone. */
 struct oca_outcome oca_panel_try_finish(struct oca_panel *panel, uint32_t handle, struct oca_answer *answer);
 
-/* Waits for a command that was begun, and takes its answer. After OCA_ASKED_UNANSWERED it can be waited for again. */
+/* Waits for a command that was begun, and takes its answer. After OCA_ASKED_UNANSWERED it can be waited for again. `answer` is written for
+ * OCA_ASKED_DONE and OCA_ASKED_REFUSED alone. */
 struct oca_outcome oca_panel_finish(struct oca_panel *panel, uint32_t handle, struct oca_answer *answer);
 
-/* The commands of a panel that are in flight, the one begun first in front, each with what the caller keeps of it; zeroed, there are none. */
+/* The commands of a panel that are in flight, in the order in which they were begun, each with what the caller keeps of it; in a zeroed
+ * struct there are none. */
 struct oca_flight { uint32_t first, count, handles[32]; void *items[32]; };
 
 /* Adds a command that was begun; `item` may be null. OCA_SPAN_FULL where there are 32: a panel has no more in flight, where each that was begun is added. */
 enum oca_result oca_flight_push(struct oca_flight *flight, uint32_t handle, void *item);
 
-/* How the command in front fared, with what was kept of it: waited for, or where that is known without a turn. It is taken out, but where it
- * is OCA_ASKED_UNANSWERED. OCA_ASKED_NO_HANDLE where there is none, and then nothing is told. */
+/* How the first of the commands came out, with what the caller kept of it: oca_flight_finish waits for that, oca_flight_try_finish does
+ * not. The command is then taken out, unless the outcome is OCA_ASKED_UNANSWERED; `item` is written in both cases. If there is no command,
+ * the outcome is OCA_ASKED_NO_HANDLE, and nothing is written. */
 struct oca_outcome oca_flight_finish(struct oca_flight *flight, struct oca_panel *panel, struct oca_answer *answer, void **item);
 struct oca_outcome oca_flight_try_finish(struct oca_flight *flight, struct oca_panel *panel, struct oca_answer *answer, void **item);
 
-/* Asks for a command by a method of enum oca_method with its parameters (their layout is in docs/PROTOCOL.md, section 3), and waits for its
- * answer. */
+/* Asks for a command by a method of enum oca_method with its parameters (at most 1,445 bytes; their layout is in docs/PROTOCOL.md, section
+ * 3), and waits for its answer. `answer` is written for OCA_ASKED_DONE and OCA_ASKED_REFUSED alone. */
 struct oca_outcome oca_panel_ask(struct oca_panel *panel, uint32_t ono, uint32_t method, uint8_t count, const uint8_t *params, size_t params_len, struct oca_answer *answer);
 
-/* The same of a method without parameters. */
+/* Asks for a command by a method of enum oca_method without parameters, and waits for its answer, as oca_panel_ask does. */
 struct oca_outcome oca_panel_read(struct oca_panel *panel, uint32_t ono, uint32_t method, struct oca_answer *answer);
 
 /* Waits for a command that was begun to set an object, or to read one of the class, whose reading it tells. */
@@ -720,7 +789,7 @@ struct oca_outcome oca_panel_class(struct oca_panel *panel, uint32_t ono, struct
 /* The reading of an object: its class is asked first, and then what oca_panel_get_of asks. */
 struct oca_outcome oca_panel_get(struct oca_panel *panel, uint32_t ono, struct oca_reading *reading);
 
-/* Keeps other controllers from reading and setting an object, by LockTotal; and takes this panel's lock off it. */
+/* Keeps other controllers from reading and setting an object, by LockTotal; and takes this panel's lock off the object, by Unlock. */
 struct oca_outcome oca_panel_lock(struct oca_panel *panel, uint32_t ono);
 struct oca_outcome oca_panel_unlock(struct oca_panel *panel, uint32_t ono);
 
@@ -741,12 +810,12 @@ struct oca_outcome oca_panel_position_names(struct oca_panel *panel, uint32_t on
  * 90. */
 struct oca_outcome oca_panel_members(struct oca_panel *panel, uint32_t ono, struct oca_members *members);
 
-/* What a walk finds of an object: its number, that of the block that lists it (0 of the root), what became of the question for its class
- * and its role, they where it is OCA_ASKED_DONE, and of a block what became of the question for its members (as `described` where the
- * class or the role is not known). */
+/* What a walk finds of an object: its number, and that of the block that lists it (0 of the root). `described` is what became of the
+ * questions for its class and its role, which are in `id` and `role` if it is OCA_ASKED_DONE. For a block, `listed` is what became of the
+ * question for its members. If the class or the role is not known, `listed` is as `described`. */
 struct oca_visit { uint32_t ono, container; struct oca_outcome described; struct oca_class_id id; struct oca_name role; struct oca_outcome listed; };
 
-/* The place of a walk, of the caller's: the numbers of objects that were visited at the front, and those that wait at the back. */
+/* The place of a walk, of the caller's: first the numbers of the objects that were visited, and at the end those of the objects that wait. */
 struct oca_place { uint32_t ono, container; };
 struct oca_walk { uint32_t visited, waiting; struct oca_place places[4096]; };
 
@@ -754,10 +823,10 @@ struct oca_walk { uint32_t visited, waiting; struct oca_place places[4096]; };
 typedef bool (*oca_visitor)(void *context, const struct oca_visit *visit);
 
 /* Visits the objects of the device from the root on, each block's members behind it in their order: each object once, at most 4,096, in the
- * place of a walk that the caller has for it. Each is asked for its class and its role, and a block for its members; nothing is set. Each
- * answer is waited for until it is there or the link is lost, for 20,000 ms at most, however long the panel waits. OCA_ASKED_DONE where all
- * were visited, or the visitor ended it; else why it could not go on: OCA_ASKED_UNANSWERED where in that time neither was so, as where the
- * clock stands still. */
+ * place of a walk that the caller has for it. Each is asked for its class and its role, and a block for its members; nothing is set. A walk
+ * has one command in flight at a time. Each answer is waited for until it is there or the link is lost, for 20,000 ms at most, however long
+ * the panel waits. OCA_ASKED_DONE if all were visited, or the visitor ended the walk. Otherwise the outcome says why the walk could not go
+ * on: it is OCA_ASKED_UNANSWERED if in that time no answer came and the link was not lost, for example if the clock stops. */
 struct oca_outcome oca_panel_walk(struct oca_panel *panel, struct oca_walk *walk, oca_visitor visit, void *context);
 
 /* ---- over a socket ---- */
@@ -787,22 +856,24 @@ static inline const char *oca_socket_text(uint32_t result) {
     }
 }
 
-/* A UDP socket of IPv4, of POSIX systems: zeroed, it is closed; struct oca_socket own = OCA_SOCKET_INIT; It has its own address and port, and
- * of a panel's its device's. Of the last call of it that answered OCA_SOCKET_SYSTEM `call` is the name of the call of the system that failed,
- * as "bind", and `error` its errno; else they are a null pointer and 0. The file may be polled; the other fields are read alone. One call at a
- * time. The struct may be moved, but never copied and both copies used; not while a panel has an end of it. */
+/* A UDP socket of IPv4, of POSIX systems: zeroed, it is closed; struct oca_socket own = OCA_SOCKET_INIT; It has its own address and port,
+ * and a panel's socket has those of the device too. If its last call answered OCA_SOCKET_SYSTEM, `call` is the name of the call of the
+ * system that failed, such as "bind", and `error` its errno; otherwise they are a null pointer and 0. The file may be polled; the other
+ * fields may only be read. One call at a time. The struct may be moved, but never copied and both copies used; not while a panel has an end
+ * of it. */
 struct oca_socket { bool is_open; int file, error; const char *call; uint32_t ip, device_ip; uint16_t port, device_port; };
 #define OCA_SOCKET_INIT {false, 0, 0, NULL, 0, 0, 0, 0}
 
 /* The present moment, in milliseconds of a clock that does not go back and, on Linux, counts the time for which the machine slept. */
 uint64_t oca_socket_now(void);
 
-/* Opens a device's socket at an address of this machine and a port (0 for any). At the address 0 it hears at each, and a machine with several
- * may answer from another one. A failure leaves it closed. */
+/* Opens a device's socket at an address of this machine and a port (0 for any). At the address 0 it hears at each, and a machine with
+ * several may answer from another one. OCA_SOCKET_OPEN leaves an open socket as it is; any other failure leaves it closed. */
 enum oca_socket_result oca_socket_open(struct oca_socket *own, uint32_t ip, uint16_t port) OCA_LOOKED_AT;
 
 /* Opens a panel's socket, at the one address from which the system reaches the device, and this port (0 for any): each copy of a command
- * leaves from there, or none does. A failure leaves it closed, as where there is no route. */
+ * leaves from there, or is not sent. OCA_SOCKET_OPEN leaves an open socket as it is; any other failure leaves it closed, for example if
+ * there is no route. */
 enum oca_socket_result oca_socket_open_towards(struct oca_socket *own, uint32_t device_ip, uint16_t device_port, uint16_t port) OCA_LOOKED_AT;
 
 /* Closes a socket; a closed one stays closed, and at a null pointer nothing is done. */
@@ -822,13 +893,16 @@ enum oca_socket_result oca_socket_send(struct oca_socket *own, const uint8_t *by
  * closed. */
 struct oca_end oca_socket_end(struct oca_socket *own);
 
-/* A device that serves over a socket: the size of the struct first, the started device, and its open socket. Where there is a store, what was
- * answered with OCA_STATUS_OK is stored before it is answered, in a place for as many objects as `room` says, which is of the caller's. Each of
- * the functions may be a null pointer, and is handed `context`. `lock` and `unlock` are for a program in which other threads use the device:
- * each call for the device is made between the two, and neither waiting nor storing is. `written` is called, between the two, for each object
- * that a datagram wrote to, once it was answered, and also where it could not be stored. `told` is called after each try to store. Under
- * the lock the program sets `is_set` where it set something at the front: then that is stored at the next turn, and where that fails, again
- * a second later. Then come what became of the last try to store, and of the last receive, and two fields that are the server's own. */
+/* A device that serves over a socket: the size of the struct first, the started device, and its open socket. If there is a store, what a
+ * datagram wrote is stored before the datagram is answered; `kept` is an array of the caller's for this, with room for as many objects as
+ * `room` says. Each of the functions may be a null pointer, and is handed `context`. `lock` and `unlock` are for a program in which other
+ * threads use the device: each call for the device is made between the two, and neither waiting nor storing is. `written` is called,
+ * between the two, for each object that a datagram wrote to, once it was answered, and also where it could not be stored. It gets the number
+ * of the object alone: oca_device_setting and oca_device_spec_of read the object. It may call what reads or sets an object, and then sets
+ * `is_set` where it set one; it must not call `lock`. `told` is called after each try to store, and not between the two: to use the device it
+ * calls `lock` and `unlock` itself. If the program set something at the local front panel, it sets `is_set` under the lock: then that is
+ * stored at the next turn, and if storing fails, again a second later. Then come what became of the last try to store, and of the last
+ * receive, and two fields that are the server's own. */
 struct oca_server {
     size_t size;
     struct oca_device *device;
@@ -854,14 +928,19 @@ static inline struct oca_server oca_server_of(struct oca_device *device, struct 
     return server;
 }
 
-/* Takes one turn: waits for a datagram until that moment at most (oca_socket_now), or until a clock reading changes something; takes one, stores
- * what it wrote, and sends its answers. Where it cannot be stored, none is sent: the panel's next copy of its command tries again. A datagram
- * of more than 1,472 bytes is dropped. Where none came the clock is read. OCA_BAD_SIZE for a struct of another size; OCA_CLOSED and
- * OCA_NOT_STARTED of the device. Where the system fails, `received` says so. OCA_NOTHING where one of the server's functions calls it: nothing
- * is done then. */
+/* Takes one turn: waits for a datagram until that moment at most (oca_socket_now), or until a clock reading changes something; takes one,
+ * stores what it wrote, and sends its answers. If that can't be stored, no answer is sent: the panel's next copy of its command causes
+ * another try. A datagram of more than 1,472 bytes is dropped. Where none came the clock is read. With the present moment it does not wait
+ * for a datagram: so a loop polls the socket's file and its own, until oca_device_next_lapse and, with a store, for at most a second.
+ * OCA_BAD_SIZE for a struct of another size; OCA_CLOSED and OCA_NOT_STARTED of the device. Where the system fails to wait or to receive,
+ * the clock is read, the result is OCA_DONE and `received` is OCA_SOCKET_SYSTEM: the socket has the call and its errno. Sleep a little, and
+ * call it again, since it may not have waited. A send that fails is not told: the answer counts as lost. OCA_NOTHING where one of the
+ * server's functions calls it: nothing is done then. */
 enum oca_result oca_serve(struct oca_server *server, uint64_t until) OCA_NONNULL;
 
-/* Stores what was set at the front and is not stored yet: at the end of a program. */
+/* Stores what was set at the local front panel and is not stored yet: at the end of a program. Call it after the last oca_serve and before the
+ * store and the device are closed. It tries once, also to store what a datagram wrote and could not be stored; if that fails, `is_set` stays
+ * true and `stored` says why. It closes nothing. Call it without the lock, which it takes itself. */
 void oca_serve_end(struct oca_server *server);
 #endif
 

@@ -142,6 +142,12 @@ static void closed_device(struct oca_device *d) {
     same("closed: truth", oca_device_set_truth(d, 4097, true), OCA_CLOSED);
     same("closed: signed", oca_device_set_signed(d, 4097, -1), OCA_CLOSED);
     same("closed: unsigned", oca_device_set_unsigned(d, 4097, 1), OCA_CLOSED);
+    same("closed: label", oca_device_set_label(d, 4097, text("a"), 1), OCA_CLOSED);
+    same("closed: enabled", oca_device_set_enabled(d, 4097, false), OCA_CLOSED);
+    same("closed: unlock", oca_device_unlock(d, 4097), OCA_CLOSED);
+    bool failing = true;
+    same("closed: failing", oca_device_set_failing(d, 4097, true), OCA_CLOSED);
+    same("closed: is failing", oca_device_is_failing(d, 4097, &failing) == OCA_CLOSED && failing, 1);
     same("closed: setting", oca_device_setting(d, 4097, &s), OCA_CLOSED);
     same("closed: written", oca_device_written(d, words, OCA_MOST_WRITTEN, &size), OCA_CLOSED);
     same("closed: objects", oca_device_objects(d, &size), OCA_CLOSED);
@@ -373,6 +379,78 @@ static void tells_locks(struct oca_device *d) {
     same("nothing is left to lapse", oca_device_next_lapse(d, &moment), OCA_NOTHING);
 }
 
+/* Labels, whether objects are enabled, and locks that the front takes off. */
+static void changes_at_the_front(struct oca_device *d) {
+    static const char most[] = "0123456789012345678901234567890123456789012345678901234567890123";
+    struct oca_spec spec;
+    struct oca_verdict v = {9, 9, 9, 9, 9, 9, 9};
+    uint8_t bytes[OCA_MOST_BYTES] = {0};
+    uint32_t kind = 9, ip = 9;
+    uint16_t port = 9;
+    static const uint8_t state[] = {1};
+    size_t count = 0, size = command(bytes, 0x300, 4097, 1, 3, 0, bytes, 0);
+    memset(&spec, 0, sizeof spec);
+    spec.size = sizeof spec;
+    same("a lock of one peer", oca_device_datagram(d, 0x7f000001, 5000, bytes, size, 1000000, &v) == OCA_DONE && status_of(d) == 0, 1);
+    size = command(bytes, 0x301, 4097, 4, 2, 1, state, 1);
+    same("keeps another out", oca_device_datagram(d, 0x7f000002, 5001, bytes, size, 1000000, &v) == OCA_DONE && status_of(d) == OCA_STATUS_LOCKED, 1);
+    same("a label at the front", oca_device_set_label(d, 4097, text("Vox"), 3), OCA_DONE);
+    same("disabled at the front", oca_device_set_enabled(d, 4097, false), OCA_DONE);
+    same("both are read", oca_device_spec_of(d, 4097, &spec), OCA_DONE);
+    same("the label, and disabled", spec.label.size == 3 && memcmp(spec.label.text, "Vox", 3) == 0 && !spec.enabled, 1);
+    same("the lock stays", oca_device_lock(d, 4097, &kind, &ip, &port) == OCA_DONE && port == 5000, 1);
+    same("a label of 64 bytes", oca_device_set_label(d, 100, text(most), 64), OCA_DONE);
+    same("a label of 65 bytes", oca_device_set_label(d, 4097, text("01234567890123456789012345678901234567890123456789012345678901234"), 65), OCA_BAD_TEXT);
+    same("a label that is no UTF-8", oca_device_set_label(d, 4097, text("\xff"), 1), OCA_BAD_TEXT);
+    same("of no object either", oca_device_set_label(d, 5000, text("\xff"), 1), OCA_BAD_TEXT);
+    same("a label of no object", oca_device_set_label(d, 5000, text("Vox"), 3), OCA_NO_OBJECT);
+    same("no object to enable", oca_device_set_enabled(d, 5000, true), OCA_NO_OBJECT);
+    same("no object to unlock", oca_device_unlock(d, 5000), OCA_NO_OBJECT);
+    same("an object that is not locked", oca_device_unlock(d, 4098), OCA_NOTHING);
+    same("the label is as it was", oca_device_spec_of(d, 4097, &spec) == OCA_DONE && spec.label.size == 3 && !spec.enabled, 1);
+    same("the lock is taken off", oca_device_unlock(d, 4097), OCA_DONE);
+    same("none is there", oca_device_lock(d, 4097, &kind, &ip, &port), OCA_NOTHING);
+    same("nor to be taken off", oca_device_unlock(d, 4097), OCA_NOTHING);
+    size = command(bytes, 0x302, 4097, 4, 2, 1, state, 1);
+    same("then the other one sets it", oca_device_datagram(d, 0x7f000002, 5001, bytes, size, 1000000, &v) == OCA_DONE && status_of(d) == 0, 1);
+    same("both are still known", oca_device_peers(d, &count) == OCA_DONE && count == 2, 1);
+    same("enabled again", oca_device_set_enabled(d, 4097, true) == OCA_DONE && oca_device_spec_of(d, 4097, &spec) == OCA_DONE && spec.enabled == 1, 1);
+    same("no label", oca_device_set_label(d, 4097, text(""), 0) == OCA_DONE && oca_device_spec_of(d, 4097, &spec) == OCA_DONE && spec.label.size == 0, 1);
+}
+
+/* What the hardware of an object refuses: a peer's write, and neither a reading nor the front. */
+static void hardware_that_refuses(struct oca_device *d) {
+    struct oca_spec spec;
+    struct oca_verdict v = {9, 9, 9, 9, 9, 9, 9};
+    struct oca_setting s = {0, 0, 0};
+    uint8_t bytes[OCA_MOST_BYTES] = {0};
+    static const uint8_t muted[] = {1}, unlisted[] = {3};
+    bool failing = true;
+    size_t size = 0;
+    memset(&spec, 0, sizeof spec);
+    spec.size = sizeof spec;
+    same("hardware: refuses nothing", oca_device_is_failing(d, 4097, &failing) == OCA_DONE && !failing, 1);
+    same("hardware: unmuted at the front", oca_device_set_state(d, 4097, 2), OCA_DONE);
+    same("hardware: refuses", oca_device_set_failing(d, 4097, true), OCA_DONE);
+    same("hardware: it is told", oca_device_is_failing(d, 4097, &failing) == OCA_DONE && failing, 1);
+    same("hardware: of no other object", oca_device_is_failing(d, 4098, &failing) == OCA_DONE && !failing, 1);
+    size = command(bytes, 0x400, 4097, 4, 2, 1, muted, 1);
+    same("hardware: a write", oca_device_datagram(d, 0x7f000002, 5001, bytes, size, 1000000, &v) == OCA_DONE && status_of(d) == OCA_STATUS_PROCESSING_FAILED, 1);
+    same("hardware: changes nothing", oca_device_setting(d, 4097, &s) == OCA_DONE && s.magnitude == 2, 1);
+    size = command(bytes, 0x401, 4097, 4, 2, 1, unlisted, 1);
+    same("hardware: behind a state that is not listed", oca_device_datagram(d, 0x7f000002, 5001, bytes, size, 1000000, &v) == OCA_DONE && status_of(d) == OCA_STATUS_PARAMETER_OUT_OF_RANGE, 1);
+    size = command(bytes, 0x402, 4097, 4, 1, 0, bytes, 0);
+    same("hardware: a reading", oca_device_datagram(d, 0x7f000002, 5001, bytes, size, 1000000, &v) == OCA_DONE && status_of(d) == 0, 1);
+    same("hardware: the front sets", oca_device_set_state(d, 4097, 1) == OCA_DONE && oca_device_setting(d, 4097, &s) == OCA_DONE && s.magnitude == 1, 1);
+    same("hardware: no part of what is stored", oca_device_spec_of(d, 4097, &spec), OCA_DONE);
+    same("hardware: no object", oca_device_set_failing(d, 5000, true), OCA_NO_OBJECT);
+    failing = true;
+    same("hardware: of no object", oca_device_is_failing(d, 5000, &failing) == OCA_NO_OBJECT && failing, 1);
+    same("hardware: refuses no longer", oca_device_set_failing(d, 4097, false) == OCA_DONE && oca_device_is_failing(d, 4097, &failing) == OCA_DONE && !failing, 1);
+    size = command(bytes, 0x403, 4097, 4, 2, 1, muted, 1);
+    same("hardware: a write once more", oca_device_datagram(d, 0x7f000002, 5001, bytes, size, 1000000, &v) == OCA_DONE && status_of(d) == 0, 1);
+}
+
 static void device(void) {
     struct oca_device d;
     struct oca_verdict v = {9, 9, 9, 9, 9, 9, 9};
@@ -394,6 +472,12 @@ static void device(void) {
     same("next lapse before the start", oca_device_next_lapse(&d, &moment), OCA_NOT_STARTED);
     same("setting before the start", oca_device_setting(&d, 4097, &s), OCA_NOT_STARTED);
     same("state before the start", oca_device_set_state(&d, 4097, 1), OCA_NOT_STARTED);
+    same("label before the start", oca_device_set_label(&d, 4097, text("a"), 1), OCA_NOT_STARTED);
+    same("enabled before the start", oca_device_set_enabled(&d, 4097, false), OCA_NOT_STARTED);
+    same("unlock before the start", oca_device_unlock(&d, 4097), OCA_NOT_STARTED);
+    bool failing = true;
+    same("failing before the start", oca_device_set_failing(&d, 4097, true), OCA_NOT_STARTED);
+    same("is failing before the start", oca_device_is_failing(&d, 4097, &failing) == OCA_NOT_STARTED && failing, 1);
     same("written before the start", oca_device_written(&d, words, 2, &size), OCA_NOT_STARTED);
     same("packets before the start", oca_device_packets(&d, &size) == OCA_NOT_STARTED && size == 99, 1);
     same("packet before the start", oca_device_packet(&d, 0, bytes, sizeof bytes, &size) == OCA_NOT_STARTED && size == 99, 1);
@@ -473,6 +557,8 @@ static void device(void) {
     reads_objects(&d);
     tells_written(&d);
     tells_locks(&d);
+    changes_at_the_front(&d);
+    hardware_that_refuses(&d);
     oca_device_close(&d);
     closed_device(&d);
 }
@@ -1440,10 +1526,10 @@ static void asks(void) {
     same("open", oca_link_open(&l, 1, 2, 0x01020304, late, 3), OCA_DONE);
     same("what sets it", oca_set_request(&minus_6, &r), OCA_DONE);
     same("ask", oca_link_ask(&l, 0x05060708, &r, late, &handle) == OCA_DONE && handle == 0x01020304, 1);
-    same("give out", oca_link_due(&l, late + 1, bytes, sizeof bytes, &size, &due, &handle) == OCA_DONE && due == OCA_DUE_COMMAND, 1);
+    same("send due", oca_link_due(&l, late + 1, bytes, sizeof bytes, &size, &due, &handle) == OCA_DONE && due == OCA_DUE_COMMAND, 1);
     same("its bytes", size == 29 && memcmp(bytes + 14, "\1\2\3\4\5\6\7\10\0\5\0\2\1\xff\xc4", 15) == 0, 1);
     same("call", oca_link_call(&l, 4097, OCA_SET_LABEL, 7, params, sizeof params, late + 2, &handle) == OCA_DONE && handle == 0x01020305, 1);
-    same("give out", oca_link_due(&l, late + 2, bytes, sizeof bytes, &size, &due, &handle) == OCA_DONE && handle == 0x01020305, 1);
+    same("send due", oca_link_due(&l, late + 2, bytes, sizeof bytes, &size, &due, &handle) == OCA_DONE && handle == 0x01020305, 1);
     same("a full datagram", size == OCA_MOST_BYTES && bytes[23] == 2 && bytes[25] == 9 && bytes[26] == 7 && bytes[27] == 0xa5 && bytes[1471] == 0xa5, 1);
     same("due again", oca_link_next_due(&l, &moment) == OCA_DONE && moment == late + 251, 1);
     bool is_late = true;

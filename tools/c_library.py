@@ -30,8 +30,11 @@ from pathlib import Path
 
 sys.path.insert(0, str(Path(__file__).resolve().parent.parent / "gate"))
 import reference
+from checks import Checks
 from embedded import bound_at
 from own_ports import free_port
+from peers import Lossy
+from tables import data
 
 HERE = Path(__file__).resolve().parent
 TOP = HERE.parent
@@ -40,21 +43,12 @@ PANEL = "open channel 1: status 0\ngain to -6 dB: status 0\ngain: -60 dB/10\n"
 STRICT = ["-O2", "-Wall", "-Wextra", "-Werror"]
 LANGUAGES = {"c11": ["cc", "-std=c11"], "c++17": ["c++", "-x", "c++", "-std=c++17"]}
 RESULTS = {name: int(number) for name, number in re.findall(r"(OCA_\w+) = (\d+)", (TOP / "include/oca.h").read_text())}
+DATA = data("c_library")
+CARELESS = [("unused-result", it) for it in DATA.unused] + [("nonnull", f"(void)!{it}") for it in DATA.null]
+INSTALLED = [*DATA.installed]
 CALLS = 1_500_000  # of a run of random ones
 PARTS = ("panel", "kept", "store", "socket", "serve")  # of c/, but the heap
 SANITIZED = ["-O1", "-g", "-fsanitize=address,undefined", "-fno-sanitize-recover=all"]
-
-
-class Checks:
-    def __init__(self):
-        self.passed = self.failed = 0
-
-    def same(self, what, got, expected):
-        if got == expected:
-            self.passed += 1
-        else:
-            self.failed += 1
-            print(f"WRONG: {what}: {got!r:.400} in place of {expected!r:.400}")
 
 
 def library(target):
@@ -262,45 +256,11 @@ def examples_alone(checks, made):
     run.communicate()
 
 
-# What a compiler must warn of, by the name of the warning: a result that nobody looks at, and a pointer that is null.
-CARELESS = [("unused-result", it) for it in (
-    "oca_device_open(&device, 1)", "oca_device_open_with(&device, 1, &spec)",
-    "oca_device_add(&device, 100, 4096, &spec)",
-    "oca_device_add_mute(&device, 100, 4096, text, 4, true, true)", "oca_device_start(&device, 32, 16)",
-    "oca_device_start_within(&device, 32, 16, 4)", "oca_link_open(&link, 1, 2, 3, 4, 5)",
-    "oca_link_submit(&link, 1, 2, 3, 0, text, 0, 4, &number)",
-    "oca_device_open_kept(&device, 1, &spec, &kept, 1)", "oca_device_add_kept(&device, 100, 4096, &spec, &kept, 1)",
-    "oca_socket_open(&own, 1, 2)", "oca_socket_open_towards(&own, 1, 2, 3)", "oca_store_open(\"file\", &store)", "oca_store_load(&store, text, 4, &size)", "oca_store_save(&store, text, 4)")]
-CARELESS += [("nonnull", f"(void)!{it}") for it in (
-    "oca_device_open(NULL, 1)", "oca_device_tick(NULL, 1)", "oca_device_packets(&device, NULL)",
-    "oca_device_set(&device, 4096, NULL)", "oca_device_waits(&device, NULL)", "oca_device_spec(&device, 0, NULL)", "oca_device_spec_of(&device, 1, NULL)",
-    "oca_device_peers(&device, NULL)", "oca_device_peer(&device, 0, NULL, NULL)", "oca_device_keep(&device, NULL, 1, &size)", "oca_spec_restore(NULL, &spec)",
-    "oca_value_text(NULL, text, 4, &size)", "oca_value_from_text(2, text, 4, NULL)", "oca_serve(NULL, 1)", "oca_link_in_flight(&link, 1, NULL)",
-    "oca_link_next_due(&link, NULL)", "oca_link_due(&link, 1, NULL, 1472, &size, &number, &number)",
-    "oca_text_put(NULL, text, 4, &size)")]
-ONE_CALL = """#include <oca.h>
-static struct oca_device device = OCA_DEVICE_INIT;
-static struct oca_link link = OCA_LINK_INIT;
-static struct oca_spec spec;
-static struct oca_store store = OCA_STORE_INIT;
-static struct oca_socket own = OCA_SOCKET_INIT;
-static struct oca_kept kept;
-static uint8_t text[] = "text";
-static uint32_t number;
-static size_t size;
-void calls(void);
-void calls(void) {
-    (void)device, (void)link, (void)spec, (void)store, (void)own, (void)kept, (void)text, (void)number, (void)size;
-    %s;
-}
-"""
-
-
 def warnings(checks, made, prefix):
     """The compiler warns where a result is not looked at and where a pointer is null; else of nothing."""
     for language, compiler in LANGUAGES.items():
         for warning, call in [("", "(void)!oca_device_tick(&device, 1)"), *CARELESS]:
-            (made / "call.c").write_text(ONE_CALL % call)
+            (made / "call.c").write_text(DATA.one_call % call)
             words = ["-O2", "-Wall", "-Wextra", f"-I{prefix}/include", "-c", "-o", os.devnull, made / "call.c"]
             run = subprocess.run([*compiler, *words], capture_output=True, text=True)
             told = sorted(set(re.findall(r"\[-W([\w-]+?)=?\]", run.stderr)))
@@ -318,45 +278,6 @@ def for_every_processor(checks, archive):
             r"|lddqu|p(shufb|hadd\w+|alignr|abs[bwd]|mulld|(min|max)(s[bd]|u[wd])|insr[bdq]|extr[bdq]|mov[sz]x\w+|test|blend\w+|cmpeqq|cmpgtq)|round[ps][sd]"
     checks.same("instructions of later processors", {it for it in used if re.fullmatch(later, it)} - {"verr", "verw"}, set())
     checks.same("instructions", len(used) > 50, True)
-
-
-class Lossy:
-    """A network between panels and a device that loses one datagram of five each way; a panel has a port of its own behind it."""
-
-    def __init__(self, device, seed):
-        self.device, self.random, self.panels, self.lost, self.on = ("127.0.0.1", int(device)), random.Random(seed), {}, 0, True
-        self.front = self.end()
-        self.port = self.front.getsockname()[1]
-        self.thread = threading.Thread(target=self.run)
-        self.thread.start()
-
-    def end(self):
-        end = socket.socket(socket.AF_INET, socket.SOCK_DGRAM)
-        end.bind(("127.0.0.1", 0))
-        return end
-
-    def run(self):
-        while self.on:
-            for end in select.select([self.front, *self.panels.values()], [], [], 0.05)[0]:
-                try:
-                    data, sender = end.recvfrom(2000)
-                except OSError:
-                    continue
-                if end is self.front and sender not in self.panels:
-                    self.panels[sender] = self.end()
-                if self.random.random() < 0.2:
-                    self.lost += 1
-                elif end is self.front:
-                    self.panels[sender].sendto(data, self.device)
-                else:
-                    end_of = next(panel for panel, its in self.panels.items() if its is end)
-                    self.front.sendto(data, end_of)
-
-    def close(self):
-        self.on = False
-        self.thread.join()
-        for end in (self.front, *self.panels.values()):
-            end.close()
 
 
 class Asker:
@@ -406,7 +327,7 @@ def a_mixer(checks, made, name, before=()):
         return False
 
     run = start(600)
-    network = Lossy(listening(run), 1)
+    network = Lossy(int(listening(run)))
     for channel in (0, 31):
         block = 4096 + 16 * channel
         checks.same(f"{name}: the panel at channel {channel + 1}", said_by([made / "panel-c11", network.port, block + 1, block + 2]), (PANEL, 0))
@@ -628,11 +549,6 @@ def arenas(checks, made):
         checks.same(f"arenas of each size ({language})", (re.fullmatch(r"[1-9]\d{6} passed, 0 failed\n", out) is not None, status), (True, 0))
 
 
-INSTALLED = ["include/oca.h", "lib/cmake/oca/oca-config-version.cmake", "lib/cmake/oca/oca-config.cmake", "lib/liboca.a", "lib/liboca.so",
-             "lib/liboca.so.1", "lib/liboca.so.1.7.0", "lib/liboca_c.a", "lib/pkgconfig/oca.pc",
-             "share/man/man3/oca_*.3"]
-
-
 PROGRAMS = ("ocadev", "ocactl", "ocapanel")
 # What others have installed beside, which stays there.
 OTHERS = ["opt/oca/lib/another.a", "opt/oca/lib/pkgconfig/another.pc", "opt/oca/share/man/man3/another.3"]
@@ -718,21 +634,6 @@ def prefixes(checks, made, archive):
         checks.same("the version that pkg-config tells", told, (f"{version}\n", 0))
 
 
-PROJECT = """cmake_minimum_required(VERSION 3.13)
-project(trial C)
-find_package(oca 1.1 REQUIRED CONFIG)
-foreach(each oca static)
-  add_executable(panel-${each} panel.c)
-  target_link_libraries(panel-${each} PRIVATE oca::${each})
-endforeach()
-foreach(each oca static core)
-  get_target_property(file oca::${each} IMPORTED_LOCATION)
-  get_target_property(headers oca::${each} INTERFACE_INCLUDE_DIRECTORIES)
-  message(STATUS "oca::${each} ${file} ${headers}")
-endforeach()
-"""
-
-
 def own_version():
     """The version that is installed: its three numbers."""
     own = re.search(r"^Version: (\d+)\.(\d+)\.(\d+)$", (TOP / "include/oca.pc.in").read_text(), re.MULTILINE)
@@ -744,7 +645,7 @@ def configured(made, folder, *words):
     project = made / "project"
     project.mkdir(exist_ok=True)
     shutil.copy(TOP / "examples/c/panel.c", project)
-    (project / "CMakeLists.txt").write_text(PROJECT)
+    (project / "CMakeLists.txt").write_text(DATA.project)
     return subprocess.run(["cmake", "-S", project, "-B", folder, *words], cwd=made, capture_output=True, text=True)
 
 
@@ -778,7 +679,7 @@ def by_cmake(checks, made, prefix):
                              (f"{major}.{minor}.{patch + 1}", False), (f"{major}.{minor + 1}", False),
                              (f"{major + 1}.0", False), (f"{major - 1}.9", False),
                              (f"{major}.{minor}.{patch} EXACT", True), (f"{major}.0 EXACT", False)):
-        (project / "CMakeLists.txt").write_text(PROJECT.replace("oca 1.1", f"oca {version}"))
+        (project / "CMakeLists.txt").write_text(DATA.project.replace("oca 1.1", f"oca {version}"))
         found = subprocess.run(["cmake", "-S", project, "-B", "none", f"-DCMAKE_PREFIX_PATH={prefix}"], **said)
         is_refused = "oca-config.cmake, version:" in found.stderr
         checks.same(f"version {version}", (found.returncode == 0, is_refused), (is_kept, not is_kept))

@@ -98,7 +98,7 @@ static size_t any_datagram(uint8_t *bytes, uint32_t handle) {
 
 /* A call of a device. */
 static void calls_device(struct oca_device *d) {
-    static const uint8_t role[] = {'r', 'o', 'l', 'e', 0xff};
+    static const uint8_t role[] = {'r', 'o', 'l', 'e', 0xff}, zeros[80] = {0};
     uint8_t bytes[OCA_MOST_BYTES];
     const bool was_open = d->is_open;
     const uint32_t ono = below(3) ? 4096 + below(8) : (uint32_t)number(), container = below(3) ? 100 : 4096 + below(9);
@@ -109,7 +109,7 @@ static void calls_device(struct oca_device *d) {
     enum oca_result result = OCA_DONE;
     int count = 0;
     bool may_open = false;
-    switch (below(34)) {
+    switch (below(40)) {
     case 0: result = CALL(oca_device_open)(d, (uint16_t)(below(2) ? below(30) : number())), may_open = true; break;
     case 1: result = CALL(oca_device_open_with)(d, (uint16_t)below(30), &spec), may_open = true; break;
     case 2: if (below(8) == 0) oca_device_close(d); return;
@@ -150,6 +150,12 @@ static void calls_device(struct oca_device *d) {
     case 30: result = CALL(oca_device_keep)(d, kept, below(4), (size_t *)room(0, sizeof(size_t))), count = 1; break;
     case 31: result = CALL(oca_device_add_kept)(d, container, ono, &spec, kept, 3); break;
     case 32: result = CALL(oca_device_open_kept)(d, (uint16_t)below(30), &spec, kept, 3), may_open = true; break;
+    case 33: result = CALL(oca_device_set_label)(d, ono, below(2) ? role : zeros, below(4) ? below(sizeof role + 1) : 0); break;
+    case 36: result = CALL(oca_device_set_label)(d, ono, zeros, below(sizeof zeros + 1)); break;
+    case 34: result = CALL(oca_device_set_enabled)(d, ono, below(2)); break;
+    case 35: result = CALL(oca_device_unlock)(d, ono); break;
+    case 37: result = CALL(oca_device_set_failing)(d, ono, below(2)); break;
+    case 38: result = CALL(oca_device_is_failing)(d, ono, (bool *)memset(room(0, 1), 0, 1)), count = 0; break;
     case 24: result = CALL(oca_device_set_position)(d, ono, (uint16_t)number()); break;
     case 25: result = CALL(oca_device_waits)(d, (bool *)memset(room(0, 1), 0, 1)), count = 0; break;
     case 26: result = CALL(oca_device_stored)(d); break;

@@ -75,24 +75,18 @@ int __wrap_close(int file) {
     const int status = __real_close(file);
     return fails("close") ? -1 : status;
 }
-extern int __real_open(const char *path, int how, ...);
-int __wrap_open(const char *path, int how, ...);
-int __wrap_open(const char *path, int how, ...) {
-    va_list more;
-    va_start(more, how);
-    const mode_t mode = how & O_CREAT ? (mode_t)va_arg(more, int) : 0;
-    va_end(more);
-    return fails("open") ? -1 : __real_open(path, how, mode);
-}
-extern int __real_openat(int folder, const char *path, int how, ...);
-int __wrap_openat(int folder, const char *path, int how, ...);
-int __wrap_openat(int folder, const char *path, int how, ...) {
-    va_list more;
-    va_start(more, how);
-    const mode_t mode = how & O_CREAT ? (mode_t)va_arg(more, int) : 0;
-    va_end(more);
-    return fails("openat") ? -1 : __real_openat(folder, path, how, mode);
-}
+#define WRAP_OPEN(name, given, ...) \
+    extern int __real_##name given; \
+    int __wrap_##name given; \
+    int __wrap_##name given { \
+        va_list more; \
+        va_start(more, how); \
+        const mode_t mode = how & O_CREAT ? (mode_t)va_arg(more, int) : 0; \
+        va_end(more); \
+        return fails(#name) ? -1 : __real_##name(__VA_ARGS__, how, mode); \
+    }
+WRAP_OPEN(open, (const char *path, int how, ...), path)
+WRAP_OPEN(openat, (int folder, const char *path, int how, ...), folder, path)
 #ifdef __cplusplus
 }
 #endif

@@ -15,6 +15,8 @@ import sys
 import tempfile
 from pathlib import Path
 
+from checks import Checks
+
 TOP = Path(__file__).resolve().parent.parent
 STRICT = ["-Wall", "-Wextra", "-Werror", "-Wconversion", f"-I{TOP}/include"]
 SANITIZED = ["-O1", "-g", "-fsanitize=address,undefined", "-fno-sanitize-recover=all"]
@@ -22,18 +24,6 @@ LANGUAGES = {"c11": ["cc", "-std=c11"], "c++17": ["c++", "-x", "c++", "-std=c++1
 WRAPPED = ["close", "fchmod", "fchown", "flock", "fstat", "fstatat", "fsync", "open", "openat", "read", "renameat", "unlinkat", "write"]
 # What the store needs of C itself, and not of the system.
 PLAIN = {"__errno_location", "memcmp", "memcpy", "memset", "strlen", "strrchr", "__stack_chk_fail", "_GLOBAL_OFFSET_TABLE_"}
-
-
-class Checks:
-    def __init__(self):
-        self.passed = self.failed = 0
-
-    def same(self, what, got, expected):
-        if got == expected:
-            self.passed += 1
-        else:
-            self.failed += 1
-            print(f"WRONG: {what}: {got!r:.400} in place of {expected!r:.400}")
 
 
 def needed(made):
@@ -101,8 +91,7 @@ def main():
         if shutil.which("valgrind"):
             run = subprocess.run(["valgrind", "-q", "--error-exitcode=99", "--track-fds=no", made / "store-c11"], cwd=made, capture_output=True, text=True)
             checks.same("the store under valgrind", run.returncode, 0)
-    print(f"{checks.passed} passed, {checks.failed} failed")
-    return 1 if checks.failed else 0
+    return checks.verdict()
 
 
 if __name__ == "__main__":

@@ -1,7 +1,9 @@
 """What tools count: what is as it must be, and what is not, which they tell. Other tools use it; it has no `main`."""
 import contextlib
 import os
+import re
 import subprocess
+import sys
 
 import own_ports
 
@@ -13,6 +15,26 @@ def ended(run, seconds=60):
     except subprocess.TimeoutExpired:
         run.kill()
         return ("it did not end", *run.communicate(timeout=60))
+
+
+class Serving:
+    """A run of a program that serves: the notes that it says first, and where it says that it listens. It is ended with the block that it stands in."""
+
+    def __init__(self, *words, notes=0, **how):
+        how = {"stdout": subprocess.DEVNULL, "stderr": subprocess.PIPE, "text": True, **how}
+        self.process = subprocess.Popen([*map(str, words)], **how)
+        self.notes = [self.process.stderr.readline() for _ in range(notes)]
+        self.said = self.process.stderr.readline()
+        found = re.fullmatch(r"listening (?:http://)?([\d.]+):(\d+)(?:/(?:\?token=([\w-]+))?)?\n", self.said)
+        self.ip, self.port, self.token = found.groups() if found else (None, 0, None)
+        self.port = int(self.port)
+
+    def __enter__(self):
+        return self if self.port else sys.exit(f"{self.process.args[0]} said {self.said!r}")
+
+    def __exit__(self, *_):
+        self.process.kill()
+        self.process.wait()
 
 
 def verdict(passed, failed):
@@ -29,16 +51,17 @@ class Checks:
         self.late, self.repeated = 0, []
 
     def expect(self, what, good, told="", is_time=False):
-        """A check; `is_time` where it is wrong only since something took too long."""
+        """A check, and whether it is so; `is_time` where it is wrong only since something took too long."""
         if good:
             self.passed += 1
-            return
-        self.failed += 1
-        self.late += is_time
-        print(f"{'LATE' if is_time else 'WRONG'}: {what}{told and ': '}{told}", flush=True)
+        else:
+            self.failed += 1
+            self.late += is_time
+            print(f"{'LATE' if is_time else 'WRONG'}: {what}{told and ': '}{told}", flush=True)
+        return bool(good)
 
     def same(self, what, got, wanted, is_time=False):
-        self.expect(what, got == wanted, f"{got!r:.1000} in place of {wanted!r:.1000}", is_time)
+        return self.expect(what, got == wanted, f"{got!r:.1000} in place of {wanted!r:.1000}", is_time)
 
     def all_but(self, count, faults):
         """So many checks, of which each of these faults is one that failed."""

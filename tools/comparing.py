@@ -2,6 +2,12 @@
 import collections
 import multiprocessing
 import subprocess
+from pathlib import Path
+from types import ModuleType
+
+import oca_profile
+from checks import Checks
+from tables import data
 
 
 class Break(Exception):
@@ -12,12 +18,21 @@ class Break(Exception):
         self.law, self.at, self.what = law, at, what
 
 
-def wrong_rule(rules, name, law, owner, method):
-    """Notes that who has this body in the place of the method breaks this law."""
-    def note(body):
-        rules[name] = law, owner, method, body
-        return body
-    return note
+def wrong_rules(name):
+    """The wrong rules of the file of rows of this name: by its name each with the law that it breaks, its old texts, and what takes their places."""
+    listed = lambda texts: [texts] if isinstance(texts, str) else texts
+    return {rule["name"]: (rule["breaks"], [*zip(listed(rule["old"]), listed(rule["new"]), strict=True)]) for rule in data(name).wrong}
+
+
+def changed(edits):
+    """The second implementation with these edits, each of a text that stands there once."""
+    text, made = Path(oca_profile.__file__).read_text(), ModuleType("changed_profile")
+    for old, new in edits:
+        if text.count(old) != 1:
+            raise ValueError(f"the second implementation has {text.count(old)} times {old!r}")
+        text = text.replace(old, new)
+    exec(compile(text, "changed_profile", "exec"), vars(made))
+    return made
 
 
 def broken(walk, *given):
@@ -53,8 +68,7 @@ def in_processes(work, jobs, refuses, wrong):
 
 def verdict(checks):
     """Prints the checks that failed and the last line; answers the exit status."""
+    its = Checks()
     for name, passed in checks.items():
-        if not passed:
-            print(f"FAILED: {name}")
-    print(f"{sum(map(bool, checks.values()))} passed, {sum(not passed for passed in checks.values())} failed")
-    return 0 if all(checks.values()) else 1
+        its.expect(name, passed)
+    return its.verdict()

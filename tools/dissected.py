@@ -19,6 +19,8 @@ import tempfile
 from collections import Counter
 from pathlib import Path
 
+from checks import verdict
+
 TOP = Path(__file__).resolve().parent.parent
 DEVICE, PANEL = ("127.0.0.1", 65000), ("127.0.0.1", 9001)
 FIELDS = ("type", "msgcount", "handle", "tono", "mlevel", "midx", "pcount", "status")
@@ -115,8 +117,7 @@ def main(folder):
             failed += 1
             print(f"FAILED: {frame.hex()}: {fields} {malformed}, and it is {read(frame)}")
     print(", ".join(f"{count} {kind}" for kind, count in sorted(kinds.items())))
-    print(f"{len(frames) - failed} passed, {failed} failed")
-    return 1 if failed else 0
+    return verdict(len(frames) - failed, failed)
 
 
 if __name__ == "__main__":

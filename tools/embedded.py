@@ -15,24 +15,13 @@ import tempfile
 from pathlib import Path
 
 import oca_profile as oca
+import peers
+from checks import Checks
+from own_ports import bound
 
 OPENED = "open channel 1: status 0\n"
 MUTES, GAINS = (4097, 5097), (4098, 5098)
 LOCK_TOTAL, LOCK_READONLY = 3, 6
-
-
-class Checks:
-    """What was compared."""
-
-    def __init__(self):
-        self.passed, self.failed = 0, 0
-
-    def same(self, name, got, wanted):
-        if got == wanted:
-            self.passed += 1
-        else:
-            self.failed += 1
-            print(f"embedded: {name}: {got!r} where {wanted!r} is right")
 
 
 class Amplifier:
@@ -51,29 +40,14 @@ class Amplifier:
         self.run.communicate(timeout=60)
 
 
-class Peer:
-    """A controller of one command at a time."""
-
+class Peer(peers.Peer):
     def __init__(self, port):
-        self.socket = socket.socket(socket.AF_INET, socket.SOCK_DGRAM)
-        self.socket.connect(("127.0.0.1", port))
-        self.socket.settimeout(30)
-        self.handles = itertools.count(1)
-
-    def ask(self, target, level, index, params=b""):
-        """The status and the parameters of the answer."""
-        self.socket.send(oca.pdu(1, [oca.Command(next(self.handles), target, level, index, len(params) > 0, params).body()]))
-        answer = self.socket.recv(2000)
-        return answer[18], answer[20:]
+        super().__init__(port, 30, 1)
 
     def levels(self):
         """Both channels as the amplifier prints them."""
-        said = []
-        for mute, gain in zip(MUTES, GAINS):
-            state, setting = self.ask(mute, 4, 1)[1], self.ask(gain, 5, 1)[1]
-            word = "muted" if state == bytes([1]) else "open"
-            said.append(f"{word} {int.from_bytes(setting[:2], 'big', signed=True)} dB/10")
-        return f"1: {said[0]}, 2: {said[1]}\n"
+        states, settings = ([self.ask(ono, level, 1)[1] for ono in onos] for onos, level in ((MUTES, 4), (GAINS, 5)))
+        return shown([("muted" if state == b"\1" else "open", int.from_bytes(setting[:2], "big", signed=True)) for state, setting in zip(states, settings)])
 
 
 def shown(levels):
@@ -136,14 +110,12 @@ def listing(checks, folder):
     amplifier.stop()
     # 104 members of 14 bytes each and the two bytes of their count are more than the 1,452 of an answer.
     for words, lines in (((), DESK), (("--channels", "103"), ('100 OcaBlock "root": BufferOverflow',))):
-        device = subprocess.Popen([f"{folder}/ocadev", "serve", "--port", "0", *words], stdout=subprocess.DEVNULL,
-                                  stderr=subprocess.PIPE, text=True)
+        device = subprocess.Popen([f"{folder}/ocadev", "serve", "--port", "0", *words], stdout=subprocess.DEVNULL, stderr=subprocess.PIPE, text=True)
         port = int(re.search(r"listening 127\.0\.0\.1:(\d+)", device.stderr.readline())[1])
         checks.same(f"a listing of ocadev {words}", tuple(panel(folder, port, "objects").splitlines()), lines)
         device.kill()
         device.communicate(timeout=60)
-    with socket.socket(socket.AF_INET, socket.SOCK_DGRAM) as silent:
-        silent.bind(("127.0.0.1", 0))
+    with bound() as silent:
         port = silent.getsockname()[1]
         checks.same("a listing where nobody answers", panel(folder, port, "objects"), "100: lost\n")
         checks.same("the panel where nobody answers", panel(folder, port), "lost\n")
@@ -166,9 +138,8 @@ def knobs(checks, folder):
         if changes:
             checks.same(f"{line}: what is shown", amplifier.run.stdout.readline(), shown(levels))
             checks.same(f"{line}: what is read", peer.levels(), shown(levels))
-    for line, note in (("mute 3", "a line turns no knob"), ("mute", "a line turns no knob"), ("mute 1 ", "a line turns no knob"), ("gain 2 -3O", "a line turns no knob"),
-                       ("gain 2", "a line turns no knob"), ("gain 2 -", "a line turns no knob"), ("open 1 2", "a line turns no knob"), ("x" * 200, "a line turns no knob"),
-                       ("gain 2 101", "the value is out of range"), ("gain 1 -801", "the value is out of range")):
+    others = "mute 3|mute|mute 1 |gain 2 -3O|gain 2|gain 2 -|open 1 2|" + "x" * 200
+    for line, note in (*((it, "a line turns no knob") for it in others.split("|")), *((it, "the value is out of range") for it in ("gain 2 101", "gain 1 -801"))):
         amplifier.turn(line)
         checks.same(f"{line}: a note", amplifier.run.stderr.readline(), f"note: {note}\n")
         checks.same(f"{line}: what is read", peer.levels(), shown(levels))
@@ -213,9 +184,7 @@ def at_this_machine(checks, folder):
     amplifier = Amplifier(folder)
     checks.same("where the amplifier listens", bound_at(amplifier.port), ["127.0.0.1"])
     amplifier.stop()
-    with socket.socket(socket.AF_INET, socket.SOCK_DGRAM) as silent:
-        silent.bind(("127.0.0.1", 0))
-        silent.settimeout(30)
+    with bound() as silent:
         run = subprocess.Popen([f"{folder}/panel", str(silent.getsockname()[1])], stdout=subprocess.DEVNULL)
         own = silent.recvfrom(2000)[1][1]
         checks.same("where the panel's socket is", bound_at(own), ["127.0.0.1"])
@@ -239,30 +208,25 @@ def closed(checks, folder):
 
 
 def ended(folder, words, lines="", output=subprocess.PIPE):
-    """What an amplifier prints that ends by itself, with the lines of a file as its input: behind where it listens, its
-    notes, and its status."""
+    """What an amplifier prints that ends by itself, with the lines of a file as its input: behind where it listens, its notes, and its status."""
     with tempfile.TemporaryFile("w+") as given:
         given.write(lines)
         given.seek(0)
-        done = subprocess.run([f"{folder}/amplifier", *map(str, words)], stdin=given, stdout=output,
-                              stderr=subprocess.PIPE, text=True, timeout=60)
+        done = subprocess.run([f"{folder}/amplifier", *map(str, words)], stdin=given, stdout=output, stderr=subprocess.PIPE, text=True, timeout=60)
     return done.stdout, re.sub(r"^listening 127\.0\.0\.1:\d+\n", "", done.stderr), done.returncode
 
 
 def ends(checks, folder):
     """One line is turned before each of the turns that the words say, 2 without words; a line that is not turned is not
     shown. Where the amplifier can't bind its port, or can't print, it says so and ends with 1."""
-    first, second, third = (shown(levels) for levels in ((("open", 0), ("muted", 0)), (("open", 0), ("open", 0)),
-                                                         (("muted", 0), ("open", 0))))
+    first, second, third = (shown(levels) for levels in ((("open", 0), ("muted", 0)), (("open", 0), ("open", 0)), (("muted", 0), ("open", 0))))
     lines = "open 1\nopen 2\nmute 1\nmute 2\n"
-    for words, said in (((), first + second), ((0, 0), ""), ((0, 1), first), ((0, 2), first + second),
-                        ((0, 3), first + second + third)):
+    for words, said in (((), first + second), ((0, 0), ""), ((0, 1), first), ((0, 2), first + second), ((0, 3), first + second + third)):
         checks.same(f"an amplifier with the words {words}", ended(folder, words, lines), (said, "", 0))
     checks.same("a last line that nothing ends", ended(folder, (0, 3), "open 1\nopen 2"), (first + second, "", 0))
     refused = "note: the value is out of range\nnote: a line turns no knob\n"
     checks.same("lines that turn nothing", ended(folder, (0, 3), "gain 1 101\nmute 3\nopen 1\n"), (first, refused, 0))
-    with socket.socket(socket.AF_INET, socket.SOCK_DGRAM) as other:
-        other.bind(("127.0.0.1", 0))
+    with bound() as other:
         port = other.getsockname()[1]
         checks.same("an amplifier at a taken port", ended(folder, (port, 2)), ("", "socket failed\n", 1))
     with open("/dev/full", "w") as full:
@@ -273,8 +237,7 @@ def main():
     checks = Checks()
     for part in (panel_sets, listing, knobs, objects, at_this_machine, closed, ends):
         part(checks, sys.argv[1])
-    print(f"embedded: the samples, each from both sides\n{checks.passed} passed, {checks.failed} failed")
-    return 1 if checks.failed else 0
+    return checks.verdict()
 
 
 if __name__ == "__main__":

@@ -12,6 +12,8 @@ import sys
 import time
 
 import oca_profile as oca
+from checks import verdict
+from tables import table
 
 ONOS = [100, 4096, 4097, 4098, 4099, 4100, 4101, 4102, 4103, 1, 0]
 METHODS = [(1, i) for i in range(0, 8)] + [(2, i) for i in range(1, 14)] + [(3, 4), (3, 5), (3, 6), (3, 20), (3, 21)] \
@@ -127,14 +129,7 @@ def moment(r, now):
     return max(0, now + (step if r.randrange(3) == 0 or step < 3000 else 1))
 
 
-# bad lines, and some good ones
-BAD = ["", "#", "# a comment", "0", "0 quiet ", " 0 quiet", "0  quiet", "x quiet", "18446744073709551616 quiet",
-       "0 127.0.0.1:9001", "0 127.0.0.1:9001 3b0", "0 127.0.0.1:9001 zz", "0 127.0.0.256:1 -", "0 1.2.3.4:70000 -",
-       "0 1.2.3:1 -", "+1 quiet", "00000000000000000000 quiet", "000000000000000000000 quiet", "take", "take 1 ",
-       "take due", "0 take 1", "0 due x", "0 submit 1 2 3 4", "0 submit 4294967296 4 1 0 -",
-       "0 submit 1 65536 1 0 -", "0 submit 1 1 1 256 -", "0 submit 1 1 1 1 a", "0 from 1.2.3.4:5 -",
-       "0 from 1.2.3.4 -", "0 from 1.2.3.4:5 0", "take 4294967296", "é quiet", "#é", "a" * 4097, "#" * 4097,
-       "#" * 4096]
+BAD = table("fuzz")["lines"]  # bad ones, and some good ones
 
 
 def hexed(r, data):
@@ -251,14 +246,12 @@ def main():
             words, script, expected = make(r)
             if not compare(f"{folder}/{name}", words, script, expected):
                 print(f"fuzz: seed {seed}, after {sum(scripts)} scripts without a difference")
-                print(f"{sum(scripts)} passed, 1 failed")
-                return 1
+                return verdict(sum(scripts), 1)
             scripts[kind] += 1
             lines += script.count(b"\n") + 1
     print(f"fuzz: seed {seed}: {scripts[0]} device scripts and {scripts[1]} controller scripts, {lines} lines, "
           f"no difference; room for {sorted(set(ROOMS))} peers, {sorted(set(CHANNELS))} channels")
-    print(f"{sum(scripts)} passed, 0 failed")
-    return 0
+    return verdict(sum(scripts), 0)
 
 
 if __name__ == "__main__":

@@ -11,6 +11,7 @@ import os
 import pty
 import re
 import select
+import shlex
 import signal
 import sys
 import tempfile
@@ -21,36 +22,12 @@ import checks
 import oca_profile as oca
 import own_ports
 from own_ports import free_port
-from served import Served
+from served import Other, Served, commands_in
+from tables import data
 
-CLASS, LOCK, UNLOCK, ROLE, MEMBERS, NAME, NAMES = (1, 1), (1, 3), (1, 4), (1, 5), (3, 5), (4, 3), (4, 5)
-GET = {"mute": (4, 1), "polarity": (4, 1), "switch": (4, 1)}
-SET = {"mute": (4, 2), "polarity": (4, 2), "switch": (4, 2)}
+CLASS, ROLE, MEMBERS = (1, 1), (1, 5), (3, 5)
 SETS = ((4, 2), (5, 2))
 OTHER = (127, 0, 0, 1, 9)  # a peer that never speaks
-
-
-def word(obj):
-    """How an object is set, in its class's words."""
-    if obj.kind == "mute":
-        return {1: "muted", 2: "unmuted"}[obj.state]
-    if obj.kind == "polarity":
-        return {1: "non-inverted", 2: "inverted"}[obj.state]
-    if obj.kind == "boolean":
-        return "on" if obj.state else "off"
-    if obj.kind == "switch":
-        return f"{obj.state} {oca.escaped(obj.names[obj.state])}"
-    return str(obj.state)
-
-
-def line(obj):
-    return f"{obj.ono} {'.'.join(map(str, oca.CLASSES[obj.kind]))} {obj.container} {oca.escaped(obj.role)}\n"
-
-
-def lines(tree, ono=100):
-    """The lines of a tree, each block's members behind it."""
-    own = next(o for o in tree if o.ono == ono)
-    return line(own) + "".join(lines(tree, o.ono) for o in oca.members(tree, ono))
 
 
 # a name that would end the line, begin another and clear the screen
@@ -72,19 +49,6 @@ def stagebox():
              oca.Object(4294967295, "polarity", 5000, "last", state=2)]
     assert block == 8
     return tree
-
-
-def commands_in(data):
-    """The commands of a datagram, each with its method."""
-    return [(message[2], (message[2].level, message[2].index)) for message in oca.check(data) if message[0] == "command"]
-
-
-class Other(Served):
-    """The second implementation's device, which hears and answers otherwise: a `datagram` of its own calls `answers` where it is like it."""
-
-    def __init__(self, tree=None, window=32):
-        super().__init__(tree, window=window)
-        self.answers, self.device.datagram = self.device.datagram, self.datagram
 
 
 class Strange(Other):
@@ -224,41 +188,49 @@ class Checks(checks.Checks):
         self.same(what, (out, re.sub(r"\b\d+ ms ago", "N ms ago", err), code), (printed, said, status))
 
 
-def trees(checks):
-    """`tree`: all objects; past a block that is too long and past a lock."""
-    for tree in (oca.bench(5), stagebox()):
+def long_bench():
+    """A device whose second block has too many members, and one object behind it."""
+    return oca.bench(1) + [oca.Object(6000 + n, "mute", 4096, "m", state=1) for n in range(100)] + [oca.Object(7000, "mute", 100, "behind", state=1)]
+
+
+TREES = {"bench 5": lambda: oca.bench(5), "stagebox": stagebox, "long": long_bench}
+
+
+def of_object(obj):
+    """How an object is set, and who has it locked."""
+    return f"{obj.ono} {obj.setting()}" + (f" {obj.lock[0]} {obj.lock[1][4]}" if obj.lock else "")
+
+
+def of_command(target, method, params):
+    return f"{target} {method[0]}.{method[1]}" + (f" {params.hex()}" if params else "")
+
+
+def heard_as(device, asks):
+    """What was heard of the device, as far as the row says it."""
+    heard = [of_command(*it) for it in asked(device)]
+    if asks == "nothing":
+        return ["nothing"] if not {method for _, method, _ in asked(device)} & {*SETS} else heard
+    wanted = asks.split(", ")
+    return ["...", *heard[1 - len(wanted):]] if wanted[0] == "..." else heard
+
+
+def of_rows(checks):
+    """`tree`, `get`, `set`, `lock` and `unlock`: the rows of tools/rows/hands.toml."""
+    for row in data("hands").device:
+        tree, other = TREES[row["tree"]](), str(free_port())
+        by_ono = {str(o.ono): o for o in tree}
+        for ono, kind in (it.split() for it in row.get("locks", ())):
+            by_ono[ono].lock = (kind, OTHER)
         with Served(tree) as device:
-            checks.prints("tree", device, ["tree"], lines(tree), 0)
-            wanted = []
-            for obj in sorted(tree, key=lambda o: lines(tree).index(line(o))):
-                wanted += [(obj.ono, CLASS, b""), (obj.ono, ROLE, b"")] + [(obj.ono, MEMBERS, b"")] * (obj.kind == "block")
-            checks.same("tree: what it asks", asked(device), wanted)
-    tree = oca.bench(1)
-    tree += [oca.Object(6000 + n, "mute", 4096, "m", state=1) for n in range(100)]
-    tree += [oca.Object(7000, "mute", 100, "behind", state=1)]
-    tree[-2].lock = ("total", OTHER)  # a member of the long block
-    tree[9].lock = ("total", OTHER)   # a mute of the strip
-    printed = line(tree[0]) + line(tree[1]) + "4096 BufferOverflow\n" + line(tree[8]) + f"{tree[9].ono} Locked\n"
-    printed += line(tree[10]) + line(tree[11]) + line(tree[-1])
-    with Served(tree) as device:
-        checks.prints("tree: past a long block and a lock", device, ["tree"], printed, 4)
-
-
-def gets(checks):
-    """`get`: each class's words, in the order in which they are asked; the class first."""
-    tree = stagebox()
-    valued = [o for o in tree if o.kind != "block"]
-    with Served(tree) as device:
-        printed = "".join(f"{o.ono} {word(o)}\n" for o in valued)
-        checks.prints("get", device, ["get", *(o.ono for o in valued)], printed, 0)
-        wanted = []
-        for obj in valued:
-            wanted += [(obj.ono, CLASS, b""), (obj.ono, GET.get(obj.kind, (5, 1)), b"")]
-            wanted += [(obj.ono, NAME, oca.u16(obj.state))] if obj.kind == "switch" else []
-        checks.same("get: what it asks", asked(device), wanted)
-    with Served(stagebox()) as device:
-        checks.prints("get: no value, no object", device, ["get", 4096, 77, 4097], "4096 no value\n77 BadONo\n4097 muted\n", 4)
-        checks.same("get: what it asks of a block", asked(device)[:2], [(4096, CLASS, b""), (77, CLASS, b"")])
+            for words, status, printed, has, asks in ([*call, "", ""][:5] for call in row["calls"]):
+                what = words[:100]
+                checks.prints(what, device, [other if it == "PORT" else it for it in shlex.split(words)], printed, status)
+                wanted = " ".join(has.replace("PORT", other).split()).split(", ")
+                if has:
+                    checks.same(f"{what}: the objects", [of_object(by_ono[it.split()[0]]) for it in wanted], wanted)
+                if asks:
+                    asks = " ".join(asks.split())
+                    checks.same(f"{what}: what it asks", heard_as(device, asks), asks.split(", "))
 
 
 VALUES = [(4097, "unmuted", 2), (4097, "muted", 1), (4098, "inverted", 2), (4098, "non-inverted", 1), (4099, "2", 2), (4099, "Mic", 1),
@@ -268,33 +240,6 @@ VALUES = [(4097, "unmuted", 2), (4097, "muted", 1), (4098, "inverted", 2), (4098
           (5007, "4", 4), (4294967295, "non-inverted", 1)]
 # of a switch the number is printed, and of an integer its digits without a plus
 PRINTED = {"Mic": {4099: "1", 5007: "3"}, "two words": {5007: "1"}, "+5": {4100: "5"}}
-
-
-def sets(checks):
-    """`set`: each class's words, one by one and together; what the device then holds and heard."""
-    for together in (False, True):
-        tree = stagebox()
-        at = {o.ono: o for o in tree}
-        with Served(tree) as device:
-            said = [f"{ono} {PRINTED.get(text, {}).get(ono, text)}\n" for ono, text, _ in VALUES]
-            if together:
-                words = [w for ono, text, _ in VALUES for w in (ono, text)]
-                checks.prints("set of all", device, ["set", *words], "".join(said), 0)
-                writes = [c for c in asked(device) if c[1] in (SET["mute"], (5, 2))]
-                checks.same("set of all: in order", [c[0] for c in writes], [ono for ono, _, _ in VALUES])
-                checks.same("set of all: first what is wanted", asked(device)[-len(VALUES):], writes)
-            else:
-                for (ono, text, state), printed in zip(VALUES, said):
-                    checks.prints(f"set {ono} {text}", device, ["set", ono, text], printed, 0)
-                    checks.same(f"set {ono} {text}: the device", at[ono].state, state)
-    with Served(stagebox()) as device:
-        checks.prints("set by a name", device, ["set", 4099, "Mic"], "4099 1\n", 0)
-        checks.same("set by a name: what it asks", asked(device), [(4099, CLASS, b""), (4099, NAMES, b""), (4099, SET["switch"], b"\0\1")])
-    with Served(stagebox()) as device:
-        checks.prints("set by a name as it is printed", device, ["set", 5008, oca.escaped(HIDING)], "5008 1\n", 0)
-        checks.prints("set by a name as it is not printed", device, ["set", 5008, HIDING], "5008 no such value\n", 2)
-        checks.prints("get of a name of which 192 bytes are printed", device, ["set", 5008, "2"], "5008 2\n", 0)
-        checks.prints("get of a name of which 192 bytes are printed", device, ["get", 5008], "5008 2 " + "\\u{9b}" * 32 + "\n", 0)
 
 
 # What is told of a span that a device's window of 32 does not bear.
@@ -335,56 +280,6 @@ def tells_at_once(checks):
         device.goes_on.set()
         checks.same("set --ahead: the rest", run.stdout.read(), "4098 inverted\n")
         checks.same("set --ahead: the status", run.wait(10), 0)
-
-
-def refusals(checks):
-    """Values that a device refuses, by the status's name; words that are for no value, of which nothing is set."""
-    tree = stagebox()
-    tree[2].lock = ("read-only", OTHER)
-    tree[3].lock = ("total", OTHER)
-    before = [(o.ono, o.state) for o in tree]
-    with Served(tree) as device:
-        checks.prints("set: refused", device, ["set", 4097, "unmuted", 4100, 601, 4102, 101, 4099, 3],
-                      "4097 Locked\n4100 ParameterOutOfRange\n4102 ParameterOutOfRange\n4099 ParameterOutOfRange\n", 4)
-        checks.prints("set: the class is locked", device, ["set", 4098, "inverted"], "4098 Locked\n", 4)
-        checks.prints("get: locked", device, ["get", 4097, 4098], "4097 muted\n4098 Locked\n", 4)
-        checks.same("refused: the objects", [(o.ono, o.state) for o in tree], before)
-    for words, printed, status in (
-            ((4097, "loud"), "4097 no such value\n", 2), ((4097, "1"), "4097 no such value\n", 2),
-            ((4098, "on"), "4098 no such value\n", 2), ((4099, "Aux"), "4099 no such value\n", 2),
-            ((4099, "65536"), "4099 no such value\n", 2), ((4100, "32768"), "4100 no such value\n", 2),
-            ((4100, "-32769"), "4100 no such value\n", 2), ((4101, "true"), "4101 no such value\n", 2),
-            ((4102, "-1"), "4102 no such value\n", 2), ((4102, "1.5"), "4102 no such value\n", 2),
-            ((4096, "on"), "4096 no value\n", 4), ((77, "on"), "77 BadONo\n", 4),
-            ((4101, "on", 4097, "loud", 4102, 5), "4097 no such value\n", 2),
-            ((4101, "on", 77, "loud", 4097, "x"), "77 BadONo\n4097 no such value\n", 2)):
-        with Served(stagebox()) as device:
-            checks.prints(f"set {words}", device, ["set", *words], printed, status)
-            checks.same(f"set {words}: nothing is set", {c[1] for c in asked(device)} <= {CLASS, NAMES}, True)
-
-
-def bad_words(checks):
-    """Words that are of no form: a fault, and nothing is sent."""
-    with Served(stagebox()) as device:
-        for command, words in (
-                ("get", ()), ("get", ("x",)), ("get", (4097, "-1")), ("get", ("4294967296",)), ("get", ("00000004097",)),
-                ("set", ()), ("set", (4097,)), ("set", (4097, "muted", 4098)), ("set", ("mute", "muted")), ("set", (4097, "x" * 65)),
-                ("set", (4097, "muted", "--ahead", 0)), ("set", (4097, "muted", "--ahead", 17)), ("set", (4097, "muted", "--ahead", "x")),
-                ("set", (4097, "muted", "--span", 4, "--ahead", 5)), ("get", (4097, "--ahead", 2)),
-                ("lock", ()), ("unlock", ("all",)), ("tree", (100,)), ("get", (4097, "--turns", "x")), ("get", (4097, "--port", "65536"))):
-            out, said, status = checks.run(device, command, *words)
-            checks.same(f"{command} {words}", (out, said.splitlines()[-1:], said[:6], status), ("", ["bad words"], "note: ", 2))
-        checks.same("bad words: what is heard", device.heard, [])
-
-
-def long_words(checks):
-    """The note on a word that is not valid has the word, where that has 200 bytes at most."""
-    form = "A.B.C.D:PORT, the address of one host (1.0.0.0 to 223.255.255.255) and a port from 1 to 65535"
-    for count in (199, 200, 201, 900, 2000):
-        shown = "x" * count + " " if count <= 200 else ""
-        said = f"note: --device {shown}is not valid: it must be {form}\nbad words\n"
-        got = checks.ran("ocactl", "get", "--device", "x" * count, "4097")
-        checks.same(f"get: a word of {count} bytes", got, ("", said, 2))
 
 
 def helps(checks):
@@ -432,56 +327,8 @@ def ended(checks, command, answers, words, lines):
         return checks.run(device, command, *words, given=lines)[2]
 
 
-def locks(checks):
-    """`lock` and `unlock`: who holds the lock, and what is refused."""
-    tree = stagebox()
-    with Served(tree) as device:
-        port = own_ports.free_port()
-        checks.prints("lock", device, ["lock", "--port", port, 4097, 4098], "4097 locked\n4098 locked\n", 0)
-        checks.same("lock: the holder", [o.lock for o in tree[2:4]], [("total", (127, 0, 0, 1, port))] * 2)
-        checks.same("lock: what it asks", asked(device), [(4097, LOCK, b""), (4098, LOCK, b"")])
-        checks.prints("lock: another's", device, ["lock", 4097], "4097 Locked\n", 4)
-        checks.prints("set under another's lock", device, ["set", 4097, "unmuted"], "4097 Locked\n", 4)
-        checks.prints("set under its own lock", device, ["set", "--port", port, 4097, "unmuted"], "4097 unmuted\n", 0)
-        checks.prints("unlock: another's", device, ["unlock", 4097], "4097 Locked\n", 4)
-        checks.prints("unlock", device, ["unlock", "--port", port, 4097, 4098], "4097 unlocked\n4098 unlocked\n", 0)
-        checks.same("unlock: no lock", [o.lock for o in tree[2:4]], [None, None])
-        checks.prints("not lockable, not locked", device, ["lock", 4102], "4102 InvalidRequest\n", 4)
-        checks.prints("not locked", device, ["unlock", 4097], "4097 InvalidRequest\n", 4)
-
-
 def strange_answers(checks):
-    """Devices that answer what no device of the profile does."""
-    mute = oca.u16(4) + b"".join(map(oca.u16, (1, 1, 1, 2, 2)))
-    for answers, words, printed, status in (
-            (lambda t, m: (0, oca.u16(3) + b"".join(map(oca.u16, (1, 2, 9, 2)))), ["get", 4097], "4097 no value\n", 4),
-            (lambda t, m: (0, b"\0\1\0"), ["get", 4097], "4097 unreadable answer\n", 4),
-            (lambda t, m: (0, mute + b"\0"), ["get", 4097], "4097 unreadable answer\n", 4),
-            (lambda t, m: (0, mute if m == CLASS else b"\3"), ["get", 4097], "4097 unreadable answer\n", 4),
-            (lambda t, m: (0, mute[:-1] + b"\7" if m == CLASS else b"\2"), ["get", 4097], "4097 unmuted\n", 0),
-            (lambda t, m: (77, b""), ["get", 4097], "4097 status 77\n", 4),
-            (lambda t, m: (15, b""), ["lock", 4097], "4097 status 15\n", 4),
-            (lambda t, m: (0, mute) if m == CLASS else (10, b""), ["set", 4097, "muted"], "4097 ProcessingFailed\n", 4)):
-        with Strange(answers) as device:
-            checks.prints(f"strange answers to {words}", device, words, printed, status)
-    names = ["OK", "ProtocolVersionError", "DeviceError", "Locked", "BadFormat", "BadONo", "ParameterError", "ParameterOutOfRange",
-             "NotImplemented", "InvalidRequest", "ProcessingFailed", "BadMethod", "PartiallySucceeded", "Timeout", "BufferOverflow"]
-    with Strange(lambda t, m: (t, b"")) as device:
-        checks.prints("names of statuses", device, ["unlock", *range(1, 15)], "".join(f"{n} {names[n]}\n" for n in range(1, 15)), 4)
-
-    def foreign(target, method):
-        """A root block with an object of a class that is not known here, a block of another version, and no role."""
-        block, text = oca.u16(3) + b"\0\1\0\1\0\3\0\2", oca.text_bytes("")
-        if method == CLASS:
-            return 0, {100: block, 4096: oca.u16(5) + b"\0\1\0\1\0\1\xff\xff\0\7\0\3", 4097: block[:-1] + b"\1"}[target]
-        if method == ROLE:
-            return (0, text) if target != 100 else (0, oca.text_bytes("root"))
-        ids = b"".join(n.to_bytes(4, "big") + block for n in (4096, 4097))
-        return (0, oca.u16(2) + ids) if target == 100 else (0, oca.u16(0))
-
-    with Strange(foreign) as device:
-        checks.prints("tree: a class that is not known", device, ["tree"], "100 1.1.3 0 root\n4096 1.1.1.65535.7 100 \n4097 1.1.3 100 \n", 0)
-
+    """A device that answers what no device of the profile does: a block that is in itself."""
     def endless(target, method):
         """A root block that is its own member."""
         block = oca.u16(3) + b"\0\1\0\1\0\3\0\2"
@@ -497,14 +344,6 @@ def silence(checks):
     port = own_ports.free_port()
     note = f"note: nothing was heard from 127.0.0.1:{port}: its host says that no program has this port\n"
     checks.prints("get: nobody has the port", port, ["get", "--turns", 2, 4097], "4097 no answer\n", 3, note)
-    with silent() as port:
-        note = f"note: nothing was heard from 127.0.0.1:{port}\n"
-        checks.prints("get: no answer", port, ["get", "--turns", 2, 4097, 4098], "4097 no answer\n4098 no answer\n", 3, note)
-        checks.prints("set: no answer", port, ["set", "--turns", 2, 4097, "on"], "4097 no answer\n", 3, note)
-        checks.prints("tree: lost", port, ["tree"], "100 lost\n", 3, note)
-        checks.prints("get: lost, and what was never sent", port, ["get", 4097, 4098], "4097 lost\n4098 not sent\n", 3, note)
-        checks.prints("get: no handle is left", port, ["get", "--first-handle", oca.U32, "--turns", 1, 1, 2],
-                      "1 no answer\n2 refused 2 handles-spent\n", 3, note)
     for ahead, printed in ((1, "4097 lost\n4098 not sent\n4101 not sent\n"), (2, "4097 lost\n4098 lost\n4101 not sent\n")):
         with Deaf(stagebox(), SETS) as device:
             checks.prints(f"set --ahead {ahead}: lost, and what was never sent", device,
@@ -531,8 +370,6 @@ def silence_of_a_run(checks):
     runs = lambda what, device, note: checks.same(f"run: {what}", checks.run(device, "run", "--first-handle", 1, given="4097 4 1 0 -\n"), ("lost\n", note, 3))
     port, unheard = own_ports.free_port(), "note: nothing was heard from 127.0.0.1:{}"
     runs("nobody has the port", port, f"{unheard.format(port)}: its host says that no program has this port\n")
-    with silent() as port:
-        runs("a device that is silent", port, f"{unheard.format(port)}\n")
     with Deaf(stagebox(), None) as device:
         runs("a device that is deaf", device, is_deaf(device.port, checks.port))
 
@@ -660,48 +497,34 @@ def in_the_background(checks, device, *words, given="", place=""):
 
 
 def behind_a_terminal(checks):
-    """In the background of a terminal `lock --hold` reads nothing that is typed there, and is not stopped by it: it keeps its lock."""
+    """In the background of a terminal `lock --hold` reads nothing that is typed there, and is not stopped by it: it keeps its lock, where its output is
+    the terminal and where it is a file. It is the input alone that is not read: that of another program is."""
+    for name, is_file in (("lock --hold in the background", False), ("lock --hold in the background, its output in a file", True)):
+        with Served(stagebox()) as device, tempfile.TemporaryDirectory() as room:
+            place = f"{room}/said" if is_file else ""
+            run = in_the_background(checks, device, "lock", "--hold", "4097", place=place)
+            checks.same(f"{name}: it is there", run.says(b" is there"), True)
+            checks.same(name, says_in(place, "4097 locked\n") == "4097 locked\n" if is_file else run.says(b"4097 locked"), True)
+            pid = int(re.search(rb"(\d+) is there", run.said)[1])
+            for line in (b"a line of another program\n", b"and one more\n"):
+                run.write(line)
+                checks.same(f"{name}: it goes on", (run.says(b"unlocked", 1), b"its status" in run.said), (False, False))
+                state = state_of(pid)
+                checks.same(f"{name}: it is not stopped, but {state}", state in "RS", True)
+            checks.same(f"{name}: its lock", [o.lock is not None for o in device.tree if o.ono == 4097], [True])
+            os.kill(pid, signal.SIGKILL)
+            checks.same(f"{name}: its end", (run.says(b"its status is -9"), run.ends()), (True, 0))
+    name = "run in the background, its input of another program"
     with Served(stagebox()) as device:
-        run = in_the_background(checks, device, "lock", "--hold", "4097")
-        checks.same("lock --hold in the background", (run.says(b" is there"), run.says(b"4097 locked")), (True, True))
-        pid = int(re.search(rb"(\d+) is there", run.said)[1])
-        for line in (b"a line of another program\n", b"and one more\n"):
-            run.write(line)
-            checks.same("lock --hold in the background: it goes on", run.says(b"unlocked", 1), False)
-            state = state_of(pid)
-            checks.same(f"lock --hold in the background: it is not stopped, but {state}", state in "RS", True)
-        is_locked = [o.lock is not None for o in device.tree if o.ono == 4097]
-        checks.same("lock --hold in the background: its lock", is_locked, [True])
-        os.kill(pid, signal.SIGKILL)
-        checks.same("lock --hold in the background: its end", run.ends(), 0)
+        run = in_the_background(checks, device, "run", given="4097 4 1 0 -\n")
+        checks.same(name, (run.says(b"answer 0 1 01"), run.says(b"its status is 0")), (True, True))
+        checks.same(f"{name}: its end", run.ends(), 0)
 
 
 def state_of(pid):
     """The letter by which the system says what a process does: T where it is stopped."""
     with open(f"/proc/{pid}/stat", encoding="ascii") as file:
         return file.read().rsplit(")", 1)[1].split()[0]
-
-
-def behind_a_terminal_alone(checks):
-    """In the background of a terminal it is the input alone that is not read: the terminal's is not where the output
-    goes to a file, and that of another program is where the output is the terminal."""
-    name = "lock --hold in the background, its output in a file"
-    with Served(stagebox()) as device, tempfile.TemporaryDirectory() as place:
-        run = in_the_background(checks, device, "lock", "--hold", "4097", place=f"{place}/said")
-        is_there, said = run.says(b" is there"), says_in(f"{place}/said", "4097 locked\n")
-        checks.same(name, (is_there, said), (True, "4097 locked\n"))
-        pid = int(re.search(rb"(\d+) is there", run.said)[1])
-        run.write(b"a line of another program\n")
-        checks.same(f"{name}: it goes on", run.says(b"its status", 1), False)
-        state = state_of(pid)
-        checks.same(f"{name}: it is not stopped, but {state}", state in "RS", True)
-        os.kill(pid, signal.SIGKILL)
-        checks.same(f"{name}: its end", (run.says(b"its status is -9"), run.ends()), (True, 0))
-    name = "run in the background, its input of another program"
-    with Served(stagebox()) as device:
-        run = in_the_background(checks, device, "run", given="4097 4 1 0 -\n")
-        checks.same(name, (run.says(b"answer 0 1 01"), run.says(b"its status is 0")), (True, True))
-        checks.same(f"{name}: its end", run.ends(), 0)
 
 
 def old_sessions(checks):
@@ -778,9 +601,9 @@ ALONE = (old_sessions, no_other_port, own_port_in_use, missed_first)
 
 def main():
     counts = Checks(sys.argv[1])
-    counts.parts(trees, gets, sets, sets_at_once, tells_at_once, refusals, bad_words, long_words, helps, ends_as_told, locks, strange_answers, silence,
+    counts.parts(of_rows, sets_at_once, tells_at_once, helps, ends_as_told, strange_answers, silence,
                  silence_of_a_run, failed_sends, old_sessions, no_other_port, own_port_in_use, missed_first, at_a_terminal, at_a_terminal_alone,
-                 behind_a_terminal, behind_a_terminal_alone, held, alone=ALONE)
+                 behind_a_terminal, held, alone=ALONE)
     return counts.verdict()
 
 

@@ -17,8 +17,10 @@ TOP = Path(__file__).resolve().parent.parent
 sys.path.insert(0, str(TOP / "gate"))
 import api
 import reference
+from tables import data
 
 CALLS = TOP / "crates/oca_c/src"
+DATA = data("header")
 STRUCTURES = TOP / "crates/oca_calls/src"
 NUMBERS = {"bool": "bool", "usize": "size_t", **{f"{sign}{bits}": f"{'u' if sign == 'u' else ''}int{bits}_t" for sign in "iu" for bits in (8, 16, 32, 64)}}
 HANDLES = {"DeviceHandle": ("struct oca_device", "device"), "LinkHandle": ("struct oca_link", "link")}
@@ -218,70 +220,6 @@ def differences(header):
     return len(library) + sum(len(of) if isinstance(of, (dict, list)) else 1 for of in others.values()), wrong
 
 
-# Headers that are wrong: the text, and what stands there in its place.
-WRONG = [
-    ("bool lockable, bool muted", "bool muted, bool lockable"),
-    ("uint8_t window, uint8_t peers) OCA_CHECKED", "uint8_t peers, uint8_t window) OCA_CHECKED"),
-    ("OCA_CLASS_MUTE = 2, OCA_CLASS_POLARITY = 3", "OCA_CLASS_POLARITY = 2, OCA_CLASS_MUTE = 3"),
-    ("executed, kept, old, reused, fault", "executed, kept, reused, old, fault"),
-    ("OCA_FULL = 1, OCA_RESERVED = 2, OCA_TAKEN = 3, OCA_NO_SUCH_BLOCK = 4, OCA_TOO_DEEP = 5", "OCA_TOO_DEEP = 1, OCA_RESERVED = 2, OCA_TAKEN = 3, OCA_NO_SUCH_BLOCK = 4, OCA_FULL = 5"),
-    ("oca_device_tick(struct oca_device *device, uint64_t now)", "oca_device_tick(struct oca_device *device, uint32_t now)"),
-    ("enum oca_result oca_device_tick(struct oca_device *device, uint64_t now) OCA_NONNULL;", ""),
-    ("enum oca_result oca_device_tick(", "uint32_t oca_device_tick("),
-    ("struct oca_value { uint32_t class_number, zero; uint64_t bits; };", "struct oca_value { uint32_t zero, class_number; uint64_t bits; };"),
-    ("struct oca_value value, least, greatest;", "struct oca_value value, greatest, least;"),
-    ("uint8_t lockable, enabled;", "uint8_t enabled, lockable;"),
-    ("struct oca_name role, label, names[16];", "struct oca_name label, role, names[16];"),
-    ("uint8_t enableds[16], zeros[6];", "uint8_t zeros[6], enableds[16];"),
-    ("oca_device_add(struct oca_device *device, uint32_t container, uint32_t ono, const", "oca_device_add(struct oca_device *device, uint32_t ono, uint32_t container, const"),
-    ("oca_device_add_kept(struct oca_device *device, uint32_t container, uint32_t ono, const", "oca_device_add_kept(struct oca_device *device, uint32_t ono, uint32_t container, const"),
-    ("size_t index, struct oca_spec *spec", "size_t index, const struct oca_spec *spec"),
-    ("{ uint16_t level, index; uint8_t count, size;", "{ uint16_t level, index; uint8_t size, count;"),
-    ("OCA_STATUS_LOCKED = 3, OCA_STATUS_BAD_FORMAT = 4", "OCA_STATUS_LOCKED = 4, OCA_STATUS_BAD_FORMAT = 3"),
-    ("OCA_SET_LABEL = 0x20009", "OCA_SET_LABEL = 0x2000a"),
-    ("OCA_FAULT_SYNC = 3, OCA_FAULT_VERSION = 4", "OCA_FAULT_VERSION = 3, OCA_FAULT_SYNC = 4"),
-    ("OCA_MUTED = 1, OCA_UNMUTED = 2", "OCA_UNMUTED = 1, OCA_MUTED = 2"),
-    ("OCA_NON_INVERTED = 1, OCA_INVERTED = 2", "OCA_INVERTED = 1, OCA_NON_INVERTED = 2"),
-    ("OCA_LOCKED_TOTAL = 1, OCA_LOCKED_READONLY = 2", "OCA_LOCKED_READONLY = 1, OCA_LOCKED_TOTAL = 2"),
-    ('"DeviceError", "Locked"', '"Locked", "DeviceError"'),
-    ('case OCA_TAKEN: return "the number is taken";', 'case OCA_TAKEN: return "the number is below 4096";'),
-    ('    case OCA_NOTHING: return "there is nothing";\n', ""),
-    ("int8_t setting, int8_t least, int8_t greatest", "int8_t setting, int8_t greatest, int8_t least"),
-    ("uint32_t *kind, uint32_t *ip, uint16_t *port", "uint32_t *ip, uint32_t *kind, uint16_t *port"),
-    ("uint32_t *status, uint32_t *count", "uint32_t *count, uint32_t *status"),
-    ("uint32_t class_number, const uint8_t *params", "uint32_t class_number, uint8_t *params"),
-    ("\nvoid oca_link_close(struct oca_link *link);", "\nuint32_t oca_link_close(struct oca_link *link);"),
-    ("uint32_t kind, negative; uint64_t magnitude;", "uint32_t negative, kind; uint64_t magnitude;"),
-    ("uint32_t ono, container, class_number", "uint32_t container, ono, class_number"),
-    ("OCA_DUE_COMMAND = 1, OCA_DUE_KEEP_ALIVE = 2", "OCA_DUE_COMMAND = 2, OCA_DUE_KEEP_ALIVE = 1"),
-    ("OCA_STRANGER = 2, OCA_MALFORMED = 3", "OCA_STRANGER = 3, OCA_MALFORMED = 2"),
-    ("OCA_MOST_WRITTEN = 86", "OCA_MOST_WRITTEN = 85"),
-    ("uint16_t count, fields[16]; uint32_t class_number;", "uint16_t fields[16], count; uint32_t class_number;"),
-    ("struct oca_members { uint32_t count, onos[181]; };", "struct oca_members { uint32_t count, onos[180]; };"),
-    ("struct oca_names { uint32_t count; struct oca_name names[16]; };", "struct oca_names { struct oca_name names[16]; uint32_t count; };"),
-    ("uint32_t oca_class_with(const uint16_t *fields, size_t fields_len)", "uint32_t oca_class_with(const uint32_t *fields, size_t fields_len)"),
-    ("oca_text_read(const uint8_t *params, size_t params_len, struct oca_name *text)", "oca_text_read(const uint8_t *params, size_t params_len, const struct oca_name *text)"),
-    ("OCA_VERSION 0x010700u", "OCA_VERSION 0x010500u"),
-    ("oca_device_waits(struct oca_device *device, bool *waits)", "oca_device_waits(struct oca_device *device, bool waits)"),
-    ("oca_store_load(struct oca_store *store, void *out, size_t room, size_t *length)", "oca_store_load(struct oca_store *store, void *out, size_t *length, size_t room)"),
-    ("enum oca_store_result oca_store_save(struct", "enum oca_result oca_store_save(struct"),
-    ("\nvoid oca_store_close(struct oca_store *store);", ""),
-    ('    case OCA_STORE_HELD: return "another device has the file";\n', ""),
-    ("oca_device_spec_of(struct oca_device *device, uint32_t ono,", "oca_device_spec_of(struct oca_device *device, size_t ono,"),
-    ("oca_spec_restore(struct oca_spec *spec, const struct oca_spec *stored)", "oca_spec_restore(const struct oca_spec *stored, struct oca_spec *spec)"),
-    ("oca_value_text(const struct oca_value *value, uint8_t *out, size_t out_len, size_t *len)", "oca_value_text(const struct oca_value *value, uint8_t *out, size_t *len, size_t out_len)"),
-    ("oca_value_from_text(uint32_t class_number, const uint8_t *text,", "oca_value_from_text(uint16_t class_number, const uint8_t *text,"),
-    ("oca_device_peers(struct oca_device *device, size_t *count)", "oca_device_peers(struct oca_device *device, uint32_t *count)"),
-    ("size_t index, uint32_t *ip, uint16_t *port", "size_t index, uint16_t *port, uint32_t *ip"),
-    ("oca_device_keep(struct oca_device *device, struct oca_kept *kept,", "oca_device_keep(struct oca_device *device, const struct oca_kept *kept,"),
-    ("uint16_t room, const struct oca_spec *root, const struct oca_kept *kept, size_t count)", "uint16_t room, const struct oca_kept *kept, size_t count, const struct oca_spec *root)"),
-    ("uint64_t oca_socket_now(void);", "uint32_t oca_socket_now(void);"),
-    ("oca_socket_open_towards(struct oca_socket *own, uint32_t device_ip, uint16_t device_port, uint16_t port)", "oca_socket_open_towards(struct oca_socket *own, uint32_t device_ip, uint16_t port, uint16_t device_port)"),
-    ("oca_serve(struct oca_server *server, uint64_t until)", "oca_serve(struct oca_server *server, uint32_t until)"),
-    ('    case OCA_SOCKET_NOTHING: return "no datagram is there";\n', ""),
-]
-
-
 def comments(header):
     """The words of the comment before each call in its paragraph, line by line."""
     found, said, is_inside = {}, [], False
@@ -318,7 +256,7 @@ def page_faults(name, page, header, comment, version):
     about = words(about[1]) if about else []
     answers = set(re.findall(r"\bOCA_\w+", part(page, "RETURN VALUE")))
     tried = [
-        ("is not titled by its name and the version", page.startswith(f'.TH {name} 3 "" "oca {version}" ')),
+        ("is not titled by its name, a day and the version", re.match(rf'\.TH {name} 3 \d{{4}}-\d\d-\d\d "oca {version}" ', page)),
         ("does not say in a line what the call does", about and about == comment[:len(about)]),
         ("does not have its declaration", stands(declared, part(page, "SYNOPSIS"))),
         ("does not say what the header says", comment and words(part(page, "DESCRIPTION"))[:len(comment)] == comment),
@@ -344,18 +282,6 @@ def pages_wrong(header, texts):
     return 8 * len(calls), wrong
 
 
-# Pages that are wrong: the call, what stands in its page, and what stands there in its place.
-WRONG_PAGES = [
-    ("oca_device_tick", r'"oca \d', '"oca 9'), ("oca_device_tick", r"(oca_device_tick \\- ).*", r"\1 "),
-    ("oca_device_tick", "uint64_t now", "uint32_t now"), ("oca_device_tick", "sessions and locks lapse", "locks lapse"),
-    ("oca_device_datagram", r"struct oca_verdict \{", "struct oca_verdicts {"),
-    ("oca_panel_walk", r"struct oca_walk \{", "struct {"),
-    ("oca_link_due", r"OCA_TOO_SMALL", "OCA_TOO_LONG"), ("oca_link_due", r"OCA_TOO_SMALL.*\n", ""),
-    ("oca_panel_get", "one call at a time for a struct", "calls for a struct"),
-    ("oca_store_save", r"OCA_STORE_SYSTEM \(10\).*\n", ""), ("oca_store_save", r"enum oca_store_result \{", "enum oca_result {"),
-]
-
-
 def is_page_found(header, texts, name, there, other):
     """Whether a page that is wrong so is found."""
     changed = {**texts, name: re.sub(there, other, texts.get(name, ""), count=1)}
@@ -368,15 +294,6 @@ def list_wrong(page, made):
     wrong = [f"the list of docs/API.md lacks (python3 gate/api.py makes it anew): {it}" for it in wanted if it not in there]
     wrong += [f"the list of docs/API.md is not to have: {it}" for it in there if it not in wanted]
     return len(wanted), wrong or ["the list of docs/API.md has another order"] * (there != wanted)
-
-
-# Lists that are wrong: what stands there once, and what stands in its place.
-WRONG_LISTS = [
-    ("| `Device::tick(&mut self, now: u64)` |", "| `Device::tick(&mut self, now: u32)` |"), ("| `const MOST_PEERS: usize = 64` |", "| `const MOST_PEERS` |"),
-    ("Takes every lock of the peer off.", "Takes a lock of the peer off."), (api.MARK, ""), ("## `oca_wait`\n", "## `oca_waits`\n"),
-    ("| `Window::get(self) -> u8` | Its size, from 1 to 64. |\n", ""), ("## `oca.h`", "| `fn none()` | Nothing. |\n## `oca.h`"),
-    ("| `Peers::get(self) -> u8` | How many they are, from 1 to 64. |\n", "| `Peers::get(self) -> u8` | How many they are, from 1 to 64. |\n" * 2),
-]
 
 
 def made_pages():
@@ -396,15 +313,15 @@ def main():
     compared, wrong = compared + pages + lines, wrong + unsaid + unlisted
     for line in wrong:
         print(f"include/oca.h: {line}")
-    found = [header.count(there) == 1 and len(differences(header.replace(there, other))[1]) > 0 for there, other in WRONG]
-    for (there, other), is_found in zip(WRONG, found):
+    found = [header.count(there) == 1 and len(differences(header.replace(there, other))[1]) > 0 for there, other in DATA.wrong]
+    for (there, other), is_found in zip(DATA.wrong, found):
         if not is_found:
             print(f"not found: {other!r} in place of {there!r}")
-    for it in WRONG_PAGES:
+    for it in DATA.wrong_pages:
         found.append(is_page_found(header, texts, *it))
         if not found[-1]:
             print(f"not found: {it[2]!r} in place of {it[1]!r} in the page of {it[0]}")
-    for there, other in WRONG_LISTS:
+    for there, other in DATA.wrong_lists:
         found.append(made.count(there) == 1 and len(list_wrong(made.replace(there, other), made)[1]) > 0)
         if not found[-1]:
             print(f"not found: {other!r} in place of {there!r} in the list")

@@ -5,7 +5,7 @@ Usage: law.py BIN [HISTORIES] [SEED]     BIN is the folder with `trials`
 
  law      directed and random histories, run by `trials events`: of each event its verdict, its packets, what it wrote
           to, the objects and the number of sessions after it are what the law says
- wrong    wrong devices (wrong_devices.py): the law refuses a history of each, by the sentence that it breaks
+ wrong    wrong devices (tools/rows/wrong_devices.toml): the law refuses a history of each, by the sentence that it breaks
  altered  transcripts of the program in which one line was altered: refused at that event, by the sentence that the line
           belongs to
 
@@ -14,13 +14,11 @@ import collections
 import random
 import subprocess
 import sys
-from unittest.mock import patch
 
 import oca_profile as oca
-from comparing import broken, in_processes, runs_of, verdict
+from comparing import broken, changed, in_processes, runs_of, verdict, wrong_rules
 from fuzz import Panel, datagram
 from oca_law import LARGEST_DATAGRAM, Datagram, Local, Tick, Told, shown_objects, walk
-from wrong_devices import RULES
 
 # ---- histories
 
@@ -54,12 +52,19 @@ class History:
         lines = [f"history {self.window} {self.peers} {self.channels}"]
         for e in self.events:
             if isinstance(e, Local):
-                lines.append(f"set {e.ono} {e.value[0]} {e.value[1]}")
+                lines.append(front_line(e.ono, *e.value))
             elif isinstance(e, Tick):
                 lines.append(f"{e.now} quiet")
             else:
                 lines.append(f"{e.now} {oca.peer_text(e.sender)} {oca.hex_text(e.data)}")
         return lines
+
+
+def front_line(ono, kind, value):
+    """The line of a change at the front."""
+    if kind == "label":
+        return f"label {ono} {oca.hex_text(value.encode())}"
+    return {"enabled": f"enabled {ono} {value}", "unlock": f"unlock {ono}", "failing": f"failing {ono} {value}"}.get(kind, f"set {ono} {kind} {value}")
 
 
 def peer(number):
@@ -221,10 +226,14 @@ def fronts(r):
             kind, value = {4097: ("mute", r.choice([1, 2])), 4098: ("polarity", r.choice([1, 2])),
                            4099: ("switch", r.randrange(4)), 4100: ("int16", r.randrange(-601, 602)),
                            4101: ("boolean", r.randrange(2)), 4102: ("uint8", r.randrange(103))}.get(ono, (kind, value))
+        if r.randrange(3) == 0:
+            kind, value = r.choice([("label", r.choice(["", "Vox", "B\u00fchne", "z" * 64, "z" * 65])), ("enabled", r.randrange(2)), ("unlock", None),
+                                    ("failing", r.randrange(2))])
         h.sets(ono, kind, value)
         if r.randrange(3) == 0:
             h.at(h.now + r.choice([0, 1, 5001, 15001, 120001])).says(r.randrange(2),
-                r.choice([get(n + 5), trim(n + 5, n), ask(n + 5, 4099, 4, 8, 2, oca.u16(1) + b"\0")]))
+                r.choice([get(n + 5), trim(n + 5, n), ask(n + 5, 4099, 4, 8, 2, oca.u16(1) + b"\0"), ask(n + 5, ono, 2, r.choice([1, 8])),
+                          ask(n + 5, ono, 2, 2, 1, bytes([r.randrange(2)])), ask(n + 5, 4097, 4, 2, 1, bytes([r.randrange(4)])), lock(n + 5, ono)]))
     return h
 
 
@@ -249,7 +258,9 @@ def wander(r):
             reading(h, 40, handle)
             handle += 9
         elif kind == 2:
-            h.sets(*r.choice([(4097, "mute", 1 + r.randrange(2)), (4100, "int16", r.randrange(-601, 602)), (4099, "switch", r.randrange(4))]))
+            h.sets(*r.choice([(4097, "mute", 1 + r.randrange(2)), (4100, "int16", r.randrange(-601, 602)), (4099, "switch", r.randrange(4)),
+                              (4097, "label", r.choice(["", "a"])), (4099, "enabled", r.randrange(2)), (r.choice([4097, 4098, 4100]), "unlock", None),
+                              (r.choice([4097, 4098, 4099, 4100]), "failing", r.choice([0, 1, 1]))]))
         elif kind == 3:
             n = r.choice(numbers)
             h.says(n, ask(min(oca.U32, r.choice([panels[n].next + 1, 1])), r.choice([4097, 4098, 4100]), 1, r.choice([3, 3, 6, 4])))
@@ -402,19 +413,18 @@ def parted(packet):
 def refuses(job):
     """Whether the law refuses a history of the wrong device of this name by its sentence, that sentence, and how."""
     seed, name = job
-    sentence, owner, method, body = RULES[name]
-    first = None
-    with patch.object(owner, method, body):
-        for number in range(WRONG_HISTORIES):
-            history = made(f"{seed} {name}", number)
-            fault = broken(walk, history, tale_of(history, oca.Device(oca.bench(history.channels), history.window, history.peers)))
-            if fault and fault.law == sentence:
-                return True, sentence, f"{name}: '{sentence}' refuses history {number}, at event {fault.at}"
-            first = first or fault and fault.law
+    sentence, edits = RULES[name]
+    wrong, first = changed(edits), None
+    for number in range(WRONG_HISTORIES):
+        history = made(f"{seed} {name}", number)
+        fault = broken(walk, history, tale_of(history, wrong.Device(wrong.bench(history.channels), history.window, history.peers)))
+        if fault and fault.law == sentence:
+            return True, sentence, f"{name}: '{sentence}' refuses history {number}, at event {fault.at}"
+        first = first or fault and fault.law
     return False, sentence, f"{name}: no break of '{sentence}'" + (f", but of '{first}'" if first else "")
 
 
-WRONG_HISTORIES = 400
+RULES, WRONG_HISTORIES = wrong_rules("wrong_devices"), 400
 
 
 # ---- the whole

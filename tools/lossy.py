@@ -23,8 +23,8 @@ import sys
 import time
 
 import oca_profile as oca
-from checks import verdict
-from own_ports import bound, free_port
+from checks import Serving, verdict
+from own_ports import at, bound, free_port
 
 LOSS, DOUBLING, SLOW = 0.2, 0.2, 0.15
 TURNS = 20000
@@ -182,40 +182,29 @@ def line_of(c):
     return f"{c.target} {c.level} {c.index} {c.count} {oca.hex_text(c.params)}"
 
 
-def listening(device):
-    """The address that the device printed once it was bound."""
-    line = device.stderr.readline().decode()
-    match = re.fullmatch(r"listening ([0-9.]+):([0-9]+)\n", line)
-    if not match:
-        sys.exit(f"lossy: ocadev serve said {line!r}")
-    return match[1], int(match[2])
-
-
 class Run:
     """A run of the two programs over a network: the answers, the controller's status, and the device's report."""
 
     def __init__(self, folder, made, window, network_of, words):
-        device = subprocess.Popen([f"{folder}/ocadev", "serve", "--port", "0", "--turns", str(TURNS), "--window", str(window)],
-            stdout=subprocess.PIPE, stderr=subprocess.PIPE)
-        self.network = network = network_of(listening(device))
-        host, port = network.front.getsockname()
-        panel = subprocess.Popen([f"{folder}/ocactl", "run", "--device", f"{host}:{port}", "--first-handle", "1", "--port", str(free_port()), *words],
-            stdin=subprocess.PIPE, stdout=subprocess.PIPE)
-        panel.stdin.write("".join(line + "\n" for line, _ in made).encode())
-        panel.stdin.close()
-        end = time.time() + 2 * len(made) + 60
-        while panel.poll() is None and time.time() < end:
-            network.step()
-        panel.kill()
-        for _ in range(50):  # what is still on its way
-            network.step()
-        while device.poll() is None and time.time() < end + 30:  # its remaining turns: malformed datagrams of one byte
-            for _ in range(100):
-                network.back.sendto(b"\0", network.device)
-            time.sleep(0.005)
-        device.kill()
+        words = [f"{folder}/ocactl", "run", "--first-handle", "1", "--port", str(free_port()), *words]
+        with Serving(f"{folder}/ocadev", "serve", "--port", 0, "--turns", TURNS, "--window", window, stdout=subprocess.PIPE) as serving:
+            device, self.network = serving.process, network_of((serving.ip, serving.port))
+            network = self.network
+            panel = subprocess.Popen([*words, "--device", at(network.front)], stdin=subprocess.PIPE, stdout=subprocess.PIPE)
+            panel.stdin.write("".join(line + "\n" for line, _ in made).encode())
+            panel.stdin.close()
+            end = time.time() + 2 * len(made) + 60
+            while panel.poll() is None and time.time() < end:
+                network.step()
+            panel.kill()
+            for _ in range(50):  # what is still on its way
+                network.step()
+            while device.poll() is None and time.time() < end + 30:  # its remaining turns: malformed datagrams of one byte
+                for _ in range(100):
+                    network.back.sendto(b"\0", network.device)
+                time.sleep(0.005)
         self.answers, self.status = panel.stdout.read().decode().splitlines(), panel.wait()
-        self.report = {name: int(n) for name, n in re.findall(r"([a-z-]+) ([0-9]+)", device.stdout.read().decode())}
+        self.report = {name: int(n) for name, n in re.findall(r"([a-z-]+) ([0-9]+)", device.stdout.read())}
         self.wrong = sum(a != b for a, b in zip(self.answers, answers_of(made)))
         self.missing = len(made) - len(self.answers)
 

@@ -9,17 +9,24 @@ In a page a command is a `.SS` of the section COMMANDS, and an option of it, beh
 \\-\\-NAME`. Options that several commands have are in the section COMMON OPTIONS, where a `.SS` lists the commands: `replay and serve`, or `All
 commands`, or `All commands but replay`.
 
-A page is titled by its name, the day of its version and that version. Where groff is installed, it must find nothing to warn of. The step is tried itself, by pages that are wrong. The last line is 'N passed, M
+A page is titled by its name, the day of its version and that version, and so is the page of each call from C, which gate/reference.py makes. Where
+groff is installed, it must find nothing to warn of in any of them. The step is tried itself, by pages that are wrong. The last line is 'N passed, M
 failed'."""
 import re
 import shutil
 import subprocess
 import sys
+import tempfile
 from pathlib import Path
 
+sys.path.insert(0, str(Path(__file__).resolve().parent.parent / "gate"))
+
+import reference
 from checks import Checks
+from tables import data
 
 PAGES = Path(__file__).resolve().parent.parent / "man"
+DATA = data("manual")
 
 
 def help_of(program, *words):
@@ -109,11 +116,11 @@ def faults_of(text, program):
     return faults, count
 
 
-def warnings_of(page):
+def warnings_of(*pages):
     """What groff warns of, where it is installed."""
     if not shutil.which("groff"):
         return []
-    warned = subprocess.run(["groff", "-man", "-Tutf8", "-ww", str(page)], capture_output=True, text=True).stderr
+    warned = subprocess.run(["groff", "-man", "-Tutf8", "-ww", *map(str, pages)], capture_output=True, text=True).stderr
     return [f"groff: {line}" for line in warned.splitlines()]
 
 
@@ -152,36 +159,11 @@ def explanations(folder):
     return faults, count
 
 
-# Pages that are wrong: the program, a text of its page, and another text in its place: a command that is missing, one that is none, an option that is
-# missing, one that is none, one of another value or without one, another default or none, options that fewer or more commands have, an option that
-# stands twice, and another exit status.
-WRONG = [
-    ("ocadev", ".SS show\nPrints", ".SS shows\nPrints"), ("ocactl", ".SS unlock\n", ".PP\n"),
-    ("ocadev", '.BI \\-\\-stats " SECONDS"\n', ".PP\n"), ("ocactl", ".B \\-\\-hold\n", ".B \\-\\-held\n"),
-    ("ocadev", '.BI \\-\\-stats " SECONDS"', '.BI \\-\\-stats " MINUTES"'),
-    ("ocadev", '.BI \\-\\-keep " FILE"', ".B \\-\\-keep"), ("ocadev", "The default is 32.", "The default is 31."),
-    ("ocadev", "The default is 16.", "It is 16."), ("ocactl", "The default is 200.", "The default is 20."),
-    ("ocapanel", "The default is 127.0.0.1:8080.", "The default is 127.0.0.1:80."),
-    ("ocadev", ".SS replay and serve\n", ".SS replay\n"), ("ocadev", ".SS replay and serve\n", ".SS All commands\n"),
-    ("ocactl", ".SS All commands but replay\n", ".SS All commands\n"),
-    ("ocactl", '.TP\n.BI \\-\\-params " HEX"', '.TP\n.BI \\-\\-span " S"\n.TP\n.BI \\-\\-params " HEX"'),
-    ("ocactl", ".TP\n3\nA command", ".TP\n4\nA command"), ("ocactl", ".TP\n4\nAn answer", ".TP\n5\nAn answer"),
-]
-
-
-# What a page says of each exit status.
-ENDED = {
-    "ocadev": {"0": "Everything was done", "1": "could not be done", "2": "command line, or a line of a script"},
-    "ocactl": {"0": "Everything was done", "1": "could not be done", "2": "command line, or a line of the input",
-               "3": "was not answered, or not sent", "4": "has another status than 0"},
-    "ocapanel": {"0": "was printed", "1": "could not be done", "2": "command line is wrong"}}
-
-
 def ends_told(text, program):
     """What a page does not say of exit statuses as it is, a line each."""
     found = re.search(r"^\.SH EXIT STATUS\n(.*?)^\.SH ", text, re.MULTILINE | re.DOTALL)
     parts = re.findall(r"^\.TP\n(\d+)\n((?:(?!\.TP\n|\.PP\n).*\n)*)", found[1] if found else "", re.MULTILINE)
-    told, wanted = dict(parts), ENDED[program]
+    told, wanted = dict(parts), DATA.ended[program]
     faults = [f"exit status {status}: not {words!r}" for status, words in wanted.items() if words not in told.get(status, "")]
     if len(parts) != len(wanted):
         faults.append(f"exit statuses: {[status for status, _ in parts]}")
@@ -192,9 +174,27 @@ def title_of(program, folder):
     """The title of a program's page: its name, the day on which its version was set, by the newest one in CHANGELOG.md, and that version, as the
     program says it."""
     version = subprocess.run([f"{folder}/{program}", "--version"], capture_output=True, text=True, timeout=30, check=True).stdout.split()[1]
-    date = re.search(r"^## \[(.+)\] - ([\d-]+)$", (PAGES.parent / "CHANGELOG.md").read_text(), re.MULTILINE)
-    day = date[2] if date and date[1] == version else "of no day"
-    return f'.TH {program.upper()} 1 {day} "Rouxcanyon {version}" "User Commands"'
+    return reference.title(program.upper(), 1, f"Rouxcanyon {version}", "User Commands")
+
+
+def calls_faults(pages):
+    """What is wrong with the pages of the calls from C, by the names of their files: one that is titled otherwise than by its name, a day, and the
+    version that `oca.pc` has and CHANGELOG.md gives that day."""
+    version = re.search(r"^Version: (.+)$", (PAGES.parent / "include/oca.pc.in").read_text(), re.MULTILINE)[1]
+    day = re.search(rf"^## \[{re.escape(version)}\] - ([\d-]+)$", (PAGES.parent / "CHANGELOG.md").read_text(), re.MULTILINE)[1]
+    return [f"{name} is not titled by {day} and {version}" for name, text in pages.items()
+            if not text.startswith(f'.TH {Path(name).stem} 3 {day} "oca {version}" "OCA (AES70) for C"\n')]
+
+
+def of_calls(checks):
+    """Checks the pages of the calls from C, and that one without its day, and one of another version, are found."""
+    with tempfile.TemporaryDirectory() as folder:
+        reference.write(Path(folder))
+        pages = {file.name: file.read_text() for file in sorted(Path(folder).iterdir())}
+        checks.all_but(len(pages), calls_faults(pages) + warnings_of(*sorted(Path(folder).iterdir())))
+    name, text = next(iter(pages.items()))
+    for there, other in ((r" 3 \S+ ", ' 3 "" '), (r'"oca \d', '"oca 9')):
+        checks.expect(f"not found: {other!r} in the title of {name}", len(calls_faults({name: re.sub(there, other, text, count=1)})) == 1)
 
 
 def is_found(name, there, other, folder):
@@ -210,11 +210,12 @@ def main():
         page = PAGES / f"{name}.1"
         faults, count = faults_of(page.read_text(), f"{folder}/{name}")
         faults += warnings_of(page) + ends_told(page.read_text(), name)
-        checks.all_but(count + len(ENDED[name]), [f"{name}.1: {fault}" for fault in faults])
+        checks.all_but(count + len(DATA.ended[name]), [f"{name}.1: {fault}" for fault in faults])
         checks.expect(f"{name}.1 is titled otherwise than {title_of(name, folder)}", page.read_text().startswith(title_of(name, folder) + "\n"))
+    of_calls(checks)
     faults, count = explanations(folder)
     checks.all_but(count, faults)
-    for name, there, other in WRONG:
+    for name, there, other in DATA.wrong:
         checks.expect(f"not found: {other!r} in place of {there!r} in {name}.1", is_found(name, there, other, folder))
     return checks.verdict()
 

@@ -1,5 +1,6 @@
 #!/usr/bin/env python3
-"""The built programs on a network that is not kind: signals, sends without room, failing sockets, closed descriptors, other addresses.
+"""The built programs on a network that is not kind: signals, sends without room, failing sockets, closed descriptors, other addresses; and with
+little stack.
 
 Usage: network.py BIN     BIN is the folder with `ocadev` and `ocactl`
 
@@ -11,6 +12,7 @@ import errno
 import itertools
 import os
 import re
+import resource
 import select
 import socket
 import struct
@@ -32,6 +34,8 @@ WAIT_MS = 50
 # Linux's option by which the system tells when a datagram came
 SO_TIMESTAMPNS = 35
 TRIES = 12
+# the stack of each run that is to do with little, in bytes: of the program by its name
+STACK = {"ocadev": 128 * 1024, "ocactl": 256 * 1024}
 # so many turns that no run comes to their end by waiting: it is ended by datagrams, each of which is a turn
 TURNS_OF_A_COPY = 4000
 
@@ -81,11 +85,18 @@ class Checks(checks.Checks):
         super().__init__(folder)
         self.layer = layer
 
-    def start(self, *words, close=(), **how):
-        """A run in this folder, with these descriptors closed and what is written in capitals done by the layer."""
+    def start(self, *words, close=(), stack=0, **how):
+        """A run in this folder, with these descriptors closed, so much stack where it is said, and what is written in capitals done by the layer."""
         settings = {name: str(how.pop(name)) for name in list(how) if name.isupper()}
         env = {**os.environ, **settings, **({"LD_PRELOAD": self.layer} if settings else {})}
-        return super().start(*words, env=env, preexec_fn=lambda: [os.close(fd) for fd in close], **{"stdin": subprocess.DEVNULL, **how})
+
+        def prepare():
+            for fd in close:
+                os.close(fd)
+            if stack:
+                resource.setrlimit(resource.RLIMIT_STACK, (stack, stack))
+
+        return super().start(*words, env=env, preexec_fn=prepare, **{"stdin": subprocess.DEVNULL, **how})
 
     def serve(self, turns, *words, **settings):
         """A device, and its port."""
@@ -460,7 +471,7 @@ def null_at_closed(checks):
 
 
 def asleep(checks):
-    """A machine that sleeps: its sleep counts. A lock whose holder was silent meanwhile is released, and a command is not given out again
+    """A machine that sleeps: its sleep counts. A lock whose holder was silent meanwhile is released, and a command is not sent again
     more than 15 seconds after its submit; with no sleep, or one that is too short, neither is so."""
     lock = oca.command(1, 4097, 1, 3)
     for seconds, status in ((20, 0), (10, 3), (0, 3)):
@@ -564,15 +575,40 @@ def other_addresses(checks):
     run.kill()
 
 
+def small_stacks(checks):
+    """Each command of `ocactl` does with 256 KiB of stack, also where no answer comes, and `ocadev` with 128 KiB."""
+    def ran(name, *words, given=""):
+        return ended(checks.start(name, *words, given=given, stdin=subprocess.PIPE, stack=STACK[name]))
+
+    run, port = checks.serve(100000, stack=STACK["ocadev"])
+    to = ("--device", f"127.0.0.1:{port}")
+    for words, given, printed in (
+            (("set", *to, 4097, "unmuted", 4100, 5), "", "4097 unmuted\n4100 5\n"), (("get", *to, 4097, 4100), "", "4097 unmuted\n4100 5\n"),
+            (("lock", *to, 4097), "", "4097 locked\n"), (("unlock", *to, 4097), "", "4097 unlocked\n"),
+            (("lock", "--hold", *to, 4097), "", "4097 locked\n4097 unlocked\n"), (("run", *to), "4097 4 1 0 -\n", "answer 0 1 02\n"),
+            (("send", *to, *ASKS, "--first-handle", 1), "", "answer 0 1 02\n"),
+            (("replay", "--device", "127.0.0.1:65000", "--first-handle", 1), "", "")):
+        checks.same(f"{words[0]} with 256 KiB of stack", ran("ocactl", *words, given=given), (printed, "", 0))
+    printed, told, status = ran("ocactl", "tree", *to)
+    checks.same("tree with 256 KiB of stack", ([line.split()[0] for line in printed.splitlines()], told, status),
+                ([str(o.ono) for o in oca.bench()], "", 0))
+    run.kill()
+    with bound() as silent:
+        for words, given, printed in ((("get", "--turns", 2, 4097), "", "4097 no answer\n"), (("run",), "4097 4 1 0 -\n", "lost\n")):
+            got = ran("ocactl", words[0], "--device", at(silent), *words[1:], given=given)
+            checks.same(f"{words[0]} with 256 KiB of stack, without an answer", (got[0], got[2]), (printed, 3))
+    checks.same("show with 128 KiB of stack", ran("ocadev", "show")[2], 0)
+
+
 PARTS = (closed_descriptors, broken_pipes, null_at_closed, quiet_turns, signals, runs_under_signals, refused_sends, refused_sockets, send_buffers,
          is_a_program_there, lines_at_once, a_line_behind_a_pause, a_stalled_neighbour, asleep, a_failed_receive, reports_behind_a_sleep, kept_safely,
-         calls_in_a_row, other_addresses)
+         calls_in_a_row, other_addresses, small_stacks)
 
 
 def main():
     with tempfile.TemporaryDirectory() as made:
         counts = Checks(sys.argv[1], layered(made, "unreliable"))
-        counts.parts(*PARTS)
+        counts.parts(*PARTS, alone=(small_stacks,))
         return counts.verdict()
 
 

@@ -125,13 +125,14 @@ CLASSES = {
     "uint64": (1, 1, 1, 1, 9)}
 WIDTHS = {name: (int(name.lstrip("uint")) // 8, name[0] == "i") for name in CLASSES if name.startswith(("int", "uint"))}
 OK, LOCKED, BAD_ONO, PARAMETER_ERROR, OUT_OF_RANGE = 0, 3, 5, 6, 7
-NOT_IMPLEMENTED, INVALID, BAD_METHOD, OVERFLOW = 8, 9, 11, 14
+NOT_IMPLEMENTED, INVALID, FAILED, BAD_METHOD, OVERFLOW = 8, 9, 10, 11, 14
 
 
 class Object:
     def __init__(self, ono, kind, container, role, lockable=True, state=None, names=None, low=None, high=None):
         self.ono, self.kind, self.container, self.role, self.lockable = ono, kind, container, role, lockable
         self.label, self.enabled, self.lock = "", True, None
+        self.failing = False  # whether its hardware refuses to be changed
         self.state, self.names, self.low, self.high = state, names, low, high
         self.enableds = [True] * len(names) if names else None
 
@@ -202,12 +203,6 @@ def some(value, fault):
 
 
 HIDDEN = {*range(0x20), *range(0x7f, 0xa0), 0x61c, 0x200e, 0x200f, *range(0x2028, 0x202f), *range(0x2066, 0x206a)}
-
-
-def escaped(text):
-    """How a text of a device is printed."""
-    short = {"\n": "\\n", "\r": "\\r", "\t": "\\t", "\\": "\\\\"}
-    return "".join(short.get(c) or (f"\\u{{{ord(c):0{2 if ord(c) < 256 else 4}x}}}" if ord(c) in HIDDEN else c) for c in text)
 
 
 def utf8(data):
@@ -466,6 +461,8 @@ def execute(tree, peer, c):
     params = b"".join(items)
     if len(params) > 1452:
         return OVERFLOW, 0, b""
+    if access == "W" and obj.failing:
+        return FAILED, 0, b""
     change(obj, peer, key, args)
     return OK, len(items), params
 
@@ -488,11 +485,35 @@ def change(obj, peer, key, args):
 NO_OBJECT, NO_SETTING, OTHER_KIND, TOO_FAR = 1, 2, 3, 4
 
 
+# What the front changes besides a setting, and the faults of that.
+CHANGES = ("label", "enabled", "unlock", "failing")
+BAD_LABEL, NOT_LOCKED = 2, 3
+
+
+def change_local(obj, kind, value):
+    """Gives an object a label, enables or disables it, takes its lock off, whoever holds it, or says whether its hardware refuses peers."""
+    if kind == "label":
+        if len(value.encode()) > 64:
+            return BAD_LABEL
+        obj.label = value
+    elif kind == "enabled":
+        obj.enabled = bool(value)
+    elif kind == "failing":
+        obj.failing = bool(value)
+    elif obj.lock is None:
+        return NOT_LOCKED
+    else:
+        obj.lock = None
+    return None
+
+
 def set_local(tree, ono, kind, value):
     """Sets an object as its class's set method would, whoever has locked it. The number of the fault, which changes nothing, or None."""
     obj = next((o for o in tree if o.ono == ono), None)
     if obj is None:
         return NO_OBJECT
+    if kind in CHANGES:
+        return change_local(obj, kind, value)
     if obj.kind == "block":
         return NO_SETTING
     if obj.kind != kind:
@@ -616,7 +637,7 @@ def packets(answers):
 class Link:
     def __init__(self, device, first, span=16, now=0):
         self.device, self.next, self.span, self.now, self.given, self.lost = device, first, span, now, now, False
-        self.untaken = []  # [command, times given out, last moment, answer or None]
+        self.untaken = []  # [command, times sent, last moment, answer or None]
 
     def submit(self, target, level, index, count, params, now):
         if self.lost:

@@ -15,14 +15,15 @@ import json
 import os
 import re
 import select
-import socket
 import subprocess
 import sys
 import time
 
 import namespaces
 import oca_profile as oca
-from checks import Checks, ended, write
+import peers
+from checks import Checks, Serving, ended, write
+from own_ports import bound
 
 DEVICE, PORT, OWN_PORT, MUTE = "10.98.9.9", 65000, 20001, 4097
 # the links: the panel's address at each, and the device's
@@ -61,72 +62,42 @@ def sets_mute(data):
     return False
 
 
-def asked(peer, handle, command):
-    """What the device answers this peer."""
-    peer.send(oca.command(handle, *command))
-    peer.settimeout(10)
-    return peer.recv(2000)
-
-
-class Relay:
+class Relay(peers.Relay):
     """Stands at the device's address before `ocadev serve`: each peer is one of the device, too. It loses the answer to the first command
     that sets the mute; from then on nothing passes until it is told that the link is gone."""
 
-    def __init__(self, folder):
-        self.run = subprocess.Popen([f"{folder}/ocadev", "serve", "--port", "0"], stdout=subprocess.DEVNULL, stderr=subprocess.PIPE, text=True)
-        self.behind = ("127.0.0.1", int(self.run.stderr.readline().rsplit(":", 1)[1]))
-        self.front = socket.socket(socket.AF_INET, socket.SOCK_DGRAM)
-        self.front.bind((DEVICE, PORT))
-        self.peers, self.setting, self.passes, self.executed = {}, set(), True, False
-        self.other = self.connected()
+    def __init__(self, device):
+        self.passes, self.setting, self.other = True, set(), peers.Peer(device, 10, 1)
+        super().__init__(device, bound(DEVICE, PORT))
 
-    def connected(self):
-        s = socket.socket(socket.AF_INET, socket.SOCK_DGRAM)
-        s.connect(self.behind)
-        return s
+    def goes_forth(self, _):
+        return self.passes
 
-    def is_the_end(self):
-        """A line of the input: the first says that the link is gone, the second that the program has ended."""
-        self.passes = True
-        return sys.stdin.readline() != "gone\n"
+    def goes_back(self, _):
+        return True
 
-    def inward(self):
-        data, sender = self.front.recvfrom(2000)
-        if not self.passes:
+    def forth(self, data, way):
+        if not super().forth(data, way) or not sets_mute(data):
             return
-        if sender not in self.peers:
-            self.peers[sender] = self.connected()
-        back = self.peers[sender]
-        back.send(data)
-        if sets_mute(data):
-            self.setting.add(sender)
-            if not self.executed:
-                self.executed = True
-                back.settimeout(10)
-                back.recv(2000)
-                self.passes = False
-                asked(self.other, 1, (MUTE, 4, 2, 1, UNMUTED))
-                print("executed", flush=True)
+        is_first = not self.setting
+        self.setting.add(way)
+        if is_first:
+            way.recv(2000)
+            self.passes = False
+            self.other.ask(MUTE, 4, 2, UNMUTED)
+            print("executed", flush=True)
 
-    def outward(self, sender):
-        with contextlib.suppress(OSError):
-            self.front.sendto(self.peers[sender].recv(2000), sender)
 
-    def serve(self):
-        """Until the input says that the program has ended: then prints how the mute is set, and from how many peers a command came that sets it."""
+def relay(folder):
+    """A device behind the relay, until the input says that the link is gone, and then that the program has ended: prints how the mute is set, and from
+    how many peers a command came that sets it."""
+    with Serving(f"{folder}/ocadev", "serve", "--port", 0) as device, Relay(device.port) as way:
         print("listening", flush=True)
-        while True:
-            ways = {back: sender for sender, back in self.peers.items()}
-            for ready in select.select([self.front, sys.stdin, *ways], [], [])[0]:
-                if ready is sys.stdin:
-                    if self.is_the_end():
-                        state = asked(self.other, 2, (MUTE, 4, 1, 0, b""))[-1:]
-                        print({MUTED: "muted", UNMUTED: "unmuted"}.get(state), len(self.setting), flush=True)
-                        return self.run.kill()
-                elif ready is self.front:
-                    self.inward()
-                else:
-                    self.outward(ways[ready])
+        sys.stdin.readline()
+        way.passes = True
+        sys.stdin.readline()
+        state = way.other.ask(MUTE, 4, 1)
+        print({MUTED: "muted", UNMUTED: "unmuted"}.get(state and state[1]), len(way.setting), flush=True)
 
 
 def order(host):
@@ -215,7 +186,7 @@ def by_ocapanel(checks, folder, keeps_address):
 
 def main():
     if sys.argv[1] == "relay":
-        return Relay(sys.argv[2]).serve()
+        return relay(sys.argv[2])
     if sys.argv[1] == "order":
         return order(sys.argv[2])
     if not namespaces.is_able("one_address"):

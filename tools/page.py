@@ -15,27 +15,14 @@ import re
 from collections import Counter
 from pathlib import Path
 
+from tables import data
+
 TOP = Path(__file__).resolve().parent.parent
 SOURCES, TARGET = TOP / "crates/oca_web/page", TOP / "crates/oca_web/src/page.rt"
 SCRIPTS = ["words", "link", "orders", "log", "controls", "faders", "strips", "tree", "main"]
 MOST = 45_000
 # The names that are not the page's own: of the language and the browser, of what the program says, and those that are used as texts too.
-KEPT = set("""
-async await break case catch ceil class const continue default delete else false for from function if in instanceof let new null of return switch throw true try undefined while
-as do is
-AbortSignal BigInt Boolean Date Error IntersectionObserver JSON Map Math Number Object Option Set String TypeError abs activeElement add addEventListener append ariaHasPopup
-ariaLabel assign at autocomplete body button children classList className clear clearTimeout click clientX clientY cloneNode close console contains createElement data dataset
-deltaX deltaY detail dir disabled disconnect document endsWith error exec fetch filter find firstChild firstElementChild flatMap floor focus forEach get getAttribute
-getBoundingClientRect getElementById has headers height hidden history id includes innerWidth inputMode isIntersecting join json key keys lastElementChild length location map matchMedia
-matches max maxLength message method min minHeight name now observe offsetHeight ok onblur onchange onclick oncontextmenu onfocus oninput onkeydown onkeyup onlostpointercapture
-onpointercancel onpointerdown onpointerleave onpointermove onpointerup onvisibilitychange open padStart passive pathname performance pointerId pointerType prepend preventDefault push remove
-removeAttribute repeat replace replaceChildren replaceState replaceWith role rootMargin round scrollIntoView scrollTo scrollY search select setAttribute setInterval setPointerCapture setProperty
-setTimeout shift shiftKey showModal signal size slice some sort splice status stringify style tabIndex tagName target test textContent timeout title toFixed toLocaleTimeString
-toLowerCase toggle toggleAttribute trim unshift values value width
-run since told before orders ono set lock unlock label tickets ticket trouble epoch walked change device found read_only link heard lost_for objects lockable names units factor unit
-limits enabled flags
-then up live slow read silent lost stale shut free own other muted unmuted inverted on off mute polarity boolean ArrowUp ArrowDown ArrowLeft ArrowRight PageUp PageDown state
-""".split())
+KEPT = {*data("page").kept.split()}
 HEAD = '''//! The page: one document with its style and its script, made by `tools/page.py` from the files in `page/`.
 
 /// What the page may do: run its own script, use its own style, and ask the panel that sent it, and nothing else. The
@@ -100,6 +87,30 @@ def shorten(text, folder=None):
     return "".join(shorter.get(match.group(3), match.group(0)) for match in TOKEN.finditer(text))
 
 
+def as_arrows(text):
+    """The script with each function that is declared at its top as an arrow function, which is shorter. So none is called before it is declared."""
+    tokens = [match.group(0) for match in TOKEN.finditer(text)]
+    out, depth, at, ends = [], 0, 0, set()
+    while at < len(tokens):
+        token = tokens[at]
+        if token == "function" and depth == 0:
+            close = tokens.index(")", at)
+            given = "".join(tokens[at + 4:close])
+            is_async = out[-2:] == ["async", " "]
+            del out[len(out) - 2 * is_async:]
+            out.append(f"let {tokens[at + 2]}={'async' if is_async else ''}" + (f"{' ' * is_async}{given}" if re.fullmatch(r"[\w$]+", given) else f"({given})") + "=>")
+            at = close + 1
+            ends.add(depth)
+            continue
+        depth += (token in "([{") - (token in ")]}")
+        out.append(token)
+        if token == "}" and depth in ends:
+            ends.discard(depth)
+            out.append(";")
+        at += 1
+    return "".join(out)
+
+
 def joined(text):
     """The script with declarations that follow one another as one."""
     tokens = [match.group(0) for match in TOKEN.finditer(text)]
@@ -131,7 +142,7 @@ def sources(folder):
 
 def script(folder):
     """The script of the page as it is sent."""
-    return '"use strict";' + joined(shorten(sources(folder), folder))
+    return '"use strict";' + joined(as_arrows(shorten(sources(folder), folder)))
 
 
 def page(folder=None):

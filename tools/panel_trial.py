@@ -1,7 +1,7 @@
 #!/usr/bin/env python3
 """The panel's page: its table of cases in node and in Chromium, wrong pages that the table must refuse, and the page in Chromium with the
 programs: click, drag, keyboard, wheel, locks, labels, many at once, two windows, a network that loses datagrams, programs that stop and begin
-anew, another device, 4,096 objects, hostile texts, contrast, sizes, and no line in the console.
+again, another device, 4,096 objects, hostile texts, contrast, sizes, and no line in the console.
 
 Usage: panel_trial.py BIN [PICTURES]    BIN is the folder with `ocapanel`, `ocadev` and `ocactl`; PICTURES is a folder for panel.png and
                                         panel-tablet.png
@@ -14,47 +14,26 @@ import base64
 import contextlib
 import json
 import os
-import re
 import shutil
 import signal
 import subprocess
 import sys
 import tempfile
 import time
-import urllib.request
 from concurrent.futures import ThreadPoolExecutor
 from pathlib import Path
 
 import page
-from panel import COUNTS, MUTE, SOURCE, TREE, TRIM, Device, Relay, check, free_port, many_tree, ocactl
+from own_ports import free_port
+from panel import ITS, MUTE, SOURCE, TREE, TRIM, Device, Panel, check, locked, many_tree, ocactl, same
+from peers import Lossy
+from tables import data
 
 CASES = Path(__file__).resolve().parent / "page_cases"
+LOOKS = CASES / "looks.js"
 PHANTOM, OTHER_MUTE, BLOCK = 4096, 4103, 4097
 AT_ONCE = 8
-
-# Pages that do the wrong thing: what they do, the file and its line, what stands there in place of it, and the case that refuses it.
-WRONG = [
-    ("an order in the way drops the next one", "orders.js", "  desk.waits.push(one);", "  if (!desk.flying) desk.waits.push(one);", "an order in the way drops none"),
-    ("another control of an object displaces what waits", "orders.js", "  desk.waits = desk.waits.filter(other => controlOf(other) !== controlOf(one));", "  desk.waits = [];", "an order in the way drops none"),
-    ("two orders of an object are in flight", "orders.js", "      if (!desk || desk.flying || !desk.waits.length) continue;", "      if (!desk || !desk.waits.length) continue;", "one order of an object is in flight"),
-    ("muted and unmuted are exchanged", "controls.js", '  mute: { on: "muted", words: { muted: "MUTED", unmuted: "Mute" } },', '  mute: { on: "unmuted", words: { unmuted: "MUTED", muted: "Mute" } },', "a muted and an unmuted channel"),
-    ("a lost order says nothing", "orders.js", '  if (trouble === "lost" || trouble === "no answer") return end(one, "lost", "the device gave no answer");', '  if (trouble === "lost" || trouble === "no answer") return end(one, "done", "");', "each word of a result"),
-    ("that an order was lost is forgotten when the state is read", "link.js", '  if (note && note.how === "lost") note.read = true;', "  if (!note) return;", "that an order was lost stays until"),
-    ("too many orders are silent", "orders.js", '      if (now() > lastMoment(desk.flying)) end(desk.flying, "unsent", "not sent: it waited for 5 s");', '      if (now() > lastMoment(desk.flying)) end(desk.flying, "unsent", "");', "no room for an order"),
-    ("a result that comes out of turn is not asked for", "link.js", "const toldFrom = () => awaited.size ? Math.min(...awaited.keys()) : program.told;", "const toldFrom = () => program.told;", "results that come out of turn"),
-    ("a block's trouble is not shown", "log.js", "  for (const row of rowsOf(strip)) {", "  for (const row of strip.rows) {", "a block's trouble is shown"),
-    ("a label is ignored", "words.js", 'const nameOf = row => clean(row.label) || clean(row.role) || "object " + row.ono;', 'const nameOf = row => clean(row.role) || "object " + row.ono;', "a label goes before the role"),
-    ("no note where the program is gone", "link.js", '  $("banner").hidden = !head;', '  $("banner").hidden = true;', "the program is gone"),
-    ("a program that is gone looks live", "link.js", '  if (programAge() > OLD_AFTER) return "stale";', "", "the program is gone"),
-    ("what is wanted is drawn as what is so, during an order", "controls.js", '  put(button, words[row.value] || "–");', '  put(button, words[goal(row)] || "–");', "a control shows the device's word"),
-    ("what was read before a silence counts as what is so", "link.js", '  return opens && now() < program.opensAt ? "read" : state;', "  return state;", "after a silence of the device"),
-    ("strips of another device stay", "link.js", "  clearStrips();", "", "another run of the program"),
-    ("an order does not name its run", "orders.js", "  return JSON.stringify({ run: link.run, before: Math.max(0, before), orders });".replace("link", "program"), '  return JSON.stringify({ run: "71", before: Math.max(0, before), orders });', "another run of the program"),
-    ("a held fader is moved by others", "orders.js", "const goal = row => row.want ?? row.value;", "const goal = row => row.value;", "a fader that is held"),
-    ("a refusal stays when the state changes", "link.js", "  else notes.delete(row.ono);", "", "a refusal is said, and goes"),
-    ("a number out of the limits is sent", "words.js", "  if (row.limits && (value < BigInt(row.limits[0]) || value > BigInt(row.limits[1]))) return null;", "", "9999 where the device has 0"),
-    ("a click switches phantom power", "controls.js", '    case "boolean": return heldToggle(row);', '    case "boolean": return toggle(row);', "phantom power takes no click"),
-]
+DATA = data("panel_trial")
 
 
 def prepared(sources=None, place=None):
@@ -82,20 +61,20 @@ def note_cases(lines, where):
 
 def is_refused(wrong):
     """Whether the line of a wrong page stands once in the sources, and whether its case refuses the page."""
-    _, file, old, new, case = wrong
     with tempfile.TemporaryDirectory() as place:
         folder = Path(shutil.copytree(page.SOURCES, Path(place, "page")))
-        text = (folder / file).read_text()
-        (folder / file).write_text(text.replace(old + "\n", new + "\n"))
-        return text.count(old + "\n") == 1, not all(line["ok"] for line in in_node(folder, case))
+        file, old, new = folder / wrong["file"], wrong["old"] + "\n", wrong["new"] + "\n"
+        text = file.read_text()
+        file.write_text(text.replace(old, new))
+        return text.count(old) == 1, not all(line["ok"] for line in in_node(folder, wrong["case"]))
 
 
 def wrong_pages():
     """Each wrong page is refused by its case."""
     with ThreadPoolExecutor(4) as pool:
-        for wrong, (stands, refused) in zip(WRONG, pool.map(is_refused, WRONG)):
-            check(stands, f"wrong page: {wrong[0]}: its line does not stand once in {wrong[1]}")
-            check(refused, f"a page is let through where {wrong[0]}")
+        for wrong, (stands, refused) in zip(DATA.wrong, pool.map(is_refused, DATA.wrong)):
+            check(stands, f"wrong page: {wrong['does']}: its line does not stand once in {wrong['file']}")
+            check(refused, f"a page is let through where {wrong['does']}")
 
 
 class Browser:
@@ -112,8 +91,8 @@ class Browser:
             os.dup2(104, 4)
 
         self.process = subprocess.Popen(
-            [program, "--headless=new", "--no-sandbox", "--disable-gpu", "--no-first-run", "--remote-debugging-pipe", f"--user-data-dir={folder}", "about:blank"],
-            preexec_fn=prepare, close_fds=False, stdin=subprocess.DEVNULL, stdout=subprocess.DEVNULL, stderr=subprocess.DEVNULL)
+            [program, *"--headless=new --no-sandbox --disable-gpu --no-first-run --remote-debugging-pipe".split(), f"--user-data-dir={folder}", "about:blank"],
+            preexec_fn=prepare, close_fds=False, start_new_session=True, stdin=subprocess.DEVNULL, stdout=subprocess.DEVNULL, stderr=subprocess.DEVNULL)
         os.close(to_read)
         os.close(to_write)
         self.number, self.held, self.lines, self.results = 0, b"", [], {}
@@ -151,7 +130,7 @@ class Browser:
         return self.result(self.send(method, session, **params))
 
     def end(self):
-        self.process.kill()
+        os.killpg(self.process.pid, signal.SIGKILL)
         self.process.wait()
 
 
@@ -182,8 +161,8 @@ class Window:
         self.call("Emulation.setEmulatedMedia", features=[{"name": "prefers-color-scheme", "value": "dark" if is_dark else "light"}])
 
     def ask(self, script):
-        """Begins a script, and answers the number of the question."""
-        return self.browser.send("Runtime.evaluate", self.session, expression=page.shorten(script), returnByValue=True, awaitPromise=True)
+        """Begins a script as it stands, and answers the number of the question."""
+        return self.browser.send("Runtime.evaluate", self.session, expression=script, returnByValue=True, awaitPromise=True)
 
     def answer(self, number):
         got = self.browser.result(number)
@@ -192,7 +171,11 @@ class Window:
         return got["result"].get("value")
 
     def run(self, script):
-        return self.answer(self.ask(script))
+        return self.answer(self.ask(page.shorten(script)))
+
+    def looks(self, script):
+        """What a script answers that may call what looks.js has."""
+        return self.answer(self.ask(f"(()=>{{{LOOKS.read_text()}\nreturn {script}}})()"))
 
     def wait(self, script, seconds=20.0):
         """Waits until a script is true, and answers the seconds that it took, or None."""
@@ -210,10 +193,12 @@ class Window:
 
     def place(self, what):
         """The middle of an element of the page, and its size."""
-        return self.run(f"(()=>{{const e={what};e.scrollIntoView({{'block':'center'}});const r=e.getBoundingClientRect();return[r.x+r.width/2,r.y+r.height/2,r.width,r.height]}})()")
+        return self.run(f"(()=>{{const e={what};e.scrollIntoView({{'block':'center'}});const r=e.getBoundingClientRect();"
+                        "return[r.x+r.width/2,r.y+r.height/2,r.width,r.height]})()")
 
     def mouse(self, kind, x, y, buttons=0):
-        self.call("Input.dispatchMouseEvent", type=kind, x=x, y=y, button="left" if kind != "mouseMoved" or buttons else "none", buttons=buttons, clickCount=1)
+        button = "left" if kind != "mouseMoved" or buttons else "none"
+        self.call("Input.dispatchMouseEvent", type=kind, x=x, y=y, button=button, buttons=buttons, clickCount=1)
 
     def click(self, what, held=0.0):
         x, y, _, _ = self.place(what)
@@ -232,11 +217,22 @@ class Window:
             self.mouse("mouseReleased", x, y - by)
 
     def key(self, key, code=0, text=""):
-        self.call("Input.dispatchKeyEvent", type="keyDown" if text else "rawKeyDown", key=key, code=key, windowsVirtualKeyCode=code, **({"text": text} if text else {}))
-        self.call("Input.dispatchKeyEvent", type="keyUp", key=key, code=key, windowsVirtualKeyCode=code)
+        for kind, more in (("keyDown", {"text": text}) if text else ("rawKeyDown", {}), ("keyUp", {})):
+            self.call("Input.dispatchKeyEvent", type=kind, key=key, code=key, windowsVirtualKeyCode=code, **more)
 
     def type(self, text):
         self.call("Input.insertText", text=text)
+
+    def wheel(self, what):
+        """The wheel is turned upwards over an element."""
+        x, y, _, _ = self.place(what)
+        self.call("Input.dispatchMouseEvent", type="mouseWheel", x=x, y=y, deltaX=0, deltaY=-100)
+
+    def choose(self, ono, *children):
+        """Opens the menu of an object's strip, and clicks what stands at this place of it."""
+        self.click(row(ono, ".strip.menu"))
+        self.wait("$('dialog').open")
+        self.click("$('dialog').children[2]" + "".join(f".children[{it}]" for it in children))
 
     def picture(self):
         return base64.b64decode(self.call("Page.captureScreenshot", format="png")["data"])
@@ -245,36 +241,31 @@ class Window:
         self.browser.call("Target.closeTarget", targetId=self.target)
 
 
-class Program:
+def program(folder, device_port, *words, port=0, token=False):
     """`ocapanel` for the device at this port; tried again while its own port is still another one's."""
+    until = time.monotonic() + 20
+    while True:
+        panel = Panel(folder, device_port, *words, port=port, token=token)
+        if panel.port or not port or time.monotonic() > until:
+            panel.address = f"http://{panel.host}/"
+            return panel
+        time.sleep(0.1)
 
-    def __init__(self, folder, device_port, *words, port=0, until=20.0):
-        self.begin(folder, device_port, words or ("--no-token",), port, time.monotonic() + until)
-        self.address = f"http://127.0.0.1:{self.port}/"
 
-    def begin(self, folder, device_port, words, port, until):
-        self.process = subprocess.Popen([f"{folder}/ocapanel", "--device", f"127.0.0.1:{device_port}", "--listen", f"127.0.0.1:{port}", *words],
-                                        stdout=subprocess.DEVNULL, stderr=subprocess.PIPE, text=True)
-        line = self.process.stderr.readline()
-        found = re.fullmatch(r"listening (http://127\.0\.0\.1:(\d+)/\S*)\n", line)
-        if found:
-            self.url, self.port = found[1], int(found[2])
-        elif port and time.monotonic() < until:
-            time.sleep(0.1)
-            self.begin(folder, device_port, words, port, until)
-        else:
-            sys.exit(f"panel_trial: ocapanel said {line!r}")
-
-    def __enter__(self):
-        return self
-
-    def __exit__(self, *_):
-        self.process.kill()
-        self.process.wait()
+@contextlib.contextmanager
+def opened(browser, address, what, seconds=30.0, **size):
+    """A window with the page, once it shows what is so; it is closed at the end."""
+    window = Window(browser, address, **size)
+    window.holds(LIVE, what, seconds)
+    yield window
+    window.close()
 
 
 def row(ono, rest=""):
     return f"rows.get({ono}){rest}"
+
+
+FADER, CAP = row(TRIM, ".view.second"), row(TRIM, ".view.second.children[4]")
 
 
 def part(ono):
@@ -283,6 +274,11 @@ def part(ono):
 
 def idle(ono):
     return f"!!{row(ono)}&&!isOut({row(ono)},'set')&&!isOut({row(ono)},'lock')"
+
+
+def message_has(text, ono=MUTE):
+    """The strip of an object says this."""
+    return f"{row(ono, '.strip.message.textContent')}.includes({json.dumps(text)})"
 
 
 def shows(ono, value):
@@ -298,7 +294,7 @@ def cases_in_browser(browser, address):
         _, stand, cases = (Path(file).read_text() for file in prepared(None, place))
     windows = [Window(browser, address, before=stand) for _ in range(AT_ONCE)]
     windows[0].wait("document.readyState==='complete'")
-    count = windows[0].answer(browser.send("Runtime.evaluate", windows[0].session, expression=f"{cases};CASES.length", returnByValue=True))
+    count = windows[0].answer(windows[0].ask(f"{cases};CASES.length"))
     lines = []
     for first in range(0, count, AT_ONCE):
         group = list(zip(range(first, count), windows))
@@ -307,8 +303,7 @@ def cases_in_browser(browser, address):
         asked = []
         for at, window in group:
             window.wait("document.readyState==='complete'&&typeof rows==='object'")
-            script = f"{cases};runCase({at})"
-            asked.append((window, browser.send("Runtime.evaluate", window.session, expression=script, returnByValue=True, awaitPromise=True)))
+            asked.append((window, window.ask(f"{cases};runCase({at})")))
         for window, number in asked:
             got = window.answer(number)
             lines.append(json.loads(got) if str(got).startswith("{") else {"name": f"case {len(lines)}", "ok": False, "wanted": "", "got": got})
@@ -340,10 +335,10 @@ def comes_to(one, wanted):
 def by_hand(folder, device, browser, address):
     """What a person does in one window, and sees in another."""
     one, two = Window(browser, address), Window(browser, address)
-    one.holds(LIVE, "one window shows the device", 30)
-    two.holds(LIVE, "another window shows the device", 30)
-    check(f"127.0.0.1:{device.port}" in one.run("document.title"), "the title names the device")
-    check(f"127.0.0.1:{device.port}" in one.run("document.querySelector('h1').textContent"), "the header names the device")
+    for window in (one, two):
+        window.holds(LIVE, "a window shows the device", 30)
+    for place in ("document.title", "document.querySelector('h1').textContent"):
+        check(f"127.0.0.1:{device.port}" in one.run(place), f"{place} names the device")
     one.run("times.length=0")
     for n in range(100):
         wanted = ["unmuted", "muted"][n % 2]
@@ -352,18 +347,20 @@ def by_hand(folder, device, browser, address):
             break
     times = sorted(one.run("times"))
     check(len(times) >= 100, f"100 clicks were answered: {len(times)}")
-    print(f"from a click to its answer shown: {times[len(times) // 2]:.1f} ms at the 50th, {times[len(times) * 95 // 100]:.1f} ms at the 95th of {len(times)}, at load {os.getloadavg()[0]:.1f}")
-    check(said(folder, device, MUTE) == ["muted"], "the mute is what the page shows")
+    print(f"from a click to its answer shown: {times[len(times) // 2]:.1f} ms at the 50th, {times[len(times) * 95 // 100]:.1f} ms at the 95th "
+          f"of {len(times)}, at load {os.getloadavg()[0]:.1f}")
+    same("the mute is what the page shows", said(folder, device, MUTE), ["muted"])
     two.holds(shows(MUTE, "muted"), "and what the other window shows")
-    one.drag(row(TRIM, ".view.second.children[4]"), 60)
+    one.drag(CAP, 60)
     one.holds(idle(TRIM), "a dragged fader comes to rest")
     value = said(folder, device, TRIM)[0]
-    one.holds(f"{shows(TRIM, value)}&&{row(TRIM, '.view.second')}.getAttribute('aria-valuenow')==='{value}'", f"the last value of the drag stands: {value}")
+    one.holds(f"{shows(TRIM, value)}&&{FADER}.getAttribute('aria-valuenow')==='{value}'", f"the last value of the drag stands: {value}")
     check(int(value) > 60, f"the drag went up: {value}")
     by_keys(folder, device, one)
     deliberate(folder, device, one)
     locks(folder, device, one, two)
     labels(folder, device, two)
+    names(one, two)
     many_at_once(folder, device, one)
     held_by_one(one, two)
     return one, two
@@ -374,28 +371,30 @@ def by_keys(folder, device, one):
     one.run(f"{part(MUTE)}.focus()")
     one.key(" ", 32, " ")
     fares(one, MUTE, "unmuted", "a button is pressed by the keyboard")
-    one.run(f"{row(TRIM, '.view.second')}.focus()")
+    one.run(f"{FADER}.focus()")
     one.key("Delete", 46)
     fares(one, TRIM, "0", "Delete sets a fader to 0")
     for _ in range(3):
         one.key("ArrowUp", 38)
     fares(one, TRIM, "36", "arrow keys move a fader by a hundredth of its range")
-    x, y, _, _ = one.place(row(TRIM, ".view.second"))
-    one.call("Input.dispatchMouseEvent", type="mouseWheel", x=x, y=y, deltaX=0, deltaY=-100)
+    one.wheel(FADER)
     fares(one, TRIM, "48", "the wheel moves a fader that has the focus")
     one.run("document.activeElement.blur()")
-    one.call("Input.dispatchMouseEvent", type="mouseWheel", x=x, y=y, deltaX=0, deltaY=-100)
+    one.wheel(FADER)
     time.sleep(0.3)
-    check(said(folder, device, TRIM) == ["48"], "and no other one")
+    same("and no other one", said(folder, device, TRIM), ["48"])
     one.run(f"{part(TRIM)}.focus()")
-    one.run(f"{part(TRIM)}.select()")
-    one.type("9999")
-    one.key("Enter", 13)
-    one.holds(f"{part(TRIM)}.value==='48'&&{row(TRIM, '.strip.message.textContent')}.includes('not sent')", "9999 is not left standing")
-    one.run(f"{part(TRIM)}.select()")
-    one.type("-12")
-    one.key("Enter", 13)
+    types(one, "9999")
+    one.holds(f"{part(TRIM)}.value==='48'&&{message_has('not sent', TRIM)}", "9999 is not left standing")
+    types(one, "-12")
     fares(one, TRIM, "-12", "a number is typed")
+
+
+def types(one, number):
+    """A number is typed in place of the trim's."""
+    one.run(f"{part(TRIM)}.select()")
+    one.type(number)
+    one.key("Enter", 13)
 
 
 def deliberate(folder, device, one):
@@ -407,7 +406,7 @@ def deliberate(folder, device, one):
     one.key("Escape", 27)
     one.wait("!$('dialog').open")
     time.sleep(0.3)
-    check(said(folder, device, PHANTOM, SOURCE) == ["off", "0 Mic"], "no click in passing and no arrow key switches anything")
+    same("no click in passing and no arrow key switches anything", said(folder, device, PHANTOM, SOURCE), ["off", "0 Mic"])
     one.click(part(PHANTOM), held=1.2)
     fares(one, PHANTOM, "on", "phantom power is switched by a press that is held")
     one.click(part(SOURCE))
@@ -415,36 +414,28 @@ def deliberate(folder, device, one):
     one.click("$('dialog').children[2].children[1]")
     one.click("$('dialog').lastElementChild.lastElementChild")
     fares(one, SOURCE, "1", "a source is selected, and then switched")
-    check(said(folder, device, PHANTOM, SOURCE) == ["on", "1 Line"], "and so it is in the device")
+    same("and so it is in the device", said(folder, device, PHANTOM, SOURCE), ["on", "1 Line"])
 
 
 def locks(folder, device, one, two):
     """Locks of this panel and of a different controller, in the strip's one menu."""
-    one.click(row(MUTE, ".strip.menu"))
-    one.wait("$('dialog').open")
-    one.click("$('dialog').children[2].children[1].children[1]")
+    one.choose(MUTE, 1, 1)
     two.holds(f"{row(MUTE, '.lock')}==='own'&&{row(MUTE, '.strip.menu.className')}==='menu own'", "a lock is shown in both windows")
-    check("Locked" in ocactl(folder, device.port, "set", str(MUTE), "muted"), "and holds")
-    two.click(row(MUTE, ".strip.menu"))
-    two.wait("$('dialog').open")
-    two.click("$('dialog').children[2].children[1].children[1]")
+    check("Locked" in ocactl(folder, device.port, "set", MUTE, "muted"), "and holds")
+    two.choose(MUTE, 1, 1)
     one.holds(f"{row(MUTE, '.lock')}==='free'", "it is taken off in the other one")
     for ono in (TRIM, BLOCK):
-        holder = subprocess.Popen([f"{folder}/ocactl", "lock", "--hold", "--device", f"127.0.0.1:{device.port}", "--port", str(free_port()), str(ono)],
-                                  stdin=subprocess.PIPE, stdout=subprocess.PIPE, text=True)
-        holder.stdout.readline()
-        if ono == BLOCK:
-            one.run(f"{row(BLOCK)}.lock==='free'&&order({row(BLOCK)},'lock')")
-        one.holds(f"{idle(ono)}&&{row(ono, '.lock')}==='other'&&{row(MUTE, '.strip.message.textContent')}.includes('another controller')", f"a lock of a different controller is shown at {ono}")
-        holder.stdin.close()
-        holder.wait()
-        one.holds(f"{row(ono, '.lock')}==='free'&&!{row(MUTE, '.strip.message.textContent')}.includes('locked by')", f"and no longer where it is taken off at {ono}")
+        with locked(folder, device.port, ono):
+            if ono == BLOCK:
+                one.run(f"{row(BLOCK)}.lock==='free'&&order({row(BLOCK)},'lock')")
+            one.holds(f"{idle(ono)}&&{row(ono, '.lock')}==='other'&&{message_has('another controller')}", f"a lock of a different controller is shown at {ono}")
+        one.holds(f"{row(ono, '.lock')}==='free'&&!{message_has('locked by')}", f"and no longer where it is taken off at {ono}")
 
 
 def give_label(folder, device, ono, text):
     """Another controller gives an object a label."""
-    data = text.encode()
-    ocactl(folder, device.port, "send", "--target", str(ono), "--level", "2", "--index", "9", "--count", "1", "--params", (len(text).to_bytes(2, "big") + data).hex())
+    params = (len(text).to_bytes(2, "big") + text.encode()).hex()
+    ocactl(folder, device.port, "send", *f"--target {ono} --level 2 --index 9 --count 1 --params {params}".split())
 
 
 def labels(folder, device, two):
@@ -452,6 +443,23 @@ def labels(folder, device, two):
     for label, name in [("Lead <b>vocal</b>", "Lead <b>vocal</b>"), ("\u202elacov", "\ufffdlacov"), ("", "channel 1")]:
         give_label(folder, device, BLOCK, label)
         two.holds(f"{row(MUTE, '.strip.name.textContent')}==={json.dumps(name)}", f"the label {label!r} is shown as {name!r}")
+
+
+def names(one, two):
+    """A name that is given in the strip's menu is shown in both windows, once the device has it; one that is too long is refused."""
+    for name, key in [('Lead "vocal" <b>', "Enter"), ("", "")]:
+        one.click(row(MUTE, ".strip.menu"))
+        one.wait("$('dialog').open")
+        one.click("$('dialog').children[2].children[0].lastElementChild")
+        one.wait("document.activeElement.tagName==='INPUT'")
+        one.run("document.activeElement.value=''")
+        one.type(name)
+        one.key("Enter", 13) if key else one.click("$('dialog').lastElementChild.lastElementChild")
+        for window in (one, two):
+            window.holds(f"{row(MUTE, '.strip.name.textContent')}==={json.dumps(name or 'channel 1')}", f"the name {name!r} is shown")
+    one.run(f"order({row(BLOCK)},'label','x'.repeat(65))")
+    one.holds(message_has("a name has at most 64 bytes"), "a name that is too long is refused in words")
+    one.run(f"unnote({BLOCK})")
 
 
 def many_at_once(folder, device, one):
@@ -471,41 +479,28 @@ def many_at_once(folder, device, one):
     one.wait("$('dialog').open")
     one.click("$('dialog').lastElementChild.lastElementChild")
     one.holds("mutesOf(strips).every(r=>r.value==='muted')", "all are muted")
-    check(said(folder, device, MUTE, OTHER_MUTE) == ["muted", "muted"], "and so they are in the device")
+    same("and so they are in the device", said(folder, device, MUTE, OTHER_MUTE), ["muted", "muted"])
     one.click("$('guard')")
     one.click(part(MUTE))
-    one.holds(f"{row(MUTE, '.strip.message.textContent')}.includes('panel lock')", "the panel lock stops a click")
+    one.holds(message_has("panel lock"), "the panel lock stops a click")
     one.click("$('guard')", held=1.2)
     one.holds("!guarded", "and is taken off by a press that is held")
-    check(said(folder, device, MUTE) == ["muted"], "the device was left alone")
+    same("the device was left alone", said(folder, device, MUTE), ["muted"])
 
 
 def held_by_one(one, two):
     """A fader that is held in one window is not moved by the other one, which is shown beside it."""
-    cap = row(TRIM, ".view.second.children[4]")
-    one.drag(cap, 20, release=False)
+    now = f"{FADER}.getAttribute('aria-valuenow')"
+    one.drag(CAP, 20, release=False)
     one.holds(f"!isOut({row(TRIM)},'set')", "what the hand moved was sent")
-    here = one.run(f"{row(TRIM, '.view.second')}.getAttribute('aria-valuenow')")
+    here = one.run(now)
     two.run(f"change({row(TRIM)},'-500')")
-    one.holds(f"{row(TRIM, '.value')}==='-500'&&{row(TRIM, '.view.second.lastElementChild.textContent')}==='device −500'", "another's value stands beside the hand")
-    check(one.run(f"{row(TRIM, '.view.second')}.getAttribute('aria-valuenow')") == here, "the hand was not moved")
-    x, y, _, _ = one.place(cap)
+    beside = row(TRIM, ".view.second.lastElementChild.textContent")
+    one.holds(f"{row(TRIM, '.value')}==='-500'&&{beside}==='device −500'", "another's value stands beside the hand")
+    same("the hand was not moved", one.run(now), here)
+    x, y, _, _ = one.place(CAP)
     one.mouse("mouseReleased", x, y)
-    one.holds(f"{row(TRIM, '.view.second')}.getAttribute('aria-valuenow')==='-500'", "once it is let go it shows what the device has")
-
-
-CONTRAST = """(()=>{
-const parse=c=>(c.match(/[\\d.]+/g)||[0,0,0,0]).map(Number),light=c=>{const[r,g,b]=c.map(v=>{v/=255;return v<=.03928?v/12.92:((v+.055)/1.055)**2.4});return .2126*r+.7152*g+.0722*b};
-const under=e=>{for(;e;e=e.parentElement){const c=parse(getComputedStyle(e).backgroundColor);if(c.length<4||c[3]>.9)return c}return parse(getComputedStyle(document.documentElement).backgroundColor)};
-const ratio=(a,b)=>{const[x,y]=[light(a),light(b)].sort((p,q)=>q-p);return(x+.05)/(y+.05)};
-const shownOnes=[...document.querySelectorAll('body *')].filter(e=>e.getClientRects().length&&!e.closest('svg')&&!e.disabled&&e.getAttribute('aria-disabled')!=='true');
-const texts=shownOnes.filter(e=>[...e.childNodes].some(n=>n.nodeType===3&&n.data.trim())).map(e=>[ratio(parse(getComputedStyle(e).color),under(e)),e.className+' '+e.textContent.slice(0,20)]);
-const edges=shownOnes.filter(e=>/^(BUTTON|INPUT|SELECT)$/.test(e.tagName)&&!e.classList.contains('select')).map(e=>[ratio(parse(getComputedStyle(e).borderTopColor),under(e.parentElement)),e.outerHTML.slice(0,60)]);
-const caps=[...document.querySelectorAll('.cap')].map(e=>[ratio(parse(getComputedStyle(e).backgroundColor),under(e.parentElement)),'cap']);
-const least=l=>l.reduce((a,b)=>b[0]<a[0]?b:a,[99,'']);
-return[least(texts),least([...edges,...caps])]})()"""
-SMALL = "[...document.querySelectorAll('button,input,select,.cap')].filter(e=>e.getClientRects().length&&(e.getBoundingClientRect().width<43.9||e.getBoundingClientRect().height<43.9)).map(e=>e.outerHTML.slice(0,80))"
-NAMELESS = "[...document.querySelectorAll('button,input,select,[role=slider]')].filter(e=>e.getClientRects().length&&!(e.getAttribute('aria-label')||e.textContent).trim()).length"
+    one.holds(f"{now}==='-500'", "once it is let go it shows what the device has")
 
 
 def looks(one):
@@ -515,18 +510,18 @@ def looks(one):
         one.holds(shows(ono, value), f"{ono} is {value}")
     for is_dark in (False, True):
         one.dark(is_dark)
-        texts, edges = one.run(CONTRAST)
+        texts, edges = one.looks("contrasts()")
         check(texts[0] >= 4.5, f"contrast of texts, dark {is_dark}: {texts}")
         check(edges[0] >= 3, f"contrast of edges, dark {is_dark}: {edges}")
     one.dark(False)
     for width in (320, 390, 768, 1280, 1920):
         one.size(width, 800, width < 500)
         one.holds(f"document.documentElement.scrollWidth<={width}", f"no sideways scroll at {width} px")
-        small = one.run(SMALL)
-        check(small == [], f"targets below 44 px at {width} px: {small}")
+        same(f"targets below 44 px at {width} px", one.looks("small()"), [])
     one.size(1280, 900)
-    check(one.run(NAMELESS) == 0, "each control has a name")
-    moves = one.run(f"(()=>{{const e={part(MUTE)},y=()=>e.getBoundingClientRect().y,a=y();note({MUTE},'refused','x'.repeat(200));const b=y();unnote({MUTE});return[a,b,y()]}})()")
+    same("controls without a name", one.looks("nameless()"), 0)
+    moves = one.run(f"(()=>{{const e={part(MUTE)},y=()=>e.getBoundingClientRect().y,a=y();note({MUTE},'refused','x'.repeat(200));"
+                    f"const b=y();unnote({MUTE});return[a,b,y()]}})()")
     check(moves[0] == moves[1] == moves[2], f"a message moves no control: {moves}")
     one.call("Emulation.setEmulatedMedia", features=[{"name": "prefers-reduced-motion", "value": "reduce"}])
     one.run("document.querySelector('.hold').classList.add('down')")
@@ -545,9 +540,8 @@ def pictures(folder, browser, place):
     """The pictures of the documents: a stage box with names and levels."""
     with tempfile.TemporaryDirectory() as units:
         Path(units, "units").write_text("class int16 0.1 dB\n")
-        with Device(folder) as device, Program(folder, device.port, "--no-token", "--units", str(Path(units, "units"))) as panel:
-            one = Window(browser, panel.address)
-            one.holds(LIVE, "the device of the pictures is shown", 30)
+        with Device(folder) as device, program(folder, device.port, "--units", Path(units, "units")) as panel, \
+                opened(browser, panel.address, "the device of the pictures is shown") as one:
             give_label(folder, device, 100, "Stage box A")
             for n, name in enumerate(NAMES):
                 give_label(folder, device, 4097 + 5 * n, name)
@@ -561,58 +555,57 @@ def pictures(folder, browser, place):
                 one.dark(is_dark)
                 time.sleep(1)
                 Path(place, name).write_bytes(one.picture())
-            one.close()
 
 
 def stalls(folder, device, browser, panel, address):
     """A program that stands still is told from one that answers; what is clicked meanwhile is not taken."""
-    one = Window(browser, address)
-    one.holds(LIVE, "the page is live", 30)
-    value = one.run(row(MUTE, ".value"))
-    panel.process.send_signal(signal.SIGSTOP)
-    one.holds("program.state==='stale'&&!$('banner').hidden&&$('banner').textContent.includes('gives no answer')&&document.body.classList.contains('old')", "a program that stands still is said")
-    one.click(part(MUTE))
-    one.holds(f"{row(MUTE, '.strip.message.textContent')}.includes('not sent: no program')", "a click is not taken, and that is said")
-    panel.process.send_signal(signal.SIGCONT)
-    one.holds(LIVE, "the page is live again")
-    check(said(folder, device, MUTE) == [value], "the device was left alone")
-    device.process.send_signal(signal.SIGSTOP)
-    one.holds("['silent','lost'].includes(program.state)&&!$('banner').hidden&&document.body.classList.contains('old')", "a device that gives no answer is said")
-    one.click(part(MUTE))
-    one.holds(f"{row(MUTE, '.strip.message.textContent')}.includes('not sent: device')", "a click is not taken then either")
-    one.holds("program.state==='lost'", "it is lost then", 30)
-    device.process.send_signal(signal.SIGCONT)
-    one.holds(LIVE, "and found again", 60)
-    check(said(folder, device, MUTE) == [value], "and was left alone")
-    one.close()
+    is_said = "!$('banner').hidden&&document.body.classList.contains('old')"
+    with opened(browser, address, "the page is live") as one:
+        value = one.run(row(MUTE, ".value"))
+        panel.process.send_signal(signal.SIGSTOP)
+        one.holds(f"program.state==='stale'&&$('banner').textContent.includes('gives no answer')&&{is_said}", "a program that stands still is said")
+        one.click(part(MUTE))
+        one.holds(message_has("not sent: no program"), "a click is not taken, and that is said")
+        panel.process.send_signal(signal.SIGCONT)
+        one.holds(LIVE, "the page is live again")
+        same("the device was left alone", said(folder, device, MUTE), [value])
+        device.process.send_signal(signal.SIGSTOP)
+        one.holds(f"['silent','lost'].includes(program.state)&&{is_said}", "a device that gives no answer is said")
+        one.click(part(MUTE))
+        one.holds(message_has("not sent: device"), "a click is not taken then either")
+        one.holds("program.state==='lost'", "it is lost then", 30)
+        device.process.send_signal(signal.SIGCONT)
+        one.holds(LIVE, "and found again", 60)
+        same("and was left alone", said(folder, device, MUTE), [value])
 
 
 def begun_anew(folder, browser):
-    """The program ends, and begins anew: for the same device, and for another one."""
+    """The program ends, and begins again: for the same device, and for another one."""
     with tempfile.TemporaryDirectory() as place, Device(folder) as first:
         file = Path(place, "other.tree")
         file.write_text("".join(f"{ono} 100 mute muted lockable \"desk {ono}\"\n" for ono in (4096, 4097, MUTE, 5000)))
-        with Device(folder, 0, ("--tree", str(file))) as second:
+        with Device(folder, 0, ("--tree", file)) as second:
             port = free_port()
-            with Program(folder, first.port, port=port) as panel:
+            with program(folder, first.port, port=port) as panel:
                 one = Window(browser, panel.address)
                 one.holds(LIVE, "the page is live", 30)
                 one.run(f"change({row(MUTE)},'unmuted')")
                 one.holds(shows(MUTE, "unmuted"), "a channel is open")
                 run = one.run("program.run")
             one.holds("program.state==='stale'", "a program that ended is said")
-            ocactl(folder, first.port, "set", str(MUTE), "muted")
-            with Program(folder, first.port, port=port):
+            ocactl(folder, first.port, "set", MUTE, "muted")
+            with program(folder, first.port, port=port):
                 one.holds(f"program.run!=='{run}'&&{LIVE}&&{shows(MUTE, 'muted')}", "begun anew, the page shows what is so", 30)
-                check(one.run(f"{part(MUTE)}.textContent") == "MUTED", "in words too")
+                same("in words too", one.run(f"{part(MUTE)}.textContent"), "MUTED")
                 one.run(f"change({row(MUTE)},'unmuted')")
                 one.holds(shows(MUTE, "unmuted"), "and its orders are told")
                 first_strips = one.run("strips.length")
-            with Program(folder, second.port, port=port):
-                one.holds(f"document.title.includes('127.0.0.1:{second.port}')&&{LIVE}&&rows.size===5", "for another device the page shows that one, and names it", 30)
+            with program(folder, second.port, port=port):
+                is_named = f"document.title.includes('127.0.0.1:{second.port}')"
+                one.holds(f"{is_named}&&{LIVE}&&rows.size===5", "for another device the page shows that one, and names it", 30)
                 check(one.run("strips.length") == 1 != first_strips, "no strip of the other one stays")
-                check(one.run(f"{part(MUTE)}.textContent") == "MUTED", "the object of the same number is shown as it is")
-                check(said(folder, second, MUTE) == ["muted"] and said(folder, first, MUTE) == ["unmuted"], "nothing was done to either")
+                same("the object of the same number is shown as it is", one.run(f"{part(MUTE)}.textContent"), "MUTED")
+                same("nothing was done to either", said(folder, second, MUTE) + said(folder, first, MUTE), ["muted", "unmuted"])
             one.close()
 
 
@@ -620,12 +613,8 @@ def bad_network(folder, browser, place):
     """At 20 % loss, and over a device that restarts."""
     file = Path(place, "one.tree")
     file.write_text("".join(line + "\n" for line in TREE.read_text().splitlines() if line[:4] in ("4096", "4097", "4098", "4099", "4100", "4101")))
-    device = Device(folder, 0, ("--tree", str(file)))
-    relay = Relay(device.port, 3)
-    relay.start()
-    with Program(folder, relay.port) as panel:
-        window = Window(browser, panel.address)
-        window.holds(LIVE, "the page is built at 20 % loss", 120)
+    with Device(folder, 0, ("--tree", file)) as device, Lossy(device.port, 3) as relay, program(folder, relay.port) as panel, \
+            opened(browser, panel.address, "the page is built at 20 % loss", 120) as window:
         wrong = 0
         for n in range(10):
             wanted = ["unmuted", "muted"][n % 2]
@@ -633,24 +622,73 @@ def bad_network(folder, browser, place):
             window.run(f"change({row(MUTE)},'{wanted}')")
             window.wait(shows(MUTE, wanted), 20)
             wrong += said(folder, device, MUTE) != [window.run(row(MUTE, ".value"))]
-        check(wrong == 0, f"{wrong} of 10 clicks at 20 % loss show another value")
+        same("of 10 clicks at 20 % loss those that show another value", wrong, 0)
         wrong = 0
         for n in range(5):
             window.wait("isOpen()", 60)
-            window.drag(row(TRIM, ".view.second.children[4]"), 50 - 25 * n, steps=12)
-            window.run(f"order({row(TRIM)},'lock')")
-            window.wait(idle(TRIM), 30)
-            window.run(f"order({row(TRIM)},'unlock')")
-            window.wait(idle(TRIM), 30)
+            window.drag(CAP, 50 - 25 * n, steps=12)
+            for kind in ("lock", "unlock"):
+                window.run(f"order({row(TRIM)},'{kind}')")
+                window.wait(idle(TRIM), 30)
             wrong += said(folder, device, TRIM) != [window.run(row(TRIM, ".value"))]
-        check(wrong == 0, f"{wrong} of 5 drags at 20 % loss with a lock at once end at another value")
-        device.__exit__()
+        same("of 5 drags at 20 % loss with a lock at once those that end at another value", wrong, 0)
+        device.process.kill()
+        device.process.wait()
         window.holds("program.state==='lost'&&$('banner').textContent.includes('is lost')", "a device that is gone is shown as lost", 30)
-        with Device(folder, device.port, ("--tree", str(file))):
-            relay.device = ("127.0.0.1", device.port)
+        with Device(folder, device.port, ("--tree", file)):
             window.holds(LIVE, "and found again", 60)
-        window.close()
-    relay.ends = True
+
+
+SEEN = f"(()=>{{const r={row(TRIM)};return[r.value,isOpen()&&isSure(r),program.unsure]}})()"
+
+
+def ages(folder, browser, seconds=20):
+    """At 20 % loss, with a stage box in view: what is shown as confirmed the device had within the last 2 s; and how long a change by another
+    controller takes to be seen."""
+    with Device(folder) as device, Lossy(device.port, 5) as relay, program(folder, relay.port) as panel, \
+            opened(browser, panel.address, "a stage box is shown at 20 % loss", 120, height=1600) as window:
+        # what the device had, each with the moment at which it was there and the one from which on it was surely gone
+        had = [(said(folder, device, TRIM)[0], time.monotonic(), None)]
+        took, wrong, looks, sure, set_at, value = [], [], 0, 0, 0.0, 0
+        until = time.monotonic() + seconds
+        while time.monotonic() < until:
+            begun = time.monotonic()
+            shown, is_sure, _ = window.run(SEEN)
+            looks, sure = looks + 1, sure + is_sure
+            last = [gone for one, _, gone in had if one == shown][-1:]
+            if is_sure and last != [None] and not (last and last[0] > begun - 2):
+                wrong.append((shown, last, begun))
+            if shown == had[-1][0] and set_at:
+                took, set_at = [*took, begun - set_at], 0.0
+            if not set_at and begun > had[-1][1] + 1:
+                value += 1
+                ocactl(folder, device.port, "set", TRIM, value)
+                set_at = time.monotonic()
+                had[-1:] = [(*had[-1][:2], set_at), (str(value), set_at, None)]
+            time.sleep(0.02)
+        same("values that are shown as confirmed, and that the device had no longer 2 s before", wrong[:3], [])
+        check(looks > 0 and len(took) > 0, "changes are seen")
+        took.sort()
+        print(f"at 20 % loss each way a change of one of {window.run('rows.size')} objects was seen after {took[len(took) // 2]:.2f} s at the 50th, "
+              f"{took[len(took) * 95 // 100]:.2f} s at the 95th, {took[-1]:.2f} s at most of {len(took)}; "
+              f"it was confirmed in {100 * sure // looks} % of {looks} looks")
+
+
+def cut_off(folder, browser):
+    """A network that is cut over a device that lives on: that is said, and the page goes on where it was."""
+    with Device(folder) as device, Lossy(device.port, share=0) as relay, program(folder, relay.port) as panel, \
+            opened(browser, panel.address, "the page is live") as window:
+        strips = window.run("strips.length")
+        relay.share = 1
+        window.run(f"change({row(MUTE)},'unmuted')")
+        window.holds("['silent','lost'].includes(program.state)&&document.body.classList.contains('old')", "a network that is cut is said", 30)
+        window.holds("program.state==='lost'", "the device is lost then", 60)
+        window.holds(f"{message_has('lost')}||!{row(MUTE)}", "an order in flight is told as lost", 60)
+        relay.share = 0
+        window.holds(f"{LIVE}&&strips.length==={strips}", "the device that lived on is found again", 60)
+        window.run(f"change({row(MUTE)},{row(MUTE)}.value==='muted'?'unmuted':'muted')")
+        window.holds(idle(MUTE), "and takes orders")
+        same("the mute is what the page shows", said(folder, device, MUTE), [window.run(row(MUTE, ".value"))])
 
 
 def large(folder, browser):
@@ -658,15 +696,15 @@ def large(folder, browser):
     with tempfile.TemporaryDirectory() as place:
         file = Path(place) / "many.tree"
         last = many_tree(file)
-        with Device(folder, 0, ("--tree", str(file))) as device, Program(folder, device.port) as panel:
-            address = panel.address
-            first = Window(browser, address)  # so that the times below are not those of a browser's start
+        with Device(folder, 0, ("--tree", file)) as device, program(folder, device.port) as panel:
+            first = Window(browser, panel.address)  # so that the times below are not those of a browser's start
             first.holds("rows.size>4000&&isOpen()", "4,096 objects are walked", 90)
             first.close()
-            window = Window(browser, address)
+            window = Window(browser, panel.address)
             usable = "rows.size>4000&&isOpen()&&inView.size>0&&[...inView].flatMap(s=>s.rows).every(r=>r.view&&r.value!==null)"
             window.holds(usable, "what is visible can be used", 60)
-            print(f"a page with 4,096 objects: what is visible could be used {window.run('performance.now()') / 1000:.2f} s after it was opened at the latest, at load {os.getloadavg()[0]:.1f}")
+            print(f"a page with 4,096 objects: what is visible could be used {window.run('performance.now()') / 1000:.2f} s after it was opened "
+                  f"at the latest, at load {os.getloadavg()[0]:.1f}")
             made = window.run("[...rows.values()].filter(r=>r.view).length")
             check(0 < made < 1000, f"controls are made for what is near alone: {made}")
             window.run("(()=>{$('find').value='" + str(last) + "';filter()})()")
@@ -679,48 +717,44 @@ def large(folder, browser):
             window.close()
 
 
-HOSTILE = ["</style></script><script>window.ran=1</script>", "<img src=x onerror=window.ran=1>", "'><svg onload=window.ran=1>", "&lt;b&gt; {{7*7}} ${1}", "x" * 60]
+HOSTILE = ["</style></script><script>window.ran=1</script>", "<img src=x onerror=window.ran=1>", "'><svg onload=window.ran=1>",
+           "&lt;b&gt; {{7*7}} ${1}", "x" * 60]
 
 
 def hostile(folder, browser):
     """Texts of a device run nothing."""
     with tempfile.TemporaryDirectory() as place:
         file = Path(place, "hostile.tree")
-        file.write_text("".join(f'{5000 + 2 * n} 100 block lockable "{role}"\n{5001 + 2 * n} {5000 + 2 * n} mute muted lockable "{role}"\n' for n, role in enumerate(HOSTILE)))
-        with Device(folder, 0, ("--tree", str(file))) as device, Program(folder, device.port) as panel:
-            window = Window(browser, panel.address)
-            window.holds(LIVE, "a hostile device is shown", 30)
-            check(window.run("window.ran===undefined&&document.scripts.length===1&&!document.querySelector('main img,main script')") is True, "its texts run nothing")
+        file.write_text("".join(f'{5000 + 2 * n} 100 block lockable "{role}"\n{5001 + 2 * n} {5000 + 2 * n} mute muted lockable "{role}"\n'
+                                for n, role in enumerate(HOSTILE)))
+        with Device(folder, 0, ("--tree", file)) as device, program(folder, device.port) as panel, \
+                opened(browser, panel.address, "a hostile device is shown") as window:
+            runs_nothing = "window.ran===undefined&&document.scripts.length===1&&!document.querySelector('main img,main script')"
+            same("its texts run nothing", window.run(runs_nothing), True)
             names = window.run("strips.map(s=>s.name.textContent)")
             check(any(name.startswith("<img src=x") for name in names), f"they are shown as texts: {names}")
             check(all(len(name) <= 120 for name in names), "and not without an end")
-            check(window.run("document.documentElement.scrollWidth<=1280") is True, "and make nothing wider")
-            window.close()
+            same("and make nothing wider", window.run("document.documentElement.scrollWidth<=1280"), True)
 
 
 def watching(folder, browser):
     """A panel that is read only shows all, and no control that acts."""
-    with Device(folder) as device, Program(folder, device.port, "--no-token", "--read-only") as panel:
-        window = Window(browser, panel.address)
-        window.holds(LIVE, "a page that is read only shows the device", 30)
-        check(window.run("!$('watch').hidden&&$('watch').getClientRects().length>0") is True, "it says that it is read only")
-        acts = window.run("[...document.querySelectorAll('main button:not(.select),main input,main [role=slider],#guard,#undo,#mute-all')].filter(e=>e.getClientRects().length).length")
-        check(acts == 0, f"it has no control that acts: {acts}")
-        check(window.run(f"{part(MUTE)}.textContent") == "muted", "it shows a value in words")
-        window.close()
+    with Device(folder) as device, program(folder, device.port, "--read-only") as panel, \
+            opened(browser, panel.address, "a page that is read only shows the device") as window:
+        same("it says that it is read only", window.run("!$('watch').hidden&&$('watch').getClientRects().length>0"), True)
+        acts = "main button:not(.select),main input,main [role=slider],#guard,#undo,#mute-all"
+        same("controls that act", window.run(f"[...document.querySelectorAll('{acts}')].filter(e=>e.getClientRects().length).length"), 0)
+        same("a value in words", window.run(f"{part(MUTE)}.textContent"), "muted")
 
 
 def with_token(folder, browser):
     """The token goes out of the address bar; a window without it is told what to open."""
-    with Device(folder) as device, Program(folder, device.port, "--verbose") as panel:
-        window = Window(browser, panel.url)
-        window.holds(LIVE, "a page that has the token shows the device", 30)
-        check(window.run("location.search") == "" and window.run("location.pathname") == "/", "the token is no longer in the address bar")
+    with Device(folder) as device, program(folder, device.port, "--verbose", token=True) as panel, \
+            opened(browser, f"{panel.address}?token={panel.token}", "a page that has the token shows the device") as window:
+        same("the address bar without the token", window.run("location.search+location.pathname"), "/")
         with started_without_cookies(browser) as clean:
             clean.go(panel.address)
-            clean_text = clean.wait("document.body.textContent.includes('ocapanel printed')", 20)
-            check(clean_text is not None, "a window without it is told what to open")
-        window.close()
+            clean.holds("document.body.textContent.includes('ocapanel printed')", "a window without it is told what to open")
 
 
 @contextlib.contextmanager
@@ -737,17 +771,16 @@ def started_without_cookies(browser):
 
 
 # How many rows there are of each part; a part that has fewer tried too little.
-ROWS = {"sources": 2, "node": 72, "wrong pages": 40, "chromium": 72, "by hand": 45, "looks": 20, "programs": 43}
+ROWS = {"sources": 2, "node": 79, "wrong pages": 46, "chromium": 79, "by hand": 52, "looks": 20, "programs": 53}
 
 
 def counted(name, part_of, *given):
     """Runs a part, which must have as many rows as it is to have."""
-    before = sum(COUNTS)
-    begun = time.monotonic()
+    before, begun = ITS.passed + ITS.failed, time.monotonic()
     part_of(*given)
-    rows = sum(COUNTS) - before
+    rows = ITS.passed + ITS.failed - before
     print(f"{name}: {rows} rows in {time.monotonic() - begun:.0f} s", flush=True)
-    check(rows == ROWS[name], f"{name}: {rows} rows in place of {ROWS[name]}")
+    same(f"{name}: its rows", rows, ROWS[name])
 
 
 def sources():
@@ -758,23 +791,26 @@ def sources():
 
 
 def programs(folder, browser):
-    with Device(folder) as device, Program(folder, device.port) as panel:
+    with Device(folder) as device, program(folder, device.port) as panel:
         stalls(folder, device, browser, panel, panel.address)
     begun_anew(folder, browser)
     with tempfile.TemporaryDirectory() as place:
         bad_network(folder, browser, place)
+    ages(folder, browser)
+    cut_off(folder, browser)
     large(folder, browser)
     hostile(folder, browser)
     watching(folder, browser)
     with_token(folder, browser)
 
 
-def in_chromium(folder, program, place):
-    with tempfile.TemporaryDirectory() as profile:
-        browser = Browser(program, profile)
+def in_chromium(folder, chromium, place):
+    # (a process of the browser that is not yet gone may still write there)
+    with tempfile.TemporaryDirectory(ignore_cleanup_errors=True) as profile:
+        browser = Browser(chromium, profile)
         try:
-            with Device(folder) as device, Program(folder, device.port) as panel:
-                check(urllib.request.urlopen(panel.address, timeout=20).read().decode() == page.page()[0], "the program sends this page")
+            with Device(folder) as device, program(folder, device.port) as panel:
+                same("the page that the program sends", panel.exchange(panel.asks("GET", "/"))[2].decode(), page.page()[0])
                 counted("chromium", lambda: note_cases(cases_in_browser(browser, panel.address), "in Chromium"))
                 browser.lines.clear()
                 windows = []
@@ -801,13 +837,12 @@ def main():
             counted("wrong pages", wrong_pages)
         else:
             print("LEFT OUT: the page's cases in node, and wrong pages: there is no node here")
-        program = shutil.which("chromium") or shutil.which("chromium-browser") or shutil.which("google-chrome")
-        if program:
-            in_chromium(sys.argv[1], program, sys.argv[2] if len(sys.argv) > 2 else None)
+        chromium = shutil.which("chromium") or shutil.which("chromium-browser") or shutil.which("google-chrome")
+        if chromium:
+            in_chromium(sys.argv[1], chromium, sys.argv[2] if len(sys.argv) > 2 else None)
         else:
             print("LEFT OUT: the page in Chromium: there is none here (apt-get install chromium)")
-    print(f"{COUNTS[0]} passed, {COUNTS[1]} failed")
-    return 1 if COUNTS[1] else 0
+    return ITS.verdict()
 
 
 if __name__ == "__main__":

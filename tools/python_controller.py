@@ -22,27 +22,15 @@ from pathlib import Path
 from types import ModuleType
 
 import oca_profile as oca
-from checks import Checks
+from checks import Checks, Serving
 from lossy import Network
 from own_ports import free_port
+from tables import data
 
 TOP = Path(__file__).resolve().parent.parent
 EXAMPLE, TREE = TOP / "examples/python/controller.py", "examples/stagebox.tree"
 SPAN, TRIES = 16, 20
 MUTES, TRIMS = range(4098, 4138, 5), range(4100, 4138, 5)
-# Examples that are wrong: what stands there, and what is put in its place.
-WRONG = [
-    ("SPAN, TRIES, RESEND, IDLE, LATE = 16,", "SPAN, TRIES, RESEND, IDLE, LATE = 17,"), ("= 16, 20, 0.25,", "= 16, 21, 0.25,"),
-    ("20, 0.25, 2.5,", "20, 0.5, 2.5,"), ("0.25, 2.5, 15.0", "0.25, 5.0, 15.0"), ("0.25, 2.5, 15.0", "0.25, 2.5, 16.0"),
-    ("now - flight.sent >= RESEND", "now - flight.sent > RESEND"), ("now - flight.submitted > LATE", "now - flight.submitted >= LATE"),
-    ("now - flight.submitted > LATE", "now - flight.sent > LATE"), ("flight.tries == TRIES", "flight.tries > TRIES"),
-    ("now, flight.tries + 1, now", "now, flight.tries + 1, self.last_sent"), ("if now - self.last_sent < IDLE", "if now - self.last_sent <= IDLE"),
-    ('struct.pack(">H", 5)', 'struct.pack(">I", 5000)'), ("self.flights.pop(it.handle, None)", "self.flights.get(it.handle, None)"),
-    ("self.next_handle, self.next_handle + 1", "self.next_handle, self.next_handle + 2"),
-    ("self.next_handle < min(self.flights, default=self.next_handle) + SPAN", "len(self.flights) < SPAN"),
-    ("kind == RESPONSE and (count or body)", "kind == RESPONSE and body"), ("(count or body)", "count"),
-    ("size <= 9 + len(rest)", "size <= 999"), ("(sync, version) != (0x3B, 1)", "version != 1"),
-]
 ROW = r"\| [^|]+ \| `([0-9A-F ]+)` \| `([0-9A-F .]+)`[^|]* \|"
 
 
@@ -118,7 +106,7 @@ def rules(checks, its):
 
 def wrong_ones(checks):
     """A link that breaks a rule is found."""
-    for old, new in WRONG:
+    for old, new in data("python_controller").wrong:
         tried = Checks()
         with contextlib.redirect_stdout(io.StringIO()):
             try:
@@ -137,25 +125,17 @@ def refuses(link, datagram):
     return False
 
 
-class Device:
+class Device(Serving):
     """`ocadev serve` of the stage box, and what it says of each datagram."""
 
     def __init__(self, folder):
-        words = ["serve", "--tree", TREE, "--port", "0", "--peers", "64", "--verbose"]
-        self.run = subprocess.Popen([f"{folder}/ocadev", *words], cwd=TOP, stdout=subprocess.DEVNULL, stderr=subprocess.PIPE, text=True)
-        found = None
-        while not found and (line := self.run.stderr.readline()):
-            found = re.fullmatch(r"listening ([0-9.]+):([0-9]+)\n", line)
-        self.address, self.lines = (found[1], int(found[2])), []
-        self.reader = threading.Thread(target=lambda: self.lines.extend(self.run.stderr), daemon=True)
+        super().__init__(f"{folder}/ocadev", *f"serve --tree {TREE} --port 0 --peers 64 --verbose".split(), cwd=TOP)
+        self.address, self.lines = (self.ip, self.port), []
+        self.reader = threading.Thread(target=lambda: self.lines.extend(self.process.stderr), daemon=True)
         self.reader.start()
 
-    def __enter__(self):
-        return self
-
     def __exit__(self, *_):
-        self.run.terminate()
-        self.run.wait()
+        super().__exit__()
         self.reader.join()
 
     def executed(self, port):

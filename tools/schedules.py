@@ -25,6 +25,13 @@ class Schedule:
     def timed(self, kind, *fields):
         return self.add(kind, self.now, *fields)
 
+    def deliver(self, way, numbers=None, holds=lambda k: True):
+        """The datagrams of these numbers that were sent this way come, or all, where this holds of them."""
+        sent = self.network.to_device if way == "to-device" else self.network.to_links
+        for k in range(len(sent)) if numbers is None else numbers:
+            if holds(k):
+                self.timed(way, k)
+
     def take_all(self):
         """What each link holds is taken."""
         for i, (_, link) in enumerate(self.network.links):
@@ -171,17 +178,12 @@ def crowd(r, window, span):
             for _ in range(r.choice([1, 2, 4])):
                 submit(r, schedule, i)
                 schedule.timed("due", i)
-        for k in range(len(schedule.network.to_device)):
-            if r.randrange(3):
-                schedule.timed("to-device", k)
-        for k in range(len(schedule.network.to_links)):
-            schedule.timed("to-link", k)
+        schedule.deliver("to-device", holds=lambda k: r.randrange(3))
+        schedule.deliver("to-link")
         schedule.take_all()
         schedule.now += r.choice([119999, 120000, 120001, 200000])
-    for k in range(len(schedule.network.to_device)):
-        schedule.timed("to-device", k)
-    for k in range(len(schedule.network.to_links)):
-        schedule.timed("to-link", k)
+    schedule.deliver("to-device")
+    schedule.deliver("to-link")
     return schedule
 
 
@@ -223,9 +225,7 @@ def lossy(r, window, span):
             while schedule.timed("due", i).startswith("sent"):
                 pass
         for way, sent in (("to-device", network.to_device), ("to-link", network.to_links)):
-            for k in range(came[way], len(sent)):
-                if r.randrange(loss + 1) == 0:
-                    schedule.timed(way, k)
+            schedule.deliver(way, range(came[way], len(sent)), lambda k: r.randrange(loss + 1) == 0)
             came[way] = len(sent)
         goes_on(r, schedule, pace)
     return schedule
@@ -250,23 +250,18 @@ def slow(r, window, span):
             for _ in range(r.choice([1, 1, 2])):
                 submit(r, schedule, i)
             ask(i)
-            for k in range(first, len(network.to_device)):
-                if r.randrange(4):
-                    schedule.timed("to-device", k)
+            schedule.deliver("to-device", range(first, len(network.to_device)), lambda k: r.randrange(4))
             schedule.now = begun + r.choice([250, 14999, 15000, 15000] + [15001] * (r.randrange(8) == 0))
             ask(i)
             schedule.now += r.choice([0, 99999, 100000, 100000] + [105001] * (r.randrange(8) == 0))
-            for k in range(first, len(network.to_device)):
-                if schedule.now - left[k] <= 100000 or r.randrange(8) == 0:
-                    schedule.timed("to-device", k)
-        for k in range(len(network.to_links)):
-            schedule.timed("to-link", k)
+            schedule.deliver("to-device", range(first, len(network.to_device)), lambda k: schedule.now - left[k] <= 100000 or r.randrange(8) == 0)
+        schedule.deliver("to-link")
         schedule.take_all()
         schedule.now += r.choice([119999, 120000, 120001, 200000])
     return schedule
 
 
-def given_out(schedule, count, r):
+def marked_sent(schedule, count, r):
     """The numbers of the datagrams of so many new commands of the first link."""
     numbers = []
     for _ in range(count):
@@ -306,7 +301,7 @@ def directed(window, span, r=None):
     schedule = Schedule(window, span, [(peer(0), r.choice([1, 1, 1000]) if r else 1)])
     network, mixed = schedule.network, (lambda xs: r.sample(xs, len(xs))) if r else list
     for _ in range(r.choice([1, 1, 2]) if r and span < 20 else 1):
-        first, untaken = given_out(schedule, span, r), network.links[0][1].untaken
+        first, untaken = marked_sent(schedule, span, r), network.links[0][1].untaken
         if not first or not untaken:
             break
         last = first[-1]
@@ -314,7 +309,7 @@ def directed(window, span, r=None):
         pinned = pinned[2].handle if pinned[0] == "command" else untaken[-1][0].handle
         deliver(schedule, [last] + mixed(first[:-1]), r)
         take_others(schedule, pinned, mixed(range(len(network.to_links))))
-        deliver(schedule, mixed(given_out(schedule, span - 1, r)), r)
+        deliver(schedule, mixed(marked_sent(schedule, span - 1, r)), r)
         schedule.timed("to-device", last)
         if r:
             schedule.take_all()

@@ -50,6 +50,19 @@ class Served:
         self.socket.close()
 
 
+def commands_in(data):
+    """The commands of a datagram, each with its method."""
+    return [(message[2], (message[2].level, message[2].index)) for message in oca.check(data) if message[0] == "command"]
+
+
+class Other(Served):
+    """The second implementation's device, which hears and answers otherwise: a `datagram` of its own calls `answers` where it is like it."""
+
+    def __init__(self, tree=None, window=32):
+        super().__init__(tree, window=window)
+        self.answers, self.device.datagram = self.device.datagram, self.datagram
+
+
 def main():
     channels = int(sys.argv[2]) if len(sys.argv) > 2 else 0
     with Served(oca.bench(channels), int(sys.argv[1])) as device:

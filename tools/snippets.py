@@ -16,7 +16,7 @@ its indentation; `...` alone on a line, or in a comment, stands for any lines.
 A fenced block in a doc comment of crates/ must stand so in a file of the tests' crates or of the samples, which the gate runs.
 
 A table of a document at the top (README.md, CHANGELOG.md) or in docs/ is lines that begin with a bar. Its second line is its rule (`|---|`), which
-stands nowhere else, and each line ends with a bar and has as many cells as the first.
+stands nowhere else, and each line ends with a bar and has as many cells as the first. No item of a list is without a text.
 
 The last line is 'N passed, M failed'."""
 import os
@@ -188,7 +188,7 @@ def fault_of_table(rows):
 
 
 def tables(text):
-    """Of each table of a document, and of each rule within a line of text: its line, and what is wrong with it or None."""
+    """Of each table of a document, of each rule within a line of text and of each item without a text: its line, and what is wrong with it or None."""
     lines = re.sub(r"(?ms)^```.*?^```$", lambda it: "\n" * it[0].count("\n"), text).split("\n")
     rows = []
     for number, line in enumerate(map(str.strip, [*lines, ""]), 1):
@@ -199,6 +199,8 @@ def tables(text):
             yield number - len(rows), fault_of_table(rows)
         if re.search(r"\| *:?-{3,}:? *\|", line):
             yield number, "a rule of a table stands within a line of text"
+        if re.fullmatch(r"[-*+]|[0-9]+\.", line):
+            yield number, "an item of a list has no text"
         rows = []
 
 

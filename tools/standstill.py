@@ -11,7 +11,6 @@ import fcntl
 import os
 import select
 import signal
-import socket
 import struct
 import subprocess
 import sys
@@ -22,6 +21,7 @@ from pathlib import Path
 
 import checks
 import oca_profile as oca
+import peers
 from own_ports import free_port
 
 HOST = "127.0.0.1"
@@ -57,89 +57,56 @@ def sets(command):
     return (command.level, command.index) in ((4, 2), (1, 3), (1, 4))
 
 
-class Relay:
+class Relay(peers.Relay):
     """A way between one controller and the device. It counts the copies of the commands that set or lock; lost are the answers to them,
     while `loses_answers` (they are `kept`), their copies behind the first, while `loses_copies`, all answers under handles above `last`, and all that the
     controller sends, while it `is_cut`."""
 
     def __init__(self, device):
-        self.front, self.back = (socket.socket(socket.AF_INET, socket.SOCK_DGRAM) for _ in range(2))
-        self.front.bind((HOST, 0))
-        self.back.connect((HOST, device))
-        self.port = self.front.getsockname()[1]
         self.loses_answers = self.loses_copies = True
-        self.is_cut, self.last = False, 2**32
+        self.is_cut, self.is_set, self.last = False, False, 2**32
         self.copies = self.commands = self.answers = self.passed = 0
-        self.handles, self.controller, self.kept = set(), None, []
-        self.ends = False
-        self.thread = threading.Thread(target=self.run, daemon=True)
-        self.thread.start()
+        self.handles, self.kept = set(), []
+        super().__init__(device)
 
-    def run(self):
-        while not self.ends:
-            for ready in select.select([self.front, self.back], [], [], 0.05)[0]:
-                with contextlib.suppress(OSError):
-                    self.forth() if ready is self.front else self.reply()
+    def forth(self, datagram, way):
+        self.passed += super().forth(datagram, way) and self.is_set
 
-    def forth(self):
-        datagram, self.controller = self.front.recvfrom(2000)
+    def goes_forth(self, datagram):
         found = commands_in(datagram)
         setting = [command.handle for command in found if sets(command)]
+        self.is_set = bool(setting)
         self.handles.update(setting)
         self.commands += len(found)
-        is_first = not self.copies
-        self.copies += bool(setting)
-        if not self.is_cut and (not setting or is_first or not self.loses_copies):
-            self.back.send(datagram)
-            self.passed += bool(setting)
+        goes_on = not self.is_cut and (not setting or not self.copies or not self.loses_copies)
+        self.copies += self.is_set
+        return goes_on
 
-    def reply(self):
-        datagram = self.back.recv(2000)
+    def goes_back(self, datagram):
         found = answered_in(datagram)
         if any(handle > self.last or self.loses_answers and handle in self.handles for handle in found):
             self.kept.append(datagram)
-            return
-        self.front.sendto(datagram, self.controller)
+            return False
         self.answers += len(found)
+        return True
 
     def give(self):
         """The answers that were lost come now."""
         for datagram in list(self.kept):
-            self.front.sendto(datagram, self.controller)
-
-    def close(self):
-        self.ends = True
-        self.thread.join()
-        self.front.close()
-        self.back.close()
+            self.front.sendto(datagram, *self.ways)
 
 
-class Peer:
+class Peer(peers.Peer):
     """Another controller of the device."""
 
     def __init__(self, device):
-        self.socket = socket.socket(socket.AF_INET, socket.SOCK_DGRAM)
-        self.socket.connect((HOST, device))
-        self.socket.settimeout(0.3)
-        self.handle = 0
-
-    def ask(self, index, count=0, params=b""):
-        self.handle += 1
-        command = oca.command(self.handle, MUTE, 4, index, count, params)
-        for _ in range(PATIENCE):
-            with contextlib.suppress(TimeoutError):
-                self.socket.send(command)
-                while True:
-                    answers = [it for it in oca.check(self.socket.recv(2000)) if it[0] == "response" and it[1] == self.handle]
-                    if answers:
-                        return answers[0][2], answers[0][4]
-        return None, b""
+        super().__init__(device, 0.3, PATIENCE)
 
     def set(self, state):
-        return self.ask(2, 1, bytes([state]))[0]
+        return (self.ask(MUTE, 4, 2, bytes([state])) or (None,))[0]
 
     def state(self):
-        return self.ask(1)[1]
+        return (self.ask(MUTE, 4, 1) or (None, b""))[1]
 
 
 class Scene:

@@ -8,6 +8,8 @@ Usage: unreliable.py BIN     BIN is the folder with `ocadev`, `ocactl` and `tria
   without none: beside what every run asks for, each answers NoMemory. But a tree gives back what its map took beyond its room, by two
   requests for less: where one is refused, it keeps that.
 - After building: a script asks for no more requests than an empty one, and runs to its end with every later one refused.
+- Over sockets: a device that serves and a controller that sends ask for no more requests than where nothing is heard or sent, and do all
+  with every later one refused.
 - Ends in memory, by `trials events`: a device that serves one on which a receive or a send fails is the device that serves it without
   that (objects, sessions, and what is answered to copies of all commands), and a link that is driven over one has the answers that it
   has without that; their reports count the failure and nothing else.
@@ -18,10 +20,15 @@ import os
 import subprocess
 import sys
 import tempfile
+import threading
+import time
 
 import oca_profile as oca
 from checks import layered, verdict
 from damaged import MESSAGES
+from own_ports import free_port
+from peers import Peer
+from served import Served
 
 PEERS = ["127.0.0.1:9001", "127.0.0.1:9002"]
 
@@ -47,7 +54,7 @@ def device_scripts():
 
 
 def link_scripts():
-    """An idle link, and a command that is given out until the link is lost."""
+    """An idle link, and a command that is sent until the link is lost."""
     yield b"2499 due\n2500 due\n"
     yield ("0 submit 4097 4 1 0 -\n0 due\n249 due\n" + "".join(f"{t} due\n" for t in range(250, 5001, 250)) + "5000 submit 4097 4 1 0 -\n").encode()
 
@@ -85,7 +92,7 @@ IN_MEMORY = {"a device": (device_run, len(TO_DEVICE), 9, {0: 1, 9: 1}, {10: 1, 1
 class Runs:
     def __init__(self, folder, layer):
         self.folder, self.layer = folder, layer
-        self.refused = self.without = self.ends = self.in_memory = self.pieces = self.wrong = 0
+        self.refused = self.without = self.ends = self.in_memory = self.pieces = self.served = self.wrong = 0
 
     def run(self, words, script, **settings):
         """(standard output, standard error, status, the counts)"""
@@ -120,6 +127,38 @@ class Runs:
         out, err, status, counts = self.run(words, script)
         self.expect(counts[0] == requests, f"{words}: {counts[0]} requests for memory, and {requests} with an empty script")
         self.expect(self.run(words, script, REFUSE_FROM=requests + 1)[:3] == (out, err, status), f"{words} with no memory after its start")
+
+    def serving(self, turns, commands, **settings):
+        """What `ocadev serve` prints and asks for in so many turns, and what a controller is answered meanwhile: it sets and reads a mute."""
+        port, done = free_port(), []
+        words = ["ocadev", "serve", "--port", str(port), "--turns", str(turns)]
+        serves = threading.Thread(target=lambda: done.append(self.run(words, b"", **settings)))
+        serves.start()
+        peer, told = Peer(port), []
+        while commands and serves.is_alive() and peer.ask(4097, 4, 1) is None:  # it does not listen yet
+            time.sleep(0.02)
+        for k in range(commands):
+            state = bytes([1 + k % 2])
+            told += [(peer.ask(4097, 4, 2, state), peer.ask(4097, 4, 1), state)]
+        serves.join()
+        return done[0], told
+
+    def over_sockets(self):
+        """Nothing is asked for by a device that is served, nor by a controller that sends, once it began."""
+        (_, fault, status, (idle, *_)), _ = self.serving(1, 0)
+        for settings in ({}, {"REFUSE_FROM": idle + 1}):
+            (_, said, code, (requests, *_)), told = self.serving(120, 50, **settings)
+            wrong = [row for row in told if row[:2] != ((0, b""), (0, row[2]))]
+            self.served += len(told)
+            self.expect((requests, code, wrong, len(told)) == (idle, status, [], 50), f"served {settings}: {requests} of {idle}, {code}, {said!r}, {wrong}")
+        with Served() as device:
+            words = lambda: ["ocactl", "run", "--device", f"127.0.0.1:{device.port}", "--ahead", "16", "--port", str(free_port())]
+            _, _, _, (idle, *_) = self.run(words(), b"")
+            lines = b"4097 4 2 1 01\n4097 4 1 0 -\nwait\n" * 50
+            out, _, status, (requests, *_) = self.run(words(), lines)
+            self.served += len(out.splitlines())
+            self.expect((requests, status, len(out.splitlines())) == (idle, 0, 100), f"run: {requests} of {idle}, {status}, {out!r}")
+            self.expect(self.run(words(), lines, REFUSE_FROM=idle + 1)[:3:2] == (out, status), "run with no memory after its start")
 
     def failing_ends(self, words, script, piece):
         """Each read and each write of a run in pieces fails in turn."""
@@ -191,13 +230,14 @@ def main():
             print(f"  {name}: {requests - start} requests for memory")
             given_back = 2 if name in TREES else 0
             runs.expect(len(others) - len(without) == given_back, f"{name}: {len(others) - len(without)} requests are done without")
+        runs.over_sockets()
         served, driven = runs.ends_in_memory("a device"), runs.ends_in_memory("a link")
         runs.expect((served[11], driven[1], driven[3], runs.in_memory) == (9, 9, 4, 36), f"ends in memory: {served} {driven} {runs.in_memory}")
         runs.expect(runs.refused > 300 and runs.ends > 2000, "too few refusals and failures were tried")
         print(f"unreliable: {runs.refused} requests for memory refused and answered, {runs.without} done without; "
               f"{runs.ends} failed reads and writes, {runs.in_memory} failed receives and sends in memory, "
               f"{runs.pieces} runs in short pieces; {runs.wrong} wrong")
-    return verdict(runs.refused + runs.ends + runs.in_memory + runs.pieces, runs.wrong)
+    return verdict(runs.refused + runs.ends + runs.in_memory + runs.pieces + runs.served, runs.wrong)
 
 
 if __name__ == "__main__":

@@ -20,7 +20,7 @@ made on a transcript alone. A peer keeps its session where its admitted datagram
  round trip  where that datagram comes to the link, at any later step, the link has the command's answer; where the peer
              kept its session till then, the answer is the reply that the datagram carries
  through     while a link is asked at least every ms milliseconds until no command is left (for each run the least ms that it
-             meets is taken), a command that is unanswered was submitted at most ms ago or given out, with its own
+             meets is taken), a command that is unanswered was submitted at most ms ago or sent, with its own
              bytes, less than 250 + ms ago; and after ms + 20 * (250 + ms) it is answered, or its link is lost
  once        no command is executed twice where the peer kept its session
  in time     nor, whatever the device forgets, where the link is in time: it is never asked what is due while a command
@@ -43,17 +43,18 @@ Some schedules end in a step that names what is not there, or start two links of
 and by name. At the first break the schedule is printed, and the exit status is 1. The last line is 'N passed, M failed'
 over these checks."""
 import collections
-import functools
 import random
 import subprocess
 import sys
 from unittest.mock import patch
 
 import oca_profile as oca
-from comparing import Break, broken, in_processes, runs_of, verdict, wrong_rule
+import schedules
+from comparing import Break, broken, changed, in_processes, runs_of, verdict, wrong_rules
 from schedules import PAIRS, PEERS, crowd, directed, lossy, slow, visitors, wander
+from tables import data
 
-BATCH = 40
+BATCH, DATA = 40, data("world")
 
 
 # ---- the laws, on a transcript
@@ -74,8 +75,8 @@ def reading(o):
 
 
 class Waiting:
-    """A command that waits for its answer: when it was submitted, when last no command was left to give out, the longest
-    time without that, and when it was given out."""
+    """A command that waits for its answer: when it was submitted, when last no command was left to send, the longest
+    time without that, and when it was sent."""
 
     def __init__(self, since):
         self.since = self.asked = since
@@ -204,7 +205,7 @@ class Laws:
         else:
             handle = message[2].handle
             if p != self.peers[link] or data != oca.pdu(1, [self.submitted[link][handle].body()]):
-                raise Break("through", 0, f"what is given out for handle {handle} is no copy of its command")
+                raise Break("through", 0, f"what is sent for handle {handle} is no copy of its command")
             if handle in self.waiting[link]:
                 self.waiting[link][handle].given.append(self.clocks[link])
         self.called(link)
@@ -213,16 +214,16 @@ class Laws:
         self.clocks[link] = max(self.clocks[link], now)
 
     def called(self, link):
-        """After a call of the link: what waits is given out in time."""
+        """After a call of the link: what waits is sent in time."""
         now = self.clocks[link]
         for handle, command in self.waiting[link].items():
             command.ms = max(command.ms, now - command.asked)
             late = now >= command.given[-1] + 250 + command.ms if command.given else now > command.since + command.ms
             if late or now > command.since + command.ms + 20 * (250 + command.ms):
-                raise Break("through", 0, f"handle {handle} waits, and was not given out in time")
+                raise Break("through", 0, f"handle {handle} waits, and was not sent in time")
             self.count["waiting"] += 1
             self.count["waiting, asked every 250 ms"] += command.ms <= 250
-            self.count["waiting, asked so, and given out again"] += command.ms <= 250 and len(command.given) > 1
+            self.count["waiting, asked so, and sent again"] += command.ms <= 250 and len(command.given) > 1
 
     def tick(self, step, said):
         self.clock = max(self.clock, step[1])
@@ -466,170 +467,14 @@ def laws(schedule, lines, fit=None):
 # ---- wrong devices and links
 
 
-JUDGE, SUBMIT, HEAR, DUE = oca.Session.judge, oca.Link.submit, oca.Link.datagram, oca.Link.due
-SERVE, ADVANCE, EXECUTE, ANSWER = oca.Device.datagram, oca.Device.advance, oca.execute, oca.answer
-RULES = {}
-wrong = functools.partial(wrong_rule, RULES)
-
-wrong("a window that is one smaller", "untaken", oca.Session, "judge")(lambda session, window, command: JUDGE(session, window - 1, command))
-wrong("copies are executed", "once", oca.Session, "judge")(lambda session, window, command: ("fresh", None))
-
-
-@wrong("no handle is too old", "once", oca.Session, "judge")
-def no_floor(session, window, command):
-    kept = [reply for c, reply in session.accepted[-window:] if c.handle == command.handle]
-    return ("duplicate", kept[0]) if kept else ("fresh", None)
-
-
-@wrong("a copy gets the latest reply", "untaken", oca.Session, "judge")
-def latest_reply(session, window, command):
-    verdict, reply = JUDGE(session, window, command)
-    return verdict, session.accepted[-1][1] if verdict == "duplicate" else reply
-
-
-@wrong("a span that is one larger", "untaken", oca.Link, "submit")
-def wider(link, *fields):
-    link.span += 1
-    said = SUBMIT(link, *fields)
-    link.span -= 1
-    return said
-
-
-@wrong("an answer goes to the lowest command", "answers", oca.Link, "datagram")
-def lowest(link, sender, data, now):
-    link.now = max(link.now, now)
-    waiting = [u for u in link.untaken if u[3] is None]
-    given = [m for m in oca.check(data) if m[0] == "response"]
-    if not waiting or not given:
-        return "nothing new"
-    waiting[0][3] = given[0][2:]
-    return "answered 1"
-
-
-@wrong("room for one fewer", "room", oca.Device, "datagram")
-def fewer_sessions(device, sender, data, now):
-    if len(device.sessions) >= device.peers - 1 and all(s.peer != sender for s in device.sessions):
-        return "no-room", []
-    return SERVE(device, sender, data, now)
-
-
-@wrong("a place is never given up", "room", oca.Device, "datagram")
-def never_given_up(device, sender, data, now):
-    device.ever = getattr(device, "ever", set())
-    if sender not in device.ever and len(device.ever) >= device.peers:
-        return "no-room", []
-    said, packets = SERVE(device, sender, data, now)
-    device.ever |= {sender} if said.startswith("served") else set()
-    return said, packets
-
-
-@wrong("where one finds no room a known peer finds none", "untaken", oca.Device, "datagram")
-def shut_for_all(device, sender, data, now):
-    if getattr(device, "shut", None) == max(device.now, now) and any(s.peer == sender for s in device.sessions):
-        return "no-room", []
-    said, packets = SERVE(device, sender, data, now)
-    device.shut = device.now if said == "no-room" else None
-    return said, packets
-
-
-@wrong("who was forgotten is forgotten sooner", "in time", oca.Device, "advance")
-def forgets_sooner(device, now):
-    again, known = getattr(device, "again", set()), {s.peer for s in device.sessions}
-    ADVANCE(device, now)
-    device.again = again | (known - {s.peer for s in device.sessions})
-    device.sessions = [s for s in device.sessions if s.peer not in again or device.now - s.heard < 115000]
-
-
-def without(is_left_out, call):
-    """A call of a link that knows none of its commands of which this is so."""
-    def made(link, *given):
-        left = [u for u in link.untaken if is_left_out(link, u)]
-        link.untaken = [u for u in link.untaken if u not in left]
-        said = call(link, *given)
-        link.untaken = sorted(link.untaken + left, key=lambda u: u[0].handle)
-        return said
-    return made
-
-
-wrong("no answer to what was given out twice", "round trip", oca.Link, "datagram")(without(lambda link, u: u[1] > 1, HEAR))
-wrong("what was given out twice is not given out again", "through", oca.Link, "due")(without(lambda link, u: u[1] == 2, DUE))
-wrong("the lowest command alone is given out", "through", oca.Link, "due")(without(lambda link, u: u is not link.untaken[0], DUE))
-
-
-@wrong("one answer at a time", "round trip", oca.Link, "datagram")
-def one_answer(link, sender, data, now):
-    return "nothing new" if any(u[3] is not None for u in link.untaken) else HEAR(link, sender, data, now)
-
-
-@wrong("an answer takes the others' place", "round trip", oca.Link, "datagram")
-def last_answer(link, sender, data, now):
-    kept = {u[0].handle: u[3] for u in link.untaken}
-    said = HEAR(link, sender, data, now)
-    for u in link.untaken:
-        if u[3] is not None and kept.get(u[0].handle):
-            u[3] = None if said.startswith("answered") else u[3]
-    return said
-
-
-def instead(change):
-    """Objects that give to a get method what they would if this were changed of them."""
-    def answered(tree, o, key, args):
-        seen = o.copy()
-        if key == READS.get(o.kind):
-            change(tree, seen)
-        return ANSWER(tree, seen, key, args)
-    return answered
-
-
-@instead
-def value_before(tree, o):
-    o.state = getattr(o, "before", o.state)
-
-
-@wrong("a reading is another object's", "said", oca, "answer")
-@instead
-def other_objects(tree, o):
-    other = {"mute": "polarity", "polarity": "mute"}.get(o.kind)
-    o.state = next((x.state for x in tree if x.kind == other), o.state)
-
-
-@wrong("limits are exchanged", "said", oca, "answer")
-@instead
-def limits_exchanged(tree, o):
-    o.low, o.high = o.high, o.low
-
-
-@wrong("a reading is the one before the last setting", "said", oca, "execute")
-def late_reading(tree, peer, c):
-    o = next((o for o in tree if o.ono == c.target), None)
-    was = o and o.state
-    with patch.object(oca, "answer", value_before):
-        done = EXECUTE(tree, peer, c)
-    if o and o.state != was:
-        o.before = was
-    return done
-
-
-@wrong("an answer is that of an earlier execution", "said", oca, "execute")
-def earlier_execution(tree, peer, c):
-    tree[0].given = getattr(tree[0], "given", {})
-    return tree[0].given.setdefault(c.asks(), EXECUTE(tree, peer, c))
-
-
-@wrong("what is refused is set to its limit", "said", oca, "execute")
-def sets_and_refuses(tree, peer, c):
-    done = EXECUTE(tree, peer, c)
-    o = next((o for o in tree if o.ono == c.target), None)
-    if done[0] == oca.OUT_OF_RANGE and o.kind in oca.WIDTHS:
-        o.state = o.high
-    return done
+RULES = wrong_rules("wrong_networks")
 
 
 def refuses(job):
     """Whether the laws alone refuse a run of the wrong rule of this name, and how."""
     seed, name = job
-    law, owner, method, changed = RULES[name]
-    with patch.object(owner, method, changed):
+    law, edits = RULES[name]
+    with patch.object(schedules, "oca", changed(edits)):
         for number in range(len(PAIRS), len(PAIRS) + 4000):
             for schedule in made(seed, number):
                 fault = None if schedule.refusal else broken(laws, schedule, schedule.expected())
@@ -675,22 +520,9 @@ def sizes(program, seed):
     return found == 31 and random_found == 2
 
 
-# lines that are refused, by the word for it; a step stands behind the line `schedule 1 1 127.0.0.1:1/1`
-BAD_LINES = {
-    "number": ["schedule 1 1 0 127.0.0.1:1/1", "schedule 1 1 65 127.0.0.1:1/1", "schedule 0 1", "schedule 65 1", "schedule 1 33", "schedule 1 0", "schedule 1 1 127.0.0.1:1/4294967296", "0 due x", "0 to-device -1",
-        "0 to-link 4294967296", "take 0 4294967296", "0 submit 0 1 1 1 256 -", "0 submit 0 1 65536 1 0 -", "set x mute 1", "set 4097 mute 0",
-        "set 4097 mute 3", "set 4097 polarity 256", "set 4101 boolean 2", "set 4099 switch 65536", "set 4100 int16 32768", "set 4100 int8 -129",
-        "set 4100 uint64 -1", "set 4100 int64 170141183460469231731687303715884105728", "set 4294967296 boolean 1"],
-    "form": ["schedule 1", "schedule 1 1 127.0.0.1:1", "schedule 1 1 ", "0 due", "0 due 0 0", "0 jump", "0 tick ", "0 other 1.2.3.4:5", "take 0",
-        "0 submit 0 1 1 1 0", "0  tick", "set 4097 mute", "set 4097 mute 1 1", "set 4097 colour 1"],
-    "peer": ["schedule 1 1 127.0.0.1/1", "0 other 1.2.3 -"],
-    "moment": ["x due 0", "18446744073709551616 tick"],
-    "hex": ["0 other 1.2.3.4:5 0", "0 other 1.2.3.4:5 zz", "0 other 1.2.3.4:5 "]}
-
-
 def bad_lines():
     """Each bad line with its word; the first one stands alone."""
-    return [("0 tick", "form"), *((line, word) for word, lines in BAD_LINES.items() for line in lines)]
+    return [("0 tick", "form"), *((line, word) for word, lines in DATA.bad_lines.items() for line in lines)]
 
 
 def lines_refused(program):
@@ -706,36 +538,13 @@ def lines_refused(program):
     return refused
 
 
-SHOWN = ["schedules", "of sizes that fit", "steps", "deliveries", "losses", "doubles", "overtakings", "executions",
-         "duplicates answered", "premises met", "premises met, with loss, double and overtaking"]
-HELD = [("answers", "answers"), ("only", "answers of an only execution"),
-        ("only, of a peer that found no room before", "of these, of a peer that found no room before"),
-        ("untaken", "deliveries of untaken commands"),
-        ("untaken, the oldest of a full window", "of these, of the oldest command of a full window"),
-        ("untaken, of more peers ever", "of these, after more peers than have room"),
-        ("room", "datagrams where few spoke of late"),
-        ("room, of more peers ever", "of these, after more peers than have room"),
-        ("round trips", "round trips"),
-        ("round trips of a command that is still untaken", "of these, of a command that is still untaken"),
-        ("waiting", "times that a command waits after a call"),
-        ("waiting, asked every 250 ms", "of these, on a link that is asked every 250 ms"),
-        ("waiting, asked so, and given out again", "of these, given out more than once"),
-        ("once", "executions of peers that kept their sessions"),
-        ("in time", "executions of links in time"),
-        ("in time, of a forgotten peer", "of these, of a peer that was forgotten before"),
-        ("in time, copies to a forgotten peer", "duplicates of such peers"),
-        ("said", "answers of links in time"), ("said, of readings", "of these, readings")]
-MET = [("said too old", "old"), ("said no-room", "without room"), ("said refused", "refused submits"),
-       ("said lost", "lost"), ("refused", "refused schedules"), ("front set", "changes at the front"), ("front refused", "refused ones")]
-
-
 def summary(total):
-    for name in SHOWN:
+    for name in DATA.shown:
         print(f"{name:48}{total[name]:9}")
     print("held against the laws, without a break:")
-    for name, text in HELD:
+    for name, text in DATA.held:
         print(f"  {text:46}{total[name]:9}")
-    print("also met: " + ", ".join(f"{total[name]} {text}" for name, text in MET))
+    print("also met: " + ", ".join(f"{total[name]} {text}" for name, text in DATA.met))
 
 
 def learn_sizes(program):
@@ -776,7 +585,7 @@ def main():
         "in time": total["in time, of a forgotten peer"] and total["in time, copies to a forgotten peer"],
         "said": total["said, of readings"],
         "round trip": total["round trips of a command that is still untaken"],
-        "through": total["waiting, asked so, and given out again"],
+        "through": total["waiting, asked so, and sent again"],
         "second": total["schedules"] >= count and total["refused"],
         "premises": total["premises met, with loss, double and overtaking"], "sizes": good,
         "lines": lines == len(bad_lines()), "wrong": all(found for found, _ in wrong),

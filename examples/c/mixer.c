@@ -1,9 +1,9 @@
 /* A mixer of 32 channels in C, which comes up as it was left: each channel has a mute, a gain in tenths of a decibel and a source.
  * Usage: mixer FILE [PORT [SECONDS]]
  * Lines on standard input are its front: "mute 5", "open 5", "gain 5 -60", "source 5 2". What a panel was told to be set is in FILE before
- * it is told so; what is set at the front is there a tenth of a second later. It prints where it listens on standard error.
+ * it is told so; what is set at the local front panel is there a tenth of a second later. It prints where it listens on standard error.
  *
- * Two threads share one struct, under one lock: the main thread has the socket and the file, and one reads the front. */
+ * Two threads share one struct, under one lock: the main thread has the socket and the file, and one reads the local front panel. */
 #define _POSIX_C_SOURCE 200809L
 #include <oca.h>
 
@@ -24,7 +24,7 @@ static struct oca_socket line_in = OCA_SOCKET_INIT;
 static struct oca_server server;
 static struct oca_kept kept[OBJECTS];
 static pthread_mutex_t lock = PTHREAD_MUTEX_INITIALIZER;
-static bool is_over; /* under the lock, as the device is: the thread of the front is to end */
+static bool is_over; /* under the lock, as the device is: the thread of the front panel is to end */
 
 static void hold_lock(void *context) {
     (void)context;
@@ -93,7 +93,7 @@ static enum oca_result build(size_t count) {
 
 /* ---- its front ---- */
 
-/* The object and the class that a word of the front means. */
+/* The object and the class that a word of the front panel means. */
 static uint32_t object_of(const char *word, uint32_t *class_number) {
     *class_number = OCA_CLASS_MUTE;
     if (strcmp(word, "mute") == 0 || strcmp(word, "open") == 0) return MUTE;
@@ -101,7 +101,7 @@ static uint32_t object_of(const char *word, uint32_t *class_number) {
     return strcmp(word, "gain") == 0 ? GAIN : strcmp(word, "source") == 0 ? SOURCE : 0;
 }
 
-/* A line of the front; whether it set something. */
+/* A line of the front panel; whether it set something. */
 static bool turn_knob(const char *line) {
     char word[8], number[8] = "";
     unsigned channel = 0;
@@ -125,7 +125,7 @@ static bool over(void) {
     return now;
 }
 
-/* Reads the front, line by line; one above 62 bytes is none. */
+/* Reads the front panel, line by line; one above 62 bytes is none. */
 static void *front(void *nothing) {
     char line[64];
     size_t size = 0;
@@ -147,7 +147,7 @@ static void *front(void *nothing) {
 
 /* ---- its socket ---- */
 
-/* Serves until the moment; whether the thread of the front could be started. */
+/* Serves until the moment; whether the thread of the front panel could be started. */
 static bool serve(uint64_t end) {
     pthread_t reading;
     if (pthread_create(&reading, NULL, front, NULL)) return false;

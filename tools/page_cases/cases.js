@@ -17,6 +17,7 @@ async function started() {
 
 // The program was asked again, and what it said is drawn.
 async function answered() {
+  for (const strip of strips) inView.add(strip);
   const asked = fake.paths.length;
   await until(() => fake.paths.slice(asked).filter(path => path.startsWith("/values")).length > 1);
   drawLink();
@@ -78,6 +79,48 @@ const CASES = [
     click(part(21));
     await until(() => sent().length > 1);
     return sent();
+  }],
+  ["a reading that is not confirmed for 2 s is marked, in words, and still takes a click", [[false, ""], [true, "trim: not yet confirmed", "trim, channel 1, not yet confirmed", true], [], [true], [false, ""]], async () => {
+    const looks = () => [rows.get(13).cell.classList.contains("unsure"), words(13)], came = [looks()];
+    fake.old = [{ ono: 13, age: 2100 }];
+    skipped += 1100;
+    await answered();
+    came.push([...looks(), part(13).getAttribute("aria-label"), $("about").textContent.endsWith(" · 1 not yet confirmed")], sent());
+    change(rows.get(13), "7");
+    await flying();
+    came.push([sent().length === 1]);
+    tell(1);
+    fake.old = [];
+    await until(() => !awaited.size);
+    await answered();
+    return [...came, looks()];
+  }],
+  ["a reading that the program tells as 1.2 s old is marked 0.8 s later", [false, true], async () => {
+    fake.old = [{ ono: 11, age: 1200 }];
+    skipped += 1100;
+    await answered();
+    fake.silent = true;
+    const came = [rows.get(11).unsure];
+    skipped += 900;
+    drawAges();
+    return [...came, rows.get(11).unsure];
+  }],
+  ["what was not seen when the program was asked counts as not confirmed", [[false, true], [false, false]], async () => {
+    const strip = rows.get(21).strip, both = () => [11, 21].map(ono => !isSure(rows.get(ono)));
+    inView.delete(strip);
+    skipped += 2100;
+    program.heardAt = now();
+    await until(() => isSure(rows.get(11)));
+    const first = both();
+    await answered();
+    return [first, both()];
+  }],
+  ["an object that is locked by another: its value is not confirmed", ["mute: locked by another controller; value not yet confirmed"], async () => {
+    says(11, { lock: "other" });
+    fake.old = [{ ono: 11, age: 5000 }];
+    skipped += 1100;
+    await answered();
+    return [words(11)];
   }],
   ["a click turns a polarity", [{ ono: 12, set: "inverted" }], async () => {
     click(part(12));
@@ -304,7 +347,8 @@ const CASES = [
     const again = fake.bodies.length > 2;
     skipped += 6000;
     program.heardAt = now();
-    await until(() => words(11));
+    // (until the next look at the program, the other readings are six seconds old)
+    await until(() => words(11).startsWith("mute") && !words(11).includes("not yet confirmed"));
     return [again, words(11), looks(11)];
   }],
   ["one of many that can't be: the others are sent", [true, "trim: not sent: no such value"], async () => {
@@ -365,7 +409,7 @@ const CASES = [
     click(part(11));
     await flying();
     skipped += 8100;
-    await until(() => words(11));
+    await until(() => words(11).startsWith("mute"));
     return [words(11)];
   }],
   ["at most 64 orders in a body", [true, 70], async () => {
@@ -597,6 +641,14 @@ const CASES = [
     await answered();
     return [...came, strip.menu.className];
   }],
+  ["a name is given", [{ ono: 10, label: "Lead vocal" }], async () => {
+    click(rows.get(11).strip.menu);
+    click(options()[0].lastElementChild);
+    options()[0].value = "Lead vocal";
+    click(answerNamed("Rename"));
+    await flying();
+    return sent();
+  }],
   ["search", [["channel 2"], "1 of 3 strips"], async () => {
     $("find").value = "channel 2";
     filter();
@@ -618,7 +670,7 @@ const CASES = [
     click($("only-locked"));
     return [strips.filter(strip => !strip.element.hidden).map(strip => strip.title)];
   }],
-  ["what is seen is asked for in at most eight ranges, the root first", ["0-1,2-5", 8, "0-1", true], async () => {
+  ["what is seen is asked for in at most eight ranges, the root first", [[[0, 1], [2, 5]], 8, "0-1", true], async () => {
     inView.clear();
     inView.add(rows.get(11).strip);
     const one = shownRanges();
@@ -626,7 +678,7 @@ const CASES = [
     inView.clear();
     const places = [20, 21, 22, 30, 31, 33, 200, 201, 300, 400, 500, 600, 700];
     inView.add({ block: null, rows: places.map(place => ({ place })) });
-    const ranges = shownRanges().split(",").map(text => text.split("-").map(Number));
+    const ranges = shownRanges();
     return [one, ranges.length, ranges[0].join("-"), places.every(place => ranges.some(([first, count]) => first <= place && place < first + count))];
   }],
   ["a window that was hidden shows what is old as old until an answer comes", ["read", "live"], async () => {
@@ -658,6 +710,22 @@ const CASES = [
     click(part(11));
     await pause(30);
     return [sent(), words(11)];
+  }],
+  ["a name that was given is marked until the device says it", ["another name: not yet", "channel 1"], async () => {
+    order(rows.get(10), "label", "Lead");
+    await flying();
+    const strip = rows.get(11).strip, came = [strip.role.textContent];
+    says(10, { label: "Lead" });
+    tell(1);
+    await until(() => !awaited.size && rows.get(10).label);
+    await answered();
+    return [...came, strip.role.textContent];
+  }],
+  ["a name that is too long", ["block: not sent: a name has at most 64 bytes, no control characters"], async () => {
+    fake.answer = () => [422, { at: 0 }];
+    order(rows.get(10), "label", "x".repeat(65));
+    await until(() => words(11));
+    return [words(11)];
   }],
   ["a group that is folded stays so", [true, "▸", "1 strip · 1 muted"], async () => {
     await startedWith([fakeObjects[0], { ono: 50, in: 100, class: "block", role: "inputs", lockable: false, names: [] }, { ...fakeObjects[2], in: 50 }, fakeObjects[3]], "muted");

@@ -29,14 +29,14 @@ impl Channel {
         }
     }
 
-    /// Its mute.
+    /// The ONo of the channel's mute: 4097 or 5097.
     pub fn mute(self) -> Ono
         ensures { result.0 ≡ mute_ono self }
     {
         Ono(self.block().0 + 1)
     }
 
-    /// Its gain, in tenths of a decibel.
+    /// The ONo of the channel's gain, an Int16 in tenths of a decibel: 4098 or 5098.
     pub fn gain(self) -> Ono
         ensures { result.0 ≡ gain_ono self }
     {
@@ -58,7 +58,8 @@ pub struct Channels {
     pub two: Levels,
 }
 
-/// The objects: a block for each channel, with a mute and a gain in it.
+/// The objects: a block for each channel (4096 and 5096) with a mute, muted at first, and a gain of -80 to 10 dB in
+/// tenths, 0 at first. All can be locked. Refusal: `NoMemory`, if memory was refused.
 pub fn build(alloc: Global) -> Result<Tree, AddFault> {
     let mut builder = TreeBuilder::new(alloc)?;
     add_channel(&mut builder, Channel::One, "channel 1")?;
@@ -94,7 +95,8 @@ fn add_channel(builder: &mut TreeBuilder, channel: Channel, role: &str) -> Resul
 }
 
 impl Channels {
-    /// Both channels, as the objects say.
+    /// Both channels, as the objects say: whether each is muted, and its gain in tenths of a decibel. A channel without
+    /// a mute counts as muted, and one without a gain as set to 0.
     pub fn new(tree: &Tree) -> Channels
         ensures { result ≡ channels_of_objects tree.now }
     {

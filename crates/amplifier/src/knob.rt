@@ -6,6 +6,7 @@ ghost use Rattle.oca_tree.specs.Settings.{set_fault};
 ghost use Rattle.oca_tree.specs.declared.object.Object.{Object};
 ghost use Rattle.oca_device.specs.Devices.{Represents};
 ghost use Rattle.oca_device.specs.Events.{Event, Local};
+ghost use Rattle.oca_tree.specs.LocalChanges.{ToValue};
 ghost use Rattle.amplifier.specs.Channels.{channels_of_objects};
 ghost use Rattle.amplifier.specs.Knobs.{mute_at, channel_of, tenths_of, gain_by, knob_by, knob_of};
 
@@ -23,8 +24,8 @@ pub struct Knob {
 }
 
 impl Knob {
-    /// What a line says: `mute CHANNEL`, `open CHANNEL` or `gain CHANNEL TENTHS`, the channel being 1 or 2 and the
-    /// tenths of a decibel of one to four digits. Nothing for any other line.
+    /// Reads what a line turns: `mute CHANNEL`, `open CHANNEL` or `gain CHANNEL TENTHS`. The channel is 1 or 2; the
+    /// tenths of a decibel have one to four digits, after a `-` if they are negative. `None` for any other line.
     #[tactic(auto, unfolding(crate::specs::Knobs::knob_of))]
     pub fn read(line: &[u8]) -> Option<Knob>
         ensures { result ≡ knob_of line.now }
@@ -33,11 +34,12 @@ impl Knob {
         knob_with(word, rest)
     }
 
-    /// Turns the knob: the object is set at the local front panel, and the electronics follow. A refusal changes
-    /// nothing.
+    /// Turns the knob: sets its object at the local front panel, and the electronics follow. Refusals, the first that
+    /// applies: `NoObject` if there is no such object, `NoSetting` of a block, `OtherKind` of another class,
+    /// `OutOfRange` of a gain outside its limits. A refusal changes nothing.
     pub fn turn(self, device: &mut Device, channels: &mut Channels) -> Result<(), SetFault>
         ensures sets { (w : DeviceSizes) (T : List Object) (E : List Event) → Represents w device.old T E →
-            Represents w device.new T (Local self.ono.0 self.value ∷ E) }
+            Represents w device.new T (Local self.ono.0 (ToValue self.value) ∷ E) }
         ensures fault { result_err result ≡ set_fault device.old.tree self.ono.0 self.value }
         ensures follows { IfOk result (λ _. channels.new ≡ channels_of_objects device.new.tree) }
         ensures refused { OnErr result (device.new ≡ device.old) }

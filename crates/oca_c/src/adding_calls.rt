@@ -11,7 +11,11 @@ use oca_calls::name::Name;
 use oca_tree::{Kind, MuteState, PolarityState};
 use std::alloc::Global;
 
-/// Adds an OcaBlock.
+/// Adds an OcaBlock with the number `ono` to the block `container`, before the start. Returns `Done`; otherwise the
+/// first of these that applies, and nothing is changed. `Closed` if the struct is closed, `Started` after the start,
+/// `BadText` if the role is no UTF-8. Then `Full` if there is no room for another object, `Reserved` if the number is
+/// below 4,096, `Taken` if an object has the number. Then `NoSuchBlock` if the container is no block of the tree,
+/// `TooDeep` at depth 9, `BadText` if the role is empty or has more than 64 bytes.
 #[unsafe(no_mangle)]
 pub extern "C" fn oca_device_add_block(
     alloc: Global,
@@ -29,7 +33,11 @@ pub extern "C" fn oca_device_add_block(
     add(alloc, handle, container, ono, role, lockable, Kind::Block)
 }
 
-/// Adds an OcaMute.
+/// Adds an OcaMute with the number `ono` to the block `container`, before the start. `muted` is its first state.
+/// Returns `Done`; otherwise the first of these that applies, and nothing is changed. `Closed` if the struct is closed,
+/// `Started` after the start, `BadText` if the role is no UTF-8. Then `Full` if there is no room for another object,
+/// `Reserved` if the number is below 4,096, `Taken` if an object has the number. Then `NoSuchBlock` if the container is
+/// no block of the tree, `TooDeep` at depth 9, `BadText` if the role is empty or has more than 64 bytes.
 #[unsafe(no_mangle)]
 pub extern "C" fn oca_device_add_mute(
     alloc: Global,
@@ -61,7 +69,11 @@ pub extern "C" fn oca_device_add_mute(
     )
 }
 
-/// Adds an OcaPolarity.
+/// Adds an OcaPolarity with the number `ono` to the block `container`, before the start. `inverted` is its first state.
+/// Returns `Done`; otherwise the first of these that applies, and nothing is changed. `Closed` if the struct is closed,
+/// `Started` after the start, `BadText` if the role is no UTF-8. Then `Full` if there is no room for another object,
+/// `Reserved` if the number is below 4,096, `Taken` if an object has the number. Then `NoSuchBlock` if the container is
+/// no block of the tree, `TooDeep` at depth 9, `BadText` if the role is empty or has more than 64 bytes.
 #[unsafe(no_mangle)]
 pub extern "C" fn oca_device_add_polarity(
     alloc: Global,
@@ -94,7 +106,14 @@ pub extern "C" fn oca_device_add_polarity(
     )
 }
 
-/// Adds an OcaSwitch with these names of its positions, all of them enabled.
+/// Adds an OcaSwitch with the number `ono` to the block `container`, before the start. It has 1 to 16 positions with
+/// these names, all of them enabled. `position` is the one at which it stands first, counted from 0. Returns `Done`;
+/// otherwise the first of these that applies, and nothing is changed. `Closed` if the struct is closed, `Started` after
+/// the start, `BadRange` if there are more than 16 names. `BadText` if a name has more than 64 bytes, or the role or a
+/// name is no UTF-8. Then `Full` if there is no room for another object, `Reserved` if the number is below 4,096,
+/// `Taken` if an object has the number. Then `NoSuchBlock` if the container is no block of the tree, `TooDeep` at depth
+/// 9, `BadText` if the role is empty or has more than 64 bytes. Last `BadRange` if there is no name, or none for the
+/// position.
 #[unsafe(no_mangle)]
 pub extern "C" fn oca_device_add_switch(
     alloc: Global,
@@ -119,7 +138,11 @@ pub extern "C" fn oca_device_add_switch(
     answer.number()
 }
 
-/// Adds an OcaBooleanActuator.
+/// Adds an OcaBooleanActuator with the number `ono` to the block `container`, before the start. `setting` is its first
+/// setting. Returns `Done`; otherwise the first of these that applies, and nothing is changed. `Closed` if the struct
+/// is closed, `Started` after the start, `BadText` if the role is no UTF-8. Then `Full` if there is no room for another
+/// object, `Reserved` if the number is below 4,096, `Taken` if an object has the number. Then `NoSuchBlock` if the
+/// container is no block of the tree, `TooDeep` at depth 9, `BadText` if the role is empty or has more than 64 bytes.
 #[unsafe(no_mangle)]
 pub extern "C" fn oca_device_add_boolean(
     alloc: Global,
@@ -146,7 +169,12 @@ pub extern "C" fn oca_device_add_boolean(
     )
 }
 
-/// Adds an OcaInt8Actuator.
+/// Adds an OcaInt8Actuator with the number `ono` to the block `container`, before the start. Its first setting lies
+/// within `least` to `greatest`, as all later ones do. Returns `Done`; otherwise the first of these that applies, and
+/// nothing is changed. `Closed` if the struct is closed, `Started` after the start, `BadText` if the role is no UTF-8.
+/// Then `Full` if there is no room for another object, `Reserved` if the number is below 4,096, `Taken` if an object
+/// has the number. Then `NoSuchBlock` if the container is no block of the tree, `TooDeep` at depth 9, `BadText` if the
+/// role is empty or has more than 64 bytes. Last `BadRange` if the setting is outside its limits.
 #[unsafe(no_mangle)]
 pub extern "C" fn oca_device_add_int8(
     alloc: Global,
@@ -172,7 +200,12 @@ pub extern "C" fn oca_device_add_int8(
     add(alloc, handle, container, ono, role, lockable, kind)
 }
 
-/// Adds an OcaInt16Actuator.
+/// Adds an OcaInt16Actuator with the number `ono` to the block `container`, before the start. Its first setting lies
+/// within `least` to `greatest`, as all later ones do. Returns `Done`; otherwise the first of these that applies, and
+/// nothing is changed. `Closed` if the struct is closed, `Started` after the start, `BadText` if the role is no UTF-8.
+/// Then `Full` if there is no room for another object, `Reserved` if the number is below 4,096, `Taken` if an object
+/// has the number. Then `NoSuchBlock` if the container is no block of the tree, `TooDeep` at depth 9, `BadText` if the
+/// role is empty or has more than 64 bytes. Last `BadRange` if the setting is outside its limits.
 #[unsafe(no_mangle)]
 pub extern "C" fn oca_device_add_int16(
     alloc: Global,
@@ -198,7 +231,12 @@ pub extern "C" fn oca_device_add_int16(
     add(alloc, handle, container, ono, role, lockable, kind)
 }
 
-/// Adds an OcaInt32Actuator.
+/// Adds an OcaInt32Actuator with the number `ono` to the block `container`, before the start. Its first setting lies
+/// within `least` to `greatest`, as all later ones do. Returns `Done`; otherwise the first of these that applies, and
+/// nothing is changed. `Closed` if the struct is closed, `Started` after the start, `BadText` if the role is no UTF-8.
+/// Then `Full` if there is no room for another object, `Reserved` if the number is below 4,096, `Taken` if an object
+/// has the number. Then `NoSuchBlock` if the container is no block of the tree, `TooDeep` at depth 9, `BadText` if the
+/// role is empty or has more than 64 bytes. Last `BadRange` if the setting is outside its limits.
 #[unsafe(no_mangle)]
 pub extern "C" fn oca_device_add_int32(
     alloc: Global,
@@ -224,7 +262,12 @@ pub extern "C" fn oca_device_add_int32(
     add(alloc, handle, container, ono, role, lockable, kind)
 }
 
-/// Adds an OcaInt64Actuator.
+/// Adds an OcaInt64Actuator with the number `ono` to the block `container`, before the start. Its first setting lies
+/// within `least` to `greatest`, as all later ones do. Returns `Done`; otherwise the first of these that applies, and
+/// nothing is changed. `Closed` if the struct is closed, `Started` after the start, `BadText` if the role is no UTF-8.
+/// Then `Full` if there is no room for another object, `Reserved` if the number is below 4,096, `Taken` if an object
+/// has the number. Then `NoSuchBlock` if the container is no block of the tree, `TooDeep` at depth 9, `BadText` if the
+/// role is empty or has more than 64 bytes. Last `BadRange` if the setting is outside its limits.
 #[unsafe(no_mangle)]
 pub extern "C" fn oca_device_add_int64(
     alloc: Global,
@@ -250,7 +293,12 @@ pub extern "C" fn oca_device_add_int64(
     add(alloc, handle, container, ono, role, lockable, kind)
 }
 
-/// Adds an OcaUint8Actuator.
+/// Adds an OcaUint8Actuator with the number `ono` to the block `container`, before the start. Its first setting lies
+/// within `least` to `greatest`, as all later ones do. Returns `Done`; otherwise the first of these that applies, and
+/// nothing is changed. `Closed` if the struct is closed, `Started` after the start, `BadText` if the role is no UTF-8.
+/// Then `Full` if there is no room for another object, `Reserved` if the number is below 4,096, `Taken` if an object
+/// has the number. Then `NoSuchBlock` if the container is no block of the tree, `TooDeep` at depth 9, `BadText` if the
+/// role is empty or has more than 64 bytes. Last `BadRange` if the setting is outside its limits.
 #[unsafe(no_mangle)]
 pub extern "C" fn oca_device_add_uint8(
     alloc: Global,
@@ -276,7 +324,12 @@ pub extern "C" fn oca_device_add_uint8(
     add(alloc, handle, container, ono, role, lockable, kind)
 }
 
-/// Adds an OcaUint16Actuator.
+/// Adds an OcaUint16Actuator with the number `ono` to the block `container`, before the start. Its first setting lies
+/// within `least` to `greatest`, as all later ones do. Returns `Done`; otherwise the first of these that applies, and
+/// nothing is changed. `Closed` if the struct is closed, `Started` after the start, `BadText` if the role is no UTF-8.
+/// Then `Full` if there is no room for another object, `Reserved` if the number is below 4,096, `Taken` if an object
+/// has the number. Then `NoSuchBlock` if the container is no block of the tree, `TooDeep` at depth 9, `BadText` if the
+/// role is empty or has more than 64 bytes. Last `BadRange` if the setting is outside its limits.
 #[unsafe(no_mangle)]
 pub extern "C" fn oca_device_add_uint16(
     alloc: Global,
@@ -303,7 +356,12 @@ pub extern "C" fn oca_device_add_uint16(
     add(alloc, handle, container, ono, role, lockable, kind)
 }
 
-/// Adds an OcaUint32Actuator.
+/// Adds an OcaUint32Actuator with the number `ono` to the block `container`, before the start. Its first setting lies
+/// within `least` to `greatest`, as all later ones do. Returns `Done`; otherwise the first of these that applies, and
+/// nothing is changed. `Closed` if the struct is closed, `Started` after the start, `BadText` if the role is no UTF-8.
+/// Then `Full` if there is no room for another object, `Reserved` if the number is below 4,096, `Taken` if an object
+/// has the number. Then `NoSuchBlock` if the container is no block of the tree, `TooDeep` at depth 9, `BadText` if the
+/// role is empty or has more than 64 bytes. Last `BadRange` if the setting is outside its limits.
 #[unsafe(no_mangle)]
 pub extern "C" fn oca_device_add_uint32(
     alloc: Global,
@@ -330,7 +388,12 @@ pub extern "C" fn oca_device_add_uint32(
     add(alloc, handle, container, ono, role, lockable, kind)
 }
 
-/// Adds an OcaUint64Actuator.
+/// Adds an OcaUint64Actuator with the number `ono` to the block `container`, before the start. Its first setting lies
+/// within `least` to `greatest`, as all later ones do. Returns `Done`; otherwise the first of these that applies, and
+/// nothing is changed. `Closed` if the struct is closed, `Started` after the start, `BadText` if the role is no UTF-8.
+/// Then `Full` if there is no room for another object, `Reserved` if the number is below 4,096, `Taken` if an object
+/// has the number. Then `NoSuchBlock` if the container is no block of the tree, `TooDeep` at depth 9, `BadText` if the
+/// role is empty or has more than 64 bytes. Last `BadRange` if the setting is outside its limits.
 #[unsafe(no_mangle)]
 pub extern "C" fn oca_device_add_uint64(
     alloc: Global,

@@ -14,7 +14,8 @@ use oca_calls::words::put_bytes;
 use oca_model::{read_class_fields, read_members, read_names, read_text};
 use oca_types::{Params, Text, put_text};
 
-/// Reads the text that is all of the parameters, as of an answer to GetRole, GetLabel or GetPositionName.
+/// Reads the answer to GetRole, GetLabel or GetPositionName: the text that is all of the parameters. Returns `Done`;
+/// otherwise `NoValue` if the parameters are not exactly a text of at most 64 bytes, and then nothing is written.
 #[unsafe(no_mangle)]
 pub extern "C" fn oca_text_read(params: &[u8], text: &mut Name) -> u32
     ensures { WritesText (whole (text_at params.now)) text.old text.new result }
@@ -26,7 +27,8 @@ pub extern "C" fn oca_text_read(params: &[u8], text: &mut Name) -> u32
     Answer::Done.number()
 }
 
-/// Reads the names that an answer to GetPositionNames gives.
+/// Reads the answer to GetPositionNames: the names of the positions, in order, at most 16. Returns `Done`; otherwise
+/// `NoValue` if the parameters are not exactly such an answer, and then nothing is written.
 #[unsafe(no_mangle)]
 pub extern "C" fn oca_names_read(params: &[u8], names: &mut Names) -> u32
     ensures { WritesNames (switch_names_in params.now) names.old names.new result }
@@ -38,7 +40,8 @@ pub extern "C" fn oca_names_read(params: &[u8], names: &mut Names) -> u32
     Answer::Done.number()
 }
 
-/// Reads the numbers of the members that an answer to GetMembers gives.
+/// Reads the answer to GetMembers: the numbers of the members, in order, at most 181. Returns `Done`; otherwise
+/// `NoValue` if the parameters are not exactly such an answer, and then nothing is written.
 #[unsafe(no_mangle)]
 pub extern "C" fn oca_members_read(params: &[u8], members: &mut Members) -> u32
     ensures { WritesMembers (members_in params.now) members.old members.new result }
@@ -50,7 +53,9 @@ pub extern "C" fn oca_members_read(params: &[u8], members: &mut Members) -> u32
     Answer::Done.number()
 }
 
-/// Reads the identifier of the class that an answer to GetClassIdentification gives.
+/// Reads the answer to GetClassIdentification: the fields of the class's identifier, at most 16, and the number of the
+/// class, 0 if it is not of this profile. Returns `Done`; otherwise `NoValue` if the parameters are not exactly such an
+/// answer, and then nothing is written.
 #[unsafe(no_mangle)]
 pub extern "C" fn oca_class_read(params: &[u8], id: &mut ClassId) -> u32
     ensures { WritesClass (class_id_in params.now) id.old id.new result }
@@ -62,7 +67,7 @@ pub extern "C" fn oca_class_read(params: &[u8], id: &mut ClassId) -> u32
     Answer::Done.number()
 }
 
-/// The number of the class whose identifier has these fields; 0 for one that is not of this profile.
+/// The number of the class whose identifier has these fields: 1 to 13; 0 if no class of this profile has them.
 #[unsafe(no_mangle)]
 pub extern "C" fn oca_class_with(fields: &[u16]) -> u32
     ensures { result ≡ number_of_class (class_with fields.now) }
@@ -70,7 +75,9 @@ pub extern "C" fn oca_class_with(fields: &[u16]) -> u32
     number_with(fields)
 }
 
-/// Encodes a text, as SetLabel has it for its one parameter: 2 to 66 bytes.
+/// Encodes a text as the one parameter of SetLabel: writes its bytes to the front of `out`, and how many they are, 2 to
+/// 66, into `len`. Returns `Done`. Otherwise `NoValue` if the text has more than 64 bytes or is no UTF-8, and then
+/// nothing is written. `TooSmall` if `out` has no room for the bytes, and then only `len` is written.
 #[unsafe(no_mangle)]
 pub extern "C" fn oca_text_put(text: &Name, out: &mut [u8], len: &mut usize) -> u32
     ensures writes { WritesEncoding text.now out.old out.new len.new result }

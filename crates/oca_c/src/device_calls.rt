@@ -23,7 +23,9 @@ use oca_tree::{Room, TreeBuilder};
 use oca_types::Peer;
 use std::alloc::Global;
 
-/// Opens a device that has its root alone, with room for so many objects.
+/// Opens a device that has its root alone (the block 100), with room for so many objects, the root counted: 1 to 4,096.
+/// It takes the memory for them. Returns `Done`; otherwise the first that applies: `Open` if the struct is open
+/// already, `BadSize` of another room, `NoMemory` if memory was refused. Then nothing is changed.
 #[unsafe(no_mangle)]
 pub extern "C" fn oca_device_open(alloc: Global, handle: &mut DeviceHandle, room: u16) -> u32
     ensures open { IsSome handle.old.slot.inner → (result ≡ 10) × (handle.new.slot.inner ≡ handle.old.slot.inner) }
@@ -41,7 +43,7 @@ pub extern "C" fn oca_device_open(alloc: Global, handle: &mut DeviceHandle, room
     }
 }
 
-/// Closes a device, and gives its memory back.
+/// Closes a device, and gives its memory back. A closed one stays closed.
 #[unsafe(no_mangle)]
 pub extern "C" fn oca_device_close(alloc: Global, handle: &mut DeviceHandle)
     ensures { handle.new.slot.inner ≡ None }
@@ -49,7 +51,11 @@ pub extern "C" fn oca_device_close(alloc: Global, handle: &mut DeviceHandle)
     handle.close(alloc);
 }
 
-/// Starts the device, with reply windows of this size and sessions of so many peers.
+/// Starts the device, with reply windows of `window` commands and sessions of `peers` peers. Both are 1 to 64. It has
+/// room for 122 packets that answer a datagram, which always suffices. No object can be added after it. Returns `Done`;
+/// otherwise the first that applies: `Closed` if the struct is closed, `Started` if the device is started already,
+/// `BadSize` of a size outside its range. Then nothing is changed. `NoMemory` if memory was refused: then the objects
+/// are lost, and the struct is closed.
 #[unsafe(no_mangle)]
 pub extern "C" fn oca_device_start(
     alloc: Global,
@@ -65,7 +71,11 @@ pub extern "C" fn oca_device_start(
     oca_device_start_within(alloc, handle, window, peers, MOST_PACKETS)
 }
 
-/// Starts the device as `oca_device_start` does, with room for so many packets that answer a datagram.
+/// Starts the device, with reply windows of `window` commands and sessions of `peers` peers, both 1 to 64. It has room
+/// for `packets` packets that answer a datagram, 1 to 122, of some 1,480 bytes each. No object can be added after it.
+/// Returns `Done`; otherwise the first that applies: `Closed` if the struct is closed, `Started` if the device is
+/// started already, `BadSize` of a size outside its range. Then nothing is changed. `NoMemory` if memory was refused:
+/// then the objects are lost, and the struct is closed.
 #[unsafe(no_mangle)]
 pub extern "C" fn oca_device_start_within(
     alloc: Global,
@@ -87,7 +97,15 @@ pub extern "C" fn oca_device_start_within(
     answer.number()
 }
 
-/// Hands a datagram to the device, and tells its verdict in as many words as there is room for.
+/// Hands the device a datagram that came from the address `ip` (the first byte highest) and a port at the moment `now`,
+/// in milliseconds. Its answers replace the packets of the last datagram, as many as there is room for. A moment
+/// earlier than one already seen counts as that one.
+///
+/// The words of the verdict go to the front of `out`, as many as it has room for. The first is 0 if the datagram was
+/// served: then come how many commands were executed, duplicates, old and reused. It is 1 for a malformed datagram:
+/// after four zeros come the number of the fault and its offset. It is 2 if there was no room for the sender. Returns
+/// `Done`; otherwise `Closed` if the struct is closed, or `NotStarted` before the start. Then nothing is changed or
+/// written.
 #[unsafe(no_mangle)]
 pub extern "C" fn oca_device_datagram_words(
     alloc: Global,
@@ -121,7 +139,9 @@ pub extern "C" fn oca_device_datagram_words(
     answer.number()
 }
 
-/// Hands a clock reading to the device.
+/// Hands the device a clock reading, in milliseconds: locks of silent peers are released, and silent sessions are
+/// forgotten. A moment earlier than one already seen counts as that one. Returns `Done`; otherwise `Closed` if the
+/// struct is closed, or `NotStarted` before the start. Then nothing is changed.
 #[unsafe(no_mangle)]
 pub extern "C" fn oca_device_tick(alloc: Global, handle: &mut DeviceHandle, now: u64) -> u32
     ensures closed { RefusesClosed handle.old.slot.inner handle.new.slot.inner result }
@@ -139,8 +159,9 @@ pub extern "C" fn oca_device_tick(alloc: Global, handle: &mut DeviceHandle, now:
     answer.number()
 }
 
-/// Tells the earliest moment, not before the device's own, at which a clock reading changes the objects or the
-/// sessions.
+/// Writes the earliest moment, in milliseconds and not before the device's own, at which a clock reading changes the
+/// objects or the sessions. Returns `Done`; otherwise `Closed` if the struct is closed, `NotStarted` before the start,
+/// or `Nothing` if there is no such moment within 64 bits. Then nothing is changed or written.
 #[unsafe(no_mangle)]
 pub extern "C" fn oca_device_next_lapse(
     alloc: Global,
@@ -162,7 +183,8 @@ pub extern "C" fn oca_device_next_lapse(
     answer.number()
 }
 
-/// How many packets there are that answer the last datagram.
+/// Writes how many packets answer the last datagram: 0 to 122, and 0 before the first datagram. Returns `Done`;
+/// otherwise `Closed` if the struct is closed, or `NotStarted` before the start. Then nothing is changed or written.
 #[unsafe(no_mangle)]
 pub extern "C" fn oca_device_packets(
     alloc: Global,
@@ -184,7 +206,9 @@ pub extern "C" fn oca_device_packets(
     answer.number()
 }
 
-/// Whether packets that answer the last datagram were left out, since there was no room for them.
+/// Writes whether packets that answer the last datagram were left out, since there was no room for them; false before
+/// the first datagram. Returns `Done`; otherwise `Closed` if the struct is closed, or `NotStarted` before the start.
+/// Then nothing is changed or written.
 #[unsafe(no_mangle)]
 pub extern "C" fn oca_device_left_out(
     alloc: Global,
@@ -206,7 +230,10 @@ pub extern "C" fn oca_device_left_out(
     answer.number()
 }
 
-/// Copies a packet.
+/// Copies a packet, by its index from 0, to the front of `out`, and writes its size in bytes, at most 1,472, into
+/// `len`. Returns `Done`; otherwise `Closed` if the struct is closed, `NotStarted` before the start, or `Nothing` after
+/// the last packet. Then nothing is changed or written. `TooSmall` if `out` has no room for the packet, and then only
+/// `len` is written.
 #[unsafe(no_mangle)]
 pub extern "C" fn oca_device_packet(
     alloc: Global,
@@ -237,8 +264,10 @@ pub extern "C" fn oca_device_packet(
     answer.number()
 }
 
-/// Puts the numbers of the objects that the last datagram wrote to into a list, as many as there is room for, and tells
-/// how many there are.
+/// Copies the numbers of the objects that the last datagram wrote to to the front of `out`, in order, and writes into
+/// `count` how many they are, at most 86. Returns `Done`; otherwise `Closed` if the struct is closed, or `NotStarted`
+/// before the start. Then nothing is changed or written. `TooSmall` if `out` has no room for all: then it has the first
+/// of them, and `count` is written too.
 #[unsafe(no_mangle)]
 pub extern "C" fn oca_device_written(
     alloc: Global,
@@ -261,7 +290,8 @@ pub extern "C" fn oca_device_written(
     answer.number()
 }
 
-/// Tells whether the answers to the last datagram wait until the objects are stored.
+/// Writes whether the answers to the last datagram must wait until the objects are stored. Returns `Done`; otherwise
+/// `Closed` if the struct is closed, or `NotStarted` before the start. Then nothing is changed or written.
 #[unsafe(no_mangle)]
 pub extern "C" fn oca_device_waits(
     alloc: Global,
@@ -283,7 +313,8 @@ pub extern "C" fn oca_device_waits(
     answer.number()
 }
 
-/// Notes that the objects are stored as they are.
+/// Records that the objects are stored as they are now: no answers wait. Returns `Done`; otherwise `Closed` if the
+/// struct is closed, or `NotStarted` before the start. Then nothing is changed.
 #[unsafe(no_mangle)]
 pub extern "C" fn oca_device_stored(alloc: Global, handle: &mut DeviceHandle) -> u32
     ensures closed { RefusesClosed handle.old.slot.inner handle.new.slot.inner result }

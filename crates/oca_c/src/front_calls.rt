@@ -1,8 +1,10 @@
 //! What C calls to set the objects of a device at its local front panel.
 ghost use Rattle.std.specs.Prelude.{pos};
+ghost use Rattle.oca_model.specs.declared.request.Request.TheVariants as asked;
 ghost use Rattle.oca_model.specs.declared.value.Value.TheVariants as values;
+ghost use Rattle.oca_tree.specs.LocalChanges.{ToEnabled, ToUnlocked, ToFailing};
 ghost use Rattle.oca_calls.specs.Calls.{HandleSets, KeepsPackets, RefusesBuilding, RefusesClosed};
-ghost use Rattle.oca_calls.specs.FrontCalls.{HandleSetsEntry, HandleSetsWords, State, Integer};
+ghost use Rattle.oca_calls.specs.FrontCalls.{HandleChanges, HandleLabels, HandleSetsEntry, HandleSetsWords, State, Integer};
 ghost use Rattle.oca_calls.specs.Storings.{KeepsUnstored};
 
 use oca_calls::answer::Answer;
@@ -12,7 +14,10 @@ use oca_calls::value_words::ValueWords;
 use oca_tree::Value;
 use std::alloc::Global;
 
-/// Sets a mute or a polarity at the local front panel.
+/// Sets a mute (1 Muted, 2 Unmuted) or a polarity (1 NonInverted, 2 Inverted) at the local front panel. Locks do not
+/// prevent it. Returns `Done`; otherwise the first of these that applies, and nothing is changed. `Closed` if the
+/// struct is closed, `NotStarted` before the start, `NoObject` if there is no such object, `NoSetting` of a block. Then
+/// `OtherKind` of another class, `OutOfRange` of another number.
 #[unsafe(no_mangle)]
 pub extern "C" fn oca_device_set_state(
     alloc: Global,
@@ -34,7 +39,10 @@ pub extern "C" fn oca_device_set_state(
     answer.number()
 }
 
-/// Sets a switch at the local front panel.
+/// Sets a switch at the local front panel to a position, which is counted from 0. Locks do not prevent it. Returns
+/// `Done`; otherwise the first of these that applies, and nothing is changed. `Closed` if the struct is closed,
+/// `NotStarted` before the start, `NoObject` if there is no such object, `NoSetting` of a block. Then `OtherKind` of
+/// another class, `OutOfRange` of a position that is not there or disabled.
 #[unsafe(no_mangle)]
 pub extern "C" fn oca_device_set_position(
     alloc: Global,
@@ -51,7 +59,10 @@ pub extern "C" fn oca_device_set_position(
     set(alloc, handle, ono, Value::Switch(position))
 }
 
-/// Sets a Boolean actuator at the local front panel.
+/// Sets a Boolean actuator at the local front panel. Locks do not prevent it. Returns `Done`; otherwise the first of
+/// these that applies, and nothing is changed. `Closed` if the struct is closed, `NotStarted` before the start,
+/// `NoObject` if there is no such object, `NoSetting` of a block. Then `OtherKind` of another class. `OutOfRange` does
+/// not come.
 #[unsafe(no_mangle)]
 pub extern "C" fn oca_device_set_truth(
     alloc: Global,
@@ -68,7 +79,10 @@ pub extern "C" fn oca_device_set_truth(
     set(alloc, handle, ono, Value::Boolean(truth))
 }
 
-/// Sets an actuator of integers at the local front panel.
+/// Sets an actuator of integers, of any type, at the local front panel to a number of 64 bits with a sign. Locks do not
+/// prevent it. Returns `Done`; otherwise the first of these that applies, and nothing is changed. `Closed` if the
+/// struct is closed, `NotStarted` before the start, `NoObject` if there is no such object, `NoSetting` of a block. Then
+/// `OtherKind` of a class without integers, `OutOfRange` of a number outside the object's limits.
 #[unsafe(no_mangle)]
 pub extern "C" fn oca_device_set_signed(
     alloc: Global,
@@ -85,7 +99,10 @@ pub extern "C" fn oca_device_set_signed(
     set_integer(alloc, handle, ono, i128::from(number))
 }
 
-/// Sets an actuator of integers at the local front panel.
+/// Sets an actuator of integers, of any type, at the local front panel to a number of 64 bits without a sign. Locks do
+/// not prevent it. Returns `Done`; otherwise the first of these that applies, and nothing is changed. `Closed` if the
+/// struct is closed, `NotStarted` before the start, `NoObject` if there is no such object, `NoSetting` of a block. Then
+/// `OtherKind` of a class without integers, `OutOfRange` of a number outside the object's limits.
 #[unsafe(no_mangle)]
 pub extern "C" fn oca_device_set_unsigned(
     alloc: Global,
@@ -102,7 +119,11 @@ pub extern "C" fn oca_device_set_unsigned(
     set_integer(alloc, handle, ono, i128::from(number))
 }
 
-/// Sets an object at the local front panel to a value.
+/// Sets an object at the local front panel to a value of its class. Locks do not prevent it. Returns `Done`; otherwise
+/// the first of these that applies, and nothing is changed. `Closed` if the struct is closed, `NotStarted` before the
+/// start, `NoValue` if the words are those of no value. Then `NoObject` if there is no such object, `NoSetting` of a
+/// block, `OtherKind` of another class. Last `OutOfRange` of a position that is not there or disabled, or a number
+/// outside the object's limits.
 #[unsafe(no_mangle)]
 pub extern "C" fn oca_device_set(
     alloc: Global,
@@ -120,6 +141,99 @@ pub extern "C" fn oca_device_set(
         return Answer::Closed.number();
     };
     let answer = behind.set_words(ono, *value);
+    handle.put(behind);
+    answer.number()
+}
+
+/// Gives an object a label of at most 64 bytes of UTF-8 at the local front panel. Locks do not prevent it. Returns
+/// `Done`; otherwise the first of these that applies, and nothing is changed. `Closed` if the struct is closed,
+/// `NotStarted` before the start, `BadText` if the bytes are no UTF-8. Then `NoObject` if there is no such object,
+/// `BadText` of a longer label.
+#[unsafe(no_mangle)]
+pub extern "C" fn oca_device_set_label(
+    alloc: Global,
+    handle: &mut DeviceHandle,
+    ono: u32,
+    label: &[u8],
+) -> u32
+    ensures closed { RefusesClosed handle.old.slot.inner handle.new.slot.inner result }
+    ensures building { RefusesBuilding handle.old.slot.inner handle.new.slot.inner result }
+    ensures packets { KeepsPackets handle.old.slot.inner handle.new.slot.inner }
+    ensures unstored { KeepsUnstored handle.old.slot.inner handle.new.slot.inner }
+    ensures labels { HandleLabels result handle.old.slot.inner handle.new.slot.inner ono label.now }
+{
+    let Some(mut behind) = handle.take(alloc) else {
+        return Answer::Closed.number();
+    };
+    let answer = behind.set_label(ono, label);
+    handle.put(behind);
+    answer.number()
+}
+
+/// Enables or disables an object at the local front panel. Locks do not prevent it. Returns `Done`; otherwise `Closed`
+/// if the struct is closed, `NotStarted` before the start, or `NoObject` if there is no such object. Then nothing is
+/// changed.
+#[unsafe(no_mangle)]
+pub extern "C" fn oca_device_set_enabled(
+    alloc: Global,
+    handle: &mut DeviceHandle,
+    ono: u32,
+    enabled: bool,
+) -> u32
+    ensures closed { RefusesClosed handle.old.slot.inner handle.new.slot.inner result }
+    ensures building { RefusesBuilding handle.old.slot.inner handle.new.slot.inner result }
+    ensures packets { KeepsPackets handle.old.slot.inner handle.new.slot.inner }
+    ensures unstored { KeepsUnstored handle.old.slot.inner handle.new.slot.inner }
+    ensures sets { HandleChanges result handle.old.slot.inner handle.new.slot.inner ono (ToEnabled enabled) (asked.SetEnabled enabled) }
+{
+    let Some(mut behind) = handle.take(alloc) else {
+        return Answer::Closed.number();
+    };
+    let answer = behind.set_enabled(ono, enabled);
+    handle.put(behind);
+    answer.number()
+}
+
+/// Releases the lock of an object at the local front panel, whichever peer holds it. The peer is not told. Returns
+/// `Done`; otherwise the first of these that applies, and nothing is changed. `Closed` if the struct is closed,
+/// `NotStarted` before the start, `NoObject` if there is no such object, `Nothing` if the object is not locked.
+#[unsafe(no_mangle)]
+pub extern "C" fn oca_device_unlock(alloc: Global, handle: &mut DeviceHandle, ono: u32) -> u32
+    ensures closed { RefusesClosed handle.old.slot.inner handle.new.slot.inner result }
+    ensures building { RefusesBuilding handle.old.slot.inner handle.new.slot.inner result }
+    ensures packets { KeepsPackets handle.old.slot.inner handle.new.slot.inner }
+    ensures unstored { KeepsUnstored handle.old.slot.inner handle.new.slot.inner }
+    ensures unlocks { HandleChanges result handle.old.slot.inner handle.new.slot.inner ono ToUnlocked asked.Unlock }
+{
+    let Some(mut behind) = handle.take(alloc) else {
+        return Answer::Closed.number();
+    };
+    let answer = behind.unlock(ono);
+    handle.put(behind);
+    answer.number()
+}
+
+/// Says at the local front panel whether the hardware of an object refuses to be changed. While it does, each command
+/// that is executed and whose method writes is answered `ProcessingFailed` if no other status refuses it, and changes
+/// nothing. Returns `Done`; otherwise `Closed` if the struct is closed, `NotStarted` before the start, or `NoObject`.
+/// Then nothing is changed.
+#[unsafe(no_mangle)]
+pub extern "C" fn oca_device_set_failing(
+    alloc: Global,
+    handle: &mut DeviceHandle,
+    ono: u32,
+    failing: bool,
+) -> u32
+    ensures closed { RefusesClosed handle.old.slot.inner handle.new.slot.inner result }
+    ensures building { RefusesBuilding handle.old.slot.inner handle.new.slot.inner result }
+    ensures packets { KeepsPackets handle.old.slot.inner handle.new.slot.inner }
+    ensures unstored { KeepsUnstored handle.old.slot.inner handle.new.slot.inner }
+    ensures tells { HandleChanges result handle.old.slot.inner handle.new.slot.inner ono (ToFailing failing) (asked.SetEnabled failing) }
+{
+    let Some(mut behind) = handle.take(alloc) else {
+        return Answer::Closed.number();
+    };
+    let answer = behind.set_failing(ono, failing);
     handle.put(behind);
     answer.number()
 }

@@ -19,7 +19,10 @@ use oca_control::Link;
 use oca_types::{Handle, MethodId, Ono, Peer, Span};
 use std::alloc::Global;
 
-/// Opens a link to the device at this address.
+/// Opens a link to the device at the address `ip` (the first byte highest) and a port, at the moment `now`, in
+/// milliseconds. Its first command gets the handle `first_handle`; the handles in flight lie within the span, 1 to 32.
+/// It takes the memory for the link. Returns `Done`; otherwise the first that applies: `Open` if the struct is open
+/// already, `BadSize` of another span, `NoMemory` if memory was refused. Then nothing is changed.
 #[unsafe(no_mangle)]
 pub extern "C" fn oca_link_open(
     alloc: Global,
@@ -50,7 +53,7 @@ pub extern "C" fn oca_link_open(
     }
 }
 
-/// Closes a link, and gives its memory back.
+/// Closes a link, and gives its memory back. A closed one stays closed. Commands in flight may still be carried out.
 #[unsafe(no_mangle)]
 pub extern "C" fn oca_link_close(alloc: Global, handle: &mut LinkHandle)
     ensures { handle.new.slot.inner ≡ None }
@@ -58,7 +61,11 @@ pub extern "C" fn oca_link_close(alloc: Global, handle: &mut LinkHandle)
     handle.close(alloc);
 }
 
-/// Submits a command.
+/// Submits a command at the moment `now`, in milliseconds, and writes its handle into `command`. `count` is ParamCount.
+/// It sends nothing: `oca_link_due` gives what is to be sent. Returns `Done`; otherwise the first of these that
+/// applies, and nothing is changed or written. `Closed` if the struct is closed, `Lost` if the link is lost,
+/// `HandlesSpent` after the handle 4294967295. Then `SpanFull` if the next handle is not within the span, `TooLong` of
+/// parameters above 1,445 bytes.
 #[unsafe(no_mangle)]
 pub extern "C" fn oca_link_submit(
     alloc: Global,
@@ -92,7 +99,11 @@ pub extern "C" fn oca_link_submit(
     number
 }
 
-/// Gives out what is due.
+/// Puts what is due at the moment `now`, in milliseconds, to the front of `out`, and its size, 0 to 1,472 bytes, into
+/// `len`: it is to be sent to the device. `kind` becomes 0 if nothing is due, 1 for a command, 2 for a keep-alive, 3 if
+/// the link is lost (`enum oca_due`). `command` becomes the handle of the command, else 0. Returns `Done`; otherwise
+/// `Closed` if the struct is closed, or `TooSmall` if `out` has fewer than 1,472 bytes, whatever is due. Then nothing
+/// is changed or written.
 #[unsafe(no_mangle)]
 pub extern "C" fn oca_link_due(
     alloc: Global,
@@ -122,7 +133,10 @@ pub extern "C" fn oca_link_due(
     number
 }
 
-/// Takes a datagram that came from an address.
+/// Takes a datagram that came from the address `ip` (the first byte highest) and a port at the moment `now`, in
+/// milliseconds. `kind` becomes 0 if it held nothing new, 1 if it answered commands, 2 if it came from another address
+/// than the device's, 3 if it is malformed (`enum oca_reception`). `answered` becomes how many commands it answered.
+/// Returns `Done`; otherwise `Closed` if the struct is closed. Then nothing is changed or written.
 #[unsafe(no_mangle)]
 pub extern "C" fn oca_link_datagram(
     alloc: Global,
@@ -149,7 +163,10 @@ pub extern "C" fn oca_link_datagram(
     number
 }
 
-/// Takes the answer to a command.
+/// Takes the answer to a command, and the command with it: its status, its ParamCount, and its parameters at the front
+/// of `out`, with their size in `len`. Returns `Done`; otherwise `Closed` if the struct is closed, or `TooSmall` if
+/// `out` has fewer than 1,452 bytes, whatever the answer, or `Nothing` if there is no answer under this handle. Then
+/// nothing is changed or written.
 #[unsafe(no_mangle)]
 pub extern "C" fn oca_link_take(
     alloc: Global,
@@ -177,7 +194,9 @@ pub extern "C" fn oca_link_take(
     number
 }
 
-/// Tells the earliest moment, not before the link's own, at which something is due or the link is lost.
+/// Writes the earliest moment, in milliseconds and not before the link's own, at which something is due or the link is
+/// lost. Returns `Done`; otherwise `Closed` if the struct is closed, or `Nothing` if that moment lies beyond 64 bits.
+/// Then nothing is changed or written.
 #[unsafe(no_mangle)]
 pub extern "C" fn oca_link_next_due(alloc: Global, handle: &mut LinkHandle, moment: &mut u64) -> u32
     ensures closed { RefusesClosed handle.old.slot.inner handle.new.slot.inner result }
@@ -193,7 +212,8 @@ pub extern "C" fn oca_link_next_due(alloc: Global, handle: &mut LinkHandle, mome
     number
 }
 
-/// Tells the lowest handle that has its answer.
+/// Writes the lowest handle whose answer came and was not taken yet. Returns `Done`; otherwise `Closed` if the struct
+/// is closed, or `Nothing` if there is none. Then nothing is changed or written.
 #[unsafe(no_mangle)]
 pub extern "C" fn oca_link_answered(
     alloc: Global,
@@ -214,7 +234,9 @@ pub extern "C" fn oca_link_answered(
     number
 }
 
-/// Tells whether the command under a handle is in flight.
+/// Writes whether the command under a handle is unanswered: it was submitted, and no answer to it came yet. It writes
+/// false for a handle that no command has. Returns `Done`; otherwise `Closed` if the struct is closed. Then nothing is
+/// changed or written.
 #[unsafe(no_mangle)]
 pub extern "C" fn oca_link_in_flight(
     alloc: Global,
@@ -236,7 +258,8 @@ pub extern "C" fn oca_link_in_flight(
     number
 }
 
-/// Tells the handle that the next command gets.
+/// Writes the handle that the next command gets. Returns `Done`; otherwise `Closed` if the struct is closed, or
+/// `Nothing` after the last handle, 4294967295. Then nothing is changed or written.
 #[unsafe(no_mangle)]
 pub extern "C" fn oca_link_next_handle(
     alloc: Global,
@@ -256,7 +279,9 @@ pub extern "C" fn oca_link_next_handle(
     number
 }
 
-/// Tells when the last well-formed datagram came from the device.
+/// Writes the moment, in milliseconds, at which the last well-formed datagram came from the device; until then, the
+/// moment of the opening. Returns `Done`; otherwise `Closed` if the struct is closed. Then nothing is changed or
+/// written.
 #[unsafe(no_mangle)]
 pub extern "C" fn oca_link_last_heard(
     alloc: Global,
@@ -276,7 +301,8 @@ pub extern "C" fn oca_link_last_heard(
     number
 }
 
-/// Tells whether the link is lost.
+/// Writes whether the link is lost: a command got no answer to 20 transmissions. Returns `Done`; otherwise `Closed` if
+/// the struct is closed. Then nothing is changed or written.
 #[unsafe(no_mangle)]
 pub extern "C" fn oca_link_is_lost(alloc: Global, handle: &mut LinkHandle, lost: &mut bool) -> u32
     ensures closed { RefusesClosed handle.old.slot.inner handle.new.slot.inner result }
@@ -292,7 +318,9 @@ pub extern "C" fn oca_link_is_lost(alloc: Global, handle: &mut LinkHandle, lost:
     number
 }
 
-/// Tells whether a command was given out so long before a moment that it may not be given out again.
+/// Writes whether the link is late at the moment `now`, in milliseconds: a command is unanswered that was submitted
+/// more than 15,000 ms before, sent or not. Returns `Done`; otherwise `Closed` if the struct is closed. Then nothing is
+/// changed or written.
 #[unsafe(no_mangle)]
 pub extern "C" fn oca_link_is_late(
     alloc: Global,

@@ -2,18 +2,19 @@
 ghost use Rattle.std.specs.Prelude.{◌≡◌, ◌⊎◌, List, length, slice_get};
 ghost use Rattle.oca_types.specs.Sizes.{DeviceSizes};
 ghost use Rattle.oca_tree.specs.declared.object.Object.{Object};
-ghost use Rattle.oca_tree.specs.Readers.{info_at, lock_at, setting_at};
+ghost use Rattle.oca_tree.specs.Readers.{failing_at, info_at, lock_at, setting_at};
 ghost use Rattle.oca_device.specs.States.{known_after, state_after};
 ghost use Rattle.oca_device.specs.Events.{Event};
 ghost use Rattle.oca_calls.specs.Calls.{HandleRuns, RefusesBuilding, RefusesClosed};
-ghost use Rattle.oca_calls.specs.Outputs.{WritesLock, WritesObject, WritesPeer, WritesSetting};
+ghost use Rattle.oca_calls.specs.Outputs.{WritesFailing, WritesLock, WritesObject, WritesPeer, WritesSetting};
 
 use oca_calls::answer::Answer;
 use oca_calls::device_handle::DeviceHandle;
 use oca_calls::reading::Reading;
 use std::alloc::Global;
 
-/// Tells how many objects there are, the root counted.
+/// Writes how many objects there are, the root included: 1 to 4,096. Returns `Done`; otherwise `Closed` if the struct
+/// is closed, or `NotStarted` before the start. Then nothing is changed or written.
 #[unsafe(no_mangle)]
 pub extern "C" fn oca_device_objects(
     alloc: Global,
@@ -35,7 +36,10 @@ pub extern "C" fn oca_device_objects(
     answer.number()
 }
 
-/// Tells what the object at an index is, in as many words as there is room for, and its role.
+/// Writes what the object at this index is, counted from 0 at the root in order of adding. To `out` go its number, that
+/// of its container (0 for the root), that of its class (1 to 13) and the size of its role in bytes. Its role goes to
+/// `role`. Each is written as far as there is room. Returns `Done`; otherwise `Closed` if the struct is closed,
+/// `NotStarted` before the start, or `Nothing` after the last object. Then nothing is changed or written.
 #[unsafe(no_mangle)]
 pub extern "C" fn oca_device_object_words(
     alloc: Global,
@@ -59,7 +63,9 @@ pub extern "C" fn oca_device_object_words(
     answer.number()
 }
 
-/// Tells of an object's lock what it keeps other peers from, and its holder.
+/// Writes the kind of an object's lock (1 against all access, 2 against all but reading) and the address (the first
+/// byte highest) and port of its holder. Returns `Done`; otherwise `Closed` if the struct is closed, `NotStarted`
+/// before the start, or `Nothing` if the object is not locked or not there. Then nothing is changed or written.
 #[unsafe(no_mangle)]
 pub extern "C" fn oca_device_lock(
     alloc: Global,
@@ -84,7 +90,33 @@ pub extern "C" fn oca_device_lock(
     answer.number()
 }
 
-/// Reads how an object is set.
+/// Writes whether the hardware of an object refuses to be changed, as `oca_device_set_failing` said last; false before.
+/// Returns `Done`; otherwise `Closed`, `NotStarted` or `NoObject`, and then nothing is changed or written.
+#[unsafe(no_mangle)]
+pub extern "C" fn oca_device_is_failing(
+    alloc: Global,
+    handle: &mut DeviceHandle,
+    ono: u32,
+    failing: &mut bool,
+) -> u32
+    ensures closed { RefusesClosed handle.old.slot.inner handle.new.slot.inner result }
+    ensures building { RefusesBuilding handle.old.slot.inner handle.new.slot.inner result }
+    ensures kept { handle.new.slot.inner ≡ handle.old.slot.inner }
+    ensures writes { (w : DeviceSizes) (T : List Object) (E : List Event) → HandleRuns w handle.old.slot.inner T E →
+        WritesFailing (failing_at (state_after w T E).tree ono) failing.new result }
+    ensures unwritten { (result ≡ 0) ⊎ (failing.new ≡ failing.old) }
+{
+    let Some(behind) = handle.take(alloc) else {
+        return Answer::Closed.number();
+    };
+    let answer = behind.is_failing(ono, failing);
+    handle.put(behind);
+    answer.number()
+}
+
+/// Writes how an object is set: a kind (1 a state, 2 a position, 3 a truth, 4 a number), whether the number is
+/// negative, and its magnitude. Returns `Done`; otherwise `Closed` if the struct is closed, `NotStarted` before the
+/// start, or `Nothing` for a block, and if the object is not there. Then nothing is changed or written.
 #[unsafe(no_mangle)]
 pub extern "C" fn oca_device_setting(
     alloc: Global,
@@ -107,7 +139,8 @@ pub extern "C" fn oca_device_setting(
     answer.number()
 }
 
-/// Tells how many peers have a session.
+/// Writes how many peers have a session: 0 to 64. Returns `Done`; otherwise `Closed` if the struct is closed, or
+/// `NotStarted` before the start. Then nothing is changed or written.
 #[unsafe(no_mangle)]
 pub extern "C" fn oca_device_peers(
     alloc: Global,
@@ -129,7 +162,9 @@ pub extern "C" fn oca_device_peers(
     answer.number()
 }
 
-/// Tells the peer of the session at an index.
+/// Writes the address (the first byte highest) and the port of the peer of the session at this index, counted from 0 in
+/// order of opening. Returns `Done`; otherwise `Closed` if the struct is closed, `NotStarted` before the start, or
+/// `Nothing` after the last session. Then nothing is changed or written.
 #[unsafe(no_mangle)]
 pub extern "C" fn oca_device_peer(
     alloc: Global,

@@ -23,7 +23,11 @@ use oca_calls::spec_words::SpecWords;
 use oca_tree::{Room, TreeBuilder};
 use std::alloc::Global;
 
-/// Opens a device that has its root alone, with what was stored of the root and room for so many objects.
+/// Opens a device that has its root alone (the block 100), with room for so many objects, the root counted: 1 to 4,096.
+/// The root has the label of the struct, and is enabled as the struct says. It takes the memory for the objects.
+/// Returns `Done`; otherwise the first of these that applies, and nothing is changed. `Open` if the struct is open
+/// already. `BadSize` of another room or a struct of another size. `BadText` if the label has more than 64 bytes or is
+/// no UTF-8. `NoMemory` if memory was refused.
 #[unsafe(no_mangle)]
 pub extern "C" fn oca_device_open_with(
     alloc: Global,
@@ -53,7 +57,14 @@ pub extern "C" fn oca_device_open_with(
     }
 }
 
-/// Adds the object that the struct describes, with what was stored of it.
+/// Adds the object that the struct describes, with what was stored of it, to the block `container` under the number
+/// `ono`, before the start. Returns `Done`; otherwise the first of these that applies, and nothing is changed. `Closed`
+/// if the struct is closed, `Started` after the start, `BadSize` of a struct of another size, `BadRange` of more than
+/// 16 positions. Then `BadText` if the role, the label or a name has more than 64 bytes or is no UTF-8, `NoValue` if
+/// the reading is none that an object can have. Then `Full` if there is no room for another object, `Reserved` if the
+/// number is below 4,096, `Taken` if an object has the number. Then `NoSuchBlock` if the container is no block of the
+/// tree, `TooDeep` at depth 9, `BadText` of an empty role. Last `BadRange` if the setting is outside its limits, or a
+/// switch has no position.
 #[unsafe(no_mangle)]
 pub extern "C" fn oca_device_add(
     alloc: Global,
@@ -77,7 +88,10 @@ pub extern "C" fn oca_device_add(
     answer.number()
 }
 
-/// Tells of the object at an index all that an addition of the struct makes of it.
+/// Writes what an addition makes of the object at this index, counted from 0 at the root in order of adding; its lock
+/// is not told. Returns `Done`; otherwise the first of these that applies, and nothing is changed or written. `Closed`
+/// if the struct is closed, `NotStarted` before the start, `BadSize` if the struct does not say its size, `Nothing`
+/// after the last object.
 #[unsafe(no_mangle)]
 pub extern "C" fn oca_device_spec(
     alloc: Global,
@@ -102,7 +116,9 @@ pub extern "C" fn oca_device_spec(
     answer.number()
 }
 
-/// Tells of the object with this number all that an addition of the struct makes of it.
+/// Writes what an addition makes of the object with this number; its lock is not told. Returns `Done`; otherwise the
+/// first of these that applies, and nothing is changed or written. `Closed` if the struct is closed, `NotStarted`
+/// before the start, `BadSize` if the struct does not say its size, `Nothing` if there is no such object.
 #[unsafe(no_mangle)]
 pub extern "C" fn oca_device_spec_of(
     alloc: Global,
@@ -127,7 +143,12 @@ pub extern "C" fn oca_device_spec_of(
     answer.number()
 }
 
-/// Brings what was stored of an object into the struct that says what it is to be.
+/// Brings what was stored of an object into the struct that says what it is to be. It brings the value, the label,
+/// whether the object is enabled, and of a switch the names of its positions and which are enabled. The role, the
+/// limits and whether the object can be locked stay. Returns `Done`; otherwise the first of these that applies, and
+/// nothing is changed. `BadSize` if one of the structs is of another size. `OtherKind` of two classes, or two numbers
+/// of positions. `BadRange` of more than 16 positions. `BadText` if a stored label or name has more than 64 bytes or is
+/// no UTF-8. `OutOfRange` if the stored value is none, or the struct's limits do not allow it.
 #[unsafe(no_mangle)]
 pub extern "C" fn oca_spec_restore(spec: &mut SpecWords, stored: &SpecWords) -> u32
     ensures { (answer : AnswerItself) × (result ≡ answer_number answer) × RestoresSpec answer spec.old stored.now spec.new }

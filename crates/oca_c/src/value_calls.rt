@@ -10,7 +10,9 @@ use oca_calls::value_words::{ReadingWords, RequestWords, ValueWords, class_with}
 use oca_calls::words::put_bytes;
 use oca_model::{Reading, get_request, set_request};
 
-/// Puts what a set method has of a value for its parameter: 1 to 8 bytes.
+/// Encodes a value as the one parameter of a set method: writes its bytes to the front of `out`, and how many they are,
+/// 1 to 8, into `len`. Returns `Done`. Otherwise `NoValue` if the words are those of no value, and then nothing is
+/// written. `TooSmall` if `out` has no room for the bytes, and then only `len` is written.
 #[unsafe(no_mangle)]
 pub extern "C" fn oca_value_put(value: &ValueWords, out: &mut [u8], len: &mut usize) -> u32
     ensures writes { PutsWords value.now out.old out.new len.new result }
@@ -23,7 +25,9 @@ pub extern "C" fn oca_value_put(value: &ValueWords, out: &mut [u8], len: &mut us
     put_bytes(request.params.as_slice(), out, len).number()
 }
 
-/// Reads the parameters of an answer to what reads an object of this class.
+/// Reads the answer to `oca_get_request` of the class with this number: the value with its limits. Returns `Done`;
+/// otherwise `NoValue` if no class has the number, it is that of a block, or the parameters are not exactly such an
+/// answer, and then nothing is written.
 #[unsafe(no_mangle)]
 pub extern "C" fn oca_value_read(
     class_number: u32,
@@ -43,7 +47,8 @@ pub extern "C" fn oca_value_read(
     Answer::Done.number()
 }
 
-/// Tells what sets an object to a value.
+/// Writes the request that sets an object to a value: the method, ParamCount and the parameters. Returns `Done`;
+/// otherwise `NoValue` if the words are those of no value, and then nothing is written.
 #[unsafe(no_mangle)]
 pub extern "C" fn oca_set_request(value: &ValueWords, request: &mut RequestWords) -> u32
     ensures writes { WritesSetOf value.now request.new result }
@@ -56,7 +61,9 @@ pub extern "C" fn oca_set_request(value: &ValueWords, request: &mut RequestWords
     Answer::Done.number()
 }
 
-/// Tells what reads an object of this class.
+/// Writes the request that reads how an object of the class with this number is set: the method, without parameters.
+/// Returns `Done`; otherwise `NoValue` if no class has the number, or it is that of a block, and then nothing is
+/// written.
 #[unsafe(no_mangle)]
 pub extern "C" fn oca_get_request(class_number: u32, request: &mut RequestWords) -> u32
     ensures writes { WritesGetOf class_number request.new result }
@@ -72,7 +79,9 @@ pub extern "C" fn oca_get_request(class_number: u32, request: &mut RequestWords)
     Answer::Done.number()
 }
 
-/// Puts the word for a value: 1 to 20 bytes.
+/// Writes the word for a value, such as `muted` or `-60`, to the front of `out`, and how many bytes it has, 1 to 20,
+/// into `len`. Returns `Done`. Otherwise `NoValue` if the words are those of no value, and then nothing is written.
+/// `TooSmall` if `out` has no room for the word, and then only `len` is written.
 #[unsafe(no_mangle)]
 pub extern "C" fn oca_value_text(value: &ValueWords, out: &mut [u8], len: &mut usize) -> u32
     ensures writes { WritesWordOf value.now out.old out.new len.new result }
@@ -83,7 +92,9 @@ pub extern "C" fn oca_value_text(value: &ValueWords, out: &mut [u8], len: &mut u
     put_word(*value, out, len).number()
 }
 
-/// Tells the value that a word names, of an object of this class.
+/// Writes the value for which a word stands, of an object of the class with this number. The word is one of the class's
+/// words, or an integer of its type in decimal digits with an optional sign. Returns `Done`; otherwise `NoValue` if no
+/// class has the number, it is that of a block, or the word stands for no value of it, and then nothing is written.
 #[unsafe(no_mangle)]
 pub extern "C" fn oca_value_from_text(class_number: u32, text: &[u8], value: &mut ValueWords) -> u32
     ensures writes { WritesNamed class_number text.now value.old value.new result }

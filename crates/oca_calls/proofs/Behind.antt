@@ -1,6 +1,10 @@
 -- What a call makes of what is behind a handle holds of the handle.
-use Rattle.std.proofs.Common.{◌≡◌, ℕ, ◌≤◌, Bool, List, length, map, Option, Some, None, inl, inr, refl}
-use Rattle.std.specs.Prelude.{Result, Ok, Err}
+use Rattle.std.proofs.Common.{◌≡◌, ℕ, ◌≤◌, Bool, List, length, map, Option, Some, None, inl, inr, refl, ap, ◌∙◌, IsUtf8}
+use Rattle.std.specs.Prelude.{Result, Ok, Err, IsSome, IsSomeAnd}
+use Rattle.oca_model.specs.declared.request.Request.{Request}
+use Rattle.oca_model.specs.declared.request.Request.TheVariants as asked
+use Rattle.oca_tree.specs.LocalChanges.{LocalChange, ToLabel}
+use Rattle.oca_calls.specs.declared.answer.Answer.TheVariants as answers
 use Rattle.oca_tree.specs.declared.setting.SetFault.{SetFault}
 use Rattle.std.specs.List.{AllByRecursion}
 use Rattle.oca_tree.specs.declared.builder.Kind.{Kind}
@@ -14,9 +18,9 @@ use Rattle.oca_device.specs.Events.{Event}
 use Rattle.oca_model.specs.declared.value.Value.{Value}
 use Rattle.oca_calls.specs.declared.value_words.ValueWords.{ValueWords}
 use Rattle.oca_calls.specs.CValues.{AreWordsOf}
-use Rattle.oca_calls.specs.FrontCalls.{FrontNumber, HandleSetsEntry, HandleSetsFound, HandleSetsValue, HandleSetsWords, SetsEntry, SetsFrontFound, SetsWords}
+use Rattle.oca_calls.specs.FrontCalls.{ChangesFront, FrontNumber, HandleChanges, HandleLabels, HandleSetsEntry, HandleSetsFound, HandleSetsValue, HandleSetsWords, SetsEntry, SetsFrontFound, SetsWords}
 use Rattle.oca_calls.specs.Numbers.{answer_number}
-use Rattle.oca_calls.specs.Calls.{AddedBy, Builds, HandleBuilds, HandleStarts, RunsBehind, IsName, IsSwitch, Starts, SwitchAddedBy, left_by_start, name_bytes}
+use Rattle.oca_calls.specs.Calls.{AddedBy, Builds, HandleBuilds, HandleRuns, HandleStarts, RunsBehind, IsName, IsSwitch, Starts, SwitchAddedBy, left_by_start, name_bytes}
 
 -- an addition
 pub adds_behind : (old new : Option DeviceBehind) (u u' : DeviceBehind) (number : ℕ) (answer : Answer) (By : Answer → Store → Store → Type 0)
@@ -70,3 +74,30 @@ sets_behind old new u u' number answer ono words o n e k w T E h =
     by : (value : Option Value) → SetsWords w answer u' T E ono value → HandleSetsValue w (answer_number answer) (Some u') T E ono value
     by None (is, runs) = (rw is refl, runs)
     by (Some value) r = found_behind w u' answer ono T E (Ok value) r
+
+-- a change at the front of a label, of whether an object is enabled, of its lock, or of whether its hardware refuses
+pub changes_behind : (old new : Option DeviceBehind) (u u' : DeviceBehind) (number : ℕ) (answer : Answer) (ono : ℕ) (change : LocalChange) (r : Request)
+    → old ≡ Some u → new ≡ Some u' → number ≡ answer_number answer
+    → ((w : DeviceSizes) (T : List Object) (E : List Event) → RunsBehind w u T E → ChangesFront w answer u' T E ono change r)
+    → HandleChanges number old new ono change r
+changes_behind old new u u' number answer ono change r o n e k w T E h =
+    let f = k w T E (rw o at h) in rw (n, e) (f.1, ap answer_number f.0)
+
+there_is : {X : Type 0} (P : X → Type 0) (x : Option X) → IsSomeAnd x P → IsSome x
+there_is P None h = absurd h
+there_is P (Some x) h = refl
+
+-- a label, which the bytes are or not
+pub labels_behind : (old new : Option DeviceBehind) (u u' : DeviceBehind) (number : ℕ) (answer : Answer) (ono : ℕ) (label : List ℕ)
+    → old ≡ Some u → new ≡ Some u' → number ≡ answer_number answer
+    → (IsUtf8 label → (w : DeviceSizes) (T : List Object) (E : List Event) → RunsBehind w u T E → ChangesFront w answer u' T E ono (ToLabel label) (asked.SetLabel label))
+    → ((IsUtf8 label → ⊥) → IsSome u.device → (answer ≡ answers.BadText) × (u' ≡ u))
+    → HandleLabels number old new ono label
+labels_behind old new u u' number answer ono label o n e is other =
+    (λ utf8. changes_behind old new u u' number answer ono (ToLabel label) (asked.SetLabel label) o n e (is utf8), refuses)
+  where
+    refuses : (IsUtf8 label → ⊥) → (w : DeviceSizes) (T : List Object) (E : List Event) → HandleRuns w old T E → (number ≡ 6) × HandleRuns w new T E
+    refuses none w T E h =
+        let runs : RunsBehind w u T E = rw o at h in
+        let f = other none (there_is _ u.device runs.1) in
+        (e ∙ ap answer_number f.0, rw (n, f.1) runs)

@@ -1,7 +1,8 @@
 -- An addition of what was written of an object makes it again.
 use Rattle.std.proofs.Common.{◌≡◌, ℕ, ◌<◌, ◌≤◌, ◌^◌, Bool, true, false, List, [], length, refl, sym, ap, ◌∙◌, subst, arith, ℤ, to_z, inl, inr}
 use Rattle.std.specs.Prelude.{Option, Some, None, IfSome, ◌==◌, if◌then◌else◌, pos, negsuc, ◌≤ℤ◌, FitsSigned}
-use Rattle.std.specs.Int.{w64, cast_unsigned, from_bool}
+use Rattle.std.proofs.lemmas.Int.{ints}
+use Rattle.std.specs.Int.{w8, w16, w32, w64, byte_len, cast_unsigned, from_bool}
 use Rattle.std.specs.Option.{option_and_then, option_map}
 use Rattle.std.proofs.lemmas.Int.{to_z-of_z, to_z_pos}
 use Rattle.std.proofs.Math.Facts.{sfits_widen, to_z_inj, Fits-of_lt}
@@ -13,9 +14,7 @@ use Rattle.oca_model.specs.declared.reading.Ranged.{Ranged}
 use Rattle.oca_model.specs.declared.reading.Reading.{Reading}
 use Rattle.oca_model.specs.declared.reading.Reading.TheVariants as readings
 use Rattle.oca_model.specs.Values.{IsOfItsType, class_of_value}
-use Rattle.oca_tree.proofs.NumberKinds.{same_kind, no_kind}
-use Rattle.oca_tree.specs.declared.object.NumberKind.{NumberKind}
-use Rattle.oca_tree.specs.declared.object.NumberKind.TheVariants as number_kinds
+use Rattle.oca_model.specs.Readings.{All3}
 use Rattle.oca_tree.specs.declared.object.Object.{Object}
 use Rattle.oca_tree.specs.declared.object.Value.{Value as Held}
 use Rattle.oca_tree.specs.declared.object.Value.TheVariants as held
@@ -25,14 +24,13 @@ use Rattle.oca_tree.specs.declared.tree.Setting.{Setting}
 use Rattle.oca_tree.specs.declared.tree.Setting.TheVariants as settings
 use Rattle.oca_tree.specs.Building.{value_of}
 use Rattle.oca_tree.specs.Copies.{DescriptionMakesAgain, Stored, stored_of, flags_in, names_in, names_of_ono, names_of_one}
-use Rattle.oca_tree.specs.Kinds.{number_class, IsOfType}
 use Rattle.oca_tree.specs.Objects.{class_of}
-use Rattle.oca_tree.specs.Readers.{value_setting}
+use Rattle.oca_tree.specs.Readers.{number_setting, reading_setting, value_setting}
 use Rattle.oca_tree.specs.Starts.{flags_of}
 use Rattle.oca_tree.specs.Trees.{IsSoundValue}
 use Rattle.oca_calls.specs.declared.value_words.ReadingWords.{ReadingWords}
 use Rattle.oca_calls.specs.Calls.{IsSwitch, name_bytes}
-use Rattle.oca_calls.specs.CSpecs.{AreSettingWords, GivesKind, HasBits, IsKindOf, WrittenMakesAgain, flags_for, is_yes, position_flags, ranged, reading_of_values, texts_of, int8_in, int16_in, int32_in, int64_in, uint8_in, uint16_in, uint32_in, uint64_in}
+use Rattle.oca_calls.specs.CSpecs.{AreSettingWords, GivesKind, HasBits, IsKindOf, IsNumberWords, WrittenMakesAgain, flags_for, is_yes, position_flags, ranged, reading_of_values, texts_of, int8_in, int16_in, int32_in, int64_in, uint8_in, uint16_in, uint32_in, uint64_in}
 use Rattle.oca_calls.specs.CValues.{AreWordsOf, IsWords, words_of}
 use Rattle.oca_calls.specs.Outputs.{class_number}
 
@@ -76,22 +74,23 @@ words_number c p (Some (settings.Truth truth)) w is = ap (λ (x : ReadingWords).
 words_number c p (Some (settings.Number setting least greatest)) w is = is.0.class_number
 
 mute_setting : (h : Held) (p : ℕ) (w : ReadingWords) → class_of h ≡ class.Mute → AreSettingWords (class_number (class_of h)) p (value_setting h) w → value_setting h ≡ Some (settings.State w.value.bits)
-unfolding class_of value_setting
-mute_setting (held.Mute s) p w e is = ap (λ (x : ReadingWords). Some (settings.State x.value.bits)) (sym is)
-mute_setting (held.Number range) p w e is = absurd (no_kind class.Mute range.kind refl (sym e))
+unfolding class_of value_setting reading_setting
+mute_setting (held.Reads (readings.Mute s)) p w e is = ap (λ (x : ReadingWords). Some (settings.State x.value.bits)) (sym is)
 mute_setting _ p w e is = cc
 
 polarity_setting : (h : Held) (p : ℕ) (w : ReadingWords) → class_of h ≡ class.Polarity → AreSettingWords (class_number (class_of h)) p (value_setting h) w → value_setting h ≡ Some (settings.State w.value.bits)
-unfolding class_of value_setting
-polarity_setting (held.Polarity s) p w e is = ap (λ (x : ReadingWords). Some (settings.State x.value.bits)) (sym is)
-polarity_setting (held.Number range) p w e is = absurd (no_kind class.Polarity range.kind refl (sym e))
+unfolding class_of value_setting reading_setting
+polarity_setting (held.Reads (readings.Polarity s)) p w e is = ap (λ (x : ReadingWords). Some (settings.State x.value.bits)) (sym is)
 polarity_setting _ p w e is = cc
 
-switch_setting : (h : Held) (p : ℕ) (w : ReadingWords) → class_of h ≡ class.Switch → AreSettingWords (class_number (class_of h)) p (value_setting h) w → value_setting h ≡ Some (settings.Position w.value.bits)
-unfolding class_of value_setting
-switch_setting (held.Switch s) p w e is = ap (λ (x : ReadingWords). Some (settings.Position x.value.bits)) (sym is)
-switch_setting (held.Number range) p w e is = absurd (no_kind class.Switch range.kind refl (sym e))
-switch_setting _ p w e is = cc
+true_false : true ≡ false → ⊥
+true_false e = cc
+
+switch_setting : (h : Held) (p : ℕ) (w : ReadingWords) → IsSoundValue h → class_of h ≡ class.Switch → AreSettingWords (class_number (class_of h)) p (value_setting h) w → value_setting h ≡ Some (settings.Position w.value.bits)
+unfolding class_of value_setting reading_setting IsSoundValue
+switch_setting (held.Switch s) p w sound e is = ap (λ (x : ReadingWords). Some (settings.Position x.value.bits)) (sym is)
+switch_setting (held.Reads (readings.Switch r)) p w sound e is = absurd (true_false sound.other)
+switch_setting _ p w sound e is = cc
 
 -- a truth, by its number
 same_truth : (a b : Bool) → from_bool a ≡ from_bool b → a ≡ b
@@ -101,43 +100,81 @@ same_truth false true e = cc
 same_truth false false e = refl
 
 truth_setting : (h : Held) (p : ℕ) (w : ReadingWords) (truth : Bool) → class_of h ≡ class.Boolean → AreSettingWords (class_number (class_of h)) p (value_setting h) w → w.value.bits ≡ from_bool truth → value_setting h ≡ Some (settings.Truth truth)
-unfolding class_of value_setting
-truth_setting (held.Boolean b) p w truth e is f = ap (λ x. Some (settings.Truth x)) (same_truth b truth (sym (ap (λ (x : ReadingWords). x.value.bits) is) ∙ f))
-truth_setting (held.Number range) p w truth e is f = absurd (no_kind class.Boolean range.kind refl (sym e))
+unfolding class_of value_setting reading_setting
+truth_setting (held.Reads (readings.Boolean b)) p w truth e is f = ap (λ x. Some (settings.Truth x)) (same_truth b truth (sym (ap (λ (x : ReadingWords). x.value.bits) is) ∙ f))
 truth_setting _ p w truth e is f = cc
 
 -- how a number is set: three numbers of the type, each by its bits
-record IsNumber (h : Held) (k : NumberKind) (w : ReadingWords) : Type 0 where
+record IsNumber (h : Held) (Fits : ℤ → Type 0) (w : ReadingWords) : Type 0 where
   setting : ℤ
   least : ℤ
   greatest : ℤ
   is : value_setting h ≡ Some (settings.Number setting least greatest)
-  typed : IsOfType k setting
-  typed_least : IsOfType k least
-  typed_greatest : IsOfType k greatest
+  typed : Fits setting
+  typed_least : Fits least
+  typed_greatest : Fits greatest
   bits : HasBits setting w.value.bits
   bits_least : HasBits least w.least.bits
   bits_greatest : HasBits greatest w.greatest.bits
 
-number_setting : (h : Held) (p : ℕ) (w : ReadingWords) (k : NumberKind) → class_of h ≡ number_class k → IsSoundValue h → AreSettingWords (class_number (class_of h)) p (value_setting h) w → IsNumber h k w
-unfolding class_of value_setting IsSoundValue
-number_setting held.Block p w k e sound is = absurd (no_kind class.Block k refl e)
-number_setting (held.Mute s) p w k e sound is = absurd (no_kind class.Mute k refl e)
-number_setting (held.Polarity s) p w k e sound is = absurd (no_kind class.Polarity k refl e)
-number_setting (held.Switch s) p w k e sound is = absurd (no_kind class.Switch k refl e)
-number_setting (held.Boolean b) p w k e sound is = absurd (no_kind class.Boolean k refl e)
-number_setting (held.Number range) p w k e sound is = let same = same_kind range.kind k e in record {
-  setting = range.setting;
-  least = range.least;
-  greatest = range.greatest;
-  is = refl;
-  typed = subst (λ (x : NumberKind). IsOfType x range.setting) same sound.setting;
-  typed_least = subst (λ (x : NumberKind). IsOfType x range.least) same sound.least;
-  typed_greatest = subst (λ (x : NumberKind). IsOfType x range.greatest) same sound.greatest;
+made : {X : Type 0} (number : X → ℤ) (Typed : X → Type 0) (Fits : ℤ → Type 0) → ((x : X) → Typed x → Fits (number x)) → (h : Held) (r : Ranged X) (c : ℕ) (w : ReadingWords)
+    → value_setting h ≡ Some (number_setting number r) → All3 Typed r
+    → IsNumberWords c (number r.setting) w.value × IsNumberWords c (number r.least) w.least × IsNumberWords c (number r.greatest) w.greatest → IsNumber h Fits w
+made number Typed Fits fits h r c w e typed is = record {
+  setting = number r.setting;
+  least = number r.least;
+  greatest = number r.greatest;
+  is = e;
+  typed = fits r.setting typed.setting;
+  typed_least = fits r.least typed.least;
+  typed_greatest = fits r.greatest typed.greatest;
   bits = is.0.bits;
   bits_least = is.1.bits;
   bits_greatest = is.2.bits;
 }
+
+not_below : (n : ℕ) → pos 0 ≤ℤ pos n
+not_below n = omega (arith, ints)
+
+int8_setting : (h : Held) (p : ℕ) (w : ReadingWords) → class_of h ≡ class.Int8 → IsSoundValue h → AreSettingWords (class_number (class_of h)) p (value_setting h) w → IsNumber h (FitsSigned w8) w
+unfolding class_of value_setting reading_setting IsSoundValue
+int8_setting (held.Reads (readings.Int8 r)) p w e sound is = made (λ z. z) (FitsSigned w8) (FitsSigned w8) (λ z f. f) (held.Reads (readings.Int8 r)) r _ w refl sound.typed is
+int8_setting _ p w e sound is = let no : ⊥ = cc in absurd no
+
+int16_setting : (h : Held) (p : ℕ) (w : ReadingWords) → class_of h ≡ class.Int16 → IsSoundValue h → AreSettingWords (class_number (class_of h)) p (value_setting h) w → IsNumber h (FitsSigned w16) w
+unfolding class_of value_setting reading_setting IsSoundValue
+int16_setting (held.Reads (readings.Int16 r)) p w e sound is = made (λ z. z) (FitsSigned w16) (FitsSigned w16) (λ z f. f) (held.Reads (readings.Int16 r)) r _ w refl sound.typed is
+int16_setting _ p w e sound is = let no : ⊥ = cc in absurd no
+
+int32_setting : (h : Held) (p : ℕ) (w : ReadingWords) → class_of h ≡ class.Int32 → IsSoundValue h → AreSettingWords (class_number (class_of h)) p (value_setting h) w → IsNumber h (FitsSigned w32) w
+unfolding class_of value_setting reading_setting IsSoundValue
+int32_setting (held.Reads (readings.Int32 r)) p w e sound is = made (λ z. z) (FitsSigned w32) (FitsSigned w32) (λ z f. f) (held.Reads (readings.Int32 r)) r _ w refl sound.typed is
+int32_setting _ p w e sound is = let no : ⊥ = cc in absurd no
+
+int64_setting : (h : Held) (p : ℕ) (w : ReadingWords) → class_of h ≡ class.Int64 → IsSoundValue h → AreSettingWords (class_number (class_of h)) p (value_setting h) w → IsNumber h (FitsSigned w64) w
+unfolding class_of value_setting reading_setting IsSoundValue
+int64_setting (held.Reads (readings.Int64 r)) p w e sound is = made (λ z. z) (FitsSigned w64) (FitsSigned w64) (λ z f. f) (held.Reads (readings.Int64 r)) r _ w refl sound.typed is
+int64_setting _ p w e sound is = let no : ⊥ = cc in absurd no
+
+uint8_setting : (h : Held) (p : ℕ) (w : ReadingWords) → class_of h ≡ class.Uint8 → IsSoundValue h → AreSettingWords (class_number (class_of h)) p (value_setting h) w → IsNumber h (λ z. pos 0 ≤ℤ z) w
+unfolding class_of value_setting reading_setting IsSoundValue
+uint8_setting (held.Reads (readings.Uint8 r)) p w e sound is = made pos (λ n. n < 256 ^ byte_len w8) (λ z. pos 0 ≤ℤ z) (λ n f. not_below n) (held.Reads (readings.Uint8 r)) r _ w refl sound.typed is
+uint8_setting _ p w e sound is = let no : ⊥ = cc in absurd no
+
+uint16_setting : (h : Held) (p : ℕ) (w : ReadingWords) → class_of h ≡ class.Uint16 → IsSoundValue h → AreSettingWords (class_number (class_of h)) p (value_setting h) w → IsNumber h (λ z. pos 0 ≤ℤ z) w
+unfolding class_of value_setting reading_setting IsSoundValue
+uint16_setting (held.Reads (readings.Uint16 r)) p w e sound is = made pos (λ n. n < 256 ^ byte_len w16) (λ z. pos 0 ≤ℤ z) (λ n f. not_below n) (held.Reads (readings.Uint16 r)) r _ w refl sound.typed is
+uint16_setting _ p w e sound is = let no : ⊥ = cc in absurd no
+
+uint32_setting : (h : Held) (p : ℕ) (w : ReadingWords) → class_of h ≡ class.Uint32 → IsSoundValue h → AreSettingWords (class_number (class_of h)) p (value_setting h) w → IsNumber h (λ z. pos 0 ≤ℤ z) w
+unfolding class_of value_setting reading_setting IsSoundValue
+uint32_setting (held.Reads (readings.Uint32 r)) p w e sound is = made pos (λ n. n < 256 ^ byte_len w32) (λ z. pos 0 ≤ℤ z) (λ n f. not_below n) (held.Reads (readings.Uint32 r)) r _ w refl sound.typed is
+uint32_setting _ p w e sound is = let no : ⊥ = cc in absurd no
+
+uint64_setting : (h : Held) (p : ℕ) (w : ReadingWords) → class_of h ≡ class.Uint64 → IsSoundValue h → AreSettingWords (class_number (class_of h)) p (value_setting h) w → IsNumber h (λ z. pos 0 ≤ℤ z) w
+unfolding class_of value_setting reading_setting IsSoundValue
+uint64_setting (held.Reads (readings.Uint64 r)) p w e sound is = made pos (λ n. n < 256 ^ byte_len w64) (λ z. pos 0 ≤ℤ z) (λ n f. not_below n) (held.Reads (readings.Uint64 r)) r _ w refl sound.typed is
+uint64_setting _ p w e sound is = let no : ⊥ = cc in absurd no
 
 -- ---- numbers by their bits
 
@@ -225,10 +262,6 @@ abbrev has_positions : Class → Bool
 has_positions class.Switch = true
 has_positions _ = false
 
-number_has_none : (k : NumberKind) → has_positions (number_class k) ≡ false
-number_has_none number_kinds.Int8 = refl
-number_has_none _ = refl
-
 nameless : (h : Held) → has_positions (class_of h) ≡ false → names_in h ≡ []
 unfolding class_of names_in
 nameless (held.Switch s) e = cc
@@ -244,7 +277,7 @@ plain_same u h c none cu ch s = record {
 block_setting : (h : Held) → class_of h ≡ class.Block → None ≡ value_setting h
 unfolding class_of value_setting
 block_setting held.Block e = refl
-block_setting (held.Number range) e = absurd (no_kind class.Block range.kind refl (sym e))
+block_setting (held.Reads (readings.Mute s)) e = cc
 block_setting _ e = cc
 
 switch_is : (kind : Kind) (texts : List (List ℕ)) (n : ℕ) → IsSwitch kind texts n
@@ -259,34 +292,34 @@ module _ (h : Held) (p : ℕ) (w : ReadingWords) (texts : List (List ℕ)) (kind
 
   same_of : (v : Value) (l g : Option Value) (r : Reading) → IsOfItsType v → IsWords v w.value → AreWordsOf w.least l → AreWordsOf w.greatest g
       → Some r ≡ reading_of_values (Some v) l g → IsKindOf kind r texts → Same (value_of kind) h
-  unfolding value_of class_of value_setting names_in
+  unfolding value_of class_of value_setting reading_setting names_in
   same_of (values.Mute s) l g r typed words lw gw e k =
       let c : class_of h ≡ class.Mute = class_is class.Mute words.0 in
       let q : r ≡ readings.Mute s = cc in
       let is_kind : kind ≡ kinds.Mute s = subst (λ (y : Reading). IsKindOf kind y texts) q k in
-      subst (λ (y : Kind). Same (value_of y) h) (sym is_kind) (plain_same (held.Mute s) h class.Mute refl refl c (ap (λ y. Some (settings.State y)) (sym words.1) ∙ sym (mute_setting h p w c is)))
+      subst (λ (y : Kind). Same (value_of y) h) (sym is_kind) (plain_same (held.Reads (readings.Mute s)) h class.Mute refl refl c (ap (λ y. Some (settings.State y)) (sym words.1) ∙ sym (mute_setting h p w c is)))
   same_of (values.Polarity s) l g r typed words lw gw e k =
       let c : class_of h ≡ class.Polarity = class_is class.Polarity words.0 in
       let q : r ≡ readings.Polarity s = cc in
       let is_kind : kind ≡ kinds.Polarity s = subst (λ (y : Reading). IsKindOf kind y texts) q k in
-      subst (λ (y : Kind). Same (value_of y) h) (sym is_kind) (plain_same (held.Polarity s) h class.Polarity refl refl c (ap (λ y. Some (settings.State y)) (sym words.1) ∙ sym (polarity_setting h p w c is)))
+      subst (λ (y : Kind). Same (value_of y) h) (sym is_kind) (plain_same (held.Reads (readings.Polarity s)) h class.Polarity refl refl c (ap (λ y. Some (settings.State y)) (sym words.1) ∙ sym (polarity_setting h p w c is)))
   same_of (values.Switch n) l g r typed words lw gw e k =
       let c : class_of h ≡ class.Switch = class_is class.Switch words.0 in
       let q : r ≡ readings.Switch (record { setting = n; least = n; greatest = n }) = cc in
       let s = switch_is kind texts n (subst (λ (y : Reading). IsKindOf kind y texts) q k) in
       record {
         of_class = s.0 ∙ sym c;
-        set_so = s.1 ∙ ap (λ y. Some (settings.Position y)) (sym words.1) ∙ sym (switch_setting h p w c is);
+        set_so = s.1 ∙ ap (λ y. Some (settings.Position y)) (sym words.1) ∙ sym (switch_setting h p w sound c is);
         named_so = s.2 ∙ named;
       }
   same_of (values.Boolean b) l g r typed words lw gw e k =
       let c : class_of h ≡ class.Boolean = class_is class.Boolean words.0 in
       let q : r ≡ readings.Boolean b = cc in
       let is_kind : kind ≡ kinds.Boolean b = subst (λ (y : Reading). IsKindOf kind y texts) q k in
-      subst (λ (y : Kind). Same (value_of y) h) (sym is_kind) (plain_same (held.Boolean b) h class.Boolean refl refl c (sym (truth_setting h p w b c is words.1)))
+      subst (λ (y : Kind). Same (value_of y) h) (sym is_kind) (plain_same (held.Reads (readings.Boolean b)) h class.Boolean refl refl c (sym (truth_setting h p w b c is words.1)))
   same_of (values.Int8 n) l g r typed words lw gw e k =
       let c : class_of h ≡ class.Int8 = class_is class.Int8 words.0 in
-      let m = number_setting h p w number_kinds.Int8 c sound is in
+      let m = int8_setting h p w c sound is in
       let q = ranged_back readings.Int8 n (int8_in l) (int8_in g) r e in
       let lo = subst (AreWordsOf w.least) (int8_back l q.0 q.2) lw in
       let hi = subst (AreWordsOf w.greatest) (int8_back g q.1 q.3) gw in
@@ -299,7 +332,7 @@ module _ (h : Held) (p : ℕ) (w : ReadingWords) (texts : List (List ℕ)) (kind
       subst (λ (y : Kind). Same (value_of y) h) (sym is_kind) (plain_same (value_of (kinds.Int8 n q.0 q.1)) h class.Int8 refl refl c set)
   same_of (values.Int16 n) l g r typed words lw gw e k =
       let c : class_of h ≡ class.Int16 = class_is class.Int16 words.0 in
-      let m = number_setting h p w number_kinds.Int16 c sound is in
+      let m = int16_setting h p w c sound is in
       let q = ranged_back readings.Int16 n (int16_in l) (int16_in g) r e in
       let lo = subst (AreWordsOf w.least) (int16_back l q.0 q.2) lw in
       let hi = subst (AreWordsOf w.greatest) (int16_back g q.1 q.3) gw in
@@ -312,7 +345,7 @@ module _ (h : Held) (p : ℕ) (w : ReadingWords) (texts : List (List ℕ)) (kind
       subst (λ (y : Kind). Same (value_of y) h) (sym is_kind) (plain_same (value_of (kinds.Int16 n q.0 q.1)) h class.Int16 refl refl c set)
   same_of (values.Int32 n) l g r typed words lw gw e k =
       let c : class_of h ≡ class.Int32 = class_is class.Int32 words.0 in
-      let m = number_setting h p w number_kinds.Int32 c sound is in
+      let m = int32_setting h p w c sound is in
       let q = ranged_back readings.Int32 n (int32_in l) (int32_in g) r e in
       let lo = subst (AreWordsOf w.least) (int32_back l q.0 q.2) lw in
       let hi = subst (AreWordsOf w.greatest) (int32_back g q.1 q.3) gw in
@@ -325,7 +358,7 @@ module _ (h : Held) (p : ℕ) (w : ReadingWords) (texts : List (List ℕ)) (kind
       subst (λ (y : Kind). Same (value_of y) h) (sym is_kind) (plain_same (value_of (kinds.Int32 n q.0 q.1)) h class.Int32 refl refl c set)
   same_of (values.Int64 n) l g r typed words lw gw e k =
       let c : class_of h ≡ class.Int64 = class_is class.Int64 words.0 in
-      let m = number_setting h p w number_kinds.Int64 c sound is in
+      let m = int64_setting h p w c sound is in
       let q = ranged_back readings.Int64 n (int64_in l) (int64_in g) r e in
       let lo = subst (AreWordsOf w.least) (int64_back l q.0 q.2) lw in
       let hi = subst (AreWordsOf w.greatest) (int64_back g q.1 q.3) gw in
@@ -338,54 +371,54 @@ module _ (h : Held) (p : ℕ) (w : ReadingWords) (texts : List (List ℕ)) (kind
       subst (λ (y : Kind). Same (value_of y) h) (sym is_kind) (plain_same (value_of (kinds.Int64 n q.0 q.1)) h class.Int64 refl refl c set)
   same_of (values.Uint8 n) l g r typed words lw gw e k =
       let c : class_of h ≡ class.Uint8 = class_is class.Uint8 words.0 in
-      let m = number_setting h p w number_kinds.Uint8 c sound is in
+      let m = uint8_setting h p w c sound is in
       let q = ranged_back readings.Uint8 n (uint8_in l) (uint8_in g) r e in
       let lo = subst (AreWordsOf w.least) (uint8_back l q.0 q.2) lw in
       let hi = subst (AreWordsOf w.greatest) (uint8_back g q.1 q.3) gw in
       let is_kind : kind ≡ kinds.Uint8 n q.0 q.1 = subst (λ (y : Reading). IsKindOf kind y texts) q.4 k in
       let set : value_setting (value_of (kinds.Uint8 n q.0 q.1)) ≡ value_setting h =
-      ap (λ y. Some (settings.Number y (pos q.0) (pos q.1))) (unsigned_same m.setting n w.value.bits m.typed.0 (fits_w8 n typed) m.bits words.1)
-      ∙ ap (λ y. Some (settings.Number m.setting y (pos q.1))) (unsigned_same m.least q.0 w.least.bits m.typed_least.0 (fits_w8 q.0 lo.0) m.bits_least lo.1.1)
-      ∙ ap (λ y. Some (settings.Number m.setting m.least y)) (unsigned_same m.greatest q.1 w.greatest.bits m.typed_greatest.0 (fits_w8 q.1 hi.0) m.bits_greatest hi.1.1)
+      ap (λ y. Some (settings.Number y (pos q.0) (pos q.1))) (unsigned_same m.setting n w.value.bits m.typed (fits_w8 n typed) m.bits words.1)
+      ∙ ap (λ y. Some (settings.Number m.setting y (pos q.1))) (unsigned_same m.least q.0 w.least.bits m.typed_least (fits_w8 q.0 lo.0) m.bits_least lo.1.1)
+      ∙ ap (λ y. Some (settings.Number m.setting m.least y)) (unsigned_same m.greatest q.1 w.greatest.bits m.typed_greatest (fits_w8 q.1 hi.0) m.bits_greatest hi.1.1)
       ∙ sym m.is in
       subst (λ (y : Kind). Same (value_of y) h) (sym is_kind) (plain_same (value_of (kinds.Uint8 n q.0 q.1)) h class.Uint8 refl refl c set)
   same_of (values.Uint16 n) l g r typed words lw gw e k =
       let c : class_of h ≡ class.Uint16 = class_is class.Uint16 words.0 in
-      let m = number_setting h p w number_kinds.Uint16 c sound is in
+      let m = uint16_setting h p w c sound is in
       let q = ranged_back readings.Uint16 n (uint16_in l) (uint16_in g) r e in
       let lo = subst (AreWordsOf w.least) (uint16_back l q.0 q.2) lw in
       let hi = subst (AreWordsOf w.greatest) (uint16_back g q.1 q.3) gw in
       let is_kind : kind ≡ kinds.Uint16 n q.0 q.1 = subst (λ (y : Reading). IsKindOf kind y texts) q.4 k in
       let set : value_setting (value_of (kinds.Uint16 n q.0 q.1)) ≡ value_setting h =
-      ap (λ y. Some (settings.Number y (pos q.0) (pos q.1))) (unsigned_same m.setting n w.value.bits m.typed.0 (fits_w16 n typed) m.bits words.1)
-      ∙ ap (λ y. Some (settings.Number m.setting y (pos q.1))) (unsigned_same m.least q.0 w.least.bits m.typed_least.0 (fits_w16 q.0 lo.0) m.bits_least lo.1.1)
-      ∙ ap (λ y. Some (settings.Number m.setting m.least y)) (unsigned_same m.greatest q.1 w.greatest.bits m.typed_greatest.0 (fits_w16 q.1 hi.0) m.bits_greatest hi.1.1)
+      ap (λ y. Some (settings.Number y (pos q.0) (pos q.1))) (unsigned_same m.setting n w.value.bits m.typed (fits_w16 n typed) m.bits words.1)
+      ∙ ap (λ y. Some (settings.Number m.setting y (pos q.1))) (unsigned_same m.least q.0 w.least.bits m.typed_least (fits_w16 q.0 lo.0) m.bits_least lo.1.1)
+      ∙ ap (λ y. Some (settings.Number m.setting m.least y)) (unsigned_same m.greatest q.1 w.greatest.bits m.typed_greatest (fits_w16 q.1 hi.0) m.bits_greatest hi.1.1)
       ∙ sym m.is in
       subst (λ (y : Kind). Same (value_of y) h) (sym is_kind) (plain_same (value_of (kinds.Uint16 n q.0 q.1)) h class.Uint16 refl refl c set)
   same_of (values.Uint32 n) l g r typed words lw gw e k =
       let c : class_of h ≡ class.Uint32 = class_is class.Uint32 words.0 in
-      let m = number_setting h p w number_kinds.Uint32 c sound is in
+      let m = uint32_setting h p w c sound is in
       let q = ranged_back readings.Uint32 n (uint32_in l) (uint32_in g) r e in
       let lo = subst (AreWordsOf w.least) (uint32_back l q.0 q.2) lw in
       let hi = subst (AreWordsOf w.greatest) (uint32_back g q.1 q.3) gw in
       let is_kind : kind ≡ kinds.Uint32 n q.0 q.1 = subst (λ (y : Reading). IsKindOf kind y texts) q.4 k in
       let set : value_setting (value_of (kinds.Uint32 n q.0 q.1)) ≡ value_setting h =
-      ap (λ y. Some (settings.Number y (pos q.0) (pos q.1))) (unsigned_same m.setting n w.value.bits m.typed.0 (fits_w32 n typed) m.bits words.1)
-      ∙ ap (λ y. Some (settings.Number m.setting y (pos q.1))) (unsigned_same m.least q.0 w.least.bits m.typed_least.0 (fits_w32 q.0 lo.0) m.bits_least lo.1.1)
-      ∙ ap (λ y. Some (settings.Number m.setting m.least y)) (unsigned_same m.greatest q.1 w.greatest.bits m.typed_greatest.0 (fits_w32 q.1 hi.0) m.bits_greatest hi.1.1)
+      ap (λ y. Some (settings.Number y (pos q.0) (pos q.1))) (unsigned_same m.setting n w.value.bits m.typed (fits_w32 n typed) m.bits words.1)
+      ∙ ap (λ y. Some (settings.Number m.setting y (pos q.1))) (unsigned_same m.least q.0 w.least.bits m.typed_least (fits_w32 q.0 lo.0) m.bits_least lo.1.1)
+      ∙ ap (λ y. Some (settings.Number m.setting m.least y)) (unsigned_same m.greatest q.1 w.greatest.bits m.typed_greatest (fits_w32 q.1 hi.0) m.bits_greatest hi.1.1)
       ∙ sym m.is in
       subst (λ (y : Kind). Same (value_of y) h) (sym is_kind) (plain_same (value_of (kinds.Uint32 n q.0 q.1)) h class.Uint32 refl refl c set)
   same_of (values.Uint64 n) l g r typed words lw gw e k =
       let c : class_of h ≡ class.Uint64 = class_is class.Uint64 words.0 in
-      let m = number_setting h p w number_kinds.Uint64 c sound is in
+      let m = uint64_setting h p w c sound is in
       let q = ranged_back readings.Uint64 n (uint64_in l) (uint64_in g) r e in
       let lo = subst (AreWordsOf w.least) (uint64_back l q.0 q.2) lw in
       let hi = subst (AreWordsOf w.greatest) (uint64_back g q.1 q.3) gw in
       let is_kind : kind ≡ kinds.Uint64 n q.0 q.1 = subst (λ (y : Reading). IsKindOf kind y texts) q.4 k in
       let set : value_setting (value_of (kinds.Uint64 n q.0 q.1)) ≡ value_setting h =
-      ap (λ y. Some (settings.Number y (pos q.0) (pos q.1))) (unsigned_same m.setting n w.value.bits m.typed.0 (fits_w64 n typed) m.bits words.1)
-      ∙ ap (λ y. Some (settings.Number m.setting y (pos q.1))) (unsigned_same m.least q.0 w.least.bits m.typed_least.0 (fits_w64 q.0 lo.0) m.bits_least lo.1.1)
-      ∙ ap (λ y. Some (settings.Number m.setting m.least y)) (unsigned_same m.greatest q.1 w.greatest.bits m.typed_greatest.0 (fits_w64 q.1 hi.0) m.bits_greatest hi.1.1)
+      ap (λ y. Some (settings.Number y (pos q.0) (pos q.1))) (unsigned_same m.setting n w.value.bits m.typed (fits_w64 n typed) m.bits words.1)
+      ∙ ap (λ y. Some (settings.Number m.setting y (pos q.1))) (unsigned_same m.least q.0 w.least.bits m.typed_least (fits_w64 q.0 lo.0) m.bits_least lo.1.1)
+      ∙ ap (λ y. Some (settings.Number m.setting m.least y)) (unsigned_same m.greatest q.1 w.greatest.bits m.typed_greatest (fits_w64 q.1 hi.0) m.bits_greatest hi.1.1)
       ∙ sym m.is in
       subst (λ (y : Kind). Same (value_of y) h) (sym is_kind) (plain_same (value_of (kinds.Uint64 n q.0 q.1)) h class.Uint64 refl refl c set)
 
@@ -414,25 +447,22 @@ unfolding class_of flags_in
 flags_in_none (held.Switch s) e = cc
 flags_in_none _ e = refl
 
-true_false : true ≡ false → ⊥
-true_false e = cc
-
-flags_in_some : (h : Held) → has_positions (class_of h) ≡ true → (xs : List Bool) × (flags_in h ≡ Some xs)
-unfolding class_of flags_in
-flags_in_some (held.Switch s) e = (s.enableds.items, refl)
-flags_in_some (held.Number range) e = absurd (true_false (sym e ∙ number_has_none range.kind))
-flags_in_some _ e = cc
+flags_in_some : (h : Held) → IsSoundValue h → has_positions (class_of h) ≡ true → (xs : List Bool) × (flags_in h ≡ Some xs)
+unfolding class_of flags_in IsSoundValue
+flags_in_some (held.Switch s) sound e = (s.enableds.items, refl)
+flags_in_some (held.Reads (readings.Switch r)) sound e = absurd (true_false sound.other)
+flags_in_some _ sound e = cc
 
 some_flags : (flags : Option (List Bool)) (xs mine : List Bool) → Some xs ≡ flags → IfSome flags (λ them. them ≡ mine) → Some mine ≡ flags
 some_flags None xs mine g f = cc
 some_flags (Some them) xs mine g f = ap Some (sym f)
 
-flags_same : (kind : Kind) (h : Held) (flags : Option (List Bool)) (mine : List Bool) → class_of (value_of kind) ≡ class_of h → flags_in h ≡ flags
+flags_same : (kind : Kind) (h : Held) → IsSoundValue h → (flags : Option (List Bool)) (mine : List Bool) → class_of (value_of kind) ≡ class_of h → flags_in h ≡ flags
     → IfSome flags (λ them. them ≡ mine) → flags_for kind mine ≡ flags
-flags_same kind h flags mine same e f = by (has_positions (class_of h)) refl
+flags_same kind h sound flags mine same e f = by (has_positions (class_of h)) refl
   where
     by : (b : Bool) → has_positions (class_of h) ≡ b → flags_for kind mine ≡ flags
-    by true t = let x = flags_in_some h t in flags_for_some kind mine (ap has_positions same ∙ t) ∙ some_flags flags x.0 mine (sym x.1 ∙ e) f
+    by true t = let x = flags_in_some h sound t in flags_for_some kind mine (ap has_positions same ∙ t) ∙ some_flags flags x.0 mine (sym x.1 ∙ e) f
     by false t = flags_for_none kind mine (ap has_positions same ∙ t) ∙ sym (flags_in_none h t) ∙ e
 
 -- ---- the law
@@ -459,6 +489,6 @@ written_again law tree o w spec start found sound is gives starts =
       names = k.named_so;
       stored = ap (λ x. stored_with x start.enabled (flags_of start)) starts.label
           ∙ ap (λ x. stored_with (name_bytes w.label) x (flags_of start)) starts.enabled
-          ∙ ap (stored_with (name_bytes w.label) (is_yes w.enabled)) (starts.flags ∙ flags_same spec.kind o.value is.stored.0 (position_flags w) k.of_class (ap (λ (x : Stored). x.flags) stored) is.stored.2)
+          ∙ ap (stored_with (name_bytes w.label) (is_yes w.enabled)) (starts.flags ∙ flags_same spec.kind o.value sound is.stored.0 (position_flags w) k.of_class (ap (λ (x : Stored). x.flags) stored) is.stored.2)
           ∙ sym stored;
     })

@@ -323,8 +323,9 @@ WritesSpec tree info old new number =
 
 -- ---- an addition of what was written
 
--- AN ADDITION OF WHAT WAS WRITTEN of an object of a tree makes the same object again, but for its lock: so say the
--- Spec and the Start that the struct gives, into the same container and under the same number.
+-- AN ADDITION OF WHAT WAS WRITTEN of an object of a tree makes the same object again, but not locked and with hardware
+-- that does not refuse: so say the Spec and the Start that the struct gives, into the same container and under the same
+-- number.
 abbrev pub WrittenMakesAgain : Type 0
 WrittenMakesAgain = (tree : List Object) (o : Object) (w : SpecWords) (spec : Spec) (start : Start) →
     object_of tree o.ono.0 ≡ Some o → IsSoundValue o.value → IsSpecOf tree (info_of o) w →

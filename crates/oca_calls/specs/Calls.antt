@@ -18,6 +18,7 @@ use Rattle.oca_model.specs.declared.value.PolarityState.TheVariants as polaritie
 use Rattle.oca_tree.specs.Building.{Adds, root}
 use Rattle.oca_tree.specs.Objects.{Store}
 use Rattle.oca_tree.specs.Settings.{set_fault}
+use Rattle.oca_tree.specs.LocalChanges.{ToValue}
 use Rattle.oca_device.specs.Devices.{Represents}
 use Rattle.oca_device.specs.Events.{Event, Local}
 use Rattle.oca_device.specs.Outboxes.{KeptPackets, first_packets}
@@ -171,18 +172,7 @@ IsName name = (name.size ≤ 64) × IsUtf8 (name_bytes name)
 -- a switch with these names of positions, at this position
 abbrev pub IsSwitch : Kind → List (List ℕ) → ℕ → Type 0
 IsSwitch (kinds.Switch names at) texts position = (map (λ name. name.now) names.now ≡ texts) × (at ≡ position)
-IsSwitch kinds.Block texts position = ⊥
-IsSwitch (kinds.Mute _) texts position = ⊥
-IsSwitch (kinds.Polarity _) texts position = ⊥
-IsSwitch (kinds.Boolean _) texts position = ⊥
-IsSwitch (kinds.Int8 _ _ _) texts position = ⊥
-IsSwitch (kinds.Int16 _ _ _) texts position = ⊥
-IsSwitch (kinds.Int32 _ _ _) texts position = ⊥
-IsSwitch (kinds.Int64 _ _ _) texts position = ⊥
-IsSwitch (kinds.Uint8 _ _ _) texts position = ⊥
-IsSwitch (kinds.Uint16 _ _ _) texts position = ⊥
-IsSwitch (kinds.Uint32 _ _ _) texts position = ⊥
-IsSwitch (kinds.Uint64 _ _ _) texts position = ⊥
+IsSwitch _ texts position = ⊥
 
 -- An addition of a switch answered this: bad range, where it has more than 16 names; bad text, where one is no name;
 -- neither changes anything; else as the addition of a switch with the texts of these names.
@@ -218,5 +208,5 @@ set_answers (Some fault) = set_answer fault
 abbrev pub HandleSets : ℕ → Option DeviceBehind → Option DeviceBehind → ℕ → Value → Type 0
 HandleSets number old new ono value =
     (w : DeviceSizes) (tree : List Object) (events : List Event) → HandleRuns w old tree events →
-    HandleRuns w new tree (Local ono value ∷ events)
+    HandleRuns w new tree (Local ono (ToValue value) ∷ events)
     × (number ≡ answer_number (set_answers (set_fault (state_after w tree events).tree ono value)))

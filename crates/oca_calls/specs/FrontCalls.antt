@@ -1,8 +1,11 @@
--- What C sets at the local front panel of a device: a value; or a state or an integer, without its class.
-use Rattle.std.specs.Prelude.{◌≡◌, ℕ, ℤ, Bool, true, false, List, ◌∷◌, Option, Some, None, Result, Ok, Err}
+-- What C sets at the local front panel of a device: a value; or a state or an integer, without its class; a label,
+-- whether an object is enabled, that no lock is on it, or whether its hardware refuses to be changed.
+use Rattle.std.specs.Prelude.{◌≡◌, IsUtf8, ℕ, ℤ, Bool, true, false, List, ◌∷◌, Option, Some, None, Result, Ok, Err}
 use Rattle.oca_types.specs.declared.class.Class.{Class}
 use Rattle.oca_types.specs.declared.class.Class.TheVariants as classes
 use Rattle.oca_types.specs.Sizes.{DeviceSizes}
+use Rattle.oca_model.specs.declared.request.Request.{Request}
+use Rattle.oca_model.specs.declared.request.Request.TheVariants as asked
 use Rattle.oca_model.specs.declared.value.Value.{Value}
 use Rattle.oca_model.specs.ValueNumbers.{integer_in, state_in, IsValueWith}
 use Rattle.oca_tree.specs.declared.object.Object.{Object}
@@ -10,13 +13,15 @@ use Rattle.oca_tree.specs.declared.setting.SetFault.{SetFault}
 use Rattle.oca_tree.specs.declared.setting.SetFault.TheVariants as faults
 use Rattle.oca_tree.specs.Readers.{class_of_ono}
 use Rattle.oca_tree.specs.Settings.{set_fault}
+use Rattle.oca_tree.specs.LocalChanges.{LocalChange, ToValue, ToLabel, front_fault}
+use Rattle.oca_tree.specs.declared.front.FrontFault.{FrontFault}
 use Rattle.oca_device.specs.Events.{Event, Local}
 use Rattle.oca_device.specs.States.{state_after}
 use Rattle.oca_calls.specs.declared.answer.Answer.{Answer}
 use Rattle.oca_calls.specs.declared.answer.Answer.TheVariants as answers
 use Rattle.oca_calls.specs.declared.device.DeviceBehind.{DeviceBehind}
 use Rattle.oca_calls.specs.declared.value_words.ValueWords.{ValueWords}
-use Rattle.oca_calls.specs.Numbers.{answer_number, set_answer}
+use Rattle.oca_calls.specs.Numbers.{answer_number, front_answer, set_answer}
 use Rattle.oca_calls.specs.Calls.{HandleRuns, RunsBehind, set_answers}
 use Rattle.oca_calls.specs.CValues.{AreWordsOf}
 
@@ -65,7 +70,7 @@ abbrev pub SetsFrontFound :
 SetsFrontFound w answer new tree events ono (Err fault) = (answer ≡ set_answer fault) × RunsBehind w new tree events
 SetsFrontFound w answer new tree events ono (Ok value) =
     (answer ≡ set_answers (set_fault (state_after w tree events).tree ono value))
-    × RunsBehind w new tree (Local ono value ∷ events)
+    × RunsBehind w new tree (Local ono (ToValue value) ∷ events)
 
 -- A DEVICE IS SET BY AN ENTRY: to the value that it is at the object.
 abbrev pub SetsEntry : DeviceSizes → Answer → DeviceBehind → List Object → List Event → ℕ → FrontNumber → Type 0
@@ -86,7 +91,7 @@ HandleSetsFound w number new tree events ono (Err fault) =
     (number ≡ answer_number (set_answer fault)) × HandleRuns w new tree events
 HandleSetsFound w number new tree events ono (Ok value) =
     (number ≡ answer_number (set_answers (set_fault (state_after w tree events).tree ono value)))
-    × HandleRuns w new tree (Local ono value ∷ events)
+    × HandleRuns w new tree (Local ono (ToValue value) ∷ events)
 
 abbrev pub HandleIsSet : DeviceSizes → ℕ → Option DeviceBehind → List Object → List Event → ℕ → FrontNumber → Type 0
 HandleIsSet w number new tree events ono entry =
@@ -109,3 +114,30 @@ abbrev pub HandleSetsWords : ℕ → Option DeviceBehind → Option DeviceBehind
 HandleSetsWords number old new ono words =
     (w : DeviceSizes) (tree : List Object) (events : List Event) → HandleRuns w old tree events →
     (value : Option Value) × AreWordsOf words value × HandleSetsValue w number new tree events ono value
+
+-- ---- a label, whether it is enabled, its lock, whether its hardware refuses
+
+abbrev pub front_answers : Option FrontFault → Answer
+front_answers None = answers.Done
+front_answers (Some fault) = front_answer fault
+
+-- A device was changed at its front, with this answer. A change that is refused changes nothing.
+abbrev pub ChangesFront :
+    DeviceSizes → Answer → DeviceBehind → List Object → List Event → ℕ → LocalChange → Request → Type 0
+ChangesFront w answer new tree events ono change r =
+    (answer ≡ front_answers (front_fault (state_after w tree events).tree ono r))
+    × RunsBehind w new tree (Local ono change ∷ events)
+
+-- The same behind an open handle.
+abbrev pub HandleChanges : ℕ → Option DeviceBehind → Option DeviceBehind → ℕ → LocalChange → Request → Type 0
+HandleChanges number old new ono change r =
+    (w : DeviceSizes) (tree : List Object) (events : List Event) → HandleRuns w old tree events →
+    HandleRuns w new tree (Local ono change ∷ events)
+    × (number ≡ answer_number (front_answers (front_fault (state_after w tree events).tree ono r)))
+
+-- Behind an open handle a device gets a label; bytes that are no text in UTF-8 are none, and nothing is changed.
+abbrev pub HandleLabels : ℕ → Option DeviceBehind → Option DeviceBehind → ℕ → List ℕ → Type 0
+HandleLabels number old new ono label =
+    (IsUtf8 label → HandleChanges number old new ono (ToLabel label) (asked.SetLabel label))
+    × ((IsUtf8 label → ⊥) → (w : DeviceSizes) (tree : List Object) (events : List Event) →
+    HandleRuns w old tree events → (number ≡ 6) × HandleRuns w new tree events)

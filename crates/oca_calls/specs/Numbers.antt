@@ -4,6 +4,8 @@ use Rattle.oca_tree.specs.declared.builder.AddFault.{AddFault}
 use Rattle.oca_tree.specs.declared.builder.AddFault.TheVariants as adds
 use Rattle.oca_tree.specs.declared.start.StartFault.{StartFault}
 use Rattle.oca_tree.specs.declared.start.StartFault.TheVariants as starts
+use Rattle.oca_tree.specs.declared.front.FrontFault.{FrontFault}
+use Rattle.oca_tree.specs.declared.front.FrontFault.TheVariants as fronts
 use Rattle.oca_tree.specs.declared.setting.SetFault.{SetFault}
 use Rattle.oca_tree.specs.declared.setting.SetFault.TheVariants as sets
 use Rattle.oca_control.specs.declared.fault.ControlFault.{ControlFault}
@@ -58,6 +60,11 @@ set_answer sets.NoObject = answers.NoObject
 set_answer sets.NoSetting = answers.NoSetting
 set_answer sets.OtherKind = answers.OtherKind
 set_answer sets.OutOfRange = answers.OutOfRange
+
+abbrev pub front_answer : FrontFault → Answer
+front_answer fronts.NoObject = answers.NoObject
+front_answer fronts.BadLabel = answers.BadText
+front_answer fronts.NotLocked = answers.Nothing
 
 abbrev pub submission_answer : ControlFault → Answer
 submission_answer controls.Lost = answers.Lost

@@ -1,6 +1,6 @@
 -- What the calls of a device write, and how it is put where C wants it.
 use Rattle.std.specs.Prelude.{◌≡◌, ◌⊎◌, ℕ, ◌<◌, ◌≤◌, ◌^◌, nat_le, List, [], ◌∷◌, ◌++◌, take, drop, length, min, Option}
-use Rattle.std.specs.Prelude.{Some, None, pos, nat_abs, int_lt, if◌then◌else◌}
+use Rattle.std.specs.Prelude.{Bool, Some, None, pos, nat_abs, int_lt, if◌then◌else◌}
 use Rattle.oca_types.specs.declared.class.Class.{Class}
 use Rattle.oca_types.specs.declared.class.Class.TheVariants as classes
 use Rattle.oca_tree.specs.declared.object.Lock.{Lock}
@@ -78,6 +78,11 @@ abbrev pub WritesLock : Option Lock → ℕ → ℕ → ℕ → ℕ → Type 0
 WritesLock None kind ip port number = number ≡ 13
 WritesLock (Some lock) kind ip port number =
     (number ≡ 0) × (kind ≡ lock_number lock.kind) × (ip ≡ lock.holder.ip) × (port ≡ lock.holder.port)
+
+-- Whether the hardware of an object refuses is written; or that there is no such object.
+abbrev pub WritesFailing : Option Bool → Bool → ℕ → Type 0
+WritesFailing None failing number = number ≡ 16
+WritesFailing (Some truth) failing number = (number ≡ 0) × (failing ≡ truth)
 
 -- A peer is written by its address and port; or that there is none at this index.
 abbrev pub WritesPeer : Option Peer → ℕ → ℕ → ℕ → Type 0

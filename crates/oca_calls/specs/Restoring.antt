@@ -13,8 +13,8 @@ use Rattle.oca_calls.specs.Calls.{IsName}
 use Rattle.oca_calls.specs.CSpecs.{AreReadingOf, IsOfThisVersion, names_of}
 
 -- the same limits with another value
-abbrev pub with_value : ReadingWords → ValueWords → ReadingWords
-with_value r value = record { value = value; least = r.least; greatest = r.greatest }
+abbrev pub with_stored_value : ReadingWords → ValueWords → ReadingWords
+with_stored_value r value = record { value = value; least = r.least; greatest = r.greatest }
 
 -- THE STRUCT WITH WHAT WAS STORED: the value, the label, whether the object is enabled, and the names of its positions
 -- and which are enabled; its role, its limits and whether it can be locked stay.
@@ -24,7 +24,7 @@ with_stored w stored = record {
   lockable = w.lockable;
   enabled = stored.enabled;
   positions = w.positions;
-  reading = with_value w.reading stored.reading.value;
+  reading = with_stored_value w.reading stored.reading.value;
   role = w.role;
   label = stored.label;
   names = stored.names;
@@ -79,7 +79,7 @@ abbrev pub ValueRestores : Answer → SpecWords → SpecWords → SpecWords → 
 ValueRestores answer old stored new =
     ((old.reading.value.class_number ≡ 1) × (answer ≡ answers.Done) × (new ≡ with_stored old stored))
     ⊎ ((old.reading.value.class_number ≡ 1 → ⊥) × (reading : Option Reading)
-    × AreReadingOf (with_value old.reading stored.reading.value) reading
+    × AreReadingOf (with_stored_value old.reading stored.reading.value) reading
     × PossibleRestores reading answer old stored new)
 
 abbrev pub TextsRestore : Answer → SpecWords → SpecWords → SpecWords → Type 0

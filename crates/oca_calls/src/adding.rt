@@ -7,7 +7,8 @@ use crate::device_handle::DeviceHandle;
 use oca_tree::Kind;
 use std::alloc::Global;
 
-/// Adds an object.
+/// Adds an object to the device behind a handle. Returns the number of [`Answer`]: `Closed`, `Started`, or what
+/// [`DeviceBehind::add`](crate::device::DeviceBehind::add) answers. A refusal adds nothing.
 pub fn add(
     alloc: Global,
     handle: &mut DeviceHandle,

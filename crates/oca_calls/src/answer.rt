@@ -1,9 +1,10 @@
 //! The numbers that calls return.
 ghost use Rattle.std.specs.Prelude.{◌≡◌};
-ghost use Rattle.oca_calls.specs.Numbers.{add_answer, answer_number, set_answer, start_answer, submission_answer};
+ghost use Rattle.oca_calls.specs.Numbers.{add_answer, answer_number, front_answer, set_answer, start_answer};
+ghost use Rattle.oca_calls.specs.Numbers.{submission_answer};
 
 use oca_control::ControlFault;
-use oca_tree::{AddFault, SetFault, StartFault};
+use oca_tree::{AddFault, FrontFault, SetFault, StartFault};
 
 /// What a call returns. The numbers are promised; 1 to 8 are those of `AddFault`.
 #[derive(Clone, Copy)]
@@ -44,14 +45,14 @@ pub enum Answer {
 }
 
 impl Answer {
-    /// Its number.
+    /// Its number: 0 to 24.
     pub fn number(self) -> u32
         ensures { result ≡ answer_number self }
     {
         self as u32
     }
 
-    /// The answer to an addition that was refused.
+    /// The result for an addition that was refused: the fault's namesake.
     pub fn of_add(fault: AddFault) -> Answer
         ensures { result ≡ add_answer fault }
     {
@@ -67,7 +68,8 @@ impl Answer {
         }
     }
 
-    /// The answer to an addition with what was stored, or to a root with it, that was refused.
+    /// The result for an addition with what was stored, or a root with it, that was refused: that of the addition's
+    /// fault; `BadText` of a label, `BadRange` of flags.
     pub fn of_start(fault: StartFault) -> Answer
         ensures { result ≡ start_answer fault }
     {
@@ -78,7 +80,8 @@ impl Answer {
         }
     }
 
-    /// The answer to a setting that was refused.
+    /// The result for a setting that was refused: `NoObject`, `NoSetting`, `OtherKind` or `OutOfRange`, as the fault
+    /// is.
     pub fn of_set(fault: SetFault) -> Answer
         ensures { result ≡ set_answer fault }
     {
@@ -90,7 +93,20 @@ impl Answer {
         }
     }
 
-    /// The answer to a command that was not submitted.
+    /// The result for a refused change of a label, of whether an object is enabled, or of its lock: `NoObject`;
+    /// `BadText` of a label above 64 bytes; `Nothing` if the object is not locked.
+    pub fn of_front(fault: FrontFault) -> Answer
+        ensures { result ≡ front_answer fault }
+    {
+        match fault {
+            FrontFault::NoObject => Answer::NoObject,
+            FrontFault::BadLabel => Answer::BadText,
+            FrontFault::NotLocked => Answer::Nothing,
+        }
+    }
+
+    /// The result for a command that was not submitted: `Lost`, `HandlesSpent`, `SpanFull` or `TooLong`, as the fault
+    /// is.
     pub fn of_submission(fault: ControlFault) -> Answer
         ensures { result ≡ submission_answer fault }
     {

@@ -36,7 +36,7 @@ pub struct ClassId {
 }
 
 impl Names {
-    /// These names.
+    /// These names, of which there are at most 16.
     pub fn of(texts: &[Text]) -> Names
         requires { length texts.now ≤ 16 }
         ensures count { result.count ≡ length texts.now }
@@ -51,7 +51,7 @@ impl Names {
 }
 
 impl Members {
-    /// These members.
+    /// These members, of which there are at most 181.
     pub fn of(onos: &[u32]) -> Members
         requires { length onos.now ≤ 181 }
         ensures count { result.count ≡ length onos.now }
@@ -67,7 +67,7 @@ impl Members {
 }
 
 impl ClassId {
-    /// The identifier with these fields.
+    /// The identifier with these fields, of which there are at most 16.
     pub fn of(fields: &[u16]) -> ClassId
         requires { length fields.now ≤ 16 }
         ensures count { result.count ≡ length fields.now }

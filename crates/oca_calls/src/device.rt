@@ -1,26 +1,28 @@
 //! What is behind an open handle of a device.
 ghost use Rattle.std.specs.Prelude.{◌≡◌, ◌≤◌, ◌<◌, ◌∷◌, [], List, Option, Some, None, IfErr, IfOk, IfSome, IfNone, IsSome, length};
-ghost use Rattle.std.specs.Prelude.{◌⊎◌, take, slice_get};
+ghost use Rattle.std.specs.Prelude.{◌⊎◌, IsUtf8, take, slice_get};
 ghost use Rattle.oca_types.specs.Sizes.{DeviceSizes, peer_count, window_size};
 ghost use Rattle.oca_tree.specs.declared.object.Object.{Object};
 ghost use Rattle.oca_tree.specs.Objects.{Store};
-ghost use Rattle.oca_tree.specs.Readers.{info_at, info_of_ono, lock_at, setting_at};
+ghost use Rattle.oca_tree.specs.Readers.{failing_at, info_at, info_of_ono, lock_at, setting_at};
 ghost use Rattle.oca_tree.specs.Settings.{set_fault};
+ghost use Rattle.oca_tree.specs.LocalChanges.{ToValue, ToLabel, ToEnabled, ToUnlocked, ToFailing};
 ghost use Rattle.oca_device.specs.States.{known_after, state_after};
 ghost use Rattle.oca_device.specs.Events.{Event, Datagram as DatagramEvent, Tick, Local};
 ghost use Rattle.oca_device.specs.Answers.{packets, verdict};
 ghost use Rattle.oca_device.specs.Outboxes.{first_packets};
 ghost use Rattle.oca_device.specs.Written.{written};
-ghost use Rattle.oca_calls.specs.declared.answer.Answer.TheVariants.{Done, NotStarted, Nothing, Started, TooSmall, BadSize};
+ghost use Rattle.oca_calls.specs.declared.answer.Answer.TheVariants.{Done, NotStarted, Nothing, Started, TooSmall, BadSize, BadText};
 ghost use Rattle.oca_calls.specs.declared.answer.Answer.TheVariants.{NoMemory as AnswerNoMemory};
 ghost use Rattle.oca_calls.specs.Numbers.{answer_number};
 ghost use Rattle.oca_calls.specs.Calls.{AddedBy, AddsSo, Builds, IsPacketRoom, IsSize, RunsBehind, Starts, SwitchAddedBy};
 ghost use Rattle.oca_calls.specs.Calls.{set_answers};
 ghost use Rattle.oca_model.specs.declared.value.Value.{Value as ValueItself};
+ghost use Rattle.oca_model.specs.declared.request.Request.TheVariants as asked;
 ghost use Rattle.oca_calls.specs.CValues.{AreWordsOf};
-ghost use Rattle.oca_calls.specs.FrontCalls.{SetsEntry, SetsFrontFound, SetsWords, State, Integer};
+ghost use Rattle.oca_calls.specs.FrontCalls.{ChangesFront, SetsEntry, SetsFrontFound, SetsWords, State, Integer};
 ghost use Rattle.oca_calls.specs.CSpecs.{SpecAddedBy, WritesSpec};
-ghost use Rattle.oca_calls.specs.Outputs.{WritesLock, WritesNextLapse, WritesObject, WritesPeer, WritesSetting};
+ghost use Rattle.oca_calls.specs.Outputs.{WritesFailing, WritesLock, WritesNextLapse, WritesObject, WritesPeer, WritesSetting};
 ghost use Rattle.oca_calls.specs.Outputs.{WritesWords, put_words};
 ghost use Rattle.oca_calls.specs.Outputs.{verdict_words};
 ghost use Rattle.oca_calls.specs.Storings.{all_stored, unstored_behind};
@@ -54,7 +56,7 @@ pub struct DeviceBehind {
 }
 
 impl DeviceBehind {
-    /// The objects that were built, an empty place for packets, and nothing else yet.
+    /// A device that is not started: the objects that were built, and an empty outbox for its answers.
     pub fn over(builder: TreeBuilder, outbox: BoundedOutbox) -> DeviceBehind
         ensures { Builds result builder }
     {
@@ -66,7 +68,8 @@ impl DeviceBehind {
         }
     }
 
-    /// Adds an object, before the start.
+    /// Adds an object, before the start. `Started` after it; `BadText` for a role that is no UTF-8; else as the builder
+    /// refuses ([`Answer::of_add`]). A refusal adds nothing.
     pub fn add(
         &mut self,
         container: u32,
@@ -91,7 +94,9 @@ impl DeviceBehind {
         }
     }
 
-    /// Adds a switch with these names of its positions, before the start.
+    /// Adds a switch with these names of its positions, 1 to 16, before the start. `Started` after it; `BadRange` for
+    /// more than 16 names; `BadText` for a name above 64 bytes, or a role or a name that is no UTF-8; else as the
+    /// builder refuses. A refusal adds nothing.
     pub fn add_switch(
         &mut self,
         container: u32,
@@ -122,7 +127,8 @@ impl DeviceBehind {
         self.add(container, ono, role, lockable, kind)
     }
 
-    /// Adds an object that a struct describes, before the start.
+    /// Adds an object that a struct describes, before the start. `Started` after it; else as
+    /// [`add_spec`](crate::spec_adding::add_spec) refuses. A refusal adds nothing.
     pub fn add_spec(&mut self, container: u32, ono: u32, words: &SpecWords) -> Answer
         ensures adds { (B : Store) → Builds self.old B →
             (B' : Store) × Builds self.new B' × SpecAddedBy result B B' container ono words.now }
@@ -134,8 +140,10 @@ impl DeviceBehind {
         add_spec(builder, container, ono, words)
     }
 
-    /// Makes the device of the objects, with reply windows of this size and sessions of so many peers, and with room
-    /// for so many packets that answer a datagram.
+    /// Makes the device of the objects, with reply windows of `window` commands, sessions of `peers` peers, and room
+    /// for so many packets that answer a datagram. Returns `Done`; `BadSize` unless the window and the peers are 1 to
+    /// 64 and the packets 1 to 122, or `Started` if it is started already: then nothing is changed. After `NoMemory`
+    /// the objects are lost.
     pub fn start(&mut self, alloc: Global, window: u8, peers: u8, packets: usize) -> Answer
         ensures starts { (B : Store) → Builds self.old B → Starts result self.old self.new window peers packets B.list }
         ensures started { self.old.builder ≡ None → (result ≡ Started) × (self.new ≡ self.old) }
@@ -198,7 +206,13 @@ impl DeviceBehind {
         }
     }
 
-    /// Takes a datagram, and tells its verdict.
+    /// Takes a datagram that came from a peer at the moment `now`, in milliseconds, as
+    /// [`Device::datagram_within`](oca_device::Device::datagram_within) does: its commands are executed, and sessions,
+    /// locks, and the list of what was written change as there. The answers replace the packets of the last datagram,
+    /// as many as there is room for ([`left_out`](DeviceBehind::left_out)). The words of the verdict
+    /// ([`words_of`](crate::words::words_of)) go to the front of `out`, as many as it has room for. A moment earlier
+    /// than one already seen counts as that one. Returns `Done`; `NotStarted` before the start: then nothing is changed
+    /// or written.
     pub fn datagram(&mut self, from: Peer, bytes: &[u8], now: u64, out: &mut [u32]) -> Answer
         ensures serves { (w : DeviceSizes) (T : List Object) (E : List Event) → RunsBehind w self.old T E →
             RunsBehind w self.new T (DatagramEvent from bytes.now now ∷ E)
@@ -221,7 +235,9 @@ impl DeviceBehind {
         Answer::Done
     }
 
-    /// Takes a clock reading.
+    /// Takes a clock reading, in milliseconds: locks of silent peers are released, and silent sessions are forgotten. A
+    /// moment earlier than one already seen counts as that one. Returns `Done`; `NotStarted` before the start: then
+    /// nothing is changed.
     pub fn tick(&mut self, now: u64) -> Answer
         ensures serves { (w : DeviceSizes) (T : List Object) (E : List Event) → RunsBehind w self.old T E →
             RunsBehind w self.new T (Tick now ∷ E) × (result ≡ Done) }
@@ -236,7 +252,9 @@ impl DeviceBehind {
         Answer::Done
     }
 
-    /// Tells when a clock reading next changes the objects or the sessions.
+    /// Writes the moment, in milliseconds, at which a clock reading next changes the objects or the sessions. Returns
+    /// `Done`; `Nothing` if there is none within 64 bits, or `NotStarted` before the start: then nothing is changed or
+    /// written.
     pub fn next_lapse(&self, moment: &mut u64) -> Answer
         ensures writes { (w : DeviceSizes) (T : List Object) (E : List Event) → RunsBehind w self.now T E →
             WritesNextLapse w (state_after w T E) moment.new (answer_number result) }
@@ -255,10 +273,13 @@ impl DeviceBehind {
         }
     }
 
-    /// Sets an object at the local front panel.
+    /// Sets an object at the local front panel. Returns `Done`; otherwise the first that applies, and then nothing is
+    /// changed: `NotStarted` before the start, `NoObject`, `NoSetting` of a block, `OtherKind` of a value of another
+    /// class, `OutOfRange` of a position that is not there or disabled, and of a number outside the object's limits.
+    /// The packets, and whether answers wait, stay as they are.
     pub fn set(&mut self, ono: u32, value: Value) -> Answer
         ensures sets { (w : DeviceSizes) (T : List Object) (E : List Event) → RunsBehind w self.old T E →
-            RunsBehind w self.new T (Local ono value ∷ E)
+            RunsBehind w self.new T (Local ono (ToValue value) ∷ E)
             × (result ≡ set_answers (set_fault (state_after w T E).tree ono value)) }
         ensures packets { self.new.outbox ≡ self.old.outbox }
         ensures unstored { self.new.unstored ≡ self.old.unstored }
@@ -273,7 +294,9 @@ impl DeviceBehind {
         }
     }
 
-    /// Sets an object at the local front panel to the value with these words, which is to be one of the object's class.
+    /// Sets an object at the local front panel to the value with these words, which must be of the object's class.
+    /// Returns `Done`; `NotStarted` before the start, `NoValue` if no value has these words, else as
+    /// [`set`](DeviceBehind::set): then nothing is changed.
     pub fn set_words(&mut self, ono: u32, words: ValueWords) -> Answer
         ensures sets { (w : DeviceSizes) (T : List Object) (E : List Event) → RunsBehind w self.old T E →
             (value : Option ValueItself) × AreWordsOf words value × SetsWords w result self.new T E ono value }
@@ -290,7 +313,9 @@ impl DeviceBehind {
         }
     }
 
-    /// Sets a mute or a polarity at the local front panel.
+    /// Sets a mute (1 Muted, 2 Unmuted) or a polarity (1 NonInverted, 2 Inverted) at the local front panel. Returns
+    /// `Done`; otherwise the first that applies, and then nothing is changed: `NotStarted` before the start,
+    /// `NoObject`, `NoSetting` of a block, `OtherKind` of another class, `OutOfRange` of another number.
     pub fn set_state(&mut self, ono: u32, state: u8) -> Answer
         ensures sets { (w : DeviceSizes) (T : List Object) (E : List Event) → RunsBehind w self.old T E →
             SetsEntry w result self.new T E ono (State state) }
@@ -305,7 +330,9 @@ impl DeviceBehind {
         self.set_found(ono, found)
     }
 
-    /// Sets an actuator of integers at the local front panel.
+    /// Sets an actuator of integers at the local front panel. Returns `Done`; otherwise the first that applies, and
+    /// then nothing is changed: `NotStarted` before the start, `NoObject`, `NoSetting` of a block, `OtherKind` of a
+    /// class without integers, `OutOfRange` of a number outside the object's limits.
     pub fn set_integer(&mut self, ono: u32, number: i128) -> Answer
         ensures sets { (w : DeviceSizes) (T : List Object) (E : List Event) → RunsBehind w self.old T E →
             SetsEntry w result self.new T E ono (Integer number) }
@@ -333,7 +360,87 @@ impl DeviceBehind {
         }
     }
 
-    /// Tells how many packets there are that answer the last datagram.
+    /// Gives an object a label of at most 64 bytes at the local front panel. Returns `Done`; otherwise the first that
+    /// applies, and then nothing is changed: `NotStarted` before the start, `BadText` if the bytes are no UTF-8,
+    /// `NoObject`, `BadText` of a longer label.
+    pub fn set_label(&mut self, ono: u32, label: &[u8]) -> Answer
+        ensures labels { IsUtf8 label.now → (w : DeviceSizes) (T : List Object) (E : List Event) →
+            RunsBehind w self.old T E →
+            ChangesFront w result self.new T E ono (ToLabel label.now) (asked.SetLabel label.now) }
+        ensures other { (IsUtf8 label.now → ⊥) → IsSome self.old.device →
+            (result ≡ BadText) × (self.new ≡ self.old) }
+        ensures packets { self.new.outbox ≡ self.old.outbox }
+        ensures unstored { self.new.unstored ≡ self.old.unstored }
+        ensures building { self.old.device ≡ None → (result ≡ NotStarted) × (self.new ≡ self.old) }
+    {
+        let Some(device) = &mut self.device else {
+            return Answer::NotStarted;
+        };
+        let Ok(label) = str::from_utf8(label) else {
+            return Answer::BadText;
+        };
+        match device.set_label(Ono(ono), label) {
+            Ok(()) => Answer::Done,
+            Err(fault) => Answer::of_front(fault),
+        }
+    }
+
+    /// Enables or disables an object at the local front panel. Returns `Done`; `NotStarted` before the start or
+    /// `NoObject`: then nothing is changed.
+    pub fn set_enabled(&mut self, ono: u32, enabled: bool) -> Answer
+        ensures sets { (w : DeviceSizes) (T : List Object) (E : List Event) → RunsBehind w self.old T E →
+            ChangesFront w result self.new T E ono (ToEnabled enabled) (asked.SetEnabled enabled) }
+        ensures packets { self.new.outbox ≡ self.old.outbox }
+        ensures unstored { self.new.unstored ≡ self.old.unstored }
+        ensures building { self.old.device ≡ None → (result ≡ NotStarted) × (self.new ≡ self.old) }
+    {
+        let Some(device) = &mut self.device else {
+            return Answer::NotStarted;
+        };
+        match device.set_enabled(Ono(ono), enabled) {
+            Ok(()) => Answer::Done,
+            Err(fault) => Answer::of_front(fault),
+        }
+    }
+
+    /// Releases the lock of an object at the local front panel, whichever peer holds it. Returns `Done`; `NotStarted`
+    /// before the start, `NoObject`, or `Nothing` if it is not locked: then nothing is changed.
+    pub fn unlock(&mut self, ono: u32) -> Answer
+        ensures unlocks { (w : DeviceSizes) (T : List Object) (E : List Event) → RunsBehind w self.old T E →
+            ChangesFront w result self.new T E ono ToUnlocked asked.Unlock }
+        ensures packets { self.new.outbox ≡ self.old.outbox }
+        ensures unstored { self.new.unstored ≡ self.old.unstored }
+        ensures building { self.old.device ≡ None → (result ≡ NotStarted) × (self.new ≡ self.old) }
+    {
+        let Some(device) = &mut self.device else {
+            return Answer::NotStarted;
+        };
+        match device.unlock(Ono(ono)) {
+            Ok(()) => Answer::Done,
+            Err(fault) => Answer::of_front(fault),
+        }
+    }
+
+    /// Says at the local front panel whether the hardware of an object refuses to be changed. Returns `Done`;
+    /// `NotStarted` before the start or `NoObject`: then nothing is changed.
+    pub fn set_failing(&mut self, ono: u32, failing: bool) -> Answer
+        ensures tells { (w : DeviceSizes) (T : List Object) (E : List Event) → RunsBehind w self.old T E →
+            ChangesFront w result self.new T E ono (ToFailing failing) (asked.SetEnabled failing) }
+        ensures packets { self.new.outbox ≡ self.old.outbox }
+        ensures unstored { self.new.unstored ≡ self.old.unstored }
+        ensures building { self.old.device ≡ None → (result ≡ NotStarted) × (self.new ≡ self.old) }
+    {
+        let Some(device) = &mut self.device else {
+            return Answer::NotStarted;
+        };
+        match device.set_failing(Ono(ono), failing) {
+            Ok(()) => Answer::Done,
+            Err(fault) => Answer::of_front(fault),
+        }
+    }
+
+    /// Writes how many packets there are that answer the last datagram. Returns `Done`; `NotStarted` before the start:
+    /// then nothing is changed or written.
     pub fn packets(&self, count: &mut usize) -> Answer
         ensures writes { IsSome self.now.device → (result ≡ Done) × (count.new ≡ length self.now.outbox.packets) }
         ensures building { self.now.device ≡ None → (result ≡ NotStarted) × (count.new ≡ count.old) }
@@ -345,7 +452,8 @@ impl DeviceBehind {
         Answer::Done
     }
 
-    /// Tells whether packets that answer the last datagram were left out, since there was no room for them.
+    /// Writes whether packets that answer the last datagram were left out, since there was no room for them: then the
+    /// peer sends its commands again. Returns `Done`; `NotStarted` before the start, and then nothing is written.
     pub fn left_out(&self, left_out: &mut bool) -> Answer
         ensures writes { IsSome self.now.device → (result ≡ Done) × (left_out.new ≡ self.now.outbox.is_cut) }
         ensures building { self.now.device ≡ None → (result ≡ NotStarted) × (left_out.new ≡ left_out.old) }
@@ -357,7 +465,9 @@ impl DeviceBehind {
         Answer::Done
     }
 
-    /// Copies a packet to the front of `out`.
+    /// Copies a packet, by its index from 0, to the front of `out`, and writes its size in bytes, at most 1,472, into
+    /// `len`. Returns `Done`; `TooSmall` if it does not fit, and then only its size is written; `Nothing` after the
+    /// last packet, or `NotStarted` before the start: then nothing is written.
     pub fn packet(&self, i: usize, out: &mut [u8], len: &mut usize) -> Answer
         ensures nothing { IsSome self.now.device → IfNone (slice_get self.now.outbox.packets i) (result ≡ Nothing) }
         ensures packet { IsSome self.now.device →
@@ -386,8 +496,9 @@ impl DeviceBehind {
         Answer::Done
     }
 
-    /// Puts the numbers of the objects that the last datagram wrote to at the front of `out`, and tells how many there
-    /// are.
+    /// Copies the numbers of the objects that the last datagram wrote to to the front of `out`, and writes into `count`
+    /// how many they are. Returns `Done`; `TooSmall` if they do not all fit: then `out` has the first of them;
+    /// `NotStarted` before the start: then nothing is written.
     pub fn written(&self, out: &mut [u32], count: &mut usize) -> Answer
         ensures writes { (w : DeviceSizes) (T : List Object) (E : List Event) → RunsBehind w self.now T E →
             WritesWords (written w T E) out.old out.new count.new (answer_number result) }
@@ -408,7 +519,8 @@ impl DeviceBehind {
         }
     }
 
-    /// Tells whether the answers to the last datagram wait until the objects are stored.
+    /// Writes whether the answers to the last datagram must wait until the objects are stored. Returns `Done`;
+    /// `NotStarted` before the start: then nothing is changed or written.
     pub fn waits(&self, waits: &mut bool) -> Answer
         ensures writes { IsSome self.now.device → (result ≡ Done) × (waits.new ≡ self.now.unstored.waits) }
         ensures building { self.now.device ≡ None → (result ≡ NotStarted) × (waits.new ≡ waits.old) }
@@ -420,7 +532,8 @@ impl DeviceBehind {
         Answer::Done
     }
 
-    /// Notes that the objects are stored as they are: no answers wait.
+    /// Records that the objects are stored as they are now: no answers wait. Returns `Done`; `NotStarted` before the
+    /// start: then nothing is changed.
     pub fn stored(&mut self) -> Answer
         ensures notes { IsSome self.old.device → (result ≡ Done) × (self.new.unstored ≡ all_stored) }
         ensures building { self.old.device ≡ None → (result ≡ NotStarted) × (self.new ≡ self.old) }
@@ -436,7 +549,8 @@ impl DeviceBehind {
         Answer::Done
     }
 
-    /// Tells how many objects there are.
+    /// Writes how many objects there are, the root included. Returns `Done`; `NotStarted` before the start: then
+    /// nothing is changed or written.
     pub fn objects(&self, count: &mut usize) -> Answer
         ensures writes { (w : DeviceSizes) (T : List Object) (E : List Event) → RunsBehind w self.now T E →
             (result ≡ Done) × (count.new ≡ length (state_after w T E).tree) }
@@ -450,7 +564,9 @@ impl DeviceBehind {
         Answer::Done
     }
 
-    /// Tells what the object at this index is, and its role.
+    /// Writes what the object at this index is ([`object_words`](crate::words::object_words)), and its role, each as
+    /// far as there is room. The index is counted from 0. Returns `Done`; `Nothing` after the last object, or
+    /// `NotStarted` before the start: then nothing is changed or written.
     pub fn object(&self, index: usize, out: &mut [u32], role: &mut [u8]) -> Answer
         ensures writes { (w : DeviceSizes) (T : List Object) (E : List Event) → RunsBehind w self.now T E →
             WritesObject (info_at (state_after w T E).tree index) out.old out.new role.old role.new
@@ -469,7 +585,9 @@ impl DeviceBehind {
         Answer::Done
     }
 
-    /// Tells of the object at this index all that an addition makes of it.
+    /// Writes what an addition makes of the object at this index, which is counted from 0. Returns `Done`; `BadSize` if
+    /// the struct does not say its size, `Nothing` after the last object, or `NotStarted` before the start: then
+    /// nothing is changed or written.
     pub fn spec(&self, index: usize, out: &mut SpecWords) -> Answer
         ensures writes { (w : DeviceSizes) (T : List Object) (E : List Event) → RunsBehind w self.now T E →
             WritesSpec (state_after w T E).tree (info_at (state_after w T E).tree index) out.old out.new
@@ -483,7 +601,9 @@ impl DeviceBehind {
         read_spec(device.tree(), index, out)
     }
 
-    /// Tells of the object with this number all that an addition makes of it.
+    /// Writes what an addition makes of the object with this number. Returns `Done`; `BadSize` if the struct does not
+    /// say its size, `Nothing` if there is no such object, or `NotStarted` before the start: then nothing is changed or
+    /// written.
     pub fn spec_of(&self, ono: u32, out: &mut SpecWords) -> Answer
         ensures writes { (w : DeviceSizes) (T : List Object) (E : List Event) → RunsBehind w self.now T E →
             WritesSpec (state_after w T E).tree (info_of_ono (state_after w T E).tree ono) out.old out.new
@@ -497,7 +617,8 @@ impl DeviceBehind {
         read_spec_of(device.tree(), Ono(ono), out)
     }
 
-    /// Tells how many peers have a session.
+    /// Writes how many peers have a session. Returns `Done`; `NotStarted` before the start: then nothing is changed or
+    /// written.
     pub fn peers(&self, count: &mut usize) -> Answer
         ensures writes { (w : DeviceSizes) (T : List Object) (E : List Event) → RunsBehind w self.now T E →
             (result ≡ Done) × (count.new ≡ length (known_after (state_after w T E))) }
@@ -511,7 +632,10 @@ impl DeviceBehind {
         Answer::Done
     }
 
-    /// Tells the peer of the session at this index.
+    /// Writes the address (an IPv4 address as a number, the first byte highest) and the port of the peer of the session
+    /// at this index. Sessions are counted from 0, in order of opening; if one is forgotten, the later ones move up.
+    /// Returns `Done`; `Nothing` after the last session, or `NotStarted` before the start: then nothing is changed or
+    /// written.
     pub fn peer(&self, index: usize, ip: &mut u32, port: &mut u16) -> Answer
         ensures writes { (w : DeviceSizes) (T : List Object) (E : List Event) → RunsBehind w self.now T E →
             WritesPeer (slice_get (known_after (state_after w T E)) index) ip.new port.new (answer_number result) }
@@ -529,7 +653,9 @@ impl DeviceBehind {
         Answer::Done
     }
 
-    /// Tells of an object's lock what it keeps other peers from, and its holder.
+    /// Writes the kind of an object's lock (1 against all access, 2 against all but reading) and the address and port
+    /// of its holder. Returns `Done`; `Nothing` if the object is not locked or not there, or `NotStarted` before the
+    /// start: then nothing is changed or written.
     pub fn lock(&self, ono: u32, kind: &mut u32, ip: &mut u32, port: &mut u16) -> Answer
         ensures writes { (w : DeviceSizes) (T : List Object) (E : List Event) → RunsBehind w self.now T E →
             WritesLock (lock_at (state_after w T E).tree ono) kind.new ip.new port.new (answer_number result) }
@@ -548,7 +674,27 @@ impl DeviceBehind {
         Answer::Done
     }
 
-    /// Reads how an object is set.
+    /// Writes whether the hardware of an object refuses to be changed. Returns `Done`; `NoObject`, or `NotStarted`
+    /// before the start: then nothing is written.
+    pub fn is_failing(&self, ono: u32, failing: &mut bool) -> Answer
+        ensures writes { (w : DeviceSizes) (T : List Object) (E : List Event) → RunsBehind w self.now T E →
+            WritesFailing (failing_at (state_after w T E).tree ono) failing.new (answer_number result) }
+        ensures building { self.now.device ≡ None → result ≡ NotStarted }
+        ensures unwritten { (result ≡ Done) ⊎ (failing.new ≡ failing.old) }
+    {
+        let Some(device) = &self.device else {
+            return Answer::NotStarted;
+        };
+        let Some(truth) = device.is_failing(Ono(ono)) else {
+            return Answer::NoObject;
+        };
+        *failing = truth;
+        Answer::Done
+    }
+
+    /// Writes how an object is set: its kind, whether its number is negative, and its magnitude, without limits.
+    /// Returns `Done`; `Nothing` for a block and if there is no such object, or `NotStarted` before the start: then
+    /// nothing is changed or written.
     pub fn reading(&self, ono: u32, reading: &mut Reading) -> Answer
         ensures writes { (w : DeviceSizes) (T : List Object) (E : List Event) → RunsBehind w self.now T E →
             WritesSetting (setting_at (state_after w T E).tree ono) reading.new (answer_number result) }
@@ -583,7 +729,7 @@ fn sizes_for(window: u8, peers: u8, packets: usize) -> Option<Sizes>
     Some(Sizes { window, peers })
 }
 
-/// An empty outbox with room for so many packets; nothing where memory was refused.
+/// An empty outbox with room for so many packets, some 1,480 bytes each. `None` if memory was refused.
 pub fn room_for(alloc: Global, packets: usize) -> Option<BoundedOutbox>
     ensures { IfSome result (λ outbox. outbox ≡ first_packets packets []) }
 {

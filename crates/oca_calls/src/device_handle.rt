@@ -20,7 +20,7 @@ pub struct DeviceHandle {
 const _: () = prove!(std::mem::size_of::<DeviceHandle>() == 16);
 
 impl DeviceHandle {
-    /// Takes out what is behind the handle, which is then closed.
+    /// Takes out what is behind the handle, which is then closed. `None` where it was closed already.
     pub fn take(&mut self, alloc: Global) -> Option<Box<DeviceBehind>>
         ensures closed { self.new.slot.inner ≡ None }
         ensures was { MatchOption result (self.old.slot.inner ≡ None) (λ b. self.old.slot.inner ≡ Some b.value) }
@@ -37,7 +37,7 @@ impl DeviceHandle {
         }
     }
 
-    /// Closes it, and gives the memory of what is behind it back.
+    /// Closes it, and gives the memory of what is behind it back. A closed one stays closed.
     pub fn close(&mut self, alloc: Global)
         ensures { self.new.slot.inner ≡ None }
     {
@@ -45,7 +45,7 @@ impl DeviceHandle {
     }
 
     /// Puts back what a start that was answered so has left: where memory was refused the objects are lost, and the
-    /// handle stays closed.
+    /// handle stays closed. The handle must be closed.
     pub fn put_started(&mut self, behind: Box<DeviceBehind>, answer: Answer)
         requires { self.old.slot.inner ≡ None }
         ensures { self.new.slot.inner ≡ left_by_start answer behind.value }
@@ -56,7 +56,7 @@ impl DeviceHandle {
         }
     }
 
-    /// Puts it back.
+    /// Puts it behind the handle, which is then open.
     pub fn put(&mut self, behind: Box<DeviceBehind>)
         ensures { self.new.slot.inner ≡ Some behind.value }
     {

@@ -43,7 +43,7 @@ impl DeviceSlot {
         }
     }
 
-    /// The box that the slot owns, by its parts.
+    /// The box that the slot owns, by its parts. The slot must own one.
     pub fn into_parts(self) -> Parts<DeviceBehind, Global>
         requires { is_some self.inner ≡ true }
         ensures { self.inner ≡ Some result.value }

@@ -34,7 +34,8 @@ fn has_integers(class: Class) -> bool
     }
 }
 
-/// The value of the object's class whose state has this number; or why there is none.
+/// The value of the object's class whose state has this number; or why there is none: `NoObject` where there is no
+/// class, `NoSetting` of a block, `OtherKind` of a class without states, `OutOfRange`.
 pub fn state_at(class: Option<Class>, state: u8) -> Result<Value, SetFault>
     ensures { FindsWith state_in has_states class state result }
 {
@@ -47,7 +48,8 @@ pub fn state_at(class: Option<Class>, state: u8) -> Result<Value, SetFault>
     }
 }
 
-/// The value of the object's class that is this integer; or why there is none.
+/// The value of the object's class that is this integer; or why there is none: `NoObject` where there is no class,
+/// `NoSetting` of a block, `OtherKind` of a class without integers, `OutOfRange`.
 pub fn integer_at(class: Option<Class>, number: i128) -> Result<Value, SetFault>
     ensures { FindsWith integer_in has_integers class number result }
 {

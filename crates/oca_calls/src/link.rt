@@ -25,7 +25,9 @@ pub struct LinkBehind {
 }
 
 impl LinkBehind {
-    /// Submits a command, and tells its handle.
+    /// Submits a command at the moment `now`, in milliseconds, and writes its handle. `count` is ParamCount. Returns
+    /// the number of `Done`; if the link refuses the command, that of `Lost`, `HandlesSpent`, `SpanFull` or `TooLong`
+    /// (above 1,445 bytes), the first that applies: then nothing is changed or written.
     pub fn submit(
         &mut self,
         target: Ono,
@@ -62,7 +64,10 @@ impl LinkBehind {
         }
     }
 
-    /// Gives out what is due, where there is room for any datagram.
+    /// Puts what is due at the moment `now`, in milliseconds, to the front of `out`, and its size, 0 to 1,472 bytes,
+    /// into `len`. `kind` becomes 0 if nothing is due, 1 for a command, 2 for a keep-alive, 3 if the link is lost;
+    /// `handle` the handle of the command, else 0. Returns the number of `Done`; of `TooSmall` if `out` has fewer than
+    /// 1,472 bytes: then nothing is changed or written.
     pub fn due(
         &mut self,
         now: u64,
@@ -91,7 +96,13 @@ impl LinkBehind {
         Answer::Done.number()
     }
 
-    /// Takes a datagram, and tells what became of it.
+    /// Takes a datagram that came from a peer at the moment `now`, in milliseconds. The address is looked at first,
+    /// then whether the bytes are well-formed. `kind` becomes 0 if it answered no command, 1 if it answered commands, 2
+    /// if it came from another address than the device's, 3 if it is not well-formed. `answered` becomes how many
+    /// commands it answered first, 0 to 32.
+    ///
+    /// An answer to a command in flight is stored, also at a lost link. If `kind` becomes 2 or 3, nothing is changed
+    /// but the moment. Returns the number of `Done`.
     pub fn datagram(
         &mut self,
         from: Peer,
@@ -112,7 +123,9 @@ impl LinkBehind {
         Answer::Done.number()
     }
 
-    /// Takes an answer, where there is room for any.
+    /// Takes the answer under a handle, and the command with it: its status, its ParamCount, and its parameters at the
+    /// front of `out`, with their size in `len`. Returns the number of `Done`; of `TooSmall` if `out` has fewer than
+    /// 1,452 bytes, or of `Nothing` if there is no answer: then nothing is changed or written.
     pub fn take(
         &mut self,
         handle: u32,
@@ -142,7 +155,8 @@ impl LinkBehind {
         }
     }
 
-    /// Tells when something is due next.
+    /// Writes the moment, in milliseconds, at which something is due next. Returns the number of `Done`; of `Nothing`
+    /// if that moment lies beyond 64 bits: then nothing is written.
     pub fn next_due(&self, moment: &mut u64) -> u32
         ensures writes { WritesNextDue result moment.new self.now.link }
         ensures unwritten { (result ≡ 0) ⊎ (moment.new ≡ moment.old) }
@@ -156,7 +170,8 @@ impl LinkBehind {
         }
     }
 
-    /// Tells the lowest handle that has its answer.
+    /// Writes the lowest handle whose answer came and was not taken yet. Returns the number of `Done`; of `Nothing` if
+    /// there is none: then nothing is written.
     pub fn answered(&self, handle: &mut u32) -> u32
         ensures writes { WritesNumber result handle.new (first_answered self.now.link.untaken) }
         ensures unwritten { (result ≡ 0) ⊎ (handle.new ≡ handle.old) }
@@ -170,7 +185,8 @@ impl LinkBehind {
         }
     }
 
-    /// Tells whether the command under a handle is in flight.
+    /// Writes whether the command under a handle is unanswered: it was submitted, and no answer to it came yet; false
+    /// for a handle that no command has. Returns the number of `Done`.
     pub fn is_in_flight(&self, handle: u32, in_flight: &mut bool) -> u32
         ensures { (result ≡ 0) × (in_flight.new ≡ list_any (waits handle) self.now.link.untaken) }
     {
@@ -178,7 +194,8 @@ impl LinkBehind {
         Answer::Done.number()
     }
 
-    /// Tells the handle that the next command gets.
+    /// Writes the handle that the next command gets. Returns the number of `Done`; of `Nothing` after the last handle,
+    /// 4294967295: then nothing is written.
     pub fn next_handle(&self, handle: &mut u32) -> u32
         ensures writes { WritesNumber result handle.new self.now.link.next }
         ensures unwritten { (result ≡ 0) ⊎ (handle.new ≡ handle.old) }
@@ -192,7 +209,8 @@ impl LinkBehind {
         }
     }
 
-    /// Tells when the device was heard last.
+    /// Writes the moment, in milliseconds, at which the last well-formed datagram came from the device; until then, the
+    /// moment of the opening. Returns the number of `Done`.
     pub fn last_heard(&self, moment: &mut u64) -> u32
         ensures { (result ≡ 0) × (moment.new ≡ self.now.link.heard) }
     {
@@ -200,7 +218,7 @@ impl LinkBehind {
         Answer::Done.number()
     }
 
-    /// Tells whether the link is lost.
+    /// Writes whether the link is lost: a command got no answer to 20 transmissions. Returns the number of `Done`.
     pub fn is_lost(&self, lost: &mut bool) -> u32
         ensures { (result ≡ 0) × (lost.new ≡ self.now.link.lost) }
     {
@@ -208,7 +226,8 @@ impl LinkBehind {
         Answer::Done.number()
     }
 
-    /// Tells whether a command was given out so long before this moment that it may not be given out again.
+    /// Writes whether the link is late at the moment `now`, in milliseconds: a command is unanswered that was submitted
+    /// more than 15,000 ms before, sent or not. Returns the number of `Done`.
     pub fn is_late(&self, now: u64, late: &mut bool) -> u32
         ensures { (result ≡ 0) × (late.new ≡ late_at now self.now.link) }
     {

@@ -43,7 +43,7 @@ impl LinkSlot {
         }
     }
 
-    /// The box that the slot owns, by its parts.
+    /// The box that the slot owns, by its parts. The slot must own one.
     pub fn into_parts(self) -> Parts<LinkBehind, Global>
         requires { is_some self.inner ≡ true }
         ensures { self.inner ≡ Some result.value }

@@ -34,7 +34,7 @@ impl Default for Name {
 }
 
 impl Name {
-    /// The name with this text, which has room in it.
+    /// The name with this text, which must have at most 64 bytes.
     pub fn of(text: &str) -> Name
         requires { length text.now ≤ 64 }
         ensures text { name_bytes result ≡ text.now }
@@ -49,7 +49,7 @@ impl Name {
     }
 }
 
-/// The names with these texts, in a place of their own.
+/// The names with these texts, at most 16, in a place for 16.
 pub fn names_with(texts: &[Text]) -> [Name; MOST_POSITIONS]
     requires { length texts.now ≤ 16 }
     ensures texts { map name_bytes (take (length texts.now) result) ≡ texts.now }
@@ -73,7 +73,7 @@ pub fn text_of(name: &Name) -> Option<&str>
     str::from_utf8(bytes).ok()
 }
 
-/// The texts of these names; nothing where one is longer than its room or no UTF-8.
+/// The texts of these names, of which there are at most 16; nothing where one is longer than its room or no UTF-8.
 pub fn texts_of(names: &[Name]) -> Option<ArrayVec<&str, MOST_POSITIONS>>
     requires { length names.now ≤ 16 }
     ensures texts { IfSome result (λ texts. AllByRecursion IsName names.now

@@ -8,7 +8,7 @@ use crate::device_handle::DeviceHandle;
 use oca_tree::TreeBuilder;
 use std::alloc::Global;
 
-/// Opens a closed device over what was built.
+/// Opens a closed device over what was built. Returns the number of `Done`; or of `NoMemory`, and then it stays closed.
 pub fn open_over(alloc: Global, handle: &mut DeviceHandle, builder: TreeBuilder) -> u32
     requires { handle.old.slot.inner ≡ None }
     ensures { OpensOver result handle.new.slot.inner builder }

@@ -1,7 +1,7 @@
 //! Bringing what was stored of an object into the struct that says what the object is to be.
 ghost use Rattle.std.specs.Prelude.{◌≡◌, ◌⊎◌, ◌≤◌, ◌↔◌, IsTrue};
 ghost use Rattle.oca_calls.specs.Restoring.{AlikeRestore, HasSetTexts, IsPossible, PossibleRestores, RestoresSpec};
-ghost use Rattle.oca_calls.specs.Restoring.{TextsRestore, ValueRestores, VersionsRestore, with_stored, with_value};
+ghost use Rattle.oca_calls.specs.Restoring.{TextsRestore, ValueRestores, VersionsRestore, with_stored, with_stored_value};
 
 use crate::answer::Answer;
 use crate::limits::reading_of;
@@ -10,7 +10,10 @@ use crate::spec_words::SpecWords;
 use crate::value_words::{ReadingWords, ValueWords};
 use oca_model::Reading;
 
-/// Brings what was stored of an object into the struct that says what it is to be.
+/// Brings what was stored of an object into the struct that says what it is to be. The first that applies, and then
+/// nothing is changed: `BadSize` of one of the two structs; `OtherKind` for two classes or two numbers of positions;
+/// `BadRange` for more than 16 positions; `BadText`; `OutOfRange` where the value is none, or the struct's limits do
+/// not allow it.
 pub fn restore(spec: &mut SpecWords, stored: &SpecWords) -> Answer
     ensures { RestoresSpec result spec.old stored.now spec.new }
 {
@@ -90,7 +93,7 @@ fn has_set_texts(words: &SpecWords) -> bool
 
 /// The same limits with another value.
 fn with_value(reading: &ReadingWords, value: ValueWords) -> ReadingWords
-    ensures { result ≡ with_value reading.now value }
+    ensures { result ≡ with_stored_value reading.now value }
 {
     ReadingWords {
         value,

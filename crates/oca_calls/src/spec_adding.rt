@@ -11,7 +11,9 @@ use crate::spec_words::{SpecWords, flags_for, flags_of, kind_of};
 use oca_tree::{Spec, Start, TreeBuilder};
 use oca_types::Ono;
 
-/// Adds an object.
+/// Adds an object that a struct describes. Before what the builder refuses ([`Answer::of_start`]) come `BadSize` of a
+/// struct of another version, `BadRange` for more than 16 positions, `BadText` for a text that is above 64 bytes or no
+/// UTF-8, and `NoValue`. A refusal adds nothing.
 pub fn add_spec(builder: &mut TreeBuilder, container: u32, ono: u32, words: &SpecWords) -> Answer
     ensures { SpecAddedBy result builder.old builder.new container ono words.now }
 {

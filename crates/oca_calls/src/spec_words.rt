@@ -43,7 +43,7 @@ impl SpecWords {
     }
 }
 
-/// What each of these bytes says.
+/// What each of these bytes, at most 16, says: 0 no, any other yes.
 pub fn flags_of(bytes: &[u8]) -> ArrayVec<bool, MOST_POSITIONS>
     requires { length bytes.now ≤ 16 }
     ensures { result.items ≡ map is_yes bytes.now }
@@ -55,7 +55,7 @@ pub fn flags_of(bytes: &[u8]) -> ArrayVec<bool, MOST_POSITIONS>
     flags
 }
 
-/// The bytes that say these flags, in a place of their own.
+/// The bytes that say these flags, at most 16, in a place for 16.
 pub fn bytes_of(flags: &[bool]) -> [u8; MOST_POSITIONS]
     requires { length flags.now ≤ 16 }
     ensures { map is_yes (take (length flags.now) result) ≡ flags.now }
@@ -135,7 +135,7 @@ pub fn kind_of<'a>(words: &ReadingWords, names: &'a [&'a str]) -> Option<Kind<'a
     Some(kind_with(reading, names))
 }
 
-/// The flags, of a switch.
+/// The flags, of a switch; `None` of any other kind.
 pub fn flags_for<'a>(kind: &Kind<'_>, flags: &'a [bool]) -> Option<&'a [bool]>
     ensures { option_copied result ≡ flags_for kind.now flags.now }
 {

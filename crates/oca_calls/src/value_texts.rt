@@ -11,7 +11,8 @@ use oca_model::{Value, value_from_word, word_of};
 use oca_types::Class;
 use std::str;
 
-/// Puts the word for a value, and tells how many bytes it has.
+/// Puts the word for a value, and tells how many bytes it has, 1 to 20. `NoValue` where the words are those of none;
+/// `TooSmall` where it does not fit, and then only its size is told.
 pub fn put_word(words: ValueWords, out: &mut [u8], len: &mut usize) -> Answer
     ensures writes { WritesWordOf words out.old out.new len.new (answer_number result) }
     ensures untold { (result ≡ NoValue) → (len.new ≡ len.old) }
@@ -22,7 +23,8 @@ pub fn put_word(words: ValueWords, out: &mut [u8], len: &mut usize) -> Answer
     put_bytes(word_of(value).as_str().as_bytes(), out, len)
 }
 
-/// Tells the value that a word names, of an object of the class with this number.
+/// Tells the value that a word names, of an object of the class with this number. `NoValue` where it names none, and
+/// then nothing is written.
 pub fn read_word(class_number: u32, word: &[u8], out: &mut ValueWords) -> Answer
     ensures { WritesNamed class_number word.now out.old out.new (answer_number result) }
 {

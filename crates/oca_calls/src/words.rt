@@ -55,7 +55,7 @@ pub fn object_words(object: &ObjectInfo) -> [u32; OBJECT_WORDS]
     ]
 }
 
-/// The number of a class.
+/// The number of a class: 1 to 13.
 pub fn class_number(class: Class) -> u32
     ensures { result ≡ class_number class }
 {
@@ -105,7 +105,7 @@ pub fn put_numbers(onos: &[Ono], place: &mut [u32])
     }
 }
 
-/// Copies bytes to the front of a place that has room for them, and returns how many.
+/// Copies bytes to the front of a place that must have room for them, and returns how many.
 pub fn put_front(bytes: &[u8], place: &mut [u8]) -> usize
     requires { length bytes.now ≤ length place.old }
     ensures { LiesIn bytes.now place.new result }
@@ -115,7 +115,8 @@ pub fn put_front(bytes: &[u8], place: &mut [u8]) -> usize
     bytes.len()
 }
 
-/// Copies bytes to the front of a place, where it has room for them, and tells how many they are.
+/// Copies bytes to the front of a place, and writes into `len` how many they are. Returns `Done`; `TooSmall` if they do
+/// not fit: then only `len` is written.
 pub fn put_bytes(bytes: &[u8], place: &mut [u8], len: &mut usize) -> Answer
     ensures { WritesToBuffer bytes.now place.old place.new len.new (answer_number result) }
 {

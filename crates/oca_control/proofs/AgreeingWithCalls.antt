@@ -9,7 +9,7 @@ use Rattle.oca_control.specs.declared.fault.ControlFault.{ControlFault}
 use Rattle.oca_control.specs.Answers.{AnswerFields}
 use Rattle.oca_control.specs.Untaken.{Untaken, first_answered, holds}
 use Rattle.oca_control.specs.Links.{LinkState, submission, after_submission, Decision, GivesCommand, GivesKeepAlive, GivesNothing, IsLost, decision, present_moment, after_due}
-use Rattle.oca_control.specs.Histories.{Call, Submits, GivesOut, Receives, TakesAnswer, IsHistory, clock_of_calls, answers_to, first_of, is_untaken, last_heard, IsFirstAnswered, AgreesWithCalls}
+use Rattle.oca_control.specs.Histories.{Call, Submits, SendsDue, Receives, TakesAnswer, IsHistory, clock_of_calls, answers_to, first_of, is_untaken, last_heard, IsFirstAnswered, AgreesWithCalls}
 use Rattle.oca_control.proofs.Following.{equal_self, both_true, each_map, each_both, AreAnswered}
 use Rattle.oca_control.proofs.Dues.{Rises, each_held}
 use Rattle.oca_control.proofs.Histories.{holds_after}
@@ -30,7 +30,7 @@ heard_is : (device : Peer) (first opened s : ℕ) (calls : List Call) (after : L
 heard_is device first opened s [] after some h = ap (λ (l : LinkState). l.heard) h
 heard_is device first opened s (Submits r now a ∷ before) after some h =
     ap (λ (l : LinkState). l.heard) h.2.1 ∙ submit_heard (submission r h.0) r now h.0 ∙ heard_is device first opened s before h.0 some h.1
-heard_is device first opened s (GivesOut now a bytes ∷ before) after some h =
+heard_is device first opened s (SendsDue now a bytes ∷ before) after some h =
     ap (λ (l : LinkState). l.heard) h.2.2 ∙ due_heard (decision now h.0) (present_moment now h.0) h.0 ∙ heard_is device first opened s before h.0 some h.1
 heard_is device first opened s (Receives from bytes content now a ∷ before) after some h =
     let g = (holds_after device first opened s before h.0 some h.1).now in

@@ -13,7 +13,7 @@ use Rattle.oca_control.specs.declared.reception.Reception.{Reception}
 use Rattle.oca_control.specs.Answers.{AnswerFields}
 use Rattle.oca_control.specs.Untaken.{answer_under}
 use Rattle.oca_control.specs.Links.{LinkState}
-use Rattle.oca_control.specs.Histories.{Call, Submits, GivesOut, Receives, TakesAnswer, IsHistory, clock_of_calls, commands, Sending, sendings, answers_among, answers_of, answers_to, first_of, is_untaken, is_answered, may_be_sent, is_due_at, is_lost_answer, is_lost, IsDueAnswer, GivesWhatIsDue}
+use Rattle.oca_control.specs.Histories.{Call, Submits, SendsDue, Receives, TakesAnswer, IsHistory, clock_of_calls, commands, Sending, sendings, answers_among, answers_of, answers_to, first_of, is_untaken, is_answered, may_be_sent, is_due_at, is_lost_answer, is_lost, IsDueAnswer, GivesWhatIsDue}
 use Rattle.oca_control.specs.Answering.{has_response, TakesNothingOf, CallsDueAt, is_given_in, is_among}
 use Rattle.oca_control.proofs.Following.{equal_is, both_true, each_map}
 use Rattle.oca_control.proofs.Calls.{answer_is}
@@ -60,7 +60,7 @@ answered_still device first opened s h (Submits r now (Ok x)) calls after some p
     unequal : (a b : ℕ) → a < b → nat_eq a b ≡ false
     unequal a b p = grind (arith, nat_tests)
 answered_still device first opened s h (Submits r now (Err fault)) calls after some p none so = so
-answered_still device first opened s h (GivesOut now a bytes) calls after some p none so = so
+answered_still device first opened s h (SendsDue now a bytes) calls after some p none so = so
 answered_still device first opened s h (Receives from bytes content now a) calls after some p none so =
     let b = both_true (is_untaken h calls) (is_some (first_of (answers_to device h calls))) so in
     both_are (is_untaken h calls) (is_some (first_of (answers_to device h calls ++ cond (same_peer from device) (answers_of h content) []))) b.0
@@ -179,10 +179,10 @@ module _ (device : Peer) (opened now t h most : ℕ) (calls : List Call) (made :
       young m e = grind (arith, nat_tests)
 
   one_call : (a : Due) (bytes : List ℕ) → IsDueAnswer device opened t bytes calls a → StillDue device opened t h most calls made →
-      (is_lost (GivesOut now a bytes ∷ calls) ≡ true) ⊎ ((is_given_in h (GivesOut now a bytes) ≡ true) ⊎ StillDue device opened t h most (GivesOut now a bytes ∷ calls) (suc made))
+      (is_lost (SendsDue now a bytes ∷ calls) ≡ true) ⊎ ((is_given_in h (SendsDue now a bytes) ≡ true) ⊎ StillDue device opened t h most (SendsDue now a bytes ∷ calls) (suc made))
   one_call (dues.Send x) bytes q s = by_same (nat_eq x.0 h) refl
     where
-      other : (y : ℕ) → nat_eq y x.0 ≡ false → is_due_at device opened t y (GivesOut now (dues.Send x) bytes ∷ calls) ≡ is_due_at device opened t y calls
+      other : (y : ℕ) → nat_eq y x.0 ≡ false → is_due_at device opened t y (SendsDue now (dues.Send x) bytes ∷ calls) ≡ is_due_at device opened t y calls
       other y p = ap (λ b. is_untaken y calls && (is_none (first_of (answers_to device y calls)) && may_be_sent t (cond b (sent_now bytes ∷ sendings opened y calls) (sendings opened y calls)))) p
 
       covered : (y : ℕ) (b : Bool) → nat_eq y x.0 ≡ b →
@@ -198,7 +198,7 @@ module _ (device : Peer) (opened now t h most : ℕ) (calls : List Call) (made :
       fewer a b p q = omega arith
 
       by_same : (b : Bool) → nat_eq x.0 h ≡ b →
-          (is_lost (GivesOut now (dues.Send x) bytes ∷ calls) ≡ true) ⊎ ((is_given_in h (GivesOut now (dues.Send x) bytes) ≡ true) ⊎ StillDue device opened t h most (GivesOut now (dues.Send x) bytes ∷ calls) (suc made))
+          (is_lost (SendsDue now (dues.Send x) bytes ∷ calls) ≡ true) ⊎ ((is_given_in h (SendsDue now (dues.Send x) bytes) ≡ true) ⊎ StillDue device opened t h most (SendsDue now (dues.Send x) bytes ∷ calls) (suc made))
       by_same true p = inr (inl p)
       by_same false p = inr (inr (record {
         left = without x.0 s.left;
@@ -213,7 +213,7 @@ module _ (device : Peer) (opened now t h most : ℕ) (calls : List Call) (made :
 -- the clock at the moment of the calls
 clock_stays : (opened now : ℕ) (before calls : List Call) → AllByRecursion (CallsDueAt now) calls → max (clock_of_calls opened (calls ++ before)) now ≡ max (clock_of_calls opened before) now
 clock_stays opened now before [] e = refl
-clock_stays opened now before (GivesOut n a bytes ∷ calls) e = same (clock_of_calls opened (calls ++ before)) n e.0 ∙ clock_stays opened now before calls e.1
+clock_stays opened now before (SendsDue n a bytes ∷ calls) e = same (clock_of_calls opened (calls ++ before)) n e.0 ∙ clock_stays opened now before calls e.1
   where
     same : (c n : ℕ) → n ≡ now → max (max c n) now ≡ max c now
     same c n e = omega arith
@@ -228,7 +228,7 @@ goes_on_until device opened now h before [] due g e d covers = inr (inr (record 
   where
     at_first : (n : ℕ) → n + 0 ≤ n
     at_first n = omega arith
-goes_on_until device opened now h before (GivesOut n a bytes ∷ calls) due g e d covers = by (goes_on_until device opened now h before calls due g.1 e.1 d covers)
+goes_on_until device opened now h before (SendsDue n a bytes ∷ calls) due g e d covers = by (goes_on_until device opened now h before calls due g.1 e.1 d covers)
   where
     t_is : max (clock_of_calls opened (calls ++ before)) now ≡ max (clock_of_calls opened before) now
     t_is = clock_stays opened now before calls e.1
@@ -236,16 +236,16 @@ goes_on_until device opened now h before (GivesOut n a bytes ∷ calls) due g e 
     same_now : max (clock_of_calls opened (calls ++ before)) n ≡ max (clock_of_calls opened before) now
     same_now = ap (λ m. max (clock_of_calls opened (calls ++ before)) m) e.0 ∙ t_is
 
-    by_call : (is_lost (GivesOut n a bytes ∷ (calls ++ before)) ≡ true) ⊎ ((is_given_in h (GivesOut n a bytes) ≡ true) ⊎ StillDue device opened (max (clock_of_calls opened before) now) h (length due) (GivesOut n a bytes ∷ (calls ++ before)) (suc (length calls))) →
-        (is_lost (GivesOut n a bytes ∷ (calls ++ before)) ≡ true) ⊎ ((list_any (is_given_in h) (GivesOut n a bytes ∷ calls) ≡ true) ⊎ StillDue device opened (max (clock_of_calls opened before) now) h (length due) (GivesOut n a bytes ∷ (calls ++ before)) (suc (length calls)))
+    by_call : (is_lost (SendsDue n a bytes ∷ (calls ++ before)) ≡ true) ⊎ ((is_given_in h (SendsDue n a bytes) ≡ true) ⊎ StillDue device opened (max (clock_of_calls opened before) now) h (length due) (SendsDue n a bytes ∷ (calls ++ before)) (suc (length calls))) →
+        (is_lost (SendsDue n a bytes ∷ (calls ++ before)) ≡ true) ⊎ ((list_any (is_given_in h) (SendsDue n a bytes ∷ calls) ≡ true) ⊎ StillDue device opened (max (clock_of_calls opened before) now) h (length due) (SendsDue n a bytes ∷ (calls ++ before)) (suc (length calls)))
     by_call (inl lost) = inl lost
     by_call (inr (inl given)) = inr (inl (ap (λ b. b || list_any (is_given_in h) calls) given))
     by_call (inr (inr s)) = inr (inr s)
 
     by : (is_lost (calls ++ before) ≡ true) ⊎ ((list_any (is_given_in h) calls ≡ true) ⊎ StillDue device opened (max (clock_of_calls opened before) now) h (length due) (calls ++ before) (length calls)) →
-        (is_lost (GivesOut n a bytes ∷ (calls ++ before)) ≡ true) ⊎ ((list_any (is_given_in h) (GivesOut n a bytes ∷ calls) ≡ true) ⊎ StillDue device opened (max (clock_of_calls opened before) now) h (length due) (GivesOut n a bytes ∷ (calls ++ before)) (suc (length calls)))
+        (is_lost (SendsDue n a bytes ∷ (calls ++ before)) ≡ true) ⊎ ((list_any (is_given_in h) (SendsDue n a bytes ∷ calls) ≡ true) ⊎ StillDue device opened (max (clock_of_calls opened before) now) h (length due) (SendsDue n a bytes ∷ (calls ++ before)) (suc (length calls)))
     by (inl lost) = inl (ap (λ b. is_lost_answer a || b) lost ∙ or_true (is_lost_answer a))
-    by (inr (inl given)) = inr (inl (ap (λ b. is_given_in h (GivesOut n a bytes) || b) given ∙ or_true (is_given_in h (GivesOut n a bytes))))
+    by (inr (inl given)) = inr (inl (ap (λ b. is_given_in h (SendsDue n a bytes) || b) given ∙ or_true (is_given_in h (SendsDue n a bytes))))
     by (inr (inr s)) = by_call (one_call device opened n (max (clock_of_calls opened before) now) h (length due) (calls ++ before) (length calls) same_now a bytes
         (subst (λ (m : ℕ). IsDueAnswer device opened m bytes (calls ++ before) a) same_now g.0) s)
 goes_on_until device opened now h before (Submits r n a ∷ calls) due g e d covers = absurd e.0
@@ -254,11 +254,11 @@ goes_on_until device opened now h before (TakesAnswer x a ∷ calls) due g e d c
 
 -- Among calls of `due` alone, at one moment, and at least as many of them as handles are due then, each handle that is
 -- due is sent, or the link is lost (span not 0).
-pub given_out : (device : Peer) (first opened span : ℕ) (before calls : List Call) (after : LinkState) (now h : ℕ) (due : List ℕ) → 0 < span → IsHistory device first opened span (calls ++ before) after →
+pub marked_sent : (device : Peer) (first opened span : ℕ) (before calls : List Call) (after : LinkState) (now h : ℕ) (due : List ℕ) → 0 < span → IsHistory device first opened span (calls ++ before) after →
     AllByRecursion (CallsDueAt now) calls → is_due_at device opened (max (clock_of_calls opened before) now) h before ≡ true →
     ((x : ℕ) → is_due_at device opened (max (clock_of_calls opened before) now) x before ≡ true → is_among x due ≡ true) → length due ≤ length calls →
     (is_lost (calls ++ before) ≡ true) ⊎ (list_any (is_given_in h) calls ≡ true)
-given_out device first opened span before calls after now h due some p e d covers enough =
+marked_sent device first opened span before calls after now h due some p e d covers enough =
     by (goes_on_until device opened now h before calls due (holds_after device first opened span (calls ++ before) after some p).dues_are e d covers)
   where
     too_many : (n k m : ℕ) → 0 < n → n + k ≤ m → m ≤ k → ⊥

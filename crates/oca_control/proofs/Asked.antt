@@ -10,10 +10,10 @@ use Rattle.oca_types.specs.Peers.{CommandFields, RequestFields, same_peer}
 use Rattle.oca_net.specs.Deliveries.{Delivery, Datagram, Quiet, Failed}
 use Rattle.oca_control.specs.declared.fault.ControlFault.TheVariants as faults
 use Rattle.oca_control.specs.Answers.{AnswerFields}
-use Rattle.oca_control.specs.Untaken.{Untaken, is_due, first_due, given_out, answer_under, without_handle}
+use Rattle.oca_control.specs.Untaken.{Untaken, is_due, first_due, marked_sent, answer_under, without_handle}
 use Rattle.oca_control.specs.Links.{LinkState, present_moment, late_at, submission, submitted, after_submission, Decision, GivesCommand, GivesKeepAlive, GivesNothing, IsLost, decision, due_answer, due_bytes, after_due, taken}
-use Rattle.oca_control.specs.Histories.{Call, Submits, GivesOut, Receives, TakesAnswer, IsCall, IsHistory, clock_of_calls, commands, sendings}
-use Rattle.oca_control.specs.Answering.{last_asked, IsAskedEvery, IsInFlight, IsGivenOutInTime}
+use Rattle.oca_control.specs.Histories.{Call, Submits, SendsDue, Receives, TakesAnswer, IsCall, IsHistory, clock_of_calls, commands, sendings}
+use Rattle.oca_control.specs.Answering.{last_asked, IsAskedEvery, IsWaiting, IsSentInTime}
 use Rattle.oca_control.specs.Driving.{goes_on, link_from, HearsDelivery, DrivesTurn}
 use Rattle.oca_control.specs.Turning.{TurnsInTime}
 use Rattle.oca_control.specs.Asking.{beginning}
@@ -98,7 +98,7 @@ gave_from ms since (suc n) now calls l few at soon every = by (decision now l) r
     t : ℕ
     t = present_moment now l
 
-    one : (d : Decision) → decision now l ≡ d → IsCall l (GivesOut now (due_answer d) (due_bytes d)) (after_due d t l)
+    one : (d : Decision) → decision now l ≡ d → IsCall l (SendsDue now (due_answer d) (due_bytes d)) (after_due d t l)
     one d e = (ap due_answer (sym e), ap due_bytes (sym e), ap (λ x. after_due x t l) (sym e))
 
     clock_now : max (clock_of_calls since calls) now ≡ t
@@ -107,20 +107,20 @@ gave_from ms since (suc n) now calls l few at soon every = by (decision now l) r
     later : (a b : ℕ) → a ≡ b → a ≤ a + ms
     later a b e = omega arith
 
-    ends : (d : Decision) → decision now l ≡ d → (after_due d t l).moment ≡ t → last_asked since (GivesOut now (due_answer d) (due_bytes d) ∷ calls) ≡ max (clock_of_calls since calls) now →
+    ends : (d : Decision) → decision now l ≡ d → (after_due d t l).moment ≡ t → last_asked since (SendsDue now (due_answer d) (due_bytes d) ∷ calls) ≡ max (clock_of_calls since calls) now →
         Gave ms since calls l (after_due d t l)
     ends d e moment asked = record {
-      more = GivesOut now (due_answer d) (due_bytes d) ∷ [];
+      more = SendsDue now (due_answer d) (due_bytes d) ∷ [];
       made = (l, refl, one d e);
       every = (subst (λ (k : ℕ). max (clock_of_calls since calls) now ≤ k + ms) (sym asked) (later (max (clock_of_calls since calls) now) t clock_now), every);
       clock_is = clock_now ∙ sym moment;
       asked_is = asked ∙ clock_now ∙ sym moment;
     }
 
-    goes : (d : Decision) → decision now l ≡ d → (new : LinkState) → max (clock_of_calls since calls) now ≤ last_asked since (GivesOut now (due_answer d) (due_bytes d) ∷ calls) + ms →
-        Gave ms since (GivesOut now (due_answer d) (due_bytes d) ∷ calls) (after_due d t l) new → Gave ms since calls l new
+    goes : (d : Decision) → decision now l ≡ d → (new : LinkState) → max (clock_of_calls since calls) now ≤ last_asked since (SendsDue now (due_answer d) (due_bytes d) ∷ calls) + ms →
+        Gave ms since (SendsDue now (due_answer d) (due_bytes d) ∷ calls) (after_due d t l) new → Gave ms since calls l new
     goes d e new p r =
-        let c : Call = GivesOut now (due_answer d) (due_bytes d) in
+        let c : Call = SendsDue now (due_answer d) (due_bytes d) in
         let same = sym (append_assoc r.more (c ∷ []) calls) in
         record {
           more = r.more ++ c ∷ [];
@@ -142,13 +142,13 @@ gave_from ms since (suc n) now calls l few at soon every = by (decision now l) r
     by (GivesCommand c) e further =
         let i = is_given t l.sent l.lost c l.untaken e in
         let handle : i.given.command.handle ≡ c.handle = ap (λ (x : CommandFields). x.handle) i.command_is in
-        let less : due_count t (map (given_out t c.handle) l.untaken) < due_count t l.untaken =
-        subst (λ (k : ℕ). due_count t (map (given_out t k) l.untaken) < due_count t l.untaken) handle (fewer_given t l.untaken i.given i.first_is) in
+        let less : due_count t (map (marked_sent t c.handle) l.untaken) < due_count t l.untaken =
+        subst (λ (k : ℕ). due_count t (map (marked_sent t k) l.untaken) < due_count t l.untaken) handle (fewer_given t l.untaken i.given i.first_is) in
         let near : max (clock_of_calls since calls) now ≤ last_asked since calls + ms = at_t (last_asked since calls + ms) soon in
         goes (GivesCommand c) e (link_from now n (after_due (GivesCommand c) t l)) near
-        (further (GivesOut now (due_answer (GivesCommand c)) (due_bytes (GivesCommand c)) ∷ calls) (after_due (GivesCommand c) t l)
-        (subst (λ (k : ℕ). due_count k (map (given_out t c.handle) l.untaken) < n) (sym (again l.moment now))
-        (fewer (due_count t (map (given_out t c.handle) l.untaken)) (due_count t l.untaken) less few))
+        (further (SendsDue now (due_answer (GivesCommand c)) (due_bytes (GivesCommand c)) ∷ calls) (after_due (GivesCommand c) t l)
+        (subst (λ (k : ℕ). due_count k (map (marked_sent t c.handle) l.untaken) < n) (sym (again l.moment now))
+        (fewer (due_count t (map (marked_sent t c.handle) l.untaken)) (due_count t l.untaken) less few))
         clock_now (subst (λ (k : ℕ). k ≤ last_asked since calls + ms) (sym (again l.moment now)) soon) (near, every))
     by GivesKeepAlive e further = by_calls n refl
       where
@@ -161,7 +161,7 @@ gave_from ms since (suc n) now calls l few at soon every = by (decision now l) r
             let q = is_quiet t l.sent l.lost l.untaken true e in
             let near : max (clock_of_calls since calls) now ≤ max (clock_of_calls since calls) now + ms = later (max (clock_of_calls since calls) now) t clock_now in
             goes GivesKeepAlive e (link_from now n k) near
-            (further (GivesOut now (due_answer GivesKeepAlive) (due_bytes GivesKeepAlive) ∷ calls) k
+            (further (SendsDue now (due_answer GivesKeepAlive) (due_bytes GivesKeepAlive) ∷ calls) k
             (subst (λ (x : ℕ). due_count x l.untaken < n) (sym (again l.moment now)) (none m (due_count t l.untaken) same (none_counted t l.untaken q.none)))
             clock_now (last (max (max l.moment now) now) (max (clock_of_calls since calls) now) (again l.moment now) clock_now) (near, every))
           where
@@ -497,7 +497,7 @@ lost_before_run (Began {l = l} request now h run is made) going =
     ∙ not_lost_before ((submitted request now l).span + 1) now (submitted request now l) (sym (ap (λ (k : LinkState). k.lost) made) ∙ going))
 lost_before_run (Took run_h run made) going = lost_before_run run (sym (ap (λ (k : LinkState). k.lost) made) ∙ going)
 
--- A command that was begun is sent in time as long as it is in flight, over a run whose moments follow one another
+-- A command that was begun is sent in time as long as it is waiting, over a run whose moments follow one another
 -- within `ms`, at most 500, unless the link is lost at the end (span not 0).
 pub begun_in_time : (device : Peer) (first opened span ms : ℕ) (before : List Call) (old link new : LinkState) (request : RequestFields) (now : ℕ) (h : Handle) (moments : List ℕ) → 0 < span → 20 * (250 + ms) ≤ 15000 →
     IsHistory device first opened span before old → beginning request now old ≡ Ok h → link ≡ link_from now ((submitted request now old).span + 1) (submitted request now old) → HaveTimeLeft ms link →
@@ -564,11 +564,11 @@ begun_in_time device first opened span ms before old link new request now h mome
     since_link : x.moment ≡ link.moment
     since_link = sym (ap (λ (k : LinkState). k.moment) made ∙ moment_from (x.span + 1) now x (above x.span) ∙ no_later x.moment at)
 
-    by : IsInFlight device h.0 (r.asked.calls ++ Submits request now (Ok h) ∷ before) → IsGivenOutInTime ms link.moment new.moment (sendings opened h.0 (r.asked.calls ++ Submits request now (Ok h) ∷ before))
+    by : IsWaiting device h.0 (r.asked.calls ++ Submits request now (Ok h) ∷ before) → IsSentInTime ms link.moment new.moment (sendings opened h.0 (r.asked.calls ++ Submits request now (Ok h) ∷ before))
     by w =
         let calls : List Call = r.asked.calls ++ Submits request now (Ok h) ∷ before in
-        subst (λ (k : ℕ). IsGivenOutInTime ms k new.moment (sendings opened h.0 calls)) (since ∙ since_link)
-        (subst (λ (k : ℕ). IsGivenOutInTime ms (max (clock_of_calls opened before) now) k (sendings opened h.0 calls)) (sym (holds_after device first opened span calls new some history).now.moment_is)
+        subst (λ (k : ℕ). IsSentInTime ms k new.moment (sendings opened h.0 calls)) (since ∙ since_link)
+        (subst (λ (k : ℕ). IsSentInTime ms (max (clock_of_calls opened before) now) k (sendings opened h.0 calls)) (sym (holds_after device first opened span calls new some history).now.moment_is)
         (in_time device first opened span before r.asked.calls new request now ms h some history (subst (λ (k : ℕ). IsAskedEvery ms k r.asked.calls) (sym since) r.asked.every) w))
 
 -- Once a command was begun, each command of the link has time left, where each that waited before has time at that moment

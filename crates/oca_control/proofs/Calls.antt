@@ -13,7 +13,7 @@ use Rattle.oca_pdu.specs.Messages.{Msg, Command, Response, KeepAlive, Commands}
 use Rattle.oca_pdu.specs.Encoding.{pdu_encoding}
 use Rattle.oca_control.specs.declared.fault.ControlFault.TheVariants as faults
 use Rattle.oca_control.specs.Answers.{AnswerFields, answer_of_response}
-use Rattle.oca_control.specs.Untaken.{Untaken, new_untaken, span_has_room, is_due, first_due, given_out, answered, hears_all, answer_under, without_handle, holds}
+use Rattle.oca_control.specs.Untaken.{Untaken, new_untaken, span_has_room, is_due, first_due, marked_sent, answered, hears_all, answer_under, without_handle, holds}
 use Rattle.oca_control.specs.Links.{LinkState, Request, present_moment, command_under, submission, submission_under, handle_after, GivesCommand, GivesKeepAlive, GivesNothing, IsLost, decision_among, hears_content, received}
 use Rattle.oca_control.specs.Histories.{command_accepted, Sending, answers_among, answers_of, first_of, IsCopy, AreSendingsApart}
 use Rattle.oca_control.proofs.Following.{equal_is, equal_self, unequal, is_below, both_true, or_false, each_map, each_both, each_append, end_of, end_after, IsLast, IsSent, AreSent, AreAnswered, Follows}
@@ -175,22 +175,22 @@ each_first P t (v ∷ us) u a e = by_test (is_due t v) refl e (each_first P t us
     by_test true q e rest = let same : v ≡ u = cc in (subst P same a.0, ap (is_due t) (sym same) ∙ q)
     by_test false q e rest = rest e
 
-holds_given_out : (t h x : ℕ) (us : List Untaken) → holds x (map (given_out t h) us) ≡ holds x us
-holds_given_out t h x [] = refl
-holds_given_out t h x (u ∷ us) = ap (λ b. eqb u.command.handle x || b) (holds_given_out t h x us)
+holds_marked_sent : (t h x : ℕ) (us : List Untaken) → holds x (map (marked_sent t h) us) ≡ holds x us
+holds_marked_sent t h x [] = refl
+holds_marked_sent t h x (u ∷ us) = ap (λ b. eqb u.command.handle x || b) (holds_marked_sent t h x us)
 
-answered_given_out : (t h : ℕ) (came : ℕ → List AnswerFields) (us : List Untaken) → AreAnswered came us → AreAnswered came (map (given_out t h) us)
-answered_given_out t h came [] a = tt
-answered_given_out t h came (u ∷ us) a = (a.0, answered_given_out t h came us a.1)
+answered_marked_sent : (t h : ℕ) (came : ℕ → List AnswerFields) (us : List Untaken) → AreAnswered came us → AreAnswered came (map (marked_sent t h) us)
+answered_marked_sent t h came [] a = tt
+answered_marked_sent t h came (u ∷ us) a = (a.0, answered_marked_sent t h came us a.1)
 
 -- the sendings after one more
 abbrev pub sent_more : ℕ → Sending → (ℕ → List Sending) → ℕ → List Sending
 sent_more h new sent x = cond (eqb x h) (new ∷ sent x) (sent x)
 
-sent_given_out : (s n t h : ℕ) (new : Sending) (accepted : List CommandFields) (sent : ℕ → List Sending) (us : List Untaken) → new.at ≡ t →
-    AreSent s n accepted sent us → AreSent s n accepted (sent_more h new sent) (map (given_out t h) us)
-sent_given_out s n t h new accepted sent [] e a = tt
-sent_given_out s n t h new accepted sent (u ∷ us) e a = (
+sent_marked_sent : (s n t h : ℕ) (new : Sending) (accepted : List CommandFields) (sent : ℕ → List Sending) (us : List Untaken) → new.at ≡ t →
+    AreSent s n accepted sent us → AreSent s n accepted (sent_more h new sent) (map (marked_sent t h) us)
+sent_marked_sent s n t h new accepted sent [] e a = tt
+sent_marked_sent s n t h new accepted sent (u ∷ us) e a = (
   record {
     command = a.0.command;
     count = by_count (eqb u.command.handle h) a.0.count;
@@ -198,7 +198,7 @@ sent_given_out s n t h new accepted sent (u ∷ us) e a = (
     below = a.0.below;
     near = a.0.near;
   },
-  sent_given_out s n t h new accepted sent us e a.1,
+  sent_marked_sent s n t h new accepted sent us e a.1,
 )
   where
     by_count : (b : Bool) → u.times ≡ length (sent u.command.handle) → cond b (u.times + 1) u.times ≡ length (cond b (new ∷ sent u.command.handle) (sent u.command.handle))
@@ -210,7 +210,7 @@ sent_given_out s n t h new accepted sent (u ∷ us) e a = (
     by_last false q = q
 
 abbrev pub with_sending : ℕ → CommandFields → LinkState → LinkState
-with_sending t c l = record l { moment = t; sent = t; untaken = map (given_out t c.handle) l.untaken }
+with_sending t c l = record l { moment = t; sent = t; untaken = map (marked_sent t c.handle) l.untaken }
 
 abbrev pub copy_at : ℕ → CommandFields → Sending
 copy_at t c = record { at = t; bytes = pdu_encoding (Commands true (c ∷ [])) }
@@ -224,9 +224,9 @@ gives device first s t now accepted sent came open_at l c i g = record {
   moment_is = now_is;
   span_is = g.span_is;
   next_is = g.next_is;
-  held = λ x. holds_given_out (present_moment now l) c.handle x l.untaken ∙ g.held x;
-  are_sent = sent_given_out s (first + length accepted) (present_moment now l) c.handle (copy_at (max t now) c) accepted sent l.untaken (sym now_is) g.are_sent;
-  are_answered = answered_given_out (present_moment now l) c.handle came l.untaken g.are_answered;
+  held = λ x. holds_marked_sent (present_moment now l) c.handle x l.untaken ∙ g.held x;
+  are_sent = sent_marked_sent s (first + length accepted) (present_moment now l) c.handle (copy_at (max t now) c) accepted sent l.untaken (sym now_is) g.are_sent;
+  are_answered = answered_marked_sent (present_moment now l) c.handle came l.untaken g.are_answered;
   fresh = λ x q. ap (λ b. cond b ((copy_at (max t now) c) ∷ sent x) (sent x)) (later x q) ∙ g.fresh x q;
   handles = g.handles;
   copies = λ x. by_copy x (eqb x c.handle) refl;

@@ -18,11 +18,11 @@ use Rattle.oca_control.specs.declared.outcome.Outcome.TheVariants as outcomes
 use Rattle.oca_control.specs.declared.report.DriveReport.{DriveReport}
 use Rattle.oca_pdu.specs.Messages.{Msg, Command, Response, KeepAlive}
 use Rattle.oca_control.specs.Answers.{AnswerFields, answer_of_response}
-use Rattle.oca_control.specs.Untaken.{Untaken, is_late, given_out, new_untaken, answered, hears_all, answer_under, without_handle}
+use Rattle.oca_control.specs.Untaken.{Untaken, is_late, marked_sent, new_untaken, answered, hears_all, answer_under, without_handle}
 use Rattle.oca_control.specs.Links.{LinkState, new_link, late_at, present_moment, command_under, submission, submitted, after_submission, Decision, GivesCommand, GivesKeepAlive, GivesNothing, IsLost, decision, due_answer, due_bytes, after_due, gone_on, hears_content}
-use Rattle.oca_control.specs.Histories.{Call, Submits, GivesOut, Receives, TakesAnswer, IsCall, IsHistory, clock_of_calls, commands, Sending, sending_of, sendings}
+use Rattle.oca_control.specs.Histories.{Call, Submits, SendsDue, Receives, TakesAnswer, IsCall, IsHistory, clock_of_calls, commands, Sending, sending_of, sendings}
 use Rattle.oca_control.specs.Driving.{goes_on, link_from, HearsDelivery}
-use Rattle.oca_control.specs.Turning.{GivesIf, GivesInTime, GivesAfter, Turns}
+use Rattle.oca_control.specs.Turning.{GivesIf, SendsInTime, GivesAfter, Turns}
 use Rattle.oca_control.specs.Asking.{TakesTurns, NoneTaken, OneTaken, Waits, Begins, Asks, HasOutcome}
 use Rattle.oca_control.specs.Waiting.{TakesTurnsBefore, WaitsUntil}
 use Rattle.oca_control.specs.Waiting as waiting
@@ -46,9 +46,9 @@ none_of p (u ∷ us) e = let b = neither (p u) (list_any p us) e in (b.0, none_o
 abbrev pub AreDated : ℕ → (ℕ → Option ℕ) → List Untaken → Type 0
 AreDated t at us = AllByRecursion (λ u. (at u.command.handle ≡ Some u.submitted) × (u.submitted ≤ t) × (u.last ≤ t)) us
 
-dated_given_out : (t h : ℕ) (at : ℕ → Option ℕ) (us : List Untaken) → AreDated t at us → AreDated t at (map (given_out t h) us)
-dated_given_out t h at [] a = tt
-dated_given_out t h at (u ∷ us) a = ((a.0.0, a.0.1, by_test (eqb u.command.handle h)), dated_given_out t h at us a.1)
+dated_marked_sent : (t h : ℕ) (at : ℕ → Option ℕ) (us : List Untaken) → AreDated t at us → AreDated t at (map (marked_sent t h) us)
+dated_marked_sent t h at [] a = tt
+dated_marked_sent t h at (u ∷ us) a = ((a.0.0, a.0.1, by_test (eqb u.command.handle h)), dated_marked_sent t h at us a.1)
   where
     by_test : (b : Bool) → cond b t u.last ≤ t
     by_test true = omega arith
@@ -76,7 +76,7 @@ dated_later t now at us q = each_map (λ u a. (a.0, later u.submitted a.1, later
     later k p = omega arith
 
 dated_due : (now : ℕ) (at : ℕ → Option ℕ) (l : LinkState) (d : Decision) → AreDated l.moment at l.untaken → AreDated (max l.moment now) at (after_due d (present_moment now l) l).untaken
-dated_due now at l (GivesCommand c) q = dated_given_out (max l.moment now) c.handle at l.untaken (dated_later l.moment now at l.untaken q)
+dated_due now at l (GivesCommand c) q = dated_marked_sent (max l.moment now) c.handle at l.untaken (dated_later l.moment now at l.untaken q)
 dated_due now at l GivesKeepAlive q = dated_later l.moment now at l.untaken q
 dated_due now at l GivesNothing q = dated_later l.moment now at l.untaken q
 dated_due now at l IsLost q = dated_later l.moment now at l.untaken q
@@ -131,7 +131,7 @@ dated device first opened s (Submits r now (Ok x) ∷ before) l some p =
 
     none : (k : ℕ) → 0 ≤ k
     none k = omega arith
-dated device first opened s (GivesOut now returned bytes ∷ before) l some p =
+dated device first opened s (SendsDue now returned bytes ∷ before) l some p =
     let old = p.0 in
     subst (λ (k : LinkState). AreDated k.moment (λ h. submitted_at opened h before) k.untaken) (sym p.2.2)
     (subst (λ (m : ℕ). AreDated m (λ h. submitted_at opened h before) (gone_on now old).untaken) (sym (due_moment now old (decision now old)))
@@ -220,7 +220,7 @@ copies_in_time device first opened s (Submits r now (Ok x) ∷ before) after som
     by_test false q rest = rest
 copies_in_time device first opened s (Receives from bytes content now a ∷ before) after some m h = copies_in_time device first opened s before m.0 some m.1 h
 copies_in_time device first opened s (TakesAnswer x a ∷ before) after some m h = copies_in_time device first opened s before m.0 some m.1 h
-copies_in_time device first opened s (GivesOut now a bytes ∷ before) after some m h =
+copies_in_time device first opened s (SendsDue now a bytes ∷ before) after some m h =
     subst (λ (x : Due). AllByRecursion (LeavesInTime (submitted_at opened h before)) (sending_of h x (record { at = max (clock_of_calls opened before) now; bytes = bytes }) (sendings opened h before))) (sym m.2.0)
     (leaves_now device first opened s before m.0 now h bytes (decision now m.0) some (is_history device first opened s before m.0 m.1) m.3 refl
     (copies_in_time device first opened s before m.0 some m.1 h))
@@ -243,11 +243,11 @@ one_call {l} call made in_time = (call ∷ [], (l, refl, made, in_time))
 again : (m now : ℕ) → max (max m now) now ≡ max m now
 again m now = omega arith
 
-none_given_out : (t h : ℕ) (us : List Untaken) → list_any (is_late t) us ≡ false → list_any (is_late t) (map (given_out t h) us) ≡ false
-none_given_out t h [] e = refl
-none_given_out t h (u ∷ us) e =
+none_marked_sent : (t h : ℕ) (us : List Untaken) → list_any (is_late t) us ≡ false → list_any (is_late t) (map (marked_sent t h) us) ≡ false
+none_marked_sent t h [] e = refl
+none_marked_sent t h (u ∷ us) e =
     let b = neither (is_late t u) (list_any (is_late t) us) e in
-    both (is_late t u) (list_any (is_late t) (map (given_out t h) us)) b.0 (none_given_out t h us b.1)
+    both (is_late t u) (list_any (is_late t) (map (marked_sent t h) us)) b.0 (none_marked_sent t h us b.1)
   where
     both : (a b : Bool) → a ≡ false → b ≡ false → (a || b) ≡ false
     both a b p q = cc
@@ -257,7 +257,7 @@ calm_after now l calm = by (decision now l)
   where
     by : (d : Decision) → late_at now (after_due d (present_moment now l) l) ≡ false
     by (GivesCommand c) =
-        ap (λ k. list_any (is_late k) (map (given_out (present_moment now l) c.handle) l.untaken)) (again l.moment now) ∙ none_given_out (present_moment now l) c.handle l.untaken calm
+        ap (λ k. list_any (is_late k) (map (marked_sent (present_moment now l) c.handle) l.untaken)) (again l.moment now) ∙ none_marked_sent (present_moment now l) c.handle l.untaken calm
     by GivesKeepAlive = ap (λ k. list_any (is_late k) l.untaken) (again l.moment now) ∙ calm
     by GivesNothing = ap (λ k. list_any (is_late k) l.untaken) (again l.moment now) ∙ calm
     by IsLost = ap (λ k. list_any (is_late k) l.untaken) (again l.moment now) ∙ calm
@@ -268,13 +268,13 @@ made_from zero now l calm = not_changed refl
 made_from (suc n) now l calm = by_test (goes_on (decision now l)) (made_from n now (gone_on now l) (calm_after now l calm))
   where
     one : IsMadeInTime l (gone_on now l)
-    one = one_call (GivesOut now (due_answer (decision now l)) (due_bytes (decision now l))) (refl, refl, refl) calm
+    one = one_call (SendsDue now (due_answer (decision now l)) (due_bytes (decision now l))) (refl, refl, refl) calm
 
     by_test : (b : Bool) → IsMadeInTime (gone_on now l) (link_from now n (gone_on now l)) → IsMadeInTime l (cond b (link_from now n (gone_on now l)) (gone_on now l))
     by_test true rest = then_made one rest
     by_test false rest = one
 
-gives_made : (now : ℕ) (old new : LinkState) (e f : EndState) (r : DriveReport) → GivesInTime now old new e f r → IsMadeInTime old new
+gives_made : (now : ℕ) (old new : LinkState) (e f : EndState) (r : DriveReport) → SendsInTime now old new e f r → IsMadeInTime old new
 gives_made now old new e f r k = by (late_at now old) refl k
   where
     by : (b : Bool) → late_at now old ≡ b → GivesIf b now old new e f r → IsMadeInTime old new

@@ -12,7 +12,7 @@ use Rattle.oca_control.specs.declared.reception.Reception.TheVariants as recepti
 use Rattle.oca_control.specs.Answers.{AnswerFields, answer_of_response}
 use Rattle.oca_control.specs.Untaken.{Untaken, waits, answered, answers_by_all, holds}
 use Rattle.oca_control.specs.Links.{LinkState, reception, reception_of, reception_counted}
-use Rattle.oca_control.specs.Histories.{Call, Submits, GivesOut, Receives, TakesAnswer, IsHistory, answers_among, answers_to, first_of, is_untaken}
+use Rattle.oca_control.specs.Histories.{Call, Submits, SendsDue, Receives, TakesAnswer, IsHistory, answers_among, answers_to, first_of, is_untaken}
 use Rattle.oca_control.specs.Receptions.{AreRising, AnswersSoMany, AnswersOfDevice, IsReception, AnswersDatagrams}
 use Rattle.oca_control.proofs.Following.{equal_is, each_map, AreAnswered}
 use Rattle.oca_control.proofs.Dues.{Rises, rises_answered}
@@ -179,7 +179,7 @@ reception_right device from content before l a same held are r e = subst (IsRece
 pub datagrams_counted : (device : Peer) (first opened span : ℕ) (calls : List Call) (after : LinkState) → 0 < span → IsHistory device first opened span calls after → AnswersDatagrams device calls
 datagrams_counted device first opened span [] after some p = tt
 datagrams_counted device first opened span (Submits r now a ∷ before) after some p = datagrams_counted device first opened span before p.0 some p.1
-datagrams_counted device first opened span (GivesOut now a bytes ∷ before) after some p = datagrams_counted device first opened span before p.0 some p.1
+datagrams_counted device first opened span (SendsDue now a bytes ∷ before) after some p = datagrams_counted device first opened span before p.0 some p.1
 datagrams_counted device first opened span (TakesAnswer x a ∷ before) after some p = datagrams_counted device first opened span before p.0 some p.1
 datagrams_counted device first opened span (Receives from bytes content now a ∷ before) after some p =
     let g = holds_after device first opened span before p.0 some p.1 in

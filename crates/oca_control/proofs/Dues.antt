@@ -7,7 +7,7 @@ use Rattle.std.proofs.lemmas.Bool.Decides.{nat_tests}
 use Rattle.oca_types.specs.Peers.{CommandFields}
 use Rattle.oca_pdu.specs.Messages.{Msg, Command, Response, KeepAlive}
 use Rattle.oca_control.specs.Answers.{AnswerFields, answer_of_response}
-use Rattle.oca_control.specs.Untaken.{Untaken, is_due, first_due, given_out, answered, hears_all, without_handle, holds}
+use Rattle.oca_control.specs.Untaken.{Untaken, is_due, first_due, marked_sent, answered, hears_all, without_handle, holds}
 use Rattle.oca_control.specs.Links.{LinkState, hears_content}
 use Rattle.oca_control.specs.Histories.{Sending, first_of, may_be_sent}
 use Rattle.oca_control.proofs.Following.{equal_is, equal_self, each_map, each_both, each_append, IsLast, IsSent, AreSent, AreAnswered}
@@ -29,14 +29,14 @@ pub rises_more : (us : List Untaken) (u : Untaken) → AllByRecursion (λ v. v.c
 rises_more [] u a r = (tt, tt)
 rises_more (v ∷ us) u a r = (each_append _ us (u ∷ []) r.0 (a.0, tt), rises_more us u a.1 r.1)
 
-kept_given_out : (t h k : ℕ) (us : List Untaken) → AllByRecursion (λ v. k < v.command.handle) us → AllByRecursion (λ v. k < v.command.handle) (map (given_out t h) us)
-kept_given_out t h k [] a = tt
-kept_given_out t h k (u ∷ us) a = (a.0, kept_given_out t h k us a.1)
+kept_marked_sent : (t h k : ℕ) (us : List Untaken) → AllByRecursion (λ v. k < v.command.handle) us → AllByRecursion (λ v. k < v.command.handle) (map (marked_sent t h) us)
+kept_marked_sent t h k [] a = tt
+kept_marked_sent t h k (u ∷ us) a = (a.0, kept_marked_sent t h k us a.1)
 
 -- Giving a command out leaves the handles as they are, so they rise still.
-pub rises_given_out : (t h : ℕ) (us : List Untaken) → Rises us → Rises (map (given_out t h) us)
-rises_given_out t h [] r = tt
-rises_given_out t h (u ∷ us) r = (kept_given_out t h u.command.handle us r.0, rises_given_out t h us r.1)
+pub rises_marked_sent : (t h : ℕ) (us : List Untaken) → Rises us → Rises (map (marked_sent t h) us)
+rises_marked_sent t h [] r = tt
+rises_marked_sent t h (u ∷ us) r = (kept_marked_sent t h u.command.handle us r.0, rises_marked_sent t h us r.1)
 
 -- An answer leaves the handles as they are, so they rise still.
 pub rises_answered : (h : ℕ) (a : AnswerFields) (us : List Untaken) → Rises us → Rises (map (answered h a) us)

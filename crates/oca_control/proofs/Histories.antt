@@ -16,10 +16,10 @@ use Rattle.oca_control.specs.Answers.{AnswerFields}
 use Rattle.oca_control.specs.Contents.{IsContent}
 use Rattle.oca_control.specs.Untaken.{Untaken, new_untaken, span_has_room, is_due, first_due, answer_under, without_handle, holds}
 use Rattle.oca_control.specs.Links.{LinkState, Request, new_link, present_moment, command_under, submission, submission_under, submitted, after_submission, handle_after, Decision, GivesCommand, GivesKeepAlive, GivesNothing, IsLost, decision, decision_among, due_answer, due_bytes, after_due, gone_on, received, taken}
-use Rattle.oca_control.specs.Histories.{Call, Submits, GivesOut, Receives, TakesAnswer, IsCall, IsHistory, clock_of_calls, commands, Sending, sendings, answers_to, first_of, is_untaken, last_given, is_lost, TakesTheFirst, IsLowestDue, NoneIsDue, HasSpanRoom, IsFull, IsSubmitAnswer, AnswersSubmits, IsDueAnswer, GivesWhatIsDue, IsLawful}
+use Rattle.oca_control.specs.Histories.{Call, Submits, SendsDue, Receives, TakesAnswer, IsCall, IsHistory, clock_of_calls, commands, Sending, sendings, answers_to, first_of, is_untaken, last_given, is_lost, TakesTheFirst, IsLowestDue, NoneIsDue, HasSpanRoom, IsFull, IsSubmitAnswer, AnswersSubmits, IsDueAnswer, GivesWhatIsDue, IsLawful}
 use Rattle.oca_control.proofs.Following.{equal_is, equal_self, is_below, is_at_most, both_true, each_map, each_both, end_of, IsSent, AreSent, Follows, opens}
 use Rattle.oca_control.proofs.Calls.{room_each, is_accepted, submits, is_given, each_first, gives, passes, receives, answer_is, takes}
-use Rattle.oca_control.proofs.Dues.{Rises, OtherFieldsAre, rises_more, rises_given_out, rises_received, rises_without, each_held, due_by, due_same, first_held, first_lowest, none_first}
+use Rattle.oca_control.proofs.Dues.{Rises, OtherFieldsAre, rises_more, rises_marked_sent, rises_received, rises_without, each_held, due_by, due_same, first_held, first_lowest, none_first}
 
 abbrev pub Now : Peer → ℕ → ℕ → ℕ → List Call → LinkState → Type 0
 Now device first opened s calls l = Follows device first s (clock_of_calls opened calls) (commands calls) (λ h. sendings opened h calls) (λ h. answers_to device h calls) (λ h. is_untaken h calls) l
@@ -32,7 +32,7 @@ submit_step device first opened s before l after r now (Ok h) some e f g =
     (submits device first s (clock_of_calls opened before) now (commands before) (λ x. sendings opened x before) (λ x. answers_to device x before) (λ x. is_untaken x before) l h r some (is_accepted r h l (sym e)) g)
 
 due_step : (device : Peer) (first opened s : ℕ) (before : List Call) (l : LinkState) (now : ℕ) (d : Decision) → decision now l ≡ d → Now device first opened s before l →
-    Now device first opened s (GivesOut now (due_answer d) (due_bytes d) ∷ before) (after_due d (present_moment now l) l)
+    Now device first opened s (SendsDue now (due_answer d) (due_bytes d) ∷ before) (after_due d (present_moment now l) l)
 due_step device first opened s before l now (GivesCommand c) e g =
     gives device first s (clock_of_calls opened before) now (commands before) (λ x. sendings opened x before) (λ x. answers_to device x before) (λ x. is_untaken x before) l c (is_given (present_moment now l) l.sent l.lost c l.untaken e) g
 due_step device first opened s before l now GivesKeepAlive e g =
@@ -149,8 +149,8 @@ submit_others device first opened s before l after r now (Ok h) e f g q =
         omega arith
 
 due_others : (opened : ℕ) (before : List Call) (l : LinkState) (now : ℕ) (d : Decision) → present_moment now l ≡ max (clock_of_calls opened before) now → OtherFieldsAre (last_given opened before) (is_lost before) l →
-    OtherFieldsAre (last_given opened (GivesOut now (due_answer d) (due_bytes d) ∷ before)) (is_lost (GivesOut now (due_answer d) (due_bytes d) ∷ before)) (after_due d (present_moment now l) l)
-due_others opened before l now (GivesCommand c) e q = record { lost_is = q.lost_is; sent_is = e; rises = rises_given_out (present_moment now l) c.handle l.untaken q.rises }
+    OtherFieldsAre (last_given opened (SendsDue now (due_answer d) (due_bytes d) ∷ before)) (is_lost (SendsDue now (due_answer d) (due_bytes d) ∷ before)) (after_due d (present_moment now l) l)
+due_others opened before l now (GivesCommand c) e q = record { lost_is = q.lost_is; sent_is = e; rises = rises_marked_sent (present_moment now l) c.handle l.untaken q.rises }
 due_others opened before l now GivesKeepAlive e q = record { lost_is = q.lost_is; sent_is = e; rises = q.rises }
 due_others opened before l now GivesNothing e q = record { lost_is = q.lost_is; sent_is = q.sent_is; rises = q.rises }
 due_others opened before l now IsLost e q = record { lost_is = refl; sent_is = q.sent_is; rises = q.rises }
@@ -163,7 +163,7 @@ take_others last h lost l q = record { lost_is = q.lost_is; sent_is = q.sent_is;
     by_test false = q.rises
 
 due_holds_after : (device : Peer) (first opened s : ℕ) (before : List Call) (l : LinkState) (now : ℕ) → HoldsAfter device first opened s before l →
-    HoldsAfter device first opened s (GivesOut now (due_answer (decision now l)) (due_bytes (decision now l)) ∷ before) (after_due (decision now l) (present_moment now l) l)
+    HoldsAfter device first opened s (SendsDue now (due_answer (decision now l)) (due_bytes (decision now l)) ∷ before) (after_due (decision now l) (present_moment now l) l)
 due_holds_after device first opened s before l now g = record {
   now = due_step device first opened s before l now (decision now l) refl g.now;
   others_are = due_others opened before l now (decision now l) now_is g.others_are;
@@ -183,7 +183,7 @@ due_holds_after device first opened s before l now g = record {
 -- A call makes another of a link, as `IsCall` says, whatever the content of a datagram is.
 abbrev pub IsMade : LinkState → Call → LinkState → Type 0
 IsMade l (Submits request now answer) after = (answer ≡ submission request l) × (after ≡ submitted request now l)
-IsMade l (GivesOut now answer bytes) after = (answer ≡ due_answer (decision now l)) × (bytes ≡ due_bytes (decision now l)) × (after ≡ gone_on now l)
+IsMade l (SendsDue now answer bytes) after = (answer ≡ due_answer (decision now l)) × (bytes ≡ due_bytes (decision now l)) × (after ≡ gone_on now l)
 IsMade l (Receives from bytes content now answer) after = after ≡ received from content now l
 IsMade l (TakesAnswer h answer) after = (answer ≡ answer_under h l.untaken) × (after ≡ taken h l)
 
@@ -194,7 +194,7 @@ IsMadeBy device first opened span (call ∷ before) after = (l : LinkState) × I
 
 is_made : (l : LinkState) (call : Call) (after : LinkState) → IsCall l call after → IsMade l call after
 is_made l (Submits request now answer) after c = c
-is_made l (GivesOut now answer bytes) after c = c
+is_made l (SendsDue now answer bytes) after c = c
 is_made l (Receives from bytes content now answer) after c = c.2
 is_made l (TakesAnswer h answer) after c = c
 
@@ -211,7 +211,7 @@ step device first opened s before l after (Submits r now a) some g c = record {
   dues_are = g.dues_are;
   takes_are = g.takes_are;
 }
-step device first opened s before l after (GivesOut now a bytes) some g c = rw (c.0, c.1, c.2) (due_holds_after device first opened s before l now g)
+step device first opened s before l after (SendsDue now a bytes) some g c = rw (c.0, c.1, c.2) (due_holds_after device first opened s before l now g)
 step device first opened s before l after (Receives from bytes content now a) some g c = record {
   now = subst (λ m. Now device first opened s (Receives from bytes content now a ∷ before) m) (sym c)
       (receives device first s (clock_of_calls opened before) now (commands before) (λ x. sendings opened x before) (λ x. answers_to device x before) (λ x. is_untaken x before) l from content g.now);
@@ -353,7 +353,7 @@ fit device first opened s (Submits r now a ∷ before) after some low h =
       next = subst (λ (m : LinkState). Fits32 m.next) (sym h.2.1) (fit_submit r now h.0 (submission r h.0) refl f.next);
       submits_are = (submit_right device first opened s before h.0 r a g.now g.others_are.lost_is f.next (sym h.2.0), f.submits_are);
     }
-fit device first opened s (GivesOut now a bytes ∷ before) after some low h =
+fit device first opened s (SendsDue now a bytes ∷ before) after some low h =
     let f = fit device first opened s before h.0 some low h.1 in
     record { next = subst (λ (m : LinkState). Fits32 m.next) (sym h.2.2) (fit_due (decision now h.0) (present_moment now h.0) h.0 f.next); submits_are = f.submits_are }
 fit device first opened s (Receives from bytes content now a ∷ before) after some low h =

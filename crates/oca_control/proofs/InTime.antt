@@ -11,8 +11,8 @@ use Rattle.oca_control.specs.declared.due.Due.{Due}
 use Rattle.oca_control.specs.declared.due.Due.TheVariants as dues
 use Rattle.oca_control.specs.Answers.{AnswerFields}
 use Rattle.oca_control.specs.Links.{LinkState, Request}
-use Rattle.oca_control.specs.Histories.{Call, Submits, GivesOut, Receives, TakesAnswer, IsHistory, clock_of_calls, commands, Sending, sending_of, sendings, answers_of, answers_to, first_of, is_untaken, may_be_sent, is_lost_answer, is_lost, NoneIsDue, IsDueAnswer}
-use Rattle.oca_control.specs.Answering.{is_none_left, last_asked, IsAskedEvery, IsInFlight, IsGivenOutInTime}
+use Rattle.oca_control.specs.Histories.{Call, Submits, SendsDue, Receives, TakesAnswer, IsHistory, clock_of_calls, commands, Sending, sending_of, sendings, answers_of, answers_to, first_of, is_untaken, may_be_sent, is_lost_answer, is_lost, NoneIsDue, IsDueAnswer}
+use Rattle.oca_control.specs.Answering.{is_none_left, last_asked, IsAskedEvery, IsWaiting, IsSentInTime}
 use Rattle.oca_control.proofs.Following.{both_true}
 use Rattle.oca_control.proofs.Histories.{IsMadeBy, is_made_by, holds_after_calls}
 
@@ -60,7 +60,7 @@ none_left ms since asked t (x ∷ xs) e g = record { rested = young x.at e; earl
     young : (s : ℕ) → nat_le 250 (t - s) ≡ false → t < s + 250
     young s q = grind (arith, nat_tests)
 
-in_time_by : (ms since asked t : ℕ) (given : List Sending) → t ≤ asked + ms → length given ≤ 20 → Given ms since asked given → IsGivenOutInTime ms since t given
+in_time_by : (ms since asked t : ℕ) (given : List Sending) → t ≤ asked + ms → length given ≤ 20 → Given ms since asked given → IsSentInTime ms since t given
 in_time_by ms since asked t [] p few g = let r : asked ≤ since = g.rested in record { recent = omega arith; ends = omega arith }
 in_time_by ms since asked t (x ∷ xs) p few g =
     let r : asked < x.at + 250 = g.rested in
@@ -87,7 +87,7 @@ module _ (device : Peer) (first opened s : ℕ) (some : 0 < s) (before : List Ca
   clock_from [] = refl
   clock_from (Submits q n (Ok x) ∷ later) = ap (λ m. max m n) (clock_from later)
   clock_from (Submits q n (Err f) ∷ later) = clock_from later
-  clock_from (GivesOut n a bytes ∷ later) = ap (λ m. max m n) (clock_from later)
+  clock_from (SendsDue n a bytes ∷ later) = ap (λ m. max m n) (clock_from later)
   clock_from (Receives from bytes content n a ∷ later) = ap (λ m. max m n) (clock_from later)
   clock_from (TakesAnswer x a ∷ later) = clock_from later
 
@@ -96,7 +96,7 @@ module _ (device : Peer) (first opened s : ℕ) (some : 0 < s) (before : List Ca
   sent_from [] e = e
   sent_from (Submits q n (Ok x) ∷ later) e = sent_from later e
   sent_from (Submits q n (Err f) ∷ later) e = sent_from later e
-  sent_from (GivesOut n a bytes ∷ later) e =
+  sent_from (SendsDue n a bytes ∷ later) e =
       ap (λ (c : ℕ). sending_of h.0 a (record { at = max c n; bytes = bytes }) (sendings opened h.0 (later ++ base))) (clock_from later)
       ∙ ap (λ (xs : List Sending). sending_of h.0 a (record { at = max (clock_of_calls since later) n; bytes = bytes }) xs) (sent_from later e)
   sent_from (Receives from bytes content n a ∷ later) e = sent_from later e
@@ -109,7 +109,7 @@ module _ (device : Peer) (first opened s : ℕ) (some : 0 < s) (before : List Ca
   asked_then [] = omega arith
   asked_then (Submits q n (Ok x) ∷ later) = further (last_asked since later) (clock_of_calls since later) n (asked_then later)
   asked_then (Submits q n (Err f) ∷ later) = asked_then later
-  asked_then (GivesOut n a bytes ∷ later) = by (is_none_left a) (clock_of_calls since later) (last_asked since later) (asked_then later)
+  asked_then (SendsDue n a bytes ∷ later) = by (is_none_left a) (clock_of_calls since later) (last_asked since later) (asked_then later)
     where
       by : (b : Bool) (c l : ℕ) → l ≤ c → cond b (max c n) l ≤ max c n
       by true c l p = omega arith
@@ -132,7 +132,7 @@ module _ (device : Peer) (first opened s : ℕ) (some : 0 < s) (before : List Ca
       more : (a b : ℕ) → a < b → a < suc b
       more a b p = omega arith
   accepted_more (Submits q n (Err f) ∷ later) = accepted_more later
-  accepted_more (GivesOut n a bytes ∷ later) = accepted_more later
+  accepted_more (SendsDue n a bytes ∷ later) = accepted_more later
   accepted_more (Receives from bytes content n a ∷ later) = accepted_more later
   accepted_more (TakesAnswer x a ∷ later) = accepted_more later
 
@@ -158,9 +158,9 @@ module _ (device : Peer) (first opened s : ℕ) (some : 0 < s) (before : List Ca
   GivenAfter later = Given ms since (last_asked since later) (sendings opened h.0 (later ++ base))
 
   -- a call of `due`, whatever it answers
-  by_due : (later : List Call) (n : ℕ) (a : Due) (bytes : List ℕ) → clock_of_calls since (GivesOut n a bytes ∷ later) ≤ last_asked since (GivesOut n a bytes ∷ later) + ms →
-      IsDueAnswer device opened (max (clock_of_calls opened (later ++ base)) n) bytes (later ++ base) a → IsInFlight device h.0 (GivesOut n a bytes ∷ (later ++ base)) → GivenAfter later →
-      GivenAfter (GivesOut n a bytes ∷ later)
+  by_due : (later : List Call) (n : ℕ) (a : Due) (bytes : List ℕ) → clock_of_calls since (SendsDue n a bytes ∷ later) ≤ last_asked since (SendsDue n a bytes ∷ later) + ms →
+      IsDueAnswer device opened (max (clock_of_calls opened (later ++ base)) n) bytes (later ++ base) a → IsWaiting device h.0 (SendsDue n a bytes ∷ (later ++ base)) → GivenAfter later →
+      GivenAfter (SendsDue n a bytes ∷ later)
   by_due later n a bytes soon d w g = by a soon d w
     where
       t : ℕ
@@ -190,15 +190,15 @@ module _ (device : Peer) (first opened s : ℕ) (some : 0 < s) (before : List Ca
       left : is_untaken h.0 (later ++ base) ≡ true → first_of (answers_to device h.0 (later ++ base)) ≡ None → NoneIsDue device opened t (later ++ base) → Given ms since (max (clock_of_calls since later) n) (sendings opened h.0 (later ++ base))
       left u none d = rw t_is at (none_left ms since (last_asked since later) t (sendings opened h.0 (later ++ base)) (resting u none d) g)
 
-      by : (a : Due) → clock_of_calls since (GivesOut n a bytes ∷ later) ≤ last_asked since (GivesOut n a bytes ∷ later) + ms →
-          IsDueAnswer device opened (max (clock_of_calls opened (later ++ base)) n) bytes (later ++ base) a → IsInFlight device h.0 (GivesOut n a bytes ∷ (later ++ base)) →
-          GivenAfter (GivesOut n a bytes ∷ later)
+      by : (a : Due) → clock_of_calls since (SendsDue n a bytes ∷ later) ≤ last_asked since (SendsDue n a bytes ∷ later) + ms →
+          IsDueAnswer device opened (max (clock_of_calls opened (later ++ base)) n) bytes (later ++ base) a → IsWaiting device h.0 (SendsDue n a bytes ∷ (later ++ base)) →
+          GivenAfter (SendsDue n a bytes ∷ later)
       by (dues.Send x) soon d w = sent x bytes (nat_eq h.0 x.0) soon
       by dues.KeepAlive soon d w = left w.untaken w.unanswered d.1
       by dues.Nothing soon d w = left w.untaken w.unanswered d.1
       by dues.Lost soon d w = let q : true ≡ false = w.not_lost in cc
 
-  given : (later : List Call) (after : LinkState) → IsMadeBy device first opened s (later ++ base) after → IsAskedEvery ms since later → IsInFlight device h.0 (later ++ base) → GivenAfter later
+  given : (later : List Call) (after : LinkState) → IsMadeBy device first opened s (later ++ base) after → IsAskedEvery ms since later → IsWaiting device h.0 (later ++ base) → GivenAfter later
   given [] after p e w = rw none (record { rested = at_most since; early = tt })
     where
       at_most : (n : ℕ) → n ≤ n
@@ -206,9 +206,9 @@ module _ (device : Peer) (first opened s : ℕ) (some : 0 < s) (before : List Ca
 
       none : sendings opened h.0 before ≡ []
       none = let n : h.0 ≡ first + length (commands before) = number_of [] after p in (holds_after_calls device first opened s before p.0 some p.1).now.fresh h.0 (omega arith)
-  given (GivesOut n a bytes ∷ later) after p e w =
+  given (SendsDue n a bytes ∷ later) after p e w =
       let lost = neither (is_lost_answer a) (is_lost (later ++ base)) w.not_lost in
-      by_due later n a bytes e.0 (holds_after_calls device first opened s (GivesOut n a bytes ∷ (later ++ base)) after some p).dues_are.0 w
+      by_due later n a bytes e.0 (holds_after_calls device first opened s (SendsDue n a bytes ∷ (later ++ base)) after some p).dues_are.0 w
       (given later p.0 p.1 e.1 (record { untaken = w.untaken; unanswered = w.unanswered; not_lost = lost.1 }))
   given (Submits q n (Ok x) ∷ later) after p e w =
       let above : h.0 < x.0 = other later q n x after p in
@@ -230,17 +230,17 @@ module _ (device : Peer) (first opened s : ℕ) (some : 0 < s) (before : List Ca
   })
   given (TakesAnswer x None ∷ later) after p e w = given later p.0 p.1 e.1 (record { untaken = w.untaken; unanswered = w.unanswered; not_lost = w.not_lost })
 
-  pub in_time_made : (later : List Call) (after : LinkState) → IsMadeBy device first opened s (later ++ base) after → IsAskedEvery ms since later → IsInFlight device h.0 (later ++ base) →
-      IsGivenOutInTime ms since (clock_of_calls opened (later ++ base)) (sendings opened h.0 (later ++ base))
+  pub in_time_made : (later : List Call) (after : LinkState) → IsMadeBy device first opened s (later ++ base) after → IsAskedEvery ms since later → IsWaiting device h.0 (later ++ base) →
+      IsSentInTime ms since (clock_of_calls opened (later ++ base)) (sendings opened h.0 (later ++ base))
   in_time_made later after p e w =
       in_time_by ms since (last_asked since later) (clock_of_calls opened (later ++ base)) (sendings opened h.0 (later ++ base)) (rw (clock_from later) (lately later e))
       ((holds_after_calls device first opened s (later ++ base) after some p).now.at_most_20 h.0) (given later after p e w)
 
 -- Where a link whose span is not 0 is asked every so many ms from the submit of a command on, the command is sent
--- in time as long as it is in flight.
+-- in time as long as it is waiting.
 pub in_time : (device : Peer) (first opened span : ℕ) (before later : List Call) (after : LinkState) (r : Request) (now ms : ℕ) (h : Handle) → 0 < span →
     IsHistory device first opened span (later ++ Submits r now (Ok h) ∷ before) after → IsAskedEvery ms (max (clock_of_calls opened before) now) later →
-    IsInFlight device h.0 (later ++ Submits r now (Ok h) ∷ before) →
-    IsGivenOutInTime ms (max (clock_of_calls opened before) now) (clock_of_calls opened (later ++ Submits r now (Ok h) ∷ before)) (sendings opened h.0 (later ++ Submits r now (Ok h) ∷ before))
+    IsWaiting device h.0 (later ++ Submits r now (Ok h) ∷ before) →
+    IsSentInTime ms (max (clock_of_calls opened before) now) (clock_of_calls opened (later ++ Submits r now (Ok h) ∷ before)) (sendings opened h.0 (later ++ Submits r now (Ok h) ∷ before))
 in_time device first opened span before later after r now ms h some p e w =
     in_time_made device first opened span some before r now ms h later after (is_made_by device first opened span (later ++ Submits r now (Ok h) ∷ before) after p) e w

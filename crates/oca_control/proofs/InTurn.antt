@@ -15,7 +15,7 @@ use Rattle.oca_control.specs.Steps.{ReceivesDatagram}
 use Rattle.oca_control.specs.declared.report.DriveReport.{DriveReport}
 use Rattle.oca_control.specs.Links.{LinkState, Decision, IsLost, late_at}
 use Rattle.oca_control.specs.Driving.{answered_by, is_failed_delivery, drive_report_of, all_given_to, decisions_from, link_from}
-use Rattle.oca_control.specs.Turning.{GivesIf, GivesInTime, decisions_in_time, link_in_time, TurnsInTime, TurnsLinkOnce, Turns}
+use Rattle.oca_control.specs.Turning.{GivesIf, SendsInTime, decisions_in_time, link_in_time, TurnsInTime, TurnsLinkOnce, Turns}
 use Rattle.oca_control.specs.PrivateDriving.{given_report}
 use Rattle.oca_control.proofs.Turns.{datagram_reported, silent_reported, failed_reported, heard_datagram, same_device}
 
@@ -25,7 +25,7 @@ record GaveInTime (now : ℕ) (old new : LinkState) (f g : EndState) (given : Dr
   pub reported : given ≡ given_report (decisions_in_time now old) given.failed_sends
   pub sends : SendsAllBut given.failed_sends f g (all_given_to old.device (decisions_in_time now old))
 
-gave : {now : ℕ} {old new : LinkState} {f g : EndState} {given : DriveReport} → GivesInTime now old new f g given → GaveInTime now old new f g given
+gave : {now : ℕ} {old new : LinkState} {f g : EndState} {given : DriveReport} → SendsInTime now old new f g given → GaveInTime now old new f g given
 gave {now} {old} {new} {f} {g} {given} k = let w = by (late_at now old) k in record { link = w.0; reported = w.1; sends = w.2 }
   where
     none_sent : (p : Peer) (n : ℕ) (h : EndState) → n ≡ 0 → h ≡ f → SendsAllBut n f h (all_given_to p (IsLost ∷ []))
@@ -59,7 +59,7 @@ heard_one x {h} {held} {old} {new} {e} {f} {g} {ds} {n} {r} heard grew failed se
 
 module _ {e f g : EndState} {held : List ℕ} {now : ℕ} (given : DriveReport) where
   pub datagram_turn : {old mid new : LinkState} {from : Peer} (bytes : List ℕ) (answer : Reception) (n : ℕ) → length bytes ≤ 1472 → bytes ≡ held → Receives (heard.Datagram from now) held e f →
-      ReceivesDatagram from bytes now old answer mid → n ≡ answered_by answer → GivesInTime now mid new f g given →
+      ReceivesDatagram from bytes now old answer mid → n ≡ answered_by answer → SendsInTime now mid new f g given →
       Turns old new e g (record { turns = 1; sent = given.sent; keep_alives = given.keep_alives; answered = n; failed_receives = given.failed_receives; failed_sends = given.failed_sends; lost = given.lost })
   datagram_turn {old} {mid} {new} {from} bytes answer n short same h received count k =
       let device = same_device from bytes now old mid answer received in
@@ -70,14 +70,14 @@ module _ {e f g : EndState} {held : List ℕ} {now : ℕ} (given : DriveReport) 
       (record { between = mid; hears = heard_datagram from bytes now old mid answer n short received count; gives = (refl, in_time.link) })
       (datagram_reported from bytes now ds n given in_time.reported))
 
-  pub quiet_turn : {old new : LinkState} → Receives (heard.Quiet now) held e f → GivesInTime now old new f g given →
+  pub quiet_turn : {old new : LinkState} → Receives (heard.Quiet now) held e f → SendsInTime now old new f g given →
       Turns old new e g (record { turns = 1; sent = given.sent; keep_alives = given.keep_alives; answered = given.answered; failed_receives = given.failed_receives; failed_sends = given.failed_sends; lost = given.lost })
   quiet_turn {old} {new} h k =
       let in_time = gave {now = now} {old = old} k in
       inl (heard_one (Quiet now) h h.delivered refl in_time.sends (record { between = old; hears = (refl, refl); gives = (refl, in_time.link) })
       (silent_reported (Quiet now) (decisions_in_time now old) given refl in_time.reported))
 
-  pub oversize_turn : {old new : LinkState} → Receives (heard.Oversize now) held e f → GivesInTime now old new f g given →
+  pub oversize_turn : {old new : LinkState} → Receives (heard.Oversize now) held e f → SendsInTime now old new f g given →
       Turns old new e g (record { turns = 1; sent = given.sent; keep_alives = given.keep_alives; answered = given.answered; failed_receives = given.failed_receives; failed_sends = given.failed_sends; lost = given.lost })
   oversize_turn {old} {new} h k =
       let in_time = gave {now = now} {old = old} k in

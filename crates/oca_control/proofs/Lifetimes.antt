@@ -10,7 +10,7 @@ use Rattle.oca_types.specs.declared.words.Handle.{Handle}
 use Rattle.oca_types.specs.Peers.{RequestFields}
 use Rattle.oca_pdu.specs.Messages.{Msg, Command, Response, KeepAlive}
 use Rattle.oca_control.specs.Answers.{AnswerFields, answer_of_response}
-use Rattle.oca_control.specs.Untaken.{Untaken, new_untaken, is_due, is_late, given_out, waits, answered, hears_all}
+use Rattle.oca_control.specs.Untaken.{Untaken, new_untaken, is_due, is_late, marked_sent, waits, answered, hears_all}
 use Rattle.oca_control.specs.Links.{LinkState, present_moment, late_at, command_under, submission, submitted, after_submission, Decision, GivesCommand, GivesKeepAlive, GivesNothing, IsLost, decision, after_due, hears_content}
 use Rattle.oca_control.specs.Histories.{Call, IsHistory, sendings}
 use Rattle.oca_control.specs.Driving.{goes_on, link_from}
@@ -89,7 +89,7 @@ fits_received ms t true None us q = q
 fits_received ms t true (Some xs) us q = fits_heard ms t xs us q
 fits_received ms t false content us q = q
 
-fits_given : (ms t h : ℕ) (us : List Untaken) → AllByRecursion (Fits ms t) us → AllByRecursion (Fits ms t) (map (given_out t h) us)
+fits_given : (ms t h : ℕ) (us : List Untaken) → AllByRecursion (Fits ms t) us → AllByRecursion (Fits ms t) (map (marked_sent t h) us)
 fits_given ms t h [] q = tt
 fits_given ms t h (u ∷ us) q = (by (eqb u.command.handle h) q.0, fits_given ms t h us q.1)
   where

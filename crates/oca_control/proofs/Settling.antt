@@ -5,11 +5,11 @@ use Rattle.std.specs.List.{list_any}
 use Rattle.std.proofs.Math.Dec.{eqb}
 use Rattle.std.proofs.lemmas.Bool.Decides.{nat_tests}
 use Rattle.oca_types.specs.Peers.{CommandFields}
-use Rattle.oca_control.specs.Untaken.{Untaken, is_due, first_due, given_out}
+use Rattle.oca_control.specs.Untaken.{Untaken, is_due, first_due, marked_sent}
 use Rattle.oca_control.specs.Links.{LinkState, present_moment, Decision, GivesCommand, GivesKeepAlive, GivesNothing, IsLost, decision, decision_among, after_due}
 use Rattle.oca_net.specs.EndStates.{EndState}
 use Rattle.oca_control.specs.declared.report.DriveReport.{DriveReport}
-use Rattle.oca_control.specs.Driving.{decides_lost, goes_on, decisions_from, link_from, GivesOut}
+use Rattle.oca_control.specs.Driving.{decides_lost, goes_on, decisions_from, link_from, SendsDue}
 use Rattle.oca_control.specs.Running.{NothingIsLeft}
 use Rattle.oca_control.proofs.Following.{equal_self}
 use Rattle.oca_control.proofs.Calls.{is_given}
@@ -56,7 +56,7 @@ rested t u = ap (λ b. is_none u.answer && b) (young t u.times) ∙ and_false (i
     and_false true = refl
     and_false false = refl
 
-given_is_due : (t h : ℕ) (u : Untaken) → cond (is_due t (given_out t h u)) 1 0 ≤ cond (is_due t u) 1 0
+given_is_due : (t h : ℕ) (u : Untaken) → cond (is_due t (marked_sent t h u)) 1 0 ≤ cond (is_due t u) 1 0
 given_is_due t h u = by (eqb u.command.handle h)
   where
     least : (n : ℕ) → 0 ≤ n
@@ -69,39 +69,39 @@ given_is_due t h u = by (eqb u.command.handle h)
     by true = subst (λ (z : Bool). cond z 1 0 ≤ cond (is_due t u) 1 0) (sym (rested t u)) (least (cond (is_due t u) 1 0))
     by false = same (cond (is_due t u) 1 0)
 
-not_more : (t h : ℕ) (us : List Untaken) → due_count t (map (given_out t h) us) ≤ due_count t us
+not_more : (t h : ℕ) (us : List Untaken) → due_count t (map (marked_sent t h) us) ≤ due_count t us
 not_more t h [] = omega arith
 not_more t h (u ∷ us) =
-    both (cond (is_due t (given_out t h u)) 1 0) (cond (is_due t u) 1 0) (due_count t (map (given_out t h) us)) (due_count t us) (given_is_due t h u) (not_more t h us)
+    both (cond (is_due t (marked_sent t h u)) 1 0) (cond (is_due t u) 1 0) (due_count t (map (marked_sent t h) us)) (due_count t us) (given_is_due t h u) (not_more t h us)
   where
     both : (a b c d : ℕ) → a ≤ b → c ≤ d → a + c ≤ b + d
     both a b c d p q = omega arith
 
 -- Sending the first due command leaves fewer due at that moment.
-pub fewer_given : (t : ℕ) (us : List Untaken) (u : Untaken) → first_due t us ≡ Some u → due_count t (map (given_out t u.command.handle) us) < due_count t us
+pub fewer_given : (t : ℕ) (us : List Untaken) (u : Untaken) → first_due t us ≡ Some u → due_count t (map (marked_sent t u.command.handle) us) < due_count t us
 fewer_given t [] u e = cc
 fewer_given t (v ∷ us) u e = by (is_due t v) refl e (fewer_given t us u)
   where
     h : ℕ
     h = u.command.handle
 
-    here : eqb v.command.handle h ≡ true → is_due t (given_out t h v) ≡ false
+    here : eqb v.command.handle h ≡ true → is_due t (marked_sent t h v) ≡ false
     here same = ap (λ b. is_none v.answer && (nat_eq (cond b (v.times + 1) v.times) 0 || nat_le 250 (t - cond b t v.last))) same ∙ rested t v
 
     by : (b : Bool) → is_due t v ≡ b → cond b (Some v) (first_due t us) ≡ Some u →
-        (first_due t us ≡ Some u → due_count t (map (given_out t h) us) < due_count t us) →
-        cond (is_due t (given_out t h v)) 1 0 + due_count t (map (given_out t h) us) < cond b 1 0 + due_count t us
+        (first_due t us ≡ Some u → due_count t (map (marked_sent t h) us) < due_count t us) →
+        cond (is_due t (marked_sent t h v)) 1 0 + due_count t (map (marked_sent t h) us) < cond b 1 0 + due_count t us
     by true q e rest =
         let same : v ≡ u = cc in
         let its : eqb v.command.handle h ≡ true = ap (λ (w : Untaken). eqb w.command.handle h) same ∙ equal_self h in
-        subst (λ (z : Bool). cond z 1 0 + due_count t (map (given_out t h) us) < 1 + due_count t us) (sym (here its))
-        (below (due_count t (map (given_out t h) us)) (due_count t us) (not_more t h us))
+        subst (λ (z : Bool). cond z 1 0 + due_count t (map (marked_sent t h) us) < 1 + due_count t us) (sym (here its))
+        (below (due_count t (map (marked_sent t h) us)) (due_count t us) (not_more t h us))
       where
         below : (a b : ℕ) → a ≤ b → 0 + a < 1 + b
         below a b p = omega arith
     by false q e rest =
-        let none : cond (is_due t (given_out t h v)) 1 0 ≤ 0 = subst (λ (z : Bool). cond (is_due t (given_out t h v)) 1 0 ≤ cond z 1 0) q (given_is_due t h v) in
-        below (cond (is_due t (given_out t h v)) 1 0) (due_count t (map (given_out t h) us)) (due_count t us) none (rest e)
+        let none : cond (is_due t (marked_sent t h v)) 1 0 ≤ 0 = subst (λ (z : Bool). cond (is_due t (marked_sent t h v)) 1 0 ≤ cond z 1 0) q (given_is_due t h v) in
+        below (cond (is_due t (marked_sent t h v)) 1 0) (due_count t (map (marked_sent t h) us)) (due_count t us) none (rest e)
       where
         below : (a b c : ℕ) → a ≤ 0 → b < c → a + b < 0 + c
         below a b c p q = omega arith
@@ -194,11 +194,11 @@ left_from (suc n) now l few going = by (decision now l) refl going (λ x. left_f
     by (GivesCommand c) e going rest =
         let i = is_given t l.sent l.lost c l.untaken e in
         let handle : i.given.command.handle ≡ c.handle = ap (λ (x : CommandFields). x.handle) i.command_is in
-        let less : due_count t (map (given_out t c.handle) l.untaken) < due_count t l.untaken =
-        subst (λ (k : ℕ). due_count t (map (given_out t k) l.untaken) < due_count t l.untaken) handle (fewer_given t l.untaken i.given i.first_is) in
+        let less : due_count t (map (marked_sent t c.handle) l.untaken) < due_count t l.untaken =
+        subst (λ (k : ℕ). due_count t (map (marked_sent t k) l.untaken) < due_count t l.untaken) handle (fewer_given t l.untaken i.given i.first_is) in
         rest (after_due (GivesCommand c) t l)
-        (subst (λ (k : ℕ). due_count k (map (given_out t c.handle) l.untaken) < n) (sym (again l.moment now))
-        (fewer (due_count t (map (given_out t c.handle) l.untaken)) (due_count t l.untaken) n less few)) going
+        (subst (λ (k : ℕ). due_count k (map (marked_sent t c.handle) l.untaken) < n) (sym (again l.moment now))
+        (fewer (due_count t (map (marked_sent t c.handle) l.untaken)) (due_count t l.untaken) n less few)) going
     by GivesKeepAlive e going rest =
         let q = is_quiet t l.sent l.lost l.untaken true e in
         at_zero n (after_due GivesKeepAlive t l) (decided_nothing (after_due GivesKeepAlive t l) now t (again l.moment now) q.going q.none (no_silence t)) refl going
@@ -285,12 +285,12 @@ moment_from (suc n) now l p = by (decision now l) (λ x some. moment_from n now 
 -- ---- what was sent
 
 -- What was sent is reported as lost just where the link is lost, if `due` was called at all.
-pub gave_lost : {now n : ℕ} {old new : LinkState} {e f : EndState} {r : DriveReport} → GivesOut now n old new e f r → 0 < n → r.lost ≡ new.lost
+pub gave_lost : {now n : ℕ} {old new : LinkState} {e f : EndState} {r : DriveReport} → SendsDue now n old new e f r → 0 < n → r.lost ≡ new.lost
 gave_lost {now} {n} {old} g some = ap (λ (x : DriveReport). x.lost) g.reported ∙ lost_from n now old some ∙ sym (ap (λ (l : LinkState). l.lost) g.link)
 
 -- Where no more commands are untaken than the span has handles, nothing is left to send after one call of `due`
 -- more than that, unless the link is reported lost.
-pub gave_left : {now : ℕ} {old new : LinkState} {e f : EndState} {r : DriveReport} → GivesOut now (old.span + 1) old new e f r → length old.untaken ≤ old.span → r.lost ≡ false → NothingIsLeft new
+pub gave_left : {now : ℕ} {old new : LinkState} {e f : EndState} {r : DriveReport} → SendsDue now (old.span + 1) old new e f r → length old.untaken ≤ old.span → r.lost ≡ false → NothingIsLeft new
 gave_left {now} {old} {new} g few going =
     subst NothingIsLeft (sym g.link)
     (left_from (old.span + 1) now old (small (due_count (present_moment now old) old.untaken) (length old.untaken) (count_length (present_moment now old) old.untaken) few)

@@ -23,7 +23,7 @@ use Rattle.oca_control.specs.declared.due.Due.{Due}
 use Rattle.oca_control.specs.declared.due.Due.TheVariants as dues
 use Rattle.oca_control.specs.declared.report.DriveReport.{DriveReport}
 use Rattle.oca_control.specs.Links.{LinkState, Decision, GivesCommand, GivesKeepAlive, GivesNothing, IsLost, decision, gone_on, due_answer, due_bytes, after_due, present_moment}
-use Rattle.oca_control.specs.Driving.{answered_by, HearsDatagram, gives_command, is_keep_alive, decides_lost, goes_on, decisions_from, link_from, given_to, all_given_to, NoTurn, OneMore, is_failed_delivery, drive_report_of, DrivesTurn, DrivesEnd, GivesOut, receives_driven, drive_report_sum, drive_report_capped}
+use Rattle.oca_control.specs.Driving.{answered_by, HearsDatagram, gives_command, is_keep_alive, decides_lost, goes_on, decisions_from, link_from, given_to, all_given_to, NoTurn, OneMore, is_failed_delivery, drive_report_of, DrivesTurn, DrivesEnd, SendsDue, receives_driven, drive_report_sum, drive_report_capped}
 use Rattle.oca_control.specs.PrivateDriving.{IsReportWithin, given_report, GivesOne, DrivesOnce, DriveFindsClosed}
 
 -- ---- one decision
@@ -176,8 +176,8 @@ module _ {now left : ℕ} {start : LinkState} {i : ℕ} {l l' : LinkState} {e f 
   })
 
   pub gives_last : (go : Bool) (r' : DriveReport) → r' ≡ drive_report_sum r given → GivesSoFar now left start i l e f r → GivesOne now l l' f g go given → go ≡ false → i < left →
-      GivesOut now left start l' e g r'
-  gives_last go r' sum x y not_so below = subst (GivesOut now left start l' e g) (sym sum) (record {
+      SendsDue now left start l' e g r'
+  gives_last go r' sum x y not_so below = subst (SendsDue now left start l' e g) (sym sum) (record {
     link = y.link ∙ sym (x.link ∙ ap (λ n. link_from now n l) (one_less left i below) ∙ next_link now (left - (i + 1)) l
         ∙ ap (λ b. cond b (link_from now (left - (i + 1)) (gone_on now l)) (gone_on now l)) (sym y.goes ∙ not_so));
     device = ap (λ (z : LinkState). z.device) y.link ∙ device_stays (decision now l) (present_moment now l) l ∙ x.device;
@@ -190,7 +190,7 @@ module _ {now left : ℕ} {start : LinkState} {i : ℕ} {l l' : LinkState} {e f 
           ∙ ap (λ xs. x.decisions ++ xs) (next_decisions now (left - (i + 1)) l ∙ ap (λ b. decision now l ∷ cond b (decisions_from now (left - (i + 1)) (gone_on now l)) []) (sym y.goes ∙ not_so))
 
 -- After all calls of `due` what was due is sent.
-pub gave_all : {now left : ℕ} {start : LinkState} {i : ℕ} {l : LinkState} {e f : EndState} {r : DriveReport} → GivesSoFar now left start i l e f r → left ≤ i → GivesOut now left start l e f r
+pub gave_all : {now left : ℕ} {start : LinkState} {i : ℕ} {l : LinkState} {e f : EndState} {r : DriveReport} → GivesSoFar now left start i l e f r → left ≤ i → SendsDue now left start l e f r
 unfolding decisions_from link_from
 gave_all {now} {left} {start} {i} {l} {e} {f} {r} x over = record {
   link = sym (x.link ∙ ap (λ n. link_from now n l) (nothing_left left i over));
@@ -324,7 +324,7 @@ heard_one x {h} {held} {old} {new} {e} {f} {g} {ds} {n} {r} heard grew failed se
 
 module _ {e f g : EndState} {held : List ℕ} {now : ℕ} (given : DriveReport) where
   pub datagram_turn : {old mid new : LinkState} {from : Peer} (bytes : List ℕ) (answer : Reception) (n : ℕ) → length bytes ≤ 1472 → bytes ≡ held → Receives (heard.Datagram from now) held e f →
-      ReceivesDatagram from bytes now old answer mid → n ≡ answered_by answer → GivesOut now (mid.span + 1) mid new f g given →
+      ReceivesDatagram from bytes now old answer mid → n ≡ answered_by answer → SendsDue now (mid.span + 1) mid new f g given →
       DrivesOnce old new e g (record { turns = 1; sent = given.sent; keep_alives = given.keep_alives; answered = n; failed_receives = given.failed_receives; failed_sends = given.failed_sends; lost = given.lost })
   datagram_turn {old} {mid} {new} {from} bytes answer n short same h received count gave =
       let device = same_device from bytes now old mid answer received in
@@ -334,13 +334,13 @@ module _ {e f g : EndState} {held : List ℕ} {now : ℕ} (given : DriveReport) 
       (record { between = mid; hears = heard_datagram from bytes now old mid answer n short received count; gives = (refl, gave.link) })
       (datagram_reported from bytes now ds n given gave.reported) (gave.device ∙ device)
 
-  pub quiet_turn : {old new : LinkState} → Receives (heard.Quiet now) held e f → GivesOut now (old.span + 1) old new f g given →
+  pub quiet_turn : {old new : LinkState} → Receives (heard.Quiet now) held e f → SendsDue now (old.span + 1) old new f g given →
       DrivesOnce old new e g (record { turns = 1; sent = given.sent; keep_alives = given.keep_alives; answered = given.answered; failed_receives = given.failed_receives; failed_sends = given.failed_sends; lost = given.lost })
   quiet_turn {old} {new} h gave =
       heard_one (Quiet now) h h.delivered refl gave.sends (record { between = old; hears = (refl, refl); gives = (refl, gave.link) })
       (silent_reported (Quiet now) (decisions_from now (old.span + 1) old) given refl gave.reported) gave.device
 
-  pub oversize_turn : {old new : LinkState} → Receives (heard.Oversize now) held e f → GivesOut now (old.span + 1) old new f g given →
+  pub oversize_turn : {old new : LinkState} → Receives (heard.Oversize now) held e f → SendsDue now (old.span + 1) old new f g given →
       DrivesOnce old new e g (record { turns = 1; sent = given.sent; keep_alives = given.keep_alives; answered = given.answered; failed_receives = given.failed_receives; failed_sends = given.failed_sends; lost = given.lost })
   oversize_turn {old} {new} h gave =
       let d = oversize_heard h in

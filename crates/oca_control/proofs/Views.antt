@@ -6,7 +6,7 @@ use Rattle.std.specs.Option.{option_map}
 use Rattle.std.proofs.lemmas.List.{set-get_or}
 use Rattle.std.proofs.lemmas.Bool.Decides.{nat_tests}
 use Rattle.oca_control.specs.Answers.{AnswerFields}
-use Rattle.oca_control.specs.Untaken.{Untaken, new_untaken, first_due, waits, answered, answer_under, without_handle, given_out}
+use Rattle.oca_control.specs.Untaken.{Untaken, new_untaken, first_due, waits, answered, answer_under, without_handle, marked_sent}
 use Rattle.oca_pdu.specs.Messages.{Commands}
 use Rattle.oca_pdu.specs.Encoding.{pdu_encoding}
 use Rattle.oca_control.specs.declared.due.Due.TheVariants as dues
@@ -81,19 +81,19 @@ view_answered lo hi h p slots d x a t at wait is =
         ∙ ap (λ b. (let v : Untaken = record { command = command_under h k.request; submitted = k.submitted; times = k.times; last = k.last; answer = cond b (Some a) k.answer } in v) ∷ []) w)
 
 -- GIVE OUT
-given_other : (now h : ℕ) (u : Untaken) → u.command.handle ≢ h → given_out now h u ≡ u
+given_other : (now h : ℕ) (u : Untaken) → u.command.handle ≢ h → marked_sent now h u ≡ u
 given_other now h u other =
     ap (λ b. let v : Untaken = record { command = u.command; submitted = u.submitted; times = cond b (u.times + 1) u.times; last = cond b now u.last; answer = u.answer } in v) (differ_nat u.command.handle h other)
 
 -- Noting in the slot of the lowest due command that it was sent does so to the command of that handle.
 pub view_given : (now lo hi h p : ℕ) (slots : List (Option Held)) (d x : Option Held) → IsSlotTable lo hi slots → IsLowestDueSlot now slots lo hi (Some h) → p ≡ h % 32 →
     x ≡ option_map (held_given now) (get_or slots p d) →
-    view lo hi (set slots p x) ≡ table hi (map (given_out now h) (untaken_from lo (hi - lo) slots))
+    view lo hi (set slots p x) ≡ table hi (map (marked_sent now h) (untaken_from lo (hi - lo) slots))
 view_given now lo hi h p slots d x t at place is =
     ap (λ i. view lo hi (set slots i x)) place
-    ∙ ap (table hi) (changed_at (given_out now h) lo hi h slots x at.0 at.1 t.near t.all (given_other now h) (ap (untaken_at h) (is ∙ ap (option_map (held_given now)) (sym (slot_read h p slots d t.all place))) ∙ by (held_at h slots)))
+    ∙ ap (table hi) (changed_at (marked_sent now h) lo hi h slots x at.0 at.1 t.near t.all (given_other now h) (ap (untaken_at h) (is ∙ ap (option_map (held_given now)) (sym (slot_read h p slots d t.all place))) ∙ by (held_at h slots)))
   where
-    by : (o : Option Held) → untaken_at h (option_map (held_given now) o) ≡ map (given_out now h) (untaken_at h o)
+    by : (o : Option Held) → untaken_at h (option_map (held_given now) o) ≡ map (marked_sent now h) (untaken_at h o)
     by None = refl
     by (Some k) = sym (ap (λ b. (let v : Untaken = record { command = command_under h k.request; submitted = k.submitted; times = cond b (k.times + 1) k.times; last = cond b now k.last; answer = k.answer } in v) ∷ []) (same_nat h))
 
@@ -163,7 +163,7 @@ gives_packet now h us o bytes g written =
     there ∙ sym (ap bytes_decided g.first)
 
 -- The table after it is that after the decision.
-pub gives_state : (now hi h : ℕ) (us : List Untaken) (o : Option Held) (new : TableState) → Gives now h us o → new ≡ table hi (map (given_out now h) us) →
+pub gives_state : (now hi h : ℕ) (us : List Untaken) (o : Option Held) (new : TableState) → Gives now h us o → new ≡ table hi (map (marked_sent now h) us) →
     new ≡ table hi (after_decision now (first_decided now us) us)
 gives_state now hi h us o new g is = is ∙ sym (ap (λ d. table hi (after_decision now d us)) g.first)
 

@@ -13,7 +13,7 @@ use Rattle.oca_control.specs.declared.reception.Reception.{Reception}
 use Rattle.oca_control.specs.Untaken.{answer_under}
 use Rattle.oca_control.specs.Limits.{repeat_time, most_sendings}
 use Rattle.oca_control.specs.Links.{LinkState, Request}
-use Rattle.oca_control.specs.Histories.{Call, Submits, GivesOut, Receives, TakesAnswer, IsHistory, clock_of_calls}
+use Rattle.oca_control.specs.Histories.{Call, Submits, SendsDue, Receives, TakesAnswer, IsHistory, clock_of_calls}
 use Rattle.oca_control.specs.Histories.{Sending}
 use Rattle.oca_control.specs.Histories.{sendings, answers_among, answers_to, first_of, is_untaken, is_due_at, is_lost}
 
@@ -25,7 +25,7 @@ has_response h messages = is_some (first_of (answers_among h messages))
 abbrev pub TakesNothingOf : ℕ → Call → Type 0
 TakesNothingOf h (TakesAnswer x answer) = x ≡ h → ⊥
 TakesNothingOf h (Submits request now returned) = ⊤
-TakesNothingOf h (GivesOut now returned bytes) = ⊤
+TakesNothingOf h (SendsDue now returned bytes) = ⊤
 TakesNothingOf h (Receives from bytes content now returned) = ⊤
 
 -- A well-formed datagram came from the device, with a response to an untaken command, whatever else it has. Then
@@ -42,7 +42,7 @@ EveryAnswerIsKept =
 
 -- a call of `due` at this moment
 abbrev pub CallsDueAt : ℕ → Call → Type 0
-CallsDueAt t (GivesOut now returned bytes) = now ≡ t
+CallsDueAt t (SendsDue now returned bytes) = now ≡ t
 CallsDueAt t (Submits request now returned) = ⊥
 CallsDueAt t (Receives from bytes content now returned) = ⊥
 CallsDueAt t (TakesAnswer x answer) = ⊥
@@ -56,7 +56,7 @@ is_send_of h dues.Lost = false
 
 -- the same of a call: one of `due` that returned it
 abbrev pub is_given_in : ℕ → Call → Bool
-is_given_in h (GivesOut now returned bytes) = is_send_of h returned
+is_given_in h (SendsDue now returned bytes) = is_send_of h returned
 is_given_in h (Submits request now returned) = false
 is_given_in h (Receives from bytes content now returned) = false
 is_given_in h (TakesAnswer x answer) = false
@@ -67,8 +67,8 @@ is_among h hs = list_any (λ x. x == h) hs
 
 -- Where no others than these k handles are due at a moment, each that is due is sent within k calls of `due` at
 -- that moment, or the link is lost.
-abbrev pub EveryDueCommandIsGivenOut : Type 0
-EveryDueCommandIsGivenOut =
+abbrev pub EveryDueCommandIsSent : Type 0
+EveryDueCommandIsSent =
     (device : Peer) (first opened span : ℕ) (before calls : List Call) (after : LinkState) (now h : ℕ) (due : List ℕ) →
     0 < span → IsHistory device first opened span (calls ++ before) after → AllByRecursion (CallsDueAt now) calls →
     is_due_at device opened (max (clock_of_calls opened before) now) h before ≡ true →
@@ -89,7 +89,7 @@ is_none_left dues.Lost = true
 -- THE LAST TIME that it did, by the clock, and at first the moment since when the calls are looked at.
 abbrev pub last_asked : ℕ → List Call → ℕ
 last_asked since [] = since
-last_asked since (GivesOut now returned bytes ∷ before) =
+last_asked since (SendsDue now returned bytes ∷ before) =
     if is_none_left returned then max (clock_of_calls since before) now else last_asked since before
 last_asked since (Submits request now returned ∷ before) = last_asked since before
 last_asked since (Receives from bytes content now returned ∷ before) = last_asked since before
@@ -102,8 +102,8 @@ IsAskedEvery ms since [] = ⊤
 IsAskedEvery ms since (call ∷ before) =
     (clock_of_calls since (call ∷ before) ≤ last_asked since (call ∷ before) + ms) × IsAskedEvery ms since before
 
--- A command IS IN FLIGHT while it is untaken, no answer came to it, and the link is not lost.
-pub record IsInFlight (device : Peer) (h : ℕ) (calls : List Call) : Type 0 where
+-- A command IS WAITING while it is untaken, no answer came to it, and the link is not lost.
+pub record IsWaiting (device : Peer) (h : ℕ) (calls : List Call) : Type 0 where
   pub untaken : is_untaken h calls ≡ true
   pub unanswered : first_of (answers_to device h calls) ≡ None
   pub not_lost : is_lost calls ≡ false
@@ -115,18 +115,18 @@ IsRecent ms since t [] = t ≤ since + ms
 IsRecent ms since t (s ∷ before) = t < s.at + (repeat_time + ms)
 
 -- And it does not wait for ever, since it is sent at most 20 times.
-pub record IsGivenOutInTime (ms since t : ℕ) (given : List Sending) : Type 0 where
+pub record IsSentInTime (ms since t : ℕ) (given : List Sending) : Type 0 where
   pub recent : IsRecent ms since t given
   pub ends : t ≤ since + ms + most_sendings * (repeat_time + ms)
 
 -- Where a link is asked every so many ms from the submit of a command on, the command is sent in time as long as
 -- it waits.
-abbrev pub EveryCommandIsGivenOutInTime : Type 0
-EveryCommandIsGivenOutInTime =
+abbrev pub EveryCommandIsSentInTime : Type 0
+EveryCommandIsSentInTime =
     (device : Peer) (first opened span : ℕ) (before later : List Call) (after : LinkState)
     (request : Request) (now ms : ℕ) (h : Handle) →
     let since : ℕ = max (clock_of_calls opened before) now in
     let calls : List Call = later ++ Submits request now (Ok h) ∷ before in
     0 < span → IsHistory device first opened span calls after → IsAskedEvery ms since later →
-    IsInFlight device h.0 calls →
-    IsGivenOutInTime ms since (clock_of_calls opened calls) (sendings opened h.0 calls)
+    IsWaiting device h.0 calls →
+    IsSentInTime ms since (clock_of_calls opened calls) (sendings opened h.0 calls)

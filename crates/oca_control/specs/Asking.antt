@@ -13,7 +13,7 @@ use Rattle.oca_control.specs.declared.report.DriveReport.{DriveReport}
 use Rattle.oca_control.specs.Answers.{answer_fields}
 use Rattle.oca_control.specs.Untaken.{answer_under}
 use Rattle.oca_control.specs.Links.{LinkState, late_at, submission, submitted, taken}
-use Rattle.oca_control.specs.Driving.{GivesOut}
+use Rattle.oca_control.specs.Driving.{SendsDue}
 use Rattle.oca_control.specs.Turning.{Turns}
 
 -- A turn was taken, or the end was closed; and whether the link was found lost, or late, in it. The end was asked once.
@@ -67,7 +67,7 @@ abbrev pub GivesFirst : RequestFields → ℕ → Result Handle ControlFault →
     Type 0
 GivesFirst request now (Ok handle) old new before after =
     (report : DriveReport)
-    × GivesOut now ((submitted request now old).span + 1) (submitted request now old) new before after report
+    × SendsDue now ((submitted request now old).span + 1) (submitted request now old) new before after report
 GivesFirst request now (Err fault) old new before after = (new ≡ old) × (after ≡ before)
 
 -- A COMMAND WAS BEGUN at the present moment of the end. Where the end says 0, as one that keeps no time, that counts as

@@ -12,9 +12,9 @@ use Rattle.oca_control.specs.declared.outcome.Outcome.{Outcome}
 use Rattle.oca_control.specs.declared.report.DriveReport.{DriveReport}
 use Rattle.oca_control.specs.Limits.{longest_life}
 use Rattle.oca_control.specs.Links.{LinkState, new_link, late_at}
-use Rattle.oca_control.specs.Histories.{Call, Submits, GivesOut, Receives, TakesAnswer, IsCall, clock_of_calls, Sending}
+use Rattle.oca_control.specs.Histories.{Call, Submits, SendsDue, Receives, TakesAnswer, IsCall, clock_of_calls, Sending}
 use Rattle.oca_control.specs.Histories.{sendings}
-use Rattle.oca_control.specs.Turning.{GivesInTime, Turns}
+use Rattle.oca_control.specs.Turning.{SendsInTime, Turns}
 use Rattle.oca_control.specs.Asking.{Waits, Begins, Asks}
 use Rattle.oca_control.specs.Waiting.{WaitsUntil}
 
@@ -24,7 +24,7 @@ submitted_at opened h [] = None
 submitted_at opened h (Submits request now (Ok x) ∷ before) =
     if h == x.0 then Some (max (clock_of_calls opened before) now) else submitted_at opened h before
 submitted_at opened h (Submits request now (Err fault) ∷ before) = submitted_at opened h before
-submitted_at opened h (GivesOut now returned bytes ∷ before) = submitted_at opened h before
+submitted_at opened h (SendsDue now returned bytes ∷ before) = submitted_at opened h before
 submitted_at opened h (Receives from bytes content now returned ∷ before) = submitted_at opened h before
 submitted_at opened h (TakesAnswer x answer ∷ before) = submitted_at opened h before
 
@@ -35,7 +35,7 @@ LeavesInTime (Some t) s = (t ≤ s.at) × (s.at ≤ t + longest_life)
 
 -- A call is in time unless it is one of `due` at a moment at which the link is late.
 abbrev pub IsInTime : LinkState → Call → Type 0
-IsInTime l (GivesOut now returned bytes) = late_at now l ≡ false
+IsInTime l (SendsDue now returned bytes) = late_at now l ≡ false
 IsInTime l (Submits request now returned) = ⊤
 IsInTime l (Receives from bytes content now returned) = ⊤
 IsInTime l (TakesAnswer h answer) = ⊤
@@ -56,11 +56,11 @@ EveryCopyIsInTime =
 abbrev pub IsMadeInTime : LinkState → LinkState → Type 0
 IsMadeInTime old new = (calls : List Call) × MakesInTime old calls new
 
--- WHAT A STEP MAKES OF A LINK, it makes by calls in time: `give_in_time`, `turn`, `begin`, `wait_for`,
+-- WHAT A STEP MAKES OF A LINK, it makes by calls in time: `send_in_time`, `turn`, `begin`, `wait_for`,
 -- `wait_until`, so `wait_while`, and `ask`.
 pub record EveryStepIsInTime : Type 0 where
   pub giving : (now : ℕ) (old new : LinkState) (before after : EndState) (report : DriveReport) →
-      GivesInTime now old new before after report → IsMadeInTime old new
+      SendsInTime now old new before after report → IsMadeInTime old new
   pub turning : (old new : LinkState) (before after : EndState) (report : DriveReport) →
       Turns old new before after report → IsMadeInTime old new
   pub beginning : (request : RequestFields) (returned : Result Handle ControlFault) (old new : LinkState)

@@ -163,7 +163,7 @@ pub record DrivesEnd (old new : LinkState) (before after : EndState) (report : D
 
 -- WHAT WAS DUE at a moment, in so many calls of `due`, WAS GIVEN OUT: it was handed to the end, for the device, and the
 -- report counts it and the sends that failed. No turn was taken.
-pub record GivesOut (now calls : ℕ) (old new : LinkState) (before after : EndState) (report : DriveReport)
+pub record SendsDue (now calls : ℕ) (old new : LinkState) (before after : EndState) (report : DriveReport)
     : Type 0 where
   pub link : new ≡ link_from now calls old
   pub device : new.device ≡ old.device

@@ -29,14 +29,14 @@ use Rattle.oca_control.specs.Links.{due_answer, due_bytes, gone_on, reception, r
 -- A CALL of a link: what it was given, and what it answered. Of a datagram the content stands beside its bytes.
 pub data Call : Type 0 where
   Submits : (request : Request) (now : ℕ) (returned : Result Handle ControlFault) → Call
-  GivesOut : (now : ℕ) (returned : Due) (bytes : List ℕ) → Call
+  SendsDue : (now : ℕ) (returned : Due) (bytes : List ℕ) → Call
   Receives : (from : Peer) (bytes : List ℕ) (content : Option (List Msg)) (now : ℕ) (returned : Reception) → Call
   TakesAnswer : (handle : ℕ) (answer : Option AnswerFields) → Call
 
 -- The call of a link makes another of it: just what the clauses of `submit`, `due`, `datagram` and `take` say.
 abbrev pub IsCall : LinkState → Call → LinkState → Type 0
 IsCall l (Submits request now returned) after = (returned ≡ submission request l) × (after ≡ submitted request now l)
-IsCall l (GivesOut now returned bytes) after =
+IsCall l (SendsDue now returned bytes) after =
     (returned ≡ due_answer (decision now l)) × (bytes ≡ due_bytes (decision now l)) × (after ≡ gone_on now l)
 IsCall l (Receives from bytes content now returned) after =
     IsContent content bytes × (returned ≡ reception from content l) × (after ≡ received from content now l)
@@ -55,7 +55,7 @@ abbrev pub clock_of_calls : ℕ → List Call → ℕ
 clock_of_calls opened [] = opened
 clock_of_calls opened (Submits request now (Ok h) ∷ before) = max (clock_of_calls opened before) now
 clock_of_calls opened (Submits request now (Err fault) ∷ before) = clock_of_calls opened before
-clock_of_calls opened (GivesOut now returned bytes ∷ before) = max (clock_of_calls opened before) now
+clock_of_calls opened (SendsDue now returned bytes ∷ before) = max (clock_of_calls opened before) now
 clock_of_calls opened (Receives from bytes content now returned ∷ before) = max (clock_of_calls opened before) now
 clock_of_calls opened (TakesAnswer h answer ∷ before) = clock_of_calls opened before
 
@@ -64,7 +64,7 @@ abbrev pub commands : List Call → List CommandFields
 commands [] = []
 commands (Submits request now (Ok h) ∷ before) = command_under h.0 request ∷ commands before
 commands (Submits request now (Err fault) ∷ before) = commands before
-commands (GivesOut now returned bytes ∷ before) = commands before
+commands (SendsDue now returned bytes ∷ before) = commands before
 commands (Receives from bytes content now returned ∷ before) = commands before
 commands (TakesAnswer h answer ∷ before) = commands before
 
@@ -86,7 +86,7 @@ sending_of h other s before = before
 -- THE SENDINGS of the command under a handle, the latest first.
 abbrev pub sendings : ℕ → ℕ → List Call → List Sending
 sendings opened h [] = []
-sendings opened h (GivesOut now returned bytes ∷ before) =
+sendings opened h (SendsDue now returned bytes ∷ before) =
     sending_of h returned (record { at = max (clock_of_calls opened before) now; bytes = bytes })
     (sendings opened h before)
 sendings opened h (Submits request now returned ∷ before) = sendings opened h before
@@ -111,7 +111,7 @@ abbrev pub answers_to : Peer → ℕ → List Call → List AnswerFields
 answers_to device h [] = []
 answers_to device h (Submits request now (Ok x) ∷ before) = if h == x.0 then [] else answers_to device h before
 answers_to device h (Submits request now (Err fault) ∷ before) = answers_to device h before
-answers_to device h (GivesOut now returned bytes ∷ before) = answers_to device h before
+answers_to device h (SendsDue now returned bytes ∷ before) = answers_to device h before
 answers_to device h (Receives from bytes content now returned ∷ before) =
     answers_to device h before ++ (if same_peer from device then answers_of h content else [])
 answers_to device h (TakesAnswer x answer ∷ before) = answers_to device h before
@@ -126,7 +126,7 @@ abbrev pub is_untaken : ℕ → List Call → Bool
 is_untaken h [] = false
 is_untaken h (Submits request now (Ok x) ∷ before) = is_untaken h before || (x.0 == h)
 is_untaken h (Submits request now (Err fault) ∷ before) = is_untaken h before
-is_untaken h (GivesOut now returned bytes ∷ before) = is_untaken h before
+is_untaken h (SendsDue now returned bytes ∷ before) = is_untaken h before
 is_untaken h (Receives from bytes content now returned ∷ before) = is_untaken h before
 is_untaken h (TakesAnswer x (Some answer) ∷ before) = not (x == h) && is_untaken h before
 is_untaken h (TakesAnswer x None ∷ before) = is_untaken h before
@@ -151,7 +151,7 @@ given_at t dues.Lost last = last
 -- THE LAST MOMENT when a command or a keep-alive was sent, and at first that of the opening.
 abbrev pub last_given : ℕ → List Call → ℕ
 last_given opened [] = opened
-last_given opened (GivesOut now returned bytes ∷ before) =
+last_given opened (SendsDue now returned bytes ∷ before) =
     given_at (max (clock_of_calls opened before) now) returned (last_given opened before)
 last_given opened (Submits request now returned ∷ before) = last_given opened before
 last_given opened (Receives from bytes content now returned ∷ before) = last_given opened before
@@ -164,7 +164,7 @@ last_heard device opened (Receives from bytes content now returned ∷ before) =
     if same_peer from device && is_some content then max (clock_of_calls opened before) now
     else last_heard device opened before
 last_heard device opened (Submits request now returned ∷ before) = last_heard device opened before
-last_heard device opened (GivesOut now returned bytes ∷ before) = last_heard device opened before
+last_heard device opened (SendsDue now returned bytes ∷ before) = last_heard device opened before
 last_heard device opened (TakesAnswer h answer ∷ before) = last_heard device opened before
 
 -- A handle is ANSWERED from the first answer to it until it is taken.
@@ -181,7 +181,7 @@ is_lost_answer dues.Lost = true
 -- A link is LOST once it answered so.
 abbrev pub is_lost : List Call → Bool
 is_lost [] = false
-is_lost (GivesOut now returned bytes ∷ before) = is_lost_answer returned || is_lost before
+is_lost (SendsDue now returned bytes ∷ before) = is_lost_answer returned || is_lost before
 is_lost (Submits request now returned ∷ before) = is_lost before
 is_lost (Receives from bytes content now returned ∷ before) = is_lost before
 is_lost (TakesAnswer h answer ∷ before) = is_lost before
@@ -219,7 +219,7 @@ AnswersSubmits first span [] = ⊤
 AnswersSubmits first span (Submits request now returned ∷ before) =
     IsSubmitAnswer span (first + length (commands before)) (length request.params) before returned
     × AnswersSubmits first span before
-AnswersSubmits first span (GivesOut now returned bytes ∷ before) = AnswersSubmits first span before
+AnswersSubmits first span (SendsDue now returned bytes ∷ before) = AnswersSubmits first span before
 AnswersSubmits first span (Receives from bytes content now returned ∷ before) = AnswersSubmits first span before
 AnswersSubmits first span (TakesAnswer h answer ∷ before) = AnswersSubmits first span before
 
@@ -244,7 +244,7 @@ TakesTheFirst device (TakesAnswer h answer ∷ before) =
     (answer ≡ (if is_untaken h before then first_of (answers_to device h before) else None))
     × TakesTheFirst device before
 TakesTheFirst device (Submits request now returned ∷ before) = TakesTheFirst device before
-TakesTheFirst device (GivesOut now returned bytes ∷ before) = TakesTheFirst device before
+TakesTheFirst device (SendsDue now returned bytes ∷ before) = TakesTheFirst device before
 TakesTheFirst device (Receives from bytes content now returned ∷ before) = TakesTheFirst device before
 
 -- the lowest handle that is due at t
@@ -280,7 +280,7 @@ IsDueAnswer device opened t bytes before dues.Lost =
 -- EACH DUE gives that, at the clock.
 abbrev pub GivesWhatIsDue : Peer → ℕ → List Call → Type 0
 GivesWhatIsDue device opened [] = ⊤
-GivesWhatIsDue device opened (GivesOut now returned bytes ∷ before) =
+GivesWhatIsDue device opened (SendsDue now returned bytes ∷ before) =
     IsDueAnswer device opened (max (clock_of_calls opened before) now) bytes before returned
     × GivesWhatIsDue device opened before
 GivesWhatIsDue device opened (Submits request now returned ∷ before) = GivesWhatIsDue device opened before

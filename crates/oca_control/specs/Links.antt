@@ -17,7 +17,7 @@ use Rattle.oca_control.specs.declared.due.Due.TheVariants as dues
 use Rattle.oca_control.specs.declared.reception.Reception.{Reception}
 use Rattle.oca_control.specs.declared.reception.Reception.TheVariants as receptions
 use Rattle.oca_control.specs.Limits.{most_sendings, keep_alive_time, last_handle}
-use Rattle.oca_control.specs.Untaken.{Untaken, new_untaken, span_has_room, is_late, first_due, given_out, hears_all}
+use Rattle.oca_control.specs.Untaken.{Untaken, new_untaken, span_has_room, is_late, first_due, marked_sent, hears_all}
 use Rattle.oca_control.specs.Untaken.{answers_by_all, answer_under, without_handle}
 
 -- The device's address, the present moment, the handle of the next command or none, the moment when something was given
@@ -130,7 +130,7 @@ abbrev pub after_due : Decision → ℕ → LinkState → LinkState
 after_due (GivesCommand c) now l = record l {
   moment = now;
   sent = now;
-  untaken = map (given_out now c.handle) l.untaken;
+  untaken = map (marked_sent now c.handle) l.untaken;
 }
 after_due GivesKeepAlive now l = record l { moment = now; sent = now }
 after_due GivesNothing now l = record l { moment = now }

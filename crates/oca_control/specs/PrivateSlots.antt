@@ -9,7 +9,7 @@ use Rattle.oca_pdu.specs.Messages.{Msg, Command, Response, KeepAlive}
 use Rattle.oca_control.specs.Answers.{AnswerFields}
 use Rattle.oca_types.specs.Sizes.{most_parameter_bytes}
 use Rattle.oca_control.specs.Limits.{repeat_time, most_sendings, longest_life}
-use Rattle.oca_control.specs.Untaken.{Untaken, first_due, given_out}
+use Rattle.oca_control.specs.Untaken.{Untaken, first_due, marked_sent}
 use Rattle.oca_control.specs.Links.{Request, command_under, due_bytes, Decision, GivesCommand, GivesKeepAlive}
 use Rattle.oca_control.specs.Links.{GivesNothing, IsLost}
 
@@ -102,7 +102,7 @@ first_decided now us = option_map decided (first_due now us)
 -- the untaken commands after that
 abbrev pub after_decision : ℕ → Option Decision → List Untaken → List Untaken
 after_decision now None us = us
-after_decision now (Some (GivesCommand c)) us = map (given_out now c.handle) us
+after_decision now (Some (GivesCommand c)) us = map (marked_sent now c.handle) us
 after_decision now (Some GivesKeepAlive) us = us
 after_decision now (Some GivesNothing) us = us
 after_decision now (Some IsLost) us = us

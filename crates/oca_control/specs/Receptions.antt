@@ -8,7 +8,7 @@ use Rattle.oca_pdu.specs.Messages.{Msg}
 use Rattle.oca_control.specs.declared.reception.Reception.{Reception}
 use Rattle.oca_control.specs.declared.reception.Reception.TheVariants as receptions
 use Rattle.oca_control.specs.Links.{LinkState}
-use Rattle.oca_control.specs.Histories.{Call, Submits, GivesOut, Receives, TakesAnswer, IsHistory, answers_among}
+use Rattle.oca_control.specs.Histories.{Call, Submits, SendsDue, Receives, TakesAnswer, IsHistory, answers_among}
 use Rattle.oca_control.specs.Histories.{answers_to, first_of, is_untaken}
 
 -- a handle gets its first answer in these messages: it is untaken, none came before, and one is among them
@@ -50,7 +50,7 @@ AnswersDatagrams device [] = ⊤
 AnswersDatagrams device (Receives from bytes content now returned ∷ before) =
     IsReception device from content before returned × AnswersDatagrams device before
 AnswersDatagrams device (Submits request now returned ∷ before) = AnswersDatagrams device before
-AnswersDatagrams device (GivesOut now returned bytes ∷ before) = AnswersDatagrams device before
+AnswersDatagrams device (SendsDue now returned bytes ∷ before) = AnswersDatagrams device before
 AnswersDatagrams device (TakesAnswer h answer ∷ before) = AnswersDatagrams device before
 
 -- So it is over every history of a link whose span is not 0, as no span is.

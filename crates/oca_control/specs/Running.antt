@@ -18,7 +18,7 @@ use Rattle.oca_control.specs.Untaken.{Untaken}
 use Rattle.oca_control.specs.Links.{LinkState, present_moment, Decision, GivesNothing, decision, submitted}
 use Rattle.oca_control.specs.Links.{taken}
 use Rattle.oca_control.specs.Histories.{Call, Submits, IsCall, IsHistory, clock_of_calls, sendings}
-use Rattle.oca_control.specs.Answering.{last_asked, IsAskedEvery, IsInFlight, IsGivenOutInTime}
+use Rattle.oca_control.specs.Answering.{last_asked, IsAskedEvery, IsWaiting, IsSentInTime}
 use Rattle.oca_control.specs.Driving.{DrivesTurn, DrivesEnd, link_from}
 use Rattle.oca_control.specs.Turning.{TurnsInTime, Turns}
 use Rattle.oca_control.specs.Asking.{beginning, Begins, Asks, Waits}
@@ -160,15 +160,15 @@ EveryEndInTimeServes =
     IsAsked ms old.moment old new
 
 -- Nothing is left, and each command has time left; and there are calls after the submit of which the command of a handle
--- is sent in time as long as it is in flight.
+-- is sent in time as long as it is waiting.
 pub record CommandIsInTime (device : Peer) (first opened span ms : ℕ) (before : List Call) (request : RequestFields)
     (now : ℕ) (h : Handle) (since : ℕ) (new : LinkState) : Type 0 where
   pub left : NothingIsLeft new
   pub time : HaveTimeLeft ms new
   pub later : List Call
   pub history : IsHistory device first opened span (later ++ Submits request now (Ok h) ∷ before) new
-  pub in_time : IsInFlight device h.0 (later ++ Submits request now (Ok h) ∷ before) →
-      IsGivenOutInTime ms since new.moment (sendings opened h.0 (later ++ Submits request now (Ok h) ∷ before))
+  pub in_time : IsWaiting device h.0 (later ++ Submits request now (Ok h) ∷ before) →
+      IsSentInTime ms since new.moment (sendings opened h.0 (later ++ Submits request now (Ok h) ∷ before))
 
 -- EACH COMMAND THAT IS BEGUN IS GIVEN OUT IN TIME, where each command of the link has time left once it was, and the
 -- moments of the run that follows are within so many ms of one another, the first of that of the begin.

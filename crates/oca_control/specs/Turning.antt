@@ -7,18 +7,18 @@ use Rattle.oca_net.specs.Ends.{one_more}
 use Rattle.oca_net.specs.EndStates.{EndState, Receives, DeliversAndTakes}
 use Rattle.oca_control.specs.declared.report.DriveReport.{DriveReport}
 use Rattle.oca_control.specs.Links.{LinkState, Decision, IsLost, late_at}
-use Rattle.oca_control.specs.Driving.{HearsDelivery, GivesOut, decisions_from, link_from, all_given_to, drive_report_of}
+use Rattle.oca_control.specs.Driving.{HearsDelivery, SendsDue, decisions_from, link_from, all_given_to, drive_report_of}
 
 -- What is sent where the link is late, and where it is not: nothing, which changes neither the link nor the end,
 -- and is reported as lost; or all that is due.
 abbrev pub GivesIf : Bool → ℕ → LinkState → LinkState → EndState → EndState → DriveReport → Type 0
 GivesIf true now old new before after report =
     (new ≡ old) × (after ≡ before) × (report ≡ drive_report_of [] (IsLost ∷ []) 0 0)
-GivesIf false now old new before after report = GivesOut now (old.span + 1) old new before after report
+GivesIf false now old new before after report = SendsDue now (old.span + 1) old new before after report
 
 -- what is sent in time: by whether the link is late at the moment
-abbrev pub GivesInTime : ℕ → LinkState → LinkState → EndState → EndState → DriveReport → Type 0
-GivesInTime now old new before after report = GivesIf (late_at now old) now old new before after report
+abbrev pub SendsInTime : ℕ → LinkState → LinkState → EndState → EndState → DriveReport → Type 0
+SendsInTime now old new before after report = GivesIf (late_at now old) now old new before after report
 
 -- the same by what was decided, and the link after it
 abbrev pub decisions_in_time : ℕ → LinkState → List Decision

@@ -39,8 +39,8 @@ first_due now [] = None
 first_due now (u ∷ us) = if is_due now u then Some u else first_due now us
 
 -- the command of the handle is sent now
-abbrev pub given_out : ℕ → ℕ → Untaken → Untaken
-given_out now h u =
+abbrev pub marked_sent : ℕ → ℕ → Untaken → Untaken
+marked_sent now h u =
     record {
       command = u.command;
       submitted = u.submitted;

@@ -6,7 +6,7 @@ ghost use Rattle.oca_control.specs.Asking.{TakesATurn, Waits, ReceivesSoOften, B
 ghost use Rattle.oca_control.specs.PrivateAsking.{EndsWait, IsWaitOver, Settles};
 ghost use Rattle.oca_control.specs.Waiting.{IsPresentOf, ReceivesInAWait, TakesATurnAndSees, WaitsUntil, WaitsWhile};
 
-use crate::driving::give_out;
+use crate::driving::send_due;
 use crate::fault::ControlFault;
 use crate::link::Link;
 use crate::outcome::Outcome;
@@ -32,9 +32,9 @@ pub fn ask<E: End>(link: &mut Link, end: &mut E, request: Request<'_>, turns: u3
 /// Submits a command at the end's present moment and hands it to the end at once, and returns its handle.
 ///
 /// An end that keeps no time has the link's own moment, the greatest that it was told. All else that is due at the
-/// moment is sent with the command. Where an older one is due and had 20 sendings, the link is lost, and this one
-/// is not sent; else nothing is left to send at that moment (`law_of_running`). Refusals, which change nothing
-/// and send nothing: `Lost` where the link is late at the moment ([`is_late`](crate::is_late)), then those of
+/// moment is sent with the command. Where an older one is due and had 20 transmissions, the link is lost, and this one
+/// is not sent; else nothing is left to send at that moment (`law_of_running`). Refusals, which change nothing and send
+/// nothing: `Lost` where the link is late at the moment ([`is_late`](crate::is_late)), then those of
 /// [`submit`](Link::submit).
 pub fn begin<E: End>(
     link: &mut Link,
@@ -54,7 +54,7 @@ pub fn begin<E: End>(
         request.params,
         now,
     )?;
-    give_out(link, end, now);
+    send_due(link, end, now);
     Ok(handle)
 }
 
@@ -62,7 +62,8 @@ pub fn begin<E: End>(
 ///
 /// `Answered` as soon as the answer is there; `Lost` as soon as the link is lost, or a turn found it late, and no
 /// answer is there; `Unanswered` after so many turns, each of which receives once (at a closed end too), at a socket
-/// for at most 50 ms. A handle that the link does not hold is waited for in vain.
+/// for at most 50 ms. A handle that the link does not hold is never answered. After `Unanswered` the command stays in
+/// flight: the link still sends it, and a later wait may take its answer.
 pub fn wait_for<E: End>(link: &mut Link, end: &mut E, handle: Handle, turns: u32) -> Outcome
     ensures waits { Waits handle.0 turns link.old result link.new (E.state end.old) (E.state end.new) }
     ensures receives { (E.state end.new).receives < last_u64 →
@@ -84,10 +85,10 @@ pub fn wait_for<E: End>(link: &mut Link, end: &mut E, handle: Handle, turns: u32
 /// Waits for the answer under this handle, and takes it, as [`wait_for`] does, until this moment, in milliseconds.
 ///
 /// `Answered` and `Lost` as there. `Unanswered` as soon as the present moment is `until` or later, or a turn found the
-/// end closed, or 4,294,967,295 turns were taken, so that it also ends over an end whose clock stands still. The
-/// present moment is what [`now`](End::now) of the end returns, or the link's own, the latest that it was told, where
-/// that is later. A turn is begun only before `until`, and is at a socket one of at most 50 ms; however many
-/// datagrams come from others, the wait goes on.
+/// end closed, or 4,294,967,295 turns were taken, so that it also ends over an end whose clock stops. The present
+/// moment is what [`now`](End::now) of the end returns, or the link's own, the latest that it was told, where that is
+/// later. A turn is begun only before `until`, and is at a socket one of at most 50 ms; however many datagrams come
+/// from others, the wait goes on. After `Unanswered` the command stays in flight, as after [`wait_for`].
 pub fn wait_until<E: End>(link: &mut Link, end: &mut E, handle: Handle, until: u64) -> Outcome
     ensures waits { WaitsUntil handle.0 until link.old result link.new (E.state end.old) (E.state end.new) }
     ensures receives { ReceivesInAWait (E.state end.old).receives (E.state end.new).receives }
@@ -109,6 +110,8 @@ pub fn wait_until<E: End>(link: &mut Link, end: &mut E, handle: Handle, until: u
 }
 
 /// Waits for the answer under this handle as [`wait_until`] does, for so many milliseconds from the present moment on.
+/// They are at most 4,294,967,295; at 0 it looks once and takes no turn. The results, and what stays after them, are
+/// those of `wait_until`.
 pub fn wait_while<E: End>(
     link: &mut Link,
     end: &mut E,

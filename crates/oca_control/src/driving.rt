@@ -2,7 +2,7 @@
 ghost use Rattle.std.specs.Prelude.{◌≡◌, ◌+◌, ◌-◌, ◌<◌, ◌≤◌, ◌^◌, ℕ, [], ◌∷◌, IsTrue, IfSome, false, length};
 ghost use Rattle.oca_net.specs.Ends.{last_u64};
 ghost use Rattle.oca_net.specs.EndStates.{SendsAllBut};
-ghost use Rattle.oca_control.specs.Driving.{DrivesEnd, GivesOut, drive_report_sum, answered_by, receives_driven};
+ghost use Rattle.oca_control.specs.Driving.{DrivesEnd, SendsDue, drive_report_sum, answered_by, receives_driven};
 ghost use Rattle.oca_control.specs.Running.{NothingIsLeft};
 ghost use Rattle.oca_control.specs.PrivateDriving.{IsReportWithin, given_report, GivesOne, TakesDriveTurn};
 
@@ -15,11 +15,14 @@ use oca_types::{Packet, Peer};
 
 /// Drives a link over an end for at most so many turns, and returns what was done.
 ///
-/// A turn receives once. A datagram goes to the link. Then, at a datagram, at silence and at an oversize datagram, what
-/// is due is handed to the end, for the device, until `due` returns `Nothing` or `Lost`, and at most once more than the
-/// span has handles; where a send fails, it is counted. A failed receive does nothing else. The loop ends at Closed,
-/// which is no turn and after which it receives nothing, after a turn in which `due` returns `Lost`, or after the
-/// turns.
+/// A turn receives once: at a socket for at most 50 ms. A datagram goes to the link. Then, at a datagram, at silence
+/// and at an oversize datagram, what is due is handed to the end, for the device, until `due` returns `Nothing` or
+/// `Lost`, and at most once more than the span has handles; a send that fails is counted. A failed receive does nothing
+/// else. The loop ends at Closed, which is no turn and after which it receives nothing, after a turn in which `due`
+/// returns `Lost`, or after the turns.
+///
+/// It does not look whether the link is late: after a pause of the program it may send a command more than 15 s after
+/// its submit. Use [`turn`](crate::turn) unless something else looks at that.
 pub fn drive<E: End>(link: &mut Link, end: &mut E, turns: u32) -> DriveReport
     ensures driven { DrivesEnd link.old link.new (E.state end.old) (E.state end.new) result }
     ensures turns { result.turns ≤ turns }
@@ -46,12 +49,12 @@ pub fn drive<E: End>(link: &mut Link, end: &mut E, turns: u32) -> DriveReport
 /// Hands the end all that is due at this moment, for the device, and returns what was handed over; `turns` is 0.
 ///
 /// `due` is called at this moment until it returns `Nothing` or `Lost`, and at most once more than the span has
-/// handles: these are all, since at most as many commands as the span has handles are untaken (`law_of_histories`), so
-/// that each is reached (`law_of_giving_out`). So nothing is left to send at that moment, or the link is lost.
-/// Where a send fails, it is counted. Nothing is received. A moment that is earlier than one already seen counts as the
-/// one already seen.
-pub fn give_out<E: End>(link: &mut Link, end: &mut E, now: u64) -> DriveReport
-    ensures gives { GivesOut now (link.old.span + 1) link.old link.new (E.state end.old) (E.state end.new) result }
+/// handles: these are all, since at most as many commands as the span has handles are in flight (`law_of_histories`),
+/// so that each is reached (`law_of_sending`). So nothing is left to send at that moment, or the link is lost. Where
+/// a send fails, it is counted. Nothing is received. A moment that is earlier than one already seen counts as the one
+/// already seen. `now` is in milliseconds.
+pub fn send_due<E: End>(link: &mut Link, end: &mut E, now: u64) -> DriveReport
+    ensures gives { SendsDue now (link.old.span + 1) link.old link.new (E.state end.old) (E.state end.new) result }
     ensures lost { result.lost ≡ link.new.lost }
     ensures left { result.lost ≡ false → NothingIsLeft link.new }
 {
@@ -104,7 +107,7 @@ pub(crate) fn count_of(reception: Reception) -> u64
 
 /// Hands what is due at this moment to the end, for the device, and returns what was handed over.
 fn give_all<E: End>(link: &mut Link, end: &mut E, packet: &mut Packet, now: u64) -> DriveReport
-    ensures gives { GivesOut now (link.old.span + 1) link.old link.new (E.state end.old) (E.state end.new) result }
+    ensures gives { SendsDue now (link.old.span + 1) link.old link.new (E.state end.old) (E.state end.new) result }
     ensures few { length link.old.untaken ≤ link.old.span }
     ensures fits { IsReportWithin 4294967295 result }
 {

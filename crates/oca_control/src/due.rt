@@ -10,6 +10,6 @@ pub enum Due {
     KeepAlive,
     /// Nothing.
     Nothing,
-    /// Nothing, since a command got no answer to 20 sendings: the link is lost, and stays so.
+    /// Nothing, since a command got no answer to 20 transmissions: the link is lost, and stays so.
     Lost,
 }

@@ -12,7 +12,7 @@ pub enum ControlFault {
     Lost = 1,
     /// A command got the handle 4294967295: none is left.
     HandlesSpent = 2,
-    /// The next handle would not lie below the lowest untaken one plus the span.
+    /// The next handle would not lie below the lowest one in flight plus the span.
     SpanFull = 3,
     /// The parameters have more than 1,445 bytes.
     TooLong = 4,

@@ -38,9 +38,9 @@ const KEEP_ALIVE_MS: u64 = 2500;
 ///
 /// Commands are submitted and get handles that rise by one. What is due is sent, a command again each 250 ms until
 /// its answer comes, and keep-alives in silence. Answers come in with the device's datagrams, and are taken by handle.
-/// A command that got no answer to 20 sendings loses the link. Moments are in milliseconds; one that is earlier than a
-/// moment already seen counts as the one already seen. No call takes memory: the commands, at most 32, lie in the link
-/// itself.
+/// A command that got no answer to 20 transmissions loses the link. Moments are in milliseconds; one that is earlier
+/// than a moment already seen counts as the one already seen. No call takes memory: the commands, at most 32, lie in
+/// the link itself.
 #[derive(Drop)]
 pub struct Link {
     device: Peer,
@@ -75,8 +75,8 @@ impl Model for Link {
 }
 
 impl Link {
-    /// A link to the device at this address, whose first command gets this handle, and whose handles stay
-    /// below the lowest untaken one plus the span.
+    /// A link to the device at this address, made at the moment `now` (in milliseconds), whose first command gets this
+    /// handle, and whose handles stay below the lowest one in flight plus the span.
     ///
     /// A device remembers what it executed for an address and port until it heard nothing from there for 120 seconds.
     /// So the first handle is to lie above all handles that an earlier link used from this address and port in that
@@ -96,10 +96,11 @@ impl Link {
         }
     }
 
-    /// Submits a command, to be sent when it is due, and returns its handle (AES70-3). `count` is ParamCount.
+    /// Submits a command, to be sent when it is due, and returns its handle (AES70-3). `count` is ParamCount, and `now`
+    /// the moment in milliseconds.
     ///
     /// Refusals, in this order, each of which changes nothing and keeps no moment: `Lost`; `HandlesSpent`, after the
-    /// handle 4294967295; `SpanFull`, where the next handle is not below the lowest untaken one plus the span;
+    /// handle 4294967295; `SpanFull`, where the next handle is not below the lowest one in flight plus the span;
     /// `TooLong`, above 1,445 bytes of parameters.
     pub fn submit(
         &mut self,
@@ -149,9 +150,9 @@ impl Link {
         Ok(handle)
     }
 
-    /// Sends what is due into the packet, which it empties first: the due command with the lowest handle, with
-    /// unchanged bytes, or a keep-alive of 5 seconds where nothing was sent for 2,500 ms. A command is due while
-    /// it is unanswered, and was never sent or was sent 250 ms ago or earlier.
+    /// Puts what is due at the moment `now`, in milliseconds, into the packet, which it empties first: the due command
+    /// with the lowest handle, with unchanged bytes, or a keep-alive of 5 seconds where nothing was sent for 2,500 ms.
+    /// A command is due while it is unanswered, and was never sent or was sent 250 ms ago or earlier.
     ///
     /// `Lost` where that command was sent 20 times, and from then on. The packet is empty at `Nothing` and `Lost`.
     pub fn due(&mut self, now: u64, packet: &mut Packet) -> Due
@@ -184,9 +185,14 @@ impl Link {
         }
     }
 
-    /// Takes a datagram that came from this address, and returns what became of it. The address is looked at first,
-    /// then the grammar (AES70-3); the responses are taken in order. A response is stored where its handle is that of
-    /// an untaken command without an answer; commands and keep-alives are ignored. The moment is kept in all cases.
+    /// Takes a datagram that came from this address at the moment `now`, in milliseconds, and returns what became of
+    /// it: `Stranger` if the address is not the device's; else `Malformed` if the bytes are not well-formed (AES70-3);
+    /// else `Answered` with how many commands in flight it answered first, or `NothingNew` if it answered none.
+    ///
+    /// The responses are taken in order. A response is stored if its handle is that of a command in flight without an
+    /// answer; commands and keep-alives are ignored. A stranger's or malformed datagram changes nothing but the moment,
+    /// which is kept in all cases; a moment earlier than one already seen counts as that one. A lost link still takes
+    /// answers.
     pub fn datagram(&mut self, from: Peer, bytes: &[u8], now: u64) -> Reception
         ensures receives { ReceivesDatagram from bytes.now now self.old result self.new }
         ensures answer { (content : Option (List Msg)) → IsContent content bytes.now →
@@ -216,8 +222,8 @@ impl Link {
         self.table.take(handle)
     }
 
-    /// The earliest moment, not before the link's own, at which [`due`](Link::due) returns anything but `Nothing`: a
-    /// loop may wait until then. `None` where that lies beyond 64 bits.
+    /// The earliest moment, in milliseconds and not before the link's own, at which [`due`](Link::due) returns anything
+    /// but `Nothing`: a loop may wait until then. `None` where that lies beyond 64 bits.
     pub fn next_due(&self) -> Option<u64>
         ensures { MatchOption result (NeverIsDue self.now) (λ t. IsNextDue self.now t) }
     {
@@ -230,15 +236,16 @@ impl Link {
         }
     }
 
-    /// The lowest handle whose answer came and was not taken yet.
+    /// The lowest handle whose answer came and was not taken yet. `None` if there is none.
     pub fn answered(&self) -> Option<Handle>
         ensures { option_map (λ h. h.0) result ≡ first_answered self.now.untaken }
     {
         self.table.answered()
     }
 
-    /// Whether the command under this handle is in flight: it was submitted, and has no answer yet. So a wait for a
-    /// handle whose answer was taken, or that no command has, can end at once.
+    /// Whether the command under this handle is unanswered (despite the name: a command whose answer came and was not
+    /// taken is still in flight, and gives `false`). `false` also for a command whose answer was taken, and for a
+    /// handle that no command has. So a wait can end at once if this is `false` and [`take`](Link::take) gives nothing.
     pub fn is_in_flight(&self, handle: Handle) -> bool
         ensures { result ≡ list_any (waits handle.0) self.now.untaken }
     {
@@ -252,19 +259,19 @@ impl Link {
         self.table.next()
     }
 
-    /// The moment at which the last well-formed datagram from the device came; until the first one comes, the moment at
-    /// which the link was made.
-    /// A datagram from another address does not move it, nor one that is not well-formed. A device that is there and
-    /// has room echoes each keep-alive, so it lags by little more than 2,500 ms while the link is driven and no command
-    /// waits for its answer. While one waits it is sent again and no keep-alive leaves: a device that leaves it
-    /// unanswered, as one whose handle was used before from this address and port, is then not heard at all.
+    /// The moment, in milliseconds, at which the last well-formed datagram from the device came; until the first one
+    /// comes, the moment at which the link was made. A datagram from another address does not move it, nor one that is
+    /// not well-formed. A device that is there and has room echoes each keep-alive, so it lags by little more than
+    /// 2,500 ms while the link is driven and no command waits for its answer. While one waits it is sent again and no
+    /// keep-alive leaves: a device that leaves it unanswered, as one whose handle was used before from this address and
+    /// port, is then not heard at all.
     pub fn last_heard(&self) -> u64
         ensures { result ≡ self.now.heard }
     {
         self.heard
     }
 
-    /// Whether the link is lost: a command got no answer to 20 sendings. It stays so, and gives nothing out any more;
+    /// Whether the link is lost: a command got no answer to 20 transmissions. It stays so, and sends nothing any more;
     /// answers that still come are taken as before.
     pub fn is_lost(&self) -> bool
         ensures { result ≡ self.now.lost }
@@ -295,7 +302,7 @@ impl Link {
         latest(self.moment, now)
     }
 
-    /// The span, at most 32: at most as many commands are untaken.
+    /// The span, at most 32: at most as many commands are in flight.
     pub(crate) fn span(&self) -> u8
         ensures span { result ≡ self.now.span }
         ensures most { result ≤ 32 }

@@ -2,7 +2,7 @@
 ghost use Rattle.std.specs.Prelude.{◌≡◌, ◌-◌, ◌<◌, ◌^◌, max, nat_le};
 ghost use Rattle.oca_types.specs.Moments.{HoldsFrom};
 
-/// So many milliseconds after a moment; nothing where that lies beyond 64 bits.
+/// So many milliseconds (one or more) after a moment; nothing where that lies beyond 64 bits.
 pub fn later(moment: u64, by: u64) -> Option<u64>
     requires { 0 < by }
     ensures { HoldsFrom (λ s. nat_le by (s - moment)) result }

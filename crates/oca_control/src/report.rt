@@ -7,7 +7,7 @@ use std::ops::Add;
 pub struct DriveReport {
     /// The turns: receives that delivered something: a datagram, an oversize one, silence or a failure.
     pub turns: u64,
-    /// The commands that were handed to the end, first sendings and repeats, failed sends included.
+    /// The commands that were handed to the end, first transmissions and retransmissions, failed sends included.
     pub sent: u64,
     /// The keep-alives that were handed to the end, failed sends included.
     pub keep_alives: u64,

@@ -99,7 +99,8 @@ impl Slot {
         self.held
     }
 
-    /// Whether a command is held and due.
+    /// Whether a command is held and due at the moment `now`, in milliseconds: it has no answer, and was never sent or
+    /// was sent 250 ms ago or earlier.
     pub fn is_due(&self, now: u64) -> bool
         ensures { result ≡ held_is_due now self.now }
     {
@@ -108,15 +109,15 @@ impl Slot {
             && (self.times == 0 || now.saturating_sub(self.last) >= REPEAT_MS)
     }
 
-    /// Whether a command is held and late: unanswered, and submitted more than 15,000 ms ago.
+    /// Whether a command is held and late: unanswered, and submitted more than 15,000 ms before the moment `now`.
     pub fn is_late(&self, now: u64) -> bool
         ensures { result ≡ held_is_late now self.now }
     {
         self.waits() && now.saturating_sub(self.submitted) > LONGEST_LIFE_MS
     }
 
-    /// From which moment on the command is due: from the first on where it was never sent, else 250 ms after it
-    /// last was. Nothing where that lies beyond 64 bits, or no command waits.
+    /// From which moment on, in milliseconds, the command is due: from the first on where it was never sent, else 250
+    /// ms after it last was. Nothing where that lies beyond 64 bits, or no command waits.
     pub fn due_from(&self) -> Option<u64>
         ensures { HoldsFrom (λ s. held_is_due s self.now) result }
     {
@@ -129,7 +130,7 @@ impl Slot {
         later(self.last, REPEAT_MS)
     }
 
-    /// Whether the command has its answer.
+    /// Whether a command is held that has its answer.
     pub fn is_answered(&self) -> bool
         ensures { result ≡ is_some (held_answer self.now) }
     {
@@ -143,14 +144,15 @@ impl Slot {
         self.held && !self.answered
     }
 
-    /// Whether the command may be sent once more.
+    /// Whether the command that is held was sent fewer than 20 times.
     pub fn may_repeat(&self) -> bool
         ensures { IfSome self.now (λ k. result ≡ nat_lt k.times most_sendings) }
     {
         self.times < MOST_SENDINGS
     }
 
-    /// Puts a command in that is submitted now.
+    /// Puts a command in that is submitted at the moment `now`, in milliseconds. It has at most 1,445 bytes of
+    /// parameters.
     pub fn put(&mut self, request: Request<'_>, now: u64)
         requires { length request.params.now ≤ most_command_parameter_bytes }
         ensures { self.new ≡ Some (new_held now (request_of request.entry)) }
@@ -167,8 +169,9 @@ impl Slot {
         let _ = self.params.try_extend_from_slice(request.params);
     }
 
-    /// Gives the command out once more, under its handle.
-    pub fn give_out(&mut self, handle: Handle, now: u64, packet: &mut Packet)
+    /// Puts the command into the packet, which must be empty, under its handle, and notes that it was sent at the
+    /// moment `now`, in milliseconds. It must have been sent fewer than 20 times.
+    pub fn send_due(&mut self, handle: Handle, now: u64, packet: &mut Packet)
         requires few { IsSomeAnd self.old (λ k. k.times < most_sendings) }
         requires empty { packet.old.items ≡ [] }
         ensures packet { IfSome self.old
@@ -187,7 +190,7 @@ impl Slot {
         self.last = now;
     }
 
-    /// Stores the answer.
+    /// Stores the answer, of at most 1,452 bytes of parameters.
     pub fn store(&mut self, status: u8, count: u8, params: &[u8])
         requires { length params.now ≤ most_parameter_bytes }
         ensures { self.new
@@ -200,7 +203,7 @@ impl Slot {
         let _ = self.answer.params.try_extend_from_slice(params);
     }
 
-    /// Takes the answer, where there is one, and the command with it.
+    /// Takes the answer, where there is one, and the command with it. `None`, where there is none, changes nothing.
     pub fn take(&mut self) -> Option<Answer>
         ensures answer { option_map answer_fields result ≡ held_answer self.old }
         ensures slot { self.new ≡ (if is_some (held_answer self.old) then None else self.old) }

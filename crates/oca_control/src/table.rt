@@ -1,4 +1,4 @@
-//! The untaken commands of a link, each in the place that its handle names.
+//! The commands in flight of a link, each in the place that its handle names.
 ghost use Rattle.std.specs.Prelude.{◌≡◌, ◌+◌, ◌-◌, ◌%◌, ◌<◌, ◌≤◌, [], ◌∷◌, ◌++◌, map, length, Option, Some, None, true};
 ghost use Rattle.std.specs.Prelude.{is_some, IfSome, IsTrue, if◌then◌else◌, slice_index_or};
 ghost use Rattle.std.specs.List.{list_any};
@@ -21,7 +21,7 @@ use crate::slot::Slot;
 use oca_types::{Handle, Packet, Request, sooner};
 use std::marker::Model;
 
-/// The untaken commands of a link. They have handles from `low` on and below `next`, at most 32 of them, and the
+/// The commands in flight of a link. They have handles from `low` on and below `next`, at most 32 of them, and the
 /// command of a handle lies in the slot of this handle modulo 32: it is found by its place. `next` is 4294967296 where
 /// no handle is left.
 #[derive(Drop)]
@@ -54,14 +54,14 @@ impl Table {
         }
     }
 
-    /// The handle of the next command, where one is left.
+    /// The handle of the next command; `None` after the last one, 4294967295.
     pub fn next(&self) -> Option<Handle>
         ensures { option_map (λ h. h.0) result ≡ handle_left self.now.next }
     {
         u32::try_from(self.next).ok().map(Handle)
     }
 
-    /// Whether the next handle lies below each untaken one plus the span.
+    /// Whether the next handle lies below each one in flight plus the span.
     pub fn has_room(&self, span: u8) -> bool
         ensures room { result ≡ span_has_room span self.now.next self.now.untaken }
         ensures few { IsTrue result → 0 < span → length self.now.untaken < span }
@@ -69,7 +69,8 @@ impl Table {
         self.low == self.next || self.next < self.low + u64::from(span)
     }
 
-    /// Puts a command behind the others, under the next handle, which is submitted now.
+    /// Puts a command behind the others, under the next handle, as submitted at the moment `now`, in milliseconds.
+    /// There must be a handle and room for it, and it has at most 1,445 bytes of parameters.
     pub fn submit(&mut self, request: Request<'_>, now: u64)
         requires left { self.old.next < 4294967296 }
         requires room { span_has_room 32 self.old.next self.old.untaken ≡ true }
@@ -83,8 +84,9 @@ impl Table {
         self.next += 1;
     }
 
-    /// Sends the due command with the lowest handle, or says that it was sent 20 times. Nothing where no
-    /// command is due.
+    /// Puts the due command with the lowest handle into the packet, which must be empty, and counts that as a
+    /// transmission at the moment `now`, in milliseconds: `Send` with its handle. `Lost` if that command was sent 20
+    /// times: then the packet stays empty, and nothing is changed. `None` if no command is due, and nothing is changed.
     pub fn give_first(&mut self, now: u64, packet: &mut Packet) -> Option<Due>
         requires { packet.old.items ≡ [] }
         ensures answer { result ≡ option_map due_answer (first_decided now self.old.untaken) }
@@ -102,25 +104,25 @@ impl Table {
         if !slot.may_repeat() {
             return Some(Due::Lost);
         }
-        slot.give_out(handle, now, packet);
+        slot.send_due(handle, now, packet);
         Some(Due::Send(handle))
     }
 
-    /// Whether a command is late.
+    /// Whether a command is late at the moment `now`, in milliseconds.
     pub fn is_late(&self, now: u64) -> bool
         ensures { result ≡ list_any (is_late now) self.now.untaken }
     {
         some_late(&self.slots, self.low, self.next, now)
     }
 
-    /// From which moment on a command is due, where there is such a moment.
+    /// From which moment on, in milliseconds, a command is due; `None` where there is no such moment of 64 bits.
     pub fn due_from(&self) -> Option<u64>
         ensures { HoldsFrom (some_due self.now.untaken) result }
     {
         due_from(&self.slots, self.low, self.next)
     }
 
-    /// The lowest handle that has its answer.
+    /// The lowest handle that has its answer; `None` where none has.
     pub fn answered(&self) -> Option<Handle>
         ensures { option_map (λ h. h.0) result ≡ first_answered self.now.untaken }
     {
@@ -140,7 +142,8 @@ impl Table {
         self.slots[at].waits()
     }
 
-    /// Stores an answer, and returns whether a command waited for it.
+    /// Stores an answer, of at most 1,452 bytes of parameters, and returns whether a command waited for it. Where none
+    /// did, nothing changes.
     pub fn answer(&mut self, handle: Handle, status: u8, count: u8, params: &[u8]) -> bool
         requires { length params.now ≤ most_parameter_bytes }
         ensures new { result ≡ list_any (waits handle.0) self.old.untaken }
@@ -161,7 +164,8 @@ impl Table {
         true
     }
 
-    /// Takes the answer of this handle, where there is one, and the command with it.
+    /// Takes the answer of this handle, where there is one, and the command with it. `None`, where there is none,
+    /// changes nothing.
     pub fn take(&mut self, handle: Handle) -> Option<Answer>
         ensures answer { option_map answer_fields result ≡ answer_under handle.0 self.old.untaken }
         ensures state { self.new

@@ -1,11 +1,11 @@
 //! A turn of a link over an end, in which no command is sent too late.
 ghost use Rattle.std.specs.Prelude.{◌≡◌, false};
 ghost use Rattle.oca_control.specs.Links.{late_at};
-ghost use Rattle.oca_control.specs.Turning.{GivesInTime, Turns};
+ghost use Rattle.oca_control.specs.Turning.{SendsInTime, Turns};
 ghost use Rattle.oca_control.specs.Running.{NothingIsLeft, LeavesNothing};
 ghost use Rattle.oca_control.specs.PrivateTurning.{IsEndOfTurn, lost_report};
 
-use crate::driving::{count_of, give_out, nothing};
+use crate::driving::{count_of, nothing, send_due};
 use crate::link::Link;
 use crate::report::DriveReport;
 use oca_net::{End, Heard};
@@ -14,9 +14,9 @@ use oca_types::Packet;
 /// How long a turn receives at most, in milliseconds.
 const WAIT_MS: u64 = 50;
 
-/// Whether a link is late at this moment: a command is unanswered, and was submitted more than 15,000 ms before
-/// (*profile*), whether it was ever sent or not. A moment that is earlier than one already seen counts as the one
-/// already seen.
+/// Whether a link is late at this moment, in milliseconds: a command is unanswered, and was submitted more than 15,000
+/// ms before (*profile*), whether it was ever sent or not. A moment that is earlier than one already seen counts as the
+/// one already seen.
 ///
 /// A link that is asked in time has its answer by then or is lost, so this finds a program that was suspended. What was
 /// asked of it long ago may not act now. And a device that hears nothing for 120 seconds forgets what it executed, and
@@ -28,22 +28,23 @@ pub fn is_late(link: &Link, now: u64) -> bool
     link.late_at(now)
 }
 
-/// As [`give_out`], unless the link is late at this moment: then it changes nothing, hands over nothing, and reports
-/// that the link is lost. Nothing is left to send at this moment where it does not report that.
-pub fn give_in_time<E: End>(link: &mut Link, end: &mut E, now: u64) -> DriveReport
-    ensures gives { GivesInTime now link.old link.new (E.state end.old) (E.state end.new) result }
+/// As [`send_due`], unless the link is late at this moment: then it changes nothing, hands over nothing, and reports
+/// that the link is lost. Nothing is left to send at this moment where it does not report that. `now` is in
+/// milliseconds.
+pub fn send_in_time<E: End>(link: &mut Link, end: &mut E, now: u64) -> DriveReport
+    ensures gives { SendsInTime now link.old link.new (E.state end.old) (E.state end.new) result }
     ensures left { result.lost ≡ false → NothingIsLeft link.new }
 {
     if link.late_at(now) {
         return late_report();
     }
-    give_out(link, end, now)
+    send_due(link, end, now)
 }
 
 /// A turn of a link over an end, and what was done: receives once, and sends what is due in time.
 ///
 /// An end that keeps time receives until something is due ([`Link::next_due`]), and for at most 50 ms. A datagram goes
-/// to the link, however late it is. Then, at a datagram, at silence and at an oversize datagram, [`give_in_time`]
+/// to the link, however late it is. Then, at a datagram, at silence and at an oversize datagram, [`send_in_time`]
 /// follows. A failed receive does nothing else. At Closed nothing is done, and `turns` is 0. `lost` says that the link
 /// is lost or late: it will send nothing more. After any other turn nothing is left to send at the link's
 /// moment.
@@ -56,7 +57,7 @@ pub fn turn<E: End>(link: &mut Link, end: &mut E) -> DriveReport
     match end.receive_by(&mut packet, until) {
         Heard::Datagram { from, now } => {
             let answered = count_of(link.datagram(from, packet.as_slice(), now));
-            let given = give_in_time(link, end, now);
+            let given = send_in_time(link, end, now);
             DriveReport {
                 turns: 1,
                 answered,
@@ -65,11 +66,11 @@ pub fn turn<E: End>(link: &mut Link, end: &mut E) -> DriveReport
         }
         Heard::Quiet { now } => DriveReport {
             turns: 1,
-            ..give_in_time(link, end, now)
+            ..send_in_time(link, end, now)
         },
         Heard::Oversize { now } => DriveReport {
             turns: 1,
-            ..give_in_time(link, end, now)
+            ..send_in_time(link, end, now)
         },
         Heard::Failed => DriveReport {
             turns: 1,

@@ -9,7 +9,7 @@ use Rattle.oca_pdu.specs.Messages.{Msg, Command, Response, KeepAlive}
 use Rattle.oca_tree.specs.declared.object.Object.{Object}
 use Rattle.oca_tree.specs.Execution.{execution}
 use Rattle.oca_tree.specs.Locks.{released}
-use Rattle.oca_tree.specs.Settings.{after_set}
+use Rattle.oca_tree.specs.LocalChanges.{after_change}
 use Rattle.oca_session.specs.Accepted.{Entry, Fresh, Duplicate, Reused, judge_unaccepted, accepts, entry_under, window, asks_the_same}
 use Rattle.oca_device.specs.Notes.{run, is_noted, accepted}
 use Rattle.oca_device.specs.States.{State, judged_in, reply_of, after_command, after_messages, time_of}
@@ -139,13 +139,13 @@ messages_answered w p (Response r ∷ ms) s under k d u = messages_answered w p 
 pub objects_both : (tree : List Object) (xs ys : List Change) → objects tree (xs ++ ys) ≡ objects (objects tree xs) ys
 objects_both tree [] ys = refl
 objects_both tree (Releases p ∷ xs) ys = objects_both (released tree p) xs ys
-objects_both tree (Sets ono value ∷ xs) ys = objects_both (after_set tree ono value) xs ys
+objects_both tree (Sets ono change ∷ xs) ys = objects_both (after_change tree ono change) xs ys
 objects_both tree (Executes p c ∷ xs) ys = objects_both (execution tree p c).tree xs ys
 
 pub reply_both : (p : Peer) (h : ℕ) (r : List Msg) (tree : List Object) (xs ys : List Change) → reply p h r tree (xs ++ ys) ≡ reply p h (reply p h r tree xs) (objects tree xs) ys
 reply_both p h r tree [] ys = refl
 reply_both p h r tree (Releases q ∷ xs) ys = reply_both p h r (released tree q) xs ys
-reply_both p h r tree (Sets ono value ∷ xs) ys = reply_both p h r (after_set tree ono value) xs ys
+reply_both p h r tree (Sets ono change ∷ xs) ys = reply_both p h r (after_change tree ono change) xs ys
 reply_both p h r tree (Executes q c ∷ xs) ys =
     reply_both p h (cond (same_peer q p && nat_eq c.handle h) (response h (reply_of tree q c) ∷ []) r) (execution tree q c).tree xs ys
 

@@ -9,7 +9,7 @@ use Rattle.oca_pdu.specs.Messages.{Msg, Command, Response, KeepAlive}
 use Rattle.oca_tree.specs.declared.object.Object.{Object}
 use Rattle.oca_tree.specs.Execution.{execution}
 use Rattle.oca_tree.specs.Locks.{released}
-use Rattle.oca_tree.specs.Settings.{after_set}
+use Rattle.oca_tree.specs.LocalChanges.{after_change}
 use Rattle.oca_session.specs.Accepted.{Entry, Fresh, Duplicate, Reused, judge_unaccepted, accepts, entry_under, window, asks_the_same}
 use Rattle.oca_device.specs.Notes.{is_noted, accepted, run}
 use Rattle.oca_device.specs.States.{State, judged_in, reply_of, after_command, after_messages, time_of}
@@ -69,7 +69,7 @@ messages_written w p (Response r ∷ ms) s k = messages_written w p ms s k
 pub executions_both : (tree : List Object) (xs ys : List Change) → executions tree (xs ++ ys) ≡ executions tree xs ++ executions (objects tree xs) ys
 executions_both tree [] ys = refl
 executions_both tree (Releases p ∷ xs) ys = executions_both (released tree p) xs ys
-executions_both tree (Sets ono value ∷ xs) ys = executions_both (after_set tree ono value) xs ys
+executions_both tree (Sets ono change ∷ xs) ys = executions_both (after_change tree ono change) xs ys
 executions_both tree (Executes p c ∷ xs) ys =
     ap (λ (x : List ExecutionFor). (record { peer = p; objects = tree; command = c; reply = reply_of tree p c }) ∷ x) (executions_both (execution tree p c).tree xs ys)
 

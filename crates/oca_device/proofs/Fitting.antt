@@ -15,28 +15,29 @@ use Rattle.oca_model.specs.declared.request.Request.{Request}
 use Rattle.oca_model.specs.declared.value.ValueFault.{ValueFault}
 use Rattle.oca_model.specs.Answers.{answer_encoding}
 use Rattle.oca_tree.specs.Objects.{object_of}
-use Rattle.oca_tree.specs.Execution.{TreeAndReply, execution, by_status, status_of, first_that_applies, kind_at, asked_at, is_unknown, is_kind_left_out, is_locked, is_malformed, sets_unlisted, on_both}
+use Rattle.oca_tree.specs.Execution.{TreeAndReply, execution, by_status, status_of, first_that_applies, kind_at, asked_at, is_unknown, is_kind_left_out, is_locked, is_malformed, sets_unlisted, on_both, is_failing}
 use Rattle.oca_tree.specs.Requests.{fits_positions, asks_out_of_range, asks_invalid}
 use Rattle.oca_tree.specs.Typed.{answer_given}
 use Rattle.oca_tree.specs.Locks.{released}
-use Rattle.oca_tree.specs.Settings.{after_set}
+use Rattle.oca_tree.specs.LocalChanges.{after_change}
 use Rattle.oca_device.specs.Groups.{IsAnswerMessage}
 use Rattle.oca_device.specs.LawByEvents.{Happening, Passes, Says, Sets, Change, Executes, Releases, reply, replies, answers_by_events, changes, clock, admitted, accepted_by, served_of, accepts_handle, is_duplicate, with_command}
 
 -- ---- the parameters of an answer
 
-last_line : (a b c d e f g h : Bool) →
+last_line : (a b c d e f g h i : Bool) →
     first_that_applies ((a, status.BadOno) ∷ (b, status.BadMethod) ∷ (c, status.NotImplemented) ∷ (d, status.Locked) ∷ (e, status.ParameterError)
-    ∷ (f, status.ParameterOutOfRange) ∷ (g, status.InvalidRequest) ∷ (h, status.BufferOverflow) ∷ []) ≡ status.Ok → h ≡ false
-last_line true b c d e f g h q = absurd cc
-last_line false true c d e f g h q = absurd cc
-last_line false false true d e f g h q = absurd cc
-last_line false false false true e f g h q = absurd cc
-last_line false false false false true f g h q = absurd cc
-last_line false false false false false true g h q = absurd cc
-last_line false false false false false false true h q = absurd cc
-last_line false false false false false false false true q = absurd cc
-last_line false false false false false false false false q = refl
+    ∷ (f, status.ParameterOutOfRange) ∷ (g, status.InvalidRequest) ∷ (h, status.BufferOverflow) ∷ (i, status.ProcessingFailed) ∷ []) ≡ status.Ok → h ≡ false
+last_line true b c d e f g h i q = absurd cc
+last_line false true c d e f g h i q = absurd cc
+last_line false false true d e f g h i q = absurd cc
+last_line false false false true e f g h i q = absurd cc
+last_line false false false false true f g h i q = absurd cc
+last_line false false false false false true g h i q = absurd cc
+last_line false false false false false false true h i q = absurd cc
+last_line false false false false false false false true i q = absurd cc
+last_line false false false false false false false false true q = absurd cc
+last_line false false false false false false false false false q = refl
 
 not_above : (n : ℕ) → nat_lt 1452 n ≡ false → n ≤ 1452
 not_above n h = grind (arith, nat_tests)
@@ -62,7 +63,7 @@ found_short tree peer c (Some o) (Ok r) e =
     (sym (ap (λ (x : Result Request ValueFault). on_both (λ o r. nat_lt 1452 (answer_bytes tree o r)) (Some o) x) e)
     ∙ last_line (is_none (Some o)) (is_unknown (kind_at (Some o) c)) (is_kind_left_out (kind_at (Some o) c)) (is_locked (Some o) (kind_at (Some o) c) peer)
     (is_malformed asked || on_both (λ x y. not (fits_positions x.value y)) (Some o) asked) (sets_unlisted asked || on_both (λ x y. asks_out_of_range x.value y) (Some o) asked) (on_both asks_invalid (Some o) asked)
-    (on_both (λ x y. nat_lt 1452 (answer_bytes tree x y)) (Some o) asked) q))
+    (on_both (λ x y. nat_lt 1452 (answer_bytes tree x y)) (Some o) asked) (is_failing (Some o) (kind_at (Some o) c)) q))
 
 pub execution_short : (tree : List Object) (peer : Peer) (c : CommandFields) → length (execution tree peer c).parameters ≤ 1452
 unfolding execution
@@ -81,7 +82,7 @@ its x h = Response (record { handle = h; status = status_number x.status; count 
 reply_fits : (p : Peer) (h : ℕ) (r : List Msg) (tree : List Object) (C : List Change) → AreAnswers r → AreAnswers (reply p h r tree C)
 reply_fits p h r tree [] a = a
 reply_fits p h r tree (Releases q ∷ C) a = reply_fits p h r (released tree q) C a
-reply_fits p h r tree (Sets ono value ∷ C) a = reply_fits p h r (after_set tree ono value) C a
+reply_fits p h r tree (Sets ono change ∷ C) a = reply_fits p h r (after_change tree ono change) C a
 reply_fits p h r tree (Executes q c ∷ C) a = reply_fits p h (cond (same_peer q p && nat_eq c.handle h) (its (execution tree q c) h ∷ []) r) (execution tree q c).tree C (by (same_peer q p && nat_eq c.handle h))
   where
     by : (b : Bool) → AreAnswers (cond b (its (execution tree q c) h ∷ []) r)
@@ -106,7 +107,7 @@ replies_fit w under A (Response r ∷ ms) u = replies_fit w under A ms u
 pub answers_fit : (w : DeviceSizes) (tree : List Object) (H : List Happening) → AllByRecursion IsAnswerMessage (answers_by_events w tree H)
 answers_fit w tree [] = tt
 answers_fit w tree (Passes now ∷ H) = tt
-answers_fit w tree (Sets ono value ∷ H) = tt
+answers_fit w tree (Sets ono change ∷ H) = tt
 answers_fit w tree (Says p ms ∷ H) =
     replies_fit w (λ h. reply p h [] tree (changes w (Says p ms ∷ H))) (accepted_by w (clock H) p (admitted w H)) (served_of w p ms H)
     (λ h. reply_fits p h [] tree (changes w (Says p ms ∷ H)) tt)

@@ -10,7 +10,7 @@ use Rattle.oca_pdu.specs.Messages.{Msg}
 use Rattle.oca_session.specs.Accepted.{retained_of}
 use Rattle.oca_session.specs.Table.{Session, Table, session_of, with_changed, lapsed, stays, is_lapsed, staying, with_moment_and_sessions}
 use Rattle.oca_session.specs.Table as table
-use Rattle.oca_device.specs.Notes.{Note, Noted, Admitted, notes_of, is_within, unbroken, run, is_noted, peers_except, noted_order, noted_peers, last_noted, heartbeat_noted, accepted}
+use Rattle.oca_device.specs.Notes.{Note, Noted, Admitted, notes_of, is_recent, unbroken, run, is_noted, peers_except, noted_order, noted_peers, last_noted, heartbeat_noted, accepted}
 use Rattle.oca_device.specs.States.{State, noted, moved_to, lapsed_at}
 use Rattle.oca_device.specs.Devices.{session_for, table_of}
 use Rattle.oca_device.proofs.Lists.{filter_same, filter_both, filter_mapped, filter_appended, map_appended, map_back}
@@ -21,11 +21,11 @@ abbrev has_notes : List Note → Bool
 has_notes [] = false
 has_notes (n ∷ ns) = true
 
-known_has_notes : (t : ℕ) (ns : List Note) → is_within t ns ≡ true → has_notes ns ≡ true
+known_has_notes : (t : ℕ) (ns : List Note) → is_recent t ns ≡ true → has_notes ns ≡ true
 known_has_notes t [] h = h
 known_has_notes t (n ∷ ns) h = refl
 
-within_has_notes : (t : ℕ) (ns : List Note) → (is_within t ns && has_notes ns) ≡ is_within t ns
+within_has_notes : (t : ℕ) (ns : List Note) → (is_recent t ns && has_notes ns) ≡ is_recent t ns
 within_has_notes t [] = refl
 within_has_notes t (n ∷ ns) = by (nat_le (t - n.at) 120000)
   where
@@ -40,7 +40,7 @@ own_notes : (n : Note) (ns : List Note) → notes_of n.peer (n ∷ ns) ≡ n ∷
 own_notes n ns = ap (λ b. cond b (n ∷ notes_of n.peer ns) (notes_of n.peer ns)) (same_self n.peer)
 
 pub known_now : (n : Note) (ns : List Note) → is_noted n.at (n ∷ ns) n.peer ≡ true
-known_now n ns = ap (is_within n.at) (own_notes n ns) ∙ now n.at
+known_now n ns = ap (is_recent n.at) (own_notes n ns) ∙ now n.at
   where
     now : (t : ℕ) → nat_le (t - t) 120000 ≡ true
     now t = grind (arith, nat_tests)
@@ -97,7 +97,7 @@ known_goes_on n ns k =
   where
     by_same : (q : Peer) (b : Bool) → same_peer n.peer q ≡ b → is_noted n.at (n ∷ ns) q ≡ is_noted n.at ns q
     by_same q true s = let e = same_is n.peer q s in ap (is_noted n.at (n ∷ ns)) (sym e) ∙ known_now n ns ∙ sym k ∙ ap (is_noted n.at ns) e
-    by_same q false s = ap (is_within n.at) (other_notes n ns q s)
+    by_same q false s = ap (is_recent n.at) (other_notes n ns q s)
 
 -- a note of a peer that wasn't known puts it at the end
 known_begins : (n : Note) (ns : List Note) → is_noted n.at ns n.peer ≡ false → noted_peers n.at (n ∷ ns) ≡ noted_peers n.at ns ++ n.peer ∷ []
@@ -113,7 +113,7 @@ known_begins n ns k =
         ∙ sym k ∙ ap (is_noted n.at ns) (same_is n.peer q s)
     by_same q false s =
         ap (λ x. not x && is_noted n.at (n ∷ ns) q) (same_turned q n.peer ∙ s)
-        ∙ ap (is_within n.at) (other_notes n ns q s)
+        ∙ ap (is_recent n.at) (other_notes n ns q s)
 
 -- who is known at a later moment
 known_later : (m t : ℕ) (ns : List Note) → m ≤ t → (w : DeviceSizes) → filter (λ q. stays t (session_for w ns q)) (noted_peers m ns) ≡ noted_peers t ns
@@ -122,7 +122,7 @@ known_later m t ns le w = filter_both (λ q. stays t (session_for w ns q)) (is_n
     both_within : (a : ℕ) → (nat_le (m - a) 120000 && nat_le (t - a) 120000) ≡ nat_le (t - a) 120000
     both_within a = grind (arith, nat_tests)
 
-    by_notes : (own : List Note) → (is_within m own && nat_le (t - last_noted (unbroken own)) 120000) ≡ is_within t own
+    by_notes : (own : List Note) → (is_recent m own && nat_le (t - last_noted (unbroken own)) 120000) ≡ is_recent t own
     by_notes [] = refl
     by_notes (n ∷ own) = both_within n.at
 

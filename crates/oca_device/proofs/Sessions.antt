@@ -5,7 +5,7 @@ use Rattle.oca_types.specs.declared.words.Peer.{Peer}
 use Rattle.oca_types.specs.Peers.{same_peer, CommandFields}
 use Rattle.oca_types.specs.Sizes.{DeviceSizes}
 use Rattle.oca_pdu.specs.Messages.{Msg, Command, Response, KeepAlive}
-use Rattle.oca_device.specs.Notes.{Noted, Admitted, Heartbeat, Executed, Note, notes_of, is_within, unbroken, run, is_noted, peers_except, noted_order, noted_peers, accepted, heartbeat_noted, last_noted, has_lapsed}
+use Rattle.oca_device.specs.Notes.{Noted, Admitted, Heartbeat, Executed, Note, notes_of, is_recent, unbroken, run, is_noted, peers_except, noted_order, noted_peers, accepted, heartbeat_noted, last_noted, has_lapsed}
 use Rattle.oca_device.specs.States.{State, noted, admits, reply_of, after_messages, time_of, lapsed_at}
 use Rattle.oca_device.specs.LawByEvents.{Arrival, Happening, session, is_open, messages_in, heartbeat, accepted_of, accepts_handle, admitted, clock, session_has_lapsed, lapsed_peers, has_room}
 use Rattle.oca_device.specs.LawByEvents as law
@@ -49,7 +49,7 @@ known_where t q D = ap is_open (session_latest t q D) ∙ open_where t (latest q
 -- ---- the notes of a peer say of its session what its admitted datagrams say
 
 pub record Bridged (w : DeviceSizes) (own : List Note) (S : List Arrival) : Type 0 where
-  pub moments : (t : ℕ) → is_within t own ≡ within t S
+  pub moments : (t : ℕ) → is_recent t own ≡ within t S
   pub last : last_noted (unbroken own) ≡ law.last_moment S
   pub beat : heartbeat_noted (unbroken own) ≡ law.heartbeat_of S
   pub commands : commands_of (accepted (unbroken own)) ≡ accepted_of w [] (messages_in S)
@@ -59,11 +59,11 @@ none_bridged w = record { moments = λ t. refl; last = refl; beat = refl; comman
 
 -- each note of a datagram has its moment
 abbrev IsNow : Peer → State → ℕ → Type 0
-IsNow p s at = ((t : ℕ) → is_within t (notes_of p s.notes) ≡ nat_le (t - at) 120000) × (last_noted (run p s.notes) ≡ at)
+IsNow p s at = ((t : ℕ) → is_recent t (notes_of p s.notes) ≡ nat_le (t - at) 120000) × (last_noted (run p s.notes) ≡ at)
 
 noted_now : (p : Peer) (what : Noted) (s : State) → IsNow p (noted p what s) s.moment
 noted_now p what s = (
-  λ t. ap (λ b. is_within t (cond b (note ∷ notes_of p s.notes) (notes_of p s.notes))) (same_self p),
+  λ t. ap (λ b. is_recent t (cond b (note ∷ notes_of p s.notes) (notes_of p s.notes))) (same_self p),
   ap (λ b. last_noted (unbroken (cond b (note ∷ notes_of p s.notes) (notes_of p s.notes)))) (same_self p),
 )
   where

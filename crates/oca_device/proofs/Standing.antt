@@ -14,8 +14,7 @@ use Rattle.oca_pdu.specs.Reading.{read_datagram}
 use Rattle.oca_pdu.specs.Laws.{AreBytes, ReadingIsExact, OneListOfMessages}
 use Rattle.oca_tree.specs.declared.object.Object.{Object}
 use Rattle.oca_tree.specs.Locks.{released}
-use Rattle.oca_tree.specs.Settings.{after_set}
-use Rattle.oca_model.specs.declared.value.Value.{Value}
+use Rattle.oca_tree.specs.LocalChanges.{LocalChange, after_change}
 use Rattle.oca_device.specs.declared.verdict.Verdict.TheVariants as verdicts
 use Rattle.oca_device.specs.Events.{Event, Datagram, Tick, Local}
 use Rattle.oca_device.specs.Notes.{Note, notes_of, unbroken, run, is_noted, accepted}
@@ -56,7 +55,7 @@ not_both f ms q = cc
 pub happened : ReadingIsExact → (E : List Event) → EventsAreBytes E → (H : List Happening) × Happened E H
 happened exact [] b = ([], nothing)
 happened exact (Tick now ∷ E) b = let h = happened exact E b in (Passes now ∷ h.0, tick now h.1)
-happened exact (Local ono value ∷ E) b = let h = happened exact E b in (Sets ono value ∷ h.0, local ono value h.1)
+happened exact (Local ono change ∷ E) b = let h = happened exact E b in (Sets ono change ∷ h.0, local ono change h.1)
 happened exact (Datagram p bytes now ∷ E) b = by (happened exact E b.1) (read_datagram bytes) refl
   where
     by : (H : List Happening) × Happened E H → (r : Result (List Msg) PduFault) → read_datagram bytes ≡ r →
@@ -102,15 +101,15 @@ passing w tree now s H h =
     }
 
 -- the front sets: who is known and what was answered stays
-pub setting : (w : DeviceSizes) (tree : List Object) (ono : ℕ) (value : Value) (s : State) (H : List Happening) → Stands w tree s H → Stands w tree (after_local ono value s) (Sets ono value ∷ H)
-setting w tree ono value s H h =
+pub setting : (w : DeviceSizes) (tree : List Object) (ono : ℕ) (change : LocalChange) (s : State) (H : List Happening) → Stands w tree s H → Stands w tree (after_local ono change s) (Sets ono change ∷ H)
+setting w tree ono change s H h =
     let C = changes w H in
     record {
       clock_is = h.clock_is;
       bridged = record { each = h.bridged.each; opened_is = h.bridged.opened_is };
-      tree_is = ap (λ (x : List Object). after_set x ono value) h.tree_is ∙ sym (objects_both tree C (Sets ono value ∷ []));
-      replied = λ q i x f. reply_both q i [] tree C (Sets ono value ∷ []) ∙ h.replied q i x f;
-      executions_are = h.executions_are ∙ sym (executions_both tree C (Sets ono value ∷ []) ∙ append-nil (executions tree C));
+      tree_is = ap (λ (x : List Object). after_change x ono change) h.tree_is ∙ sym (objects_both tree C (Sets ono change ∷ []));
+      replied = λ q i x f. reply_both q i [] tree C (Sets ono change ∷ []) ∙ h.replied q i x f;
+      executions_are = h.executions_are ∙ sym (executions_both tree C (Sets ono change ∷ []) ∙ append-nil (executions tree C));
     }
 
 -- a datagram that is let in
@@ -231,7 +230,7 @@ saying w tree p ms s t D C h =
 pub stands : ReadingIsExact → (w : DeviceSizes) (tree : List Object) {E : List Event} {H : List Happening} → Happened E H → Stands w tree (state_after w tree E) H
 stands exact w tree nothing = record { clock_is = refl; bridged = record { each = λ q. none_bridged w; opened_is = refl }; tree_is = refl; replied = λ q h e f. absurd cc; executions_are = refl }
 stands exact w tree (tick {E} {H} now h) = passing w tree now (state_after w tree E) H (stands exact w tree h)
-stands exact w tree (local {E} {H} ono value h) = setting w tree ono value (state_after w tree E) H (stands exact w tree h)
+stands exact w tree (local {E} {H} ono change h) = setting w tree ono change (state_after w tree E) H (stands exact w tree h)
 stands exact w tree (malformed {E} {H} p bytes now b is_other h) =
     let s = state_after w tree E in
     let found = read_other exact bytes b is_other in
@@ -246,7 +245,7 @@ stands exact w tree (datagram {E} {H} p bytes now b ps is h) =
 pub answers_same : ReadingIsExact → (w : DeviceSizes) (tree : List Object) {E : List Event} {H' : List Happening} (e : Event) → Happened (e ∷ E) H' →
     answers_in w e (state_after w tree E) ≡ law.answers_by_events w tree H'
 answers_same exact w tree {E} e (tick now h) = refl
-answers_same exact w tree {E} e (local ono value h) = refl
+answers_same exact w tree {E} e (local ono change h) = refl
 answers_same exact w tree {E} e (malformed p bytes now b is_other h) =
     let s1 = moved_to (max (state_after w tree E).moment now) (state_after w tree E) in
     ap (λ (r : Result (List Msg) PduFault). answers_to_reading w p r s1) (read_other exact bytes b is_other).2
@@ -272,7 +271,7 @@ verdict_same exact w tree {E} p bytes now (datagram {H = H} q xs t b ps is h) =
 pub written_same : ReadingIsExact → (w : DeviceSizes) (tree : List Object) {E : List Event} {H : List Happening} (h : Happened E H) → effects.written w tree E ≡ law.written_by_events w tree h
 written_same exact w tree nothing = refl
 written_same exact w tree (tick now h) = written_same exact w tree h
-written_same exact w tree (local ono value h) = written_same exact w tree h
+written_same exact w tree (local ono change h) = written_same exact w tree h
 written_same exact w tree (malformed {E} {H} p bytes now b is_other h) =
     let s1 = moved_to (max (state_after w tree E).moment now) (state_after w tree E) in
     ap (λ (r : Result (List Msg) PduFault). written_by_reading w p r s1) (read_other exact bytes b is_other).2
@@ -290,7 +289,7 @@ same_happenings p now xs ys H K e f = ap (λ (x : List Msg). Says p x ∷ Passes
 pub happened_once : OneListOfMessages → {E : List Event} {H K : List Happening} → Happened E H → Happened E K → H ≡ K
 happened_once one nothing nothing = refl
 happened_once one (tick now h) (tick t k) = ap (λ (x : List Happening). Passes now ∷ x) (happened_once one h k)
-happened_once one (local ono value h) (local n v k) = ap (λ (x : List Happening). Sets ono value ∷ x) (happened_once one h k)
+happened_once one (local ono change h) (local n v k) = ap (λ (x : List Happening). Sets ono change ∷ x) (happened_once one h k)
 happened_once one (malformed p bytes now b is_other h) (malformed q xs t c is_other' k) = ap (λ (x : List Happening). Passes now ∷ x) (happened_once one h k)
 happened_once one (malformed p bytes now b is_other h) (datagram q xs t c ps is k) = absurd (is_other ps is)
 happened_once one (datagram p bytes now b ps is h) (malformed q xs t c is_other k) = absurd (is_other ps is)

@@ -62,7 +62,7 @@ abbrev pub answers_in : DeviceSizes → Event → State → List Msg
 answers_in w (Datagram from bytes now) s =
     answers_to_reading w from (read_datagram bytes) (moved_to (max s.moment now) s)
 answers_in w (Tick now) s = []
-answers_in w (Local ono value) s = []
+answers_in w (Local ono change) s = []
 
 -- THE ANSWERS to an event after events.
 abbrev pub answers : DeviceSizes → List Object → List Event → Event → List Msg

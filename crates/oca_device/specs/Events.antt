@@ -2,13 +2,13 @@
 -- (profile). Moments are in milliseconds. In a list of events the latest stands first.
 use Rattle.std.specs.Prelude.{ℕ, max, List, [], ◌∷◌}
 use Rattle.oca_types.specs.declared.words.Peer.{Peer}
-use Rattle.oca_model.specs.declared.value.Value.{Value}
+use Rattle.oca_tree.specs.LocalChanges.{LocalChange}
 
 -- A change at the front has no moment: it happens at that of the clock.
 pub data Event : Type 0 where
   Datagram : (from : Peer) (bytes : List ℕ) (now : ℕ) → Event
   Tick : (now : ℕ) → Event
-  Local : (ono : ℕ) (value : Value) → Event
+  Local : (ono : ℕ) (change : LocalChange) → Event
 
 -- The clock after events is the greatest moment seen, and 0 before the first: a moment earlier than one already seen
 -- counts as the one already seen.
@@ -16,4 +16,4 @@ abbrev pub clock_after : List Event → ℕ
 clock_after [] = 0
 clock_after (Datagram from bytes now ∷ events) = max (clock_after events) now
 clock_after (Tick now ∷ events) = max (clock_after events) now
-clock_after (Local ono value ∷ events) = clock_after events
+clock_after (Local ono change ∷ events) = clock_after events

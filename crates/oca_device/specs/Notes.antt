@@ -26,14 +26,14 @@ abbrev pub notes_of : Peer → List Note → List Note
 notes_of p notes = filter (λ n. same_peer n.peer p) notes
 
 -- the latest of these notes lies at most the longest silence before the moment
-abbrev pub is_within : ℕ → List Note → Bool
-is_within t [] = false
-is_within t (n ∷ notes) = nat_le (t - n.at) longest_silence
+abbrev pub is_recent : ℕ → List Note → Bool
+is_recent t [] = false
+is_recent t (n ∷ notes) = nat_le (t - n.at) longest_silence
 
 -- the longest run of notes, from the latest back, in which neighbours lie at most the longest silence apart
 abbrev pub unbroken : List Note → List Note
 unbroken [] = []
-unbroken (n ∷ notes) = n ∷ (if is_within n.at notes then unbroken notes else [])
+unbroken (n ∷ notes) = n ∷ (if is_recent n.at notes then unbroken notes else [])
 
 -- THE RUN OF A SESSION: the notes of its peer since the session was opened.
 abbrev pub run : Peer → List Note → List Note
@@ -41,7 +41,7 @@ run p notes = unbroken (notes_of p notes)
 
 -- A peer is known at a moment where its silence then is at most the longest.
 abbrev pub is_noted : ℕ → List Note → Peer → Bool
-is_noted t notes p = is_within t (notes_of p notes)
+is_noted t notes p = is_recent t (notes_of p notes)
 
 -- the peers but for one
 abbrev pub peers_except : Peer → List Peer → List Peer

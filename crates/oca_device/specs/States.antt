@@ -13,8 +13,7 @@ use Rattle.oca_pdu.specs.Reading.{read_datagram}
 use Rattle.oca_tree.specs.declared.object.Object.{Object}
 use Rattle.oca_tree.specs.Execution.{execution}
 use Rattle.oca_tree.specs.Locks.{released}
-use Rattle.oca_tree.specs.Settings.{after_set}
-use Rattle.oca_model.specs.declared.value.Value.{Value}
+use Rattle.oca_tree.specs.LocalChanges.{LocalChange, after_change}
 use Rattle.oca_session.specs.Accepted.{Judgement, Fresh, Duplicate, Reused, Old, judgement}
 use Rattle.oca_device.specs.Events.{Event, Datagram, Tick, Local}
 use Rattle.oca_device.specs.Notes.{Noted, Admitted, Heartbeat, Executed, Note, run, is_noted, noted_peers, accepted}
@@ -96,16 +95,16 @@ after_reading w p (Ok messages) s =
 
 -- ---- a change at the front
 
--- The object is set. Nobody was heard, so the clock and the notes stay.
-abbrev pub after_local : ℕ → Value → State → State
-after_local ono value s = record { tree = after_set s.tree ono value; moment = s.moment; notes = s.notes }
+-- The object is changed. Nobody was heard, so the clock and the notes stay.
+abbrev pub after_local : ℕ → LocalChange → State → State
+after_local ono change s = record { tree = after_change s.tree ono change; moment = s.moment; notes = s.notes }
 
 -- ---- events
 
 abbrev pub after_event : DeviceSizes → Event → State → State
 after_event w (Datagram from bytes now) s = after_reading w from (read_datagram bytes) (moved_to (max s.moment now) s)
 after_event w (Tick now) s = moved_to (max s.moment now) s
-after_event w (Local ono value) s = after_local ono value s
+after_event w (Local ono change) s = after_local ono change s
 
 -- the peers known in a state, in order of opening
 abbrev pub known_after : State → List Peer

@@ -52,4 +52,4 @@ written w tree (Datagram from bytes now ∷ events) =
     let s = state_after w tree events in
     written_by_reading w from (read_datagram bytes) (moved_to (max s.moment now) s)
 written w tree (Tick now ∷ events) = written w tree events
-written w tree (Local ono value ∷ events) = written w tree events
+written w tree (Local ono change ∷ events) = written w tree events

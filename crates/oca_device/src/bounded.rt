@@ -44,7 +44,8 @@ impl Model for BoundedOutbox {
 impl BoundedOutbox {
     ghost use Rattle.oca_device.specs.Outboxes.{bytes_of_packets, first_packets};
 
-    /// An empty outbox, with room for so many packets of 1,472 bytes. Refusal: `NoMemory`.
+    /// An empty outbox with room for so many packets, of at most 1,472 bytes each. It takes all the memory that it will
+    /// need, some 1,480 bytes a packet. Refusal: `NoMemory`, if memory was refused.
     pub fn with_room(alloc: Global, room: usize) -> Result<BoundedOutbox, NoMemory>
         ensures { IfOk result (λ outbox. outbox ≡ first_packets room []) }
     {
@@ -59,21 +60,21 @@ impl BoundedOutbox {
         }
     }
 
-    /// For how many packets there is room.
+    /// For how many packets there is room: the number that [`with_room`](BoundedOutbox::with_room) was given.
     pub fn room(&self) -> usize
         ensures { result ≡ self.now.room }
     {
         self.room
     }
 
-    /// Whether packets were left out, since there was no room for them.
+    /// Whether answers to the last datagram were left out, since there was no room for them.
     pub fn is_cut(&self) -> bool
         ensures { result ≡ self.now.is_cut }
     {
         self.is_cut
     }
 
-    /// Takes all packets out.
+    /// Removes all packets. [`is_cut`](BoundedOutbox::is_cut) is then false, and the room stays.
     pub fn clear(&mut self)
         ensures { self.new ≡ first_packets self.old.room [] }
     {
@@ -81,7 +82,7 @@ impl BoundedOutbox {
         self.is_cut = false;
     }
 
-    /// The packets, in order.
+    /// The packets that answer the last datagram, in order: at most as many as there is room for.
     pub fn packets(&self) -> &[Packet]
         ensures packets { bytes_of_packets result.now ≡ self.now.packets }
         ensures most { length result.now ≤ self.now.room }
@@ -89,7 +90,7 @@ impl BoundedOutbox {
         &self.places[..self.count]
     }
 
-    /// The packet number `i`, counted from 0, where there is one.
+    /// The packet with the index `i`, counted from 0; `None` if there are only `i` packets or fewer.
     pub fn get(&self, i: usize) -> Option<&Packet>
         ensures { option_map (λ p. p.now.items) result ≡ slice_get self.now.packets i }
     {

@@ -15,6 +15,9 @@ ghost use Rattle.oca_device.specs.States.{State, state_after, known_after, noted
 ghost use Rattle.oca_device.specs.States.{reply_of, time_of};
 ghost use Rattle.oca_tree.specs.Execution.{execution};
 ghost use Rattle.oca_tree.specs.Settings.{set_fault};
+ghost use Rattle.oca_tree.specs.LocalChanges.{front_fault, ToValue, ToLabel, ToEnabled, ToUnlocked, ToFailing};
+ghost use Rattle.oca_tree.specs.Readers.{failing_at};
+ghost use Rattle.oca_model.specs.declared.request.Request.TheVariants as asked;
 ghost use Rattle.std.specs.Result.{result_err};
 ghost use Rattle.oca_device.specs.Answers.{packets, packets_of, verdict, answers_to_reading};
 ghost use Rattle.oca_device.specs.Outboxes.{first_packets, may_be_answered};
@@ -29,7 +32,7 @@ use crate::verdict::Verdict;
 use arrayvec::ArrayVec;
 use oca_pdu::{Form, Message, Messages, check};
 use oca_session::{Admission, Judged, Sessions};
-use oca_tree::{SetFault, Tree, Value};
+use oca_tree::{FrontFault, SetFault, Tree, Value};
 use oca_types::{
     Command, MOST_PEERS, NoMemory, Ono, Params, Peer, Peers, Reply, Sizes, Status, Window, sooner,
 };
@@ -60,13 +63,13 @@ const MOST_WRITTEN: usize = 86;
 /// ```
 ///
 /// What it is follows from the tree that it was made with and the events that it was given: datagrams, clock readings
-/// and changes at its own front. Moments are in milliseconds; one that is earlier than a moment already seen counts as
-/// the one already seen.
+/// and changes at its local front panel. Moments are in milliseconds; one that is earlier than a moment already seen
+/// counts as the one already seen.
 #[derive(Drop)]
 pub struct Device {
     tree: Tree,
     sessions: Sessions,
-    /// The peers that had lapsed when the clock moved last: a place for them, which is not made anew at each datagram.
+    /// The peers that had lapsed when the clock moved last: a place for them, which is not made again at each datagram.
     lapsed: ArrayVec<Peer, MOST_PEERS>,
     /// The room in which a command is executed: its reply is made here once, and read where it is needed.
     reply: Reply,
@@ -90,7 +93,8 @@ impl Device {
     ghost use Rattle.oca_device.specs.PrivateServing.{IsShort, commands_in, commands_of, all_commands};
 
     /// A device of these objects, with reply windows of this size and sessions of at most 16 peers, before any event.
-    /// Takes all the memory that its sessions will need. Refusal: `NoMemory`.
+    /// It takes all the memory that its sessions will need. Refusal: `NoMemory`, if memory was refused; the objects are
+    /// then lost.
     pub fn new(alloc: Global, tree: Tree, window: Window) -> Result<Device, NoMemory>
         ensures { IfOk result (λ device. Represents (record {
           window = window_size window;
@@ -107,8 +111,9 @@ impl Device {
         )
     }
 
-    /// A device of these objects, with reply windows and sessions of at most as many peers as these sizes say, before
-    /// any event. Takes all the memory that its sessions will need. Refusal: `NoMemory`.
+    /// A device of these objects, with reply windows of 1 to 64 commands and sessions of 1 to 64 peers, as `sizes`
+    /// says, before any event. It takes all the memory that its sessions will need. Refusal: `NoMemory`, if memory was
+    /// refused; the objects are then lost.
     pub fn with_sizes(alloc: Global, tree: Tree, sizes: Sizes) -> Result<Device, NoMemory>
         ensures { IfOk result (λ device. Represents (sizes_of sizes) device tree []) }
     {
@@ -126,17 +131,22 @@ impl Device {
         })
     }
 
-    /// Takes a datagram that came from a peer, and returns what became of it. The outbox then holds its answers, all
-    /// for that peer, and nothing else: what it held before is taken out first.
+    /// Takes a datagram that came from a peer at the moment `now`, in milliseconds, and returns what became of it. The
+    /// outbox then holds the datagram's answers, all for that peer, and nothing else. A moment earlier than one already
+    /// seen counts as that one.
     ///
-    /// First the clock moves: locks of peers that are silent for more than three heartbeats are released, and
-    /// sessions that are silent for more than 120,000 ms forgotten. A malformed datagram, and one that finds no
-    /// room for its sender's session, change no object and no session and get no answer; the list of what was
-    /// written is empty then. The messages of any other are served in order: a fresh command is executed, a
-    /// duplicate gets the retained reply, a command that asks something else under the handle of a retained one
-    /// is ignored, as is an old one, and a keep-alive sets the heartbeat and is returned. Neighbouring
-    /// responses leave in one PDU while it has at most 1,472 bytes. (AES70-3; sessions, windows and grouping
-    /// are the profile's.)
+    /// First the clock moves: locks of peers that are silent for more than three heartbeats are released, and sessions
+    /// that are silent for more than 120,000 ms are forgotten. Then the verdict is one of three:
+    ///
+    /// `Malformed` with the first fault if the bytes are no well-formed datagram. `NoRoom` if the sender has no session
+    /// and as many other peers as were chosen have one. After these two no object and no session is changed, nothing is
+    /// answered, and the list of what was written is empty.
+    ///
+    /// `Served` otherwise, with the numbers of commands that were served in each way. The messages are served in order:
+    /// a fresh command is executed, and a duplicate gets the retained reply. An old command is ignored, and so is one
+    /// that asks something else under the handle of a retained command. A keep-alive sets the heartbeat and is
+    /// returned. Neighbouring responses leave in one PDU while the PDU has at most 1,472 bytes. (AES70-3; sessions,
+    /// windows and grouping are the profile's.)
     pub fn datagram(&mut self, from: Peer, bytes: &[u8], now: u64, outbox: &mut Outbox) -> Verdict
         ensures represents { (w : DeviceSizes) (T : List Object) (E : List Event) → Represents w self.old T E →
             Represents w self.new T (DatagramEvent from bytes.now now ∷ E) }
@@ -148,10 +158,13 @@ impl Device {
         self.datagram_within(from, bytes, now, &mut outbox.first)
     }
 
-    /// Takes a datagram as [`Device::datagram`] does, with an outbox that has room for some packets only: it then holds
-    /// the first of the answers, as many as there is room for, and tells whether others were left out. All commands
-    /// are executed, answered or not; who repeats one whose answer was left out gets the retained reply, as after a
-    /// loss. There are never more packets than the datagram has commands and keep-alives, and never more than 122.
+    /// Takes a datagram as [`Device::datagram`] does, with the same verdicts, and with an outbox that has room for some
+    /// packets only. The outbox then holds the first of the answers, as many as there is room for, and tells whether
+    /// others were left out ([`is_cut`](BoundedOutbox::is_cut)). `now` is in milliseconds.
+    ///
+    /// All commands are executed, answered or not. A peer that repeats a command whose answer was left out gets the
+    /// retained reply, as after a loss. There are never more packets than the datagram has commands and keep-alives,
+    /// and never more than 122.
     pub fn datagram_within(
         &mut self,
         from: Peer,
@@ -177,8 +190,9 @@ impl Device {
         self.receive(from, bytes, now, outbox)
     }
 
-    /// Takes a clock reading: locks of peers that are silent for more than three heartbeats are released, and sessions
-    /// that are silent for more than 120,000 ms forgotten.
+    /// Takes a clock reading, in milliseconds. Locks of peers that are silent for more than three heartbeats are
+    /// released, and sessions that are silent for more than 120,000 ms are forgotten. A moment earlier than one already
+    /// seen counts as that one. The list of what was written stays.
     pub fn tick(&mut self, now: u64)
         ensures { (w : DeviceSizes) (T : List Object) (E : List Event) → Represents w self.old T E →
             Represents w self.new T (Tick now ∷ E) }
@@ -186,11 +200,14 @@ impl Device {
         self.move_clock(now);
     }
 
-    /// Sets an object at the device's own front, as the set method of its class sets it at a peer that no lock refuses.
-    /// A refusal changes nothing. Either way the clock stays, and no session is opened.
+    /// Sets an object at the local front panel, as the set method of its class does for a peer that neither a lock nor
+    /// the object's hardware refuses. Neither the clock nor a session is changed. Refusals, the first of [`SetFault`]
+    /// that applies: `NoObject` if there is no such object, `NoSetting` of a block, `OtherKind` of another class's
+    /// value. `OutOfRange` of a position that is not there or disabled, and of a number outside its limits. A refusal
+    /// changes nothing.
     pub fn set(&mut self, ono: Ono, value: Value) -> Result<(), SetFault>
         ensures represents { (w : DeviceSizes) (T : List Object) (E : List Event) → Represents w self.old T E →
-            Represents w self.new T (Local ono.0 value ∷ E) }
+            Represents w self.new T (Local ono.0 (ToValue value) ∷ E) }
         ensures fault { result_err result ≡ set_fault self.old.tree ono.0 value }
         ensures represented { (w : DeviceSizes) (T : List Object) (E : List Event) → Represents w self.old T E →
             result_err result ≡ set_fault (state_after w T E).tree ono.0 value }
@@ -199,7 +216,78 @@ impl Device {
         self.tree.set(ono, value)
     }
 
-    /// The objects.
+    /// Gives an object a label of at most 64 bytes at the local front panel, as SetLabel of OcaWorker does for a peer
+    /// that neither a lock nor the object's hardware refuses (AES70-2). Neither the clock nor a session is changed.
+    /// Refusals, the first that applies: `NoObject` if there is no such object, `BadLabel` of a longer label. A refusal
+    /// changes nothing.
+    pub fn set_label(&mut self, ono: Ono, label: &str) -> Result<(), FrontFault>
+        ensures represents { (w : DeviceSizes) (T : List Object) (E : List Event) → Represents w self.old T E →
+            Represents w self.new T (Local ono.0 (ToLabel label.now) ∷ E) }
+        ensures fault { result_err result ≡ front_fault self.old.tree ono.0 (asked.SetLabel label.now) }
+        ensures represented { (w : DeviceSizes) (T : List Object) (E : List Event) → Represents w self.old T E →
+            result_err result ≡ front_fault (state_after w T E).tree ono.0 (asked.SetLabel label.now) }
+        ensures refused { OnErr result (self.new ≡ self.old) }
+    {
+        self.tree.set_label(ono, label)
+    }
+
+    /// Enables or disables an object at the local front panel, as SetEnabled of OcaWorker does for a peer that neither
+    /// a lock nor the object's hardware refuses (AES70-2). Neither the clock nor a session is changed. Refusal:
+    /// `NoObject` if there is no such object; then nothing is changed.
+    pub fn set_enabled(&mut self, ono: Ono, enabled: bool) -> Result<(), FrontFault>
+        ensures represents { (w : DeviceSizes) (T : List Object) (E : List Event) → Represents w self.old T E →
+            Represents w self.new T (Local ono.0 (ToEnabled enabled) ∷ E) }
+        ensures fault { result_err result ≡ front_fault self.old.tree ono.0 (asked.SetEnabled enabled) }
+        ensures represented { (w : DeviceSizes) (T : List Object) (E : List Event) → Represents w self.old T E →
+            result_err result ≡ front_fault (state_after w T E).tree ono.0 (asked.SetEnabled enabled) }
+        ensures refused { OnErr result (self.new ≡ self.old) }
+    {
+        self.tree.set_enabled(ono, enabled)
+    }
+
+    /// Releases the lock of an object at the local front panel, whichever peer holds it, as Unlock of OcaRoot does for
+    /// its holder (AES70-2). The holder is not told, and keeps its session. The clock stays. Refusals: `NoObject` if
+    /// there is no such object, `NotLocked` if it is not locked. A refusal changes nothing.
+    pub fn unlock(&mut self, ono: Ono) -> Result<(), FrontFault>
+        ensures represents { (w : DeviceSizes) (T : List Object) (E : List Event) → Represents w self.old T E →
+            Represents w self.new T (Local ono.0 ToUnlocked ∷ E) }
+        ensures fault { result_err result ≡ front_fault self.old.tree ono.0 asked.Unlock }
+        ensures represented { (w : DeviceSizes) (T : List Object) (E : List Event) → Represents w self.old T E →
+            result_err result ≡ front_fault (state_after w T E).tree ono.0 asked.Unlock }
+        ensures refused { OnErr result (self.new ≡ self.old) }
+    {
+        self.tree.unlock(ono)
+    }
+
+    /// Says at the local front panel whether the hardware of an object refuses to be changed; at first it does not.
+    /// While it does, each command that is executed, whose method writes to the object and that no other status refuses
+    /// is answered `ProcessingFailed`, and changes nothing. A duplicate gets its retained reply. Commands that read or
+    /// lock are answered as before, and the local front panel still changes the object. Nothing stores what was said.
+    ///
+    /// Neither the clock nor a session is changed. Refusal: `NoObject` if no object has the number; then nothing is
+    /// changed. (AES70-3 has the status; when it comes is the profile's.)
+    pub fn set_failing(&mut self, ono: Ono, failing: bool) -> Result<(), FrontFault>
+        ensures represents { (w : DeviceSizes) (T : List Object) (E : List Event) → Represents w self.old T E →
+            Represents w self.new T (Local ono.0 (ToFailing failing) ∷ E) }
+        ensures fault { result_err result ≡ front_fault self.old.tree ono.0 (asked.SetEnabled failing) }
+        ensures represented { (w : DeviceSizes) (T : List Object) (E : List Event) → Represents w self.old T E →
+            result_err result ≡ front_fault (state_after w T E).tree ono.0 (asked.SetEnabled failing) }
+        ensures refused { OnErr result (self.new ≡ self.old) }
+    {
+        self.tree.set_failing(ono, failing)
+    }
+
+    /// Whether the hardware of an object refuses to be changed, as [`Device::set_failing`] said last; `false` if that
+    /// call said nothing yet. `None` if no object has the number.
+    pub fn is_failing(&self, ono: Ono) -> Option<bool>
+        ensures failing { result ≡ failing_at self.now.tree ono.0 }
+        ensures represented { (w : DeviceSizes) (T : List Object) (E : List Event) → Represents w self.now T E →
+            result ≡ failing_at (state_after w T E).tree ono.0 }
+    {
+        self.tree.is_failing(ono)
+    }
+
+    /// The objects as they are now.
     pub fn tree(&self) -> &Tree
         ensures tree { result.now ≡ self.now.tree }
         ensures represented { (w : DeviceSizes) (T : List Object) (E : List Event) → Represents w self.now T E →
@@ -208,7 +296,7 @@ impl Device {
         &self.tree
     }
 
-    /// The number of sessions: of the peers that are known at the present moment.
+    /// How many peers have a session at the present moment: 0 to 64.
     #[tactic(auto, using(crate::proofs::Steps::known_counted))]
     pub fn sessions(&self) -> usize
         ensures sessions { result ≡ length self.now.sessions.sessions }
@@ -218,8 +306,8 @@ impl Device {
         self.sessions.len()
     }
 
-    /// The peer of the session at this index, counted from 0 in order of opening; nothing behind the last. They are the
-    /// peers that are known at the present moment.
+    /// The peer of the session at this index, counted from 0 in the order in which the sessions were opened. `None` if
+    /// there are no more sessions. Indices change when a session is forgotten.
     #[tactic(auto, using(crate::proofs::Steps::known_at))]
     pub fn peer_at(&self, index: usize) -> Option<Peer>
         ensures peer { result ≡ slice_get (peers_of self.now.sessions.sessions) index }
@@ -229,12 +317,13 @@ impl Device {
         self.sessions.peer_at(index)
     }
 
-    /// The objects that the last datagram wrote to: of each of its commands that it executed with status OK and
-    /// whose method writes, the target, in order, each as often as it was. A command that reads, locks or
-    /// unlocks, one that was refused, a duplicate, an old one and one that reuses a handle write none, and
-    /// neither does a malformed datagram or one that finds no room: the list is empty after it, so read it
-    /// after each datagram. Clock readings and changes at the front leave the list; before the first datagram
-    /// it is empty.
+    /// The targets of the commands of the last datagram that were executed with the status OK and whose method writes.
+    /// They are in order, and each stands there as often as it was written.
+    ///
+    /// A command that reads, locks or unlocks is not among them, nor one that was refused, a duplicate, an old one or
+    /// one that reuses a handle. After a malformed datagram or one that finds no room the list is empty, so read it
+    /// after each datagram. Clock readings and changes at the local front panel leave the list as it is; before the
+    /// first datagram it is empty.
     pub fn written(&self) -> &[Ono]
         ensures written { numbers_of result.now ≡ self.now.written }
         ensures represented { (w : DeviceSizes) (T : List Object) (E : List Event) → Represents w self.now T E →
@@ -243,9 +332,9 @@ impl Device {
         self.written.as_slice()
     }
 
-    /// The earliest moment, not before the present one, at which a clock reading would change the objects or
-    /// the sessions: take off a lock of a silent peer, or forget a session. An event loop may wait until then.
-    /// `None` where there is none within 64 bits, as where there is no session.
+    /// The earliest moment, in milliseconds and not before the present one, at which a clock reading would change the
+    /// device: release a lock of a silent peer, or forget a session. An event loop may wait until then. `None` if there
+    /// is none within 64 bits, as without sessions.
     pub fn next_lapse(&self) -> Option<u64>
         ensures { (w : DeviceSizes) (T : List Object) (E : List Event) → Represents w self.now T E →
             let s = state_after w T E in MatchOption result (NeverLapses w s) (λ t. IsNextLapse w s t) }

@@ -60,8 +60,9 @@ impl Model for Keeping {
 impl Keeping {
     ghost use Rattle.std.specs.Prelude.{false};
 
-    /// Nothing waits, and all that was written is stored: the store holds the objects of the device. Takes the memory
-    /// for what will wait. Refusal: `NoMemory`.
+    /// The keeping of a device that starts: no answer waits, and all that was written counts as stored. The caller must
+    /// see to it that the store holds the device's objects. It takes the memory for 366 packets, some 1,480 bytes each.
+    /// Refusal: `NoMemory`, if memory was refused.
     pub fn new(alloc: Global) -> Result<Keeping, NoMemory>
         ensures { IfOk result (λ keeping. (keeping.is_behind ≡ false) × (keeping.held ≡ [])) }
     {
@@ -82,7 +83,7 @@ impl Keeping {
         self.places.clear();
     }
 
-    /// Whether something that was written is not stored: true from a store that failed on until one succeeds.
+    /// Whether something that was written is not stored: `true` after a store that failed, until one succeeds.
     pub fn is_behind(&self) -> bool
         ensures { result ≡ self.now.is_behind }
     {
@@ -164,18 +165,21 @@ impl fmt::Debug for Keeping {
     }
 }
 
-/// Serves an end as [`serve_with`](crate::serve_with) does, for at most so many turns, and keeps the objects in a store:
-/// an answer to a datagram that wrote to an object leaves only once the store has said that it holds the objects.
+/// Serves an end for at most so many turns, as [`serve_with`](crate::serve_with) does, and keeps the objects in a
+/// store. Returns what was done; a number that would pass 64 bits stays at its last value. The loop ends early if the
+/// end is closed. The outbox is then empty.
 ///
-/// Such an answer waits. While one does, all datagrams that are there are taken, in at most 64 turns; then the objects
-/// are stored, once for all, and what waited is sent. Where the store fails, what waited is dropped, and for its peer is
-/// as if the network had lost it: the objects stay as they are, each reply stays retained, and who repeats the command
-/// finds it. While something written is not stored, the answers to a datagram with a duplicate wait too, and the store
-/// is handed the objects again. Other answers leave at once, also those that tell what is not stored yet. Electronics
-/// follow each datagram at once, before its answers are stored. What was written at the front is stored with the next
-/// datagram that writes.
+/// The answers to a datagram that wrote to an object wait until the store has said that it holds the objects. While
+/// answers wait, the datagrams that are there are taken, in at most 64 turns. Then the objects are stored, once for all
+/// of them, and the answers are sent.
 ///
-/// Numbers of the report that would pass 64 bits stay at their last value.
+/// If the store fails, the answers that wait are dropped, as if the network had lost them. The objects stay as they are
+/// and each reply stays retained, so a peer that repeats its command gets it. While something written is not stored,
+/// the answers to a datagram with a duplicate wait too, and the store is handed the objects again.
+///
+/// Other answers are sent at once, also if they tell what is not stored yet. The electronics follow each datagram at
+/// once, before its answers are stored. What was set at the local front panel is stored with the next datagram that
+/// writes.
 pub fn serve_keeping<E: End, S: Store, L: Electronics>(
     device: &mut Device,
     end: &mut E,

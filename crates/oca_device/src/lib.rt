@@ -1,5 +1,5 @@
-//! The core of an OCA device: what it answers to datagrams and clock readings, how its own front changes it, and the
-//! loop that serves an end of a link.
+//! The core of an OCA device: what it answers to datagrams and clock readings, how its local front panel changes it,
+//! and the loop that serves an end of a link.
 //!
 //! Begin with [`Device`]. It opens no socket and reads no clock: the caller hands it each datagram with its sender and
 //! its moment, and finds the answers in an [`Outbox`]. [`serve`] does so for any end, and [`serve_with`] for a device

@@ -33,7 +33,8 @@ impl Model for Outbox {
 impl Outbox {
     ghost use Rattle.oca_device.specs.Outboxes.{bytes_of_packets};
 
-    /// An empty outbox, with room for 122 packets, as many as a datagram can ask for. Refusal: `NoMemory`.
+    /// An empty outbox with room for 122 packets, the most that answer one datagram. It takes the memory for them, some
+    /// 180 kB. Refusal: `NoMemory`, if memory was refused.
     pub fn new(alloc: Global) -> Result<Outbox, NoMemory>
         ensures { IfOk result (λ outbox. outbox ≡ []) }
     {
@@ -42,7 +43,7 @@ impl Outbox {
         })
     }
 
-    /// The number of packets, at most 122.
+    /// The number of packets that answer the last datagram: 0 to 122.
     pub fn len(&self) -> usize
         ensures len { result ≡ length self.now }
         ensures most { result ≤ most_answered }
@@ -50,28 +51,28 @@ impl Outbox {
         self.packets().len()
     }
 
-    /// Whether there is no packet.
+    /// Whether the outbox holds no packet.
     pub fn is_empty(&self) -> bool
         ensures { result ≡ (length self.now == 0) }
     {
         self.packets().is_empty()
     }
 
-    /// The packet number `i`, counted from 0, where there is one.
+    /// The packet with the index `i`, counted from 0; `None` if there are only `i` packets or fewer.
     pub fn get(&self, i: usize) -> Option<&Packet>
         ensures { option_map (λ p. p.now.items) result ≡ slice_get self.now i }
     {
         self.first.get(i)
     }
 
-    /// Takes all packets out.
+    /// Removes all packets.
     pub fn clear(&mut self)
         ensures { self.new ≡ [] }
     {
         self.first.clear();
     }
 
-    /// The packets, in order: at most 122.
+    /// The packets that answer the last datagram, in order: at most 122.
     pub fn packets(&self) -> &[Packet]
         ensures packets { bytes_of_packets result.now ≡ self.now }
         ensures most { length result.now ≤ most_answered }

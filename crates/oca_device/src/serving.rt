@@ -18,10 +18,12 @@ use oca_types::{Packet, Peer};
 
 /// Serves an end for at most so many turns, with this outbox, and returns what was done.
 ///
-/// A turn receives once. A datagram goes to the device, and its answers are sent to its sender, in order; where a send
-/// fails, it is counted, and the next packet is sent. Silence and an oversize datagram move the clock. A failed receive
-/// does nothing. The loop ends at Closed, which is no turn and after which it receives nothing, or after the turns. The
-/// outbox is emptied at first and after each turn.
+/// A turn receives once. A datagram goes to the device, and its answers are sent to its sender, in order. A send that
+/// fails is counted, and the next packet is sent. If no datagram comes, or one of more than 1,472 bytes, the clock
+/// moves. A receive that fails is counted and does nothing.
+///
+/// The loop ends after so many turns, or as soon as the end is closed, which is no turn: then nothing more is received.
+/// The outbox is emptied at first and after each turn.
 pub fn serve<E: End>(device: &mut Device, end: &mut E, outbox: &mut Outbox, turns: u32) -> Report
     ensures served { ServesEnd device.old device.new (E.state end.old) (E.state end.new) result }
     ensures turns { result.turns ≤ turns }
@@ -34,10 +36,11 @@ pub fn serve<E: End>(device: &mut Device, end: &mut E, outbox: &mut Outbox, turn
     serve_with(device, end, outbox, &mut none, turns)
 }
 
-/// Serves an end as [`serve`] does, and hands the electronics what each datagram did: once its answers are
-/// sent, the objects and which of them it wrote to, be it none. All sends come first: where they fail, each
-/// takes as long as the end lets it, so what electronics do may come late by that (at a `UdpEnd` by up to a
-/// millisecond a packet, of which there are at most 122).
+/// Serves an end as [`serve`] does, and hands the electronics each datagram once its answers are sent: the objects, and
+/// which of them the datagram wrote to, be it none. Returns what was done.
+///
+/// All sends come first, so failed sends delay the electronics, each for as long as the end lets it. At a `UdpEnd` that
+/// is up to a millisecond a packet, of which there are at most 122.
 pub fn serve_with<E: End, L: Electronics>(
     device: &mut Device,
     end: &mut E,

@@ -5,3 +5,4 @@ pub mod AskedBy
 pub mod Answered
 pub mod Pairs
 pub mod Carried
+pub mod Settled

@@ -7,6 +7,7 @@ pub mod MemberFronts
 pub mod Values
 pub mod ValueNumbers
 pub mod Readings
+pub mod Settings
 pub mod ValueRequests
 pub mod Requests
 pub mod HeldRequests

@@ -35,63 +35,7 @@ has_fields class.Polarity =
     record { few = lit≤ tt; fits = lit< tt; small = (lit< tt, (lit< tt, (lit< tt, (lit< tt, tt)))); found = refl }
 has_fields class.Switch =
     record { few = lit≤ tt; fits = lit< tt; small = (lit< tt, (lit< tt, (lit< tt, (lit< tt, tt)))); found = refl }
-has_fields class.Boolean =
-    record {
-      few = lit≤ tt;
-      fits = lit< tt;
-      small = (lit< tt, (lit< tt, (lit< tt, (lit< tt, (lit< tt, tt)))));
-      found = refl;
-    }
-has_fields class.Int8 =
-    record {
-      few = lit≤ tt;
-      fits = lit< tt;
-      small = (lit< tt, (lit< tt, (lit< tt, (lit< tt, (lit< tt, tt)))));
-      found = refl;
-    }
-has_fields class.Int16 =
-    record {
-      few = lit≤ tt;
-      fits = lit< tt;
-      small = (lit< tt, (lit< tt, (lit< tt, (lit< tt, (lit< tt, tt)))));
-      found = refl;
-    }
-has_fields class.Int32 =
-    record {
-      few = lit≤ tt;
-      fits = lit< tt;
-      small = (lit< tt, (lit< tt, (lit< tt, (lit< tt, (lit< tt, tt)))));
-      found = refl;
-    }
-has_fields class.Int64 =
-    record {
-      few = lit≤ tt;
-      fits = lit< tt;
-      small = (lit< tt, (lit< tt, (lit< tt, (lit< tt, (lit< tt, tt)))));
-      found = refl;
-    }
-has_fields class.Uint8 =
-    record {
-      few = lit≤ tt;
-      fits = lit< tt;
-      small = (lit< tt, (lit< tt, (lit< tt, (lit< tt, (lit< tt, tt)))));
-      found = refl;
-    }
-has_fields class.Uint16 =
-    record {
-      few = lit≤ tt;
-      fits = lit< tt;
-      small = (lit< tt, (lit< tt, (lit< tt, (lit< tt, (lit< tt, tt)))));
-      found = refl;
-    }
-has_fields class.Uint32 =
-    record {
-      few = lit≤ tt;
-      fits = lit< tt;
-      small = (lit< tt, (lit< tt, (lit< tt, (lit< tt, (lit< tt, tt)))));
-      found = refl;
-    }
-has_fields class.Uint64 =
+has_fields _ =
     record {
       few = lit≤ tt;
       fits = lit< tt;

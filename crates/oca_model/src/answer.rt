@@ -75,7 +75,8 @@ pub enum Shape {
     Descendants,
 }
 
-/// What kind of answer the method has.
+/// What kind of answer the method has. `Done` is the kind of a method whose answer has no parameters, such as a set
+/// method.
 pub fn shape_of(method: Method) -> Shape
     ensures { result ≡ shape_of method }
 {
@@ -93,32 +94,32 @@ pub fn shape_of(method: Method) -> Shape
     }
 }
 
-/// The text that is all of the parameters, as in the answers to GetRole, GetLabel and GetPositionName. Nothing where
-/// they are none, or a text of more than 64 bytes.
+/// Reads the answer to GetRole, GetLabel or GetPositionName: the text that is all of the parameters, at most 64 bytes
+/// of UTF-8. `None` if the parameters are not exactly such a text.
 pub fn read_text(params: &[u8]) -> Option<Text>
     ensures { result ≡ whole (text_at params.now) }
 {
     whole(params)
 }
 
-/// The names that the parameters of the answer to GetPositionNames give, in the order of the positions, at most 16.
-/// Nothing where they are not such an answer.
+/// Reads the answer to GetPositionNames: the names in the order of the positions, at most 16, of at most 64 bytes each.
+/// `None` if the parameters are not exactly such an answer.
 pub fn read_names(params: &[u8]) -> Option<Names>
     ensures { option_map (λ v. v.items) result ≡ switch_names_in params.now }
 {
     read_list(params)
 }
 
-/// Appends the names of positions as an OcaList of texts (AES70-3). Refusal: `Full`, where the parameters would pass
-/// their room; a part of the list may then stand behind them, so discard them.
+/// Appends the names of positions to the parameters, as an OcaList of texts (AES70-3). Refusal: `Full` if the
+/// parameters would have more than 1,452 bytes in all. A part may then have been appended, so discard the parameters.
 pub fn put_names(params: &mut Params, names: &Names) -> Result<(), PutFault>
     ensures { Puts result params.old.items params.new.items (list_encoding text_encoding names.now.items) }
 {
     put_list(params, names.as_slice())
 }
 
-/// Appends which positions are enabled, as an OcaList of Booleans (AES70-3). Refusal: `Full`, where the parameters
-/// would pass their room; a part of the list may then stand behind them, so discard them.
+/// Appends to the parameters which positions are enabled, as an OcaList of Booleans (AES70-3). Refusal: `Full` if the
+/// parameters would have more than 1,452 bytes in all. A part may then have been appended, so discard the parameters.
 pub fn put_flags(params: &mut Params, flags: &Flags) -> Result<(), PutFault>
     ensures { Puts result params.old.items params.new.items (list_encoding bool_encoding flags.now.items) }
 {
@@ -145,7 +146,7 @@ fn shaped(shape: Shape, class: Class, params: &[u8]) -> Option<Answer>
 }
 
 impl Answer {
-    /// How many parameters it has.
+    /// How many parameters the answer has (ParamCount): 0, 1 or 3.
     pub fn count(&self) -> u8
         ensures { result ≡ answer_count self.now }
     {
@@ -163,7 +164,8 @@ impl Answer {
         }
     }
 
-    /// Appends its parameters. Refusal: `Full`.
+    /// Appends the answer's parameters (AES70-3) to `params`. Refusal: `Full` if the parameters would have more than
+    /// 1,452 bytes in all. A part may then have been appended, so discard the parameters.
     #[tactic(auto, unfolding(crate::specs::Answers::answer_encoding))]
     pub fn put(&self, params: &mut Params) -> Result<(), PutFault>
         ensures { Puts result params.old.items params.new.items (answer_encoding self.now) }
@@ -182,7 +184,8 @@ impl Answer {
         }
     }
 
-    /// What these parameters answer to the method of an object of the class. Nothing where they are no such answer.
+    /// Reads what these parameters answer to a method of an object of the class; `count` is ParamCount. `None` if the
+    /// parameters are not exactly such an answer, or `count` is not the answer's.
     #[tactic(auto, unfolding(crate::specs::Answers::answer_in))]
     pub fn read(class: Class, method: Method, count: u8, params: &[u8]) -> Option<Answer>
         ensures { result ≡ answer_in class method count params.now }

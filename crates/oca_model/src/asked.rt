@@ -121,8 +121,10 @@ fn set_in<'a>(class: Class, count: u8, params: &[u8]) -> Result<Asked<'a>, Value
 }
 
 impl<'a> Asked<'a> {
-    /// What a method with these parameters asks of an object of the class. `Malformed` is the status ParameterError,
-    /// and `Unlisted` ParameterOutOfRange.
+    /// Reads what a method with these parameters asks of an object of the class; `count` is ParamCount. Texts are not
+    /// copied. Refusals: `Malformed` (the status ParameterError) if `count` is not the method's, or the bytes are not
+    /// exactly its parameters, as with a text of more than 64 bytes. `Unlisted` (ParameterOutOfRange) if the number is
+    /// no state of a mute or a polarity.
     #[tactic(auto, unfolding(crate::specs::Requests::request_in, crate::specs::HeldRequests::asked_by))]
     pub fn read(
         class: Class,
@@ -183,7 +185,7 @@ impl<'a> Asked<'a> {
         }
     }
 
-    /// The request that it is, with its texts copied.
+    /// The same request with its texts copied.
     #[tactic(auto, unfolding(crate::specs::HeldRequests::asked_by))]
     pub fn request(self) -> Request
         ensures { result ≡ asked_by self.entry }

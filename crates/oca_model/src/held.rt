@@ -41,7 +41,7 @@ impl<'a> HeldText<'a> {
         Some(HeldText { bytes })
     }
 
-    /// The text.
+    /// A copy of the text: at most 64 bytes.
     pub fn text(&self) -> Text
         ensures { result ≡ self.now }
     {
@@ -88,14 +88,14 @@ impl<'a> HeldTexts<'a> {
         })
     }
 
-    /// How many they are.
+    /// How many texts there are: 0 to 16.
     pub fn len(&self) -> usize
         ensures { result ≡ length self.now }
     {
         self.number
     }
 
-    /// The texts.
+    /// Copies of the texts, in order: at most 16, of at most 64 bytes each.
     pub fn texts(&self) -> Names
         ensures { result.items ≡ self.now }
     {

@@ -17,6 +17,7 @@ mod member;
 mod parameters;
 mod reading;
 mod request;
+mod setting;
 mod status;
 mod value;
 mod value_number;
@@ -35,6 +36,7 @@ pub use member::{
 };
 pub use reading::{Ranged, Reading, read_value};
 pub use request::{Call, Flags, Names, Request, RequestFault};
+pub use setting::SettingFault;
 pub use status::status_name;
 pub use value::{MuteState, PolarityState, Value, ValueFault};
 pub use value_request::{ValueRequest, get_request, set_request};

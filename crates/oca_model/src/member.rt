@@ -49,7 +49,7 @@ fn has_fields(class: Class, fields: &[u16]) -> bool
     class_fields(class).as_slice() == fields
 }
 
-/// The class whose identifier has these fields; nothing for one that is not of this profile.
+/// The class whose identifier has these fields. `None` if no class of this profile has them.
 #[tactic(auto, unfolding(crate::specs::Members::class_with))]
 pub fn class_with(fields: &[u16]) -> Option<Class>
     ensures { result ≡ class_with fields.now }
@@ -121,8 +121,8 @@ pub(crate) fn take_class(cursor: &mut Cursor<'_>) -> Result<Option<Class>, ReadF
     Ok(class_with(fields.as_slice()))
 }
 
-/// The fields of the class's identifier that the parameters of the answer to GetClassIdentification give (AES70-2), at
-/// most 16. The version of the class may be any. Nothing where they are not such an answer.
+/// Reads the answer to GetClassIdentification (AES70-2): the fields of the class's identifier, at most 16. The class
+/// and its version may be any. `None` if the parameters are not exactly such an answer.
 pub fn read_class_fields(params: &[u8]) -> Option<ClassFields>
     ensures { option_map (λ v. v.items) result ≡ class_id_in params.now }
 {
@@ -154,8 +154,8 @@ fn numbers_of(members: &[Member]) -> MemberNumbers
     numbers
 }
 
-/// The numbers of the members that the parameters of the answer to GetMembers give, in their order, at most 181.
-/// Nothing where they are not such an answer.
+/// Reads the answer to GetMembers: the numbers of the members, in order, at most 181. `None` if the parameters are not
+/// exactly such an answer.
 pub fn read_members(params: &[u8]) -> Option<MemberNumbers>
     ensures { option_map (λ v. v.items) result ≡ members_in params.now }
 {

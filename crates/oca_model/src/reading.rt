@@ -76,7 +76,7 @@ fn put_ranged<F: Item>(params: &mut Params, ranged: &Ranged<F>) -> Result<(), Pu
 }
 
 impl Reading {
-    /// The value, without its limits.
+    /// The reading's value, without its limits.
     pub fn value(self) -> Value
         ensures { result ≡ value_without_limits self }
     {
@@ -96,7 +96,7 @@ impl Reading {
         }
     }
 
-    /// How many parameters it is.
+    /// How many parameters the reading has (ParamCount): 3 for a switch and an integer, else 1.
     pub fn count(self) -> u8
         ensures { result ≡ reading_count self }
     {
@@ -106,7 +106,9 @@ impl Reading {
         }
     }
 
-    /// Appends the parameters of the answer (AES70-2). Refusal: `Full`.
+    /// Appends the reading to the parameters, as the class's get method answers it (AES70-2): the value, and for a
+    /// switch or an integer the least and the greatest after it. Refusal: `Full` if the parameters would have more than
+    /// 1,452 bytes in all. A part may then have been appended, so discard the parameters.
     #[tactic(auto, unfolding(crate::specs::Readings::reading_encoding))]
     pub fn put(self, params: &mut Params) -> Result<(), PutFault>
         ensures { Puts result params.old.items params.new.items (reading_encoding self) }
@@ -127,8 +129,8 @@ impl Reading {
         }
     }
 
-    /// What an answer with these parameters gives of an object of this class. Nothing where they are not such an
-    /// answer, and for a block.
+    /// Reads the answer to the get method of the class: the value, and for a switch or an integer its limits. `None`
+    /// for a block, and if the parameters are not exactly such an answer.
     #[tactic(auto, unfolding(crate::specs::Readings::reading_in))]
     pub fn read(class: Class, params: &[u8]) -> Option<Reading>
         ensures { result ≡ reading_in class params.now }
@@ -151,9 +153,9 @@ impl Reading {
     }
 }
 
-/// The value that the parameters of the answer to [`get_request`](crate::get_request) give of an object of this class;
-/// of a switch and of an integer its least and its greatest stand behind it (AES70-2). Nothing where they are not such
-/// an answer, and for a block. [`Reading::read`] gives the limits too.
+/// Reads the value in the answer to [`get_request`](crate::get_request) of an object of this class, without its limits;
+/// [`Reading::read`] gives the limits too. `None` for a block, and if the parameters are not exactly such an answer
+/// (AES70-2: after the value of a switch or an integer come the least and the greatest).
 pub fn read_value(class: Class, params: &[u8]) -> Option<Value>
     ensures { result ≡ value_read class params.now }
 {

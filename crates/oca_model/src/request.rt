@@ -167,7 +167,9 @@ impl Request {
         }
     }
 
-    /// How it is asked of an object of the class; `params` become its parameters.
+    /// How this is asked of an object of the class: the method and ParamCount, and `params` become its parameters.
+    /// Refusals: `OtherClass` if the class has no such method, or is set by another kind of value. `Full` if the
+    /// parameters would have more than 1,452 bytes. After a refusal discard `params`.
     pub fn call(&self, class: Class, params: &mut Params) -> Result<Call, RequestFault>
         ensures call { IfOk result (λ call. IsCallFor class self.now call params.new.items) }
         ensures refused { IfErr result (λ fault. IsRefusedCall class self.now fault) }
@@ -186,8 +188,10 @@ impl Request {
         })
     }
 
-    /// What a method with these parameters asks of an object of the class: as [`Asked::read`], with its texts copied.
-    /// `Malformed` is the status ParameterError, and `Unlisted` ParameterOutOfRange.
+    /// Reads what a method with these parameters asks of an object of the class, with its texts copied; `count` is
+    /// ParamCount. Refusals: `Malformed` (the status ParameterError) if `count` is not the method's, or the bytes are
+    /// not exactly its parameters, as with a text of more than 64 bytes. `Unlisted` (ParameterOutOfRange) if the number
+    /// is no state of a mute or a polarity.
     pub fn read(
         class: Class,
         method: Method,

@@ -3,7 +3,7 @@ ghost use Rattle.std.specs.Prelude.{◌≡◌};
 ghost use Rattle.std.specs.Option.{option_map};
 ghost use Rattle.oca_model.specs.Statuses.{status_name_of};
 
-/// The name of the status with this number (AES70-2, OcaStatus); nothing for a number that none has.
+/// The name of the status with this number (AES70-2, OcaStatus), such as `OK`. `None` if no status has the number.
 pub fn status_name(number: u8) -> Option<&'static str>
     ensures { option_map (λ name. name.now) result ≡ status_name_of number }
 {

@@ -113,7 +113,7 @@ fn polarity_in(params: &[u8]) -> Result<PolarityState, ValueFault>
 }
 
 impl Value {
-    /// The class of the objects that are set to such a value.
+    /// The class of the objects that can be set to such a value; OcaBlock is none of them.
     pub fn class(self) -> Class
         ensures { result ≡ class_of_value self }
     {
@@ -133,7 +133,9 @@ impl Value {
         }
     }
 
-    /// Appends the value (AES70-3); of a mute or a polarity the number of its state. Refusal: `Full`.
+    /// Appends the value to the parameters (AES70-3): of a mute or a polarity the number of its state, 1 or 2. Refusal:
+    /// `Full` if the parameters would have more than 1,452 bytes in all. A part may then have been appended, so discard
+    /// the parameters.
     #[tactic(auto, unfolding(crate::specs::Values::value_encoding))]
     pub fn put(self, params: &mut Params) -> Result<(), PutFault>
         ensures { Puts result params.old.items params.new.items (value_encoding self) }
@@ -154,7 +156,9 @@ impl Value {
         }
     }
 
-    /// The value of an object of this class that is all of the bytes, as a set method has it for its one parameter.
+    /// Reads the value of an object of this class, which must be all of the bytes: the one parameter of a set method.
+    /// Refusals: `Malformed` for a block, and if the bytes are not exactly one value of the class. `Unlisted` if the
+    /// number is no state of a mute or a polarity.
     #[tactic(auto, unfolding(crate::specs::Values::value_in))]
     pub fn read(class: Class, params: &[u8]) -> Result<Value, ValueFault>
         ensures { result ≡ value_in class params.now }

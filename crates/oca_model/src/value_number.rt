@@ -5,7 +5,8 @@ use crate::value::{MuteState, PolarityState, Value};
 use oca_types::Class;
 
 impl Value {
-    /// The value of a mute or a polarity whose state has this number; nothing where no state of the class has it.
+    /// The value of a mute (1 Muted, 2 Unmuted) or a polarity (1 NonInverted, 2 Inverted) whose state has this number.
+    /// `None` for another class, and for another number.
     pub fn of_state(class: Class, number: u8) -> Option<Value>
         ensures { IsValueWith state_in class number result }
     {
@@ -24,7 +25,8 @@ impl Value {
         }
     }
 
-    /// The value of an integer actuator that is this number; nothing where the number is none of the class's type.
+    /// The value of an integer actuator of this class that is this number. `None` for a class without integers, and for
+    /// a number outside the range of the class's type.
     pub fn of_integer(class: Class, number: i128) -> Option<Value>
         ensures { IsValueWith integer_in class number result }
     {

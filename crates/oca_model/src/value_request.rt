@@ -24,7 +24,7 @@ impl ValueRequest {
     ghost use Rattle.oca_types.specs.Peers.{request_of};
     ghost use Rattle.oca_model.specs.ValueRequests.{request_to};
 
-    /// What is asked of the object with this number, as `ask` of `oca_control` takes it.
+    /// The request to the object with this number, as `ask` of `oca_control` takes it.
     pub fn of(&self, target: Ono) -> oca_types::Request<'_>
         ensures { request_of result ≡ request_to target.0 self.now }
     {
@@ -91,8 +91,8 @@ fn encoding(value: Value) -> ArrayVec<u8, 8>
     }
 }
 
-/// What sets an object of the value's class to the value: the class's own set method with the value as its one
-/// parameter.
+/// The request that sets an object of the value's class to the value: the class's own set method, with the value as its
+/// one parameter.
 pub fn set_request(value: Value) -> ValueRequest
     ensures { CallsMethod (class_of_value value) (set_method value) result 1 (value_encoding value) }
 {
@@ -106,8 +106,8 @@ pub fn set_request(value: Value) -> ValueRequest
     }
 }
 
-/// What reads how an object of the class is set: the class's own get method, which has no parameters. Nothing for a
-/// block, which has no setting.
+/// The request that reads how an object of the class is set: the class's own get method, without parameters. `None` for
+/// a block, which has no setting.
 pub fn get_request(class: Class) -> Option<ValueRequest>
     ensures { CallsMethodIfAny (get_method class) class result }
 {

@@ -26,7 +26,7 @@ fn text_of(text: &str) -> Text
     }
 }
 
-/// The word for a value.
+/// The word for a value: 1 to 20 bytes, such as `muted`, `on` or `-60`.
 #[tactic(auto, unfolding(crate::specs::Words::word_of))]
 pub fn word_of(value: Value) -> Text
     ensures { result ≡ word_of value }
@@ -50,8 +50,8 @@ pub fn word_of(value: Value) -> Text
     }
 }
 
-/// The value of an object of this class that a word names: one of the class's words, or an integer of its type in
-/// decimal digits with an optional sign. Nothing for any other word, and for a block.
+/// The value of an object of this class that a word stands for: one of the class's words, or an integer of the class's
+/// type in decimal digits with an optional sign. `None` for any other word, and for a block.
 #[tactic(auto, unfolding(crate::specs::Words::IsRead, crate::specs::Words::word_of))]
 pub fn value_from_word(class: Class, word: &str) -> Option<Value>
     ensures { IsRead class word.now result }

@@ -30,11 +30,15 @@ pub trait End {
     /// What the end says of itself.
     ghost state: { Self → EndState };
 
-    /// Receives once, into the packet, which it empties first. The packet holds bytes at `Datagram` alone.
+    /// Receives once. How long that waits is the end's choice: a socket waits for at most 50 ms. `Datagram` with its
+    /// sender if a datagram came, and its bytes are in `packet`. Otherwise `packet` is empty: `Quiet` if none came,
+    /// `Oversize` if one of more than 1,472 bytes came. `Failed` if receiving failed, and `Closed` if nothing more will
+    /// come.
     fn receive(&mut self, packet: &mut Packet) -> Heard
         ensures { Receives result packet.new.items (state self.old) (state self.new) };
 
-    /// As `receive`, and an end that keeps time waits until this moment of its own at most. Others receive as ever.
+    /// Receives once, with the results of [`receive`](End::receive). An end that keeps time waits until this moment of
+    /// its own clock, in milliseconds, at most. An end that keeps no time receives as `receive` does.
     fn receive_by(&mut self, packet: &mut Packet, moment: u64) -> Heard
         ensures { Receives result packet.new.items (state self.old) (state self.new) }
     {
@@ -42,11 +46,13 @@ pub trait End {
         self.receive(packet)
     }
 
-    /// The end's present moment: no earlier than any that a receive has returned. 0 where the end keeps no time.
+    /// The end's present moment, in milliseconds: no earlier than any that a receive has returned. 0 if the end keeps
+    /// no time.
     fn now(&self) -> u64
         ensures { IsPresent result (state self.now) };
 
-    /// Sends a datagram of at most 1,472 bytes: whether the end took it. `false` is a failure.
+    /// Sends a datagram of at most 1,472 bytes (a premise). `true` if the end took it, which does not say that it
+    /// arrives; `false` if sending failed.
     fn send(&mut self, to: Peer, bytes: &[u8]) -> bool
         requires { length bytes.now ≤ largest_datagram }
         ensures { Sends result to bytes.now (state self.old) (state self.new) };

@@ -66,8 +66,9 @@ impl Model for MemoryEnd {
 }
 
 impl MemoryEnd {
-    /// An end that will deliver this script and take up to `room` datagrams. The send number `fail_send`, counted from
-    /// 0, fails. Refusal: `NoMemory`.
+    /// An end that will deliver this script, and take up to `room` datagrams. It takes the memory for them. The send
+    /// with the number `fail_send`, counted from 0, fails, and so does each send beyond the room. Refusal: `NoMemory`,
+    /// if memory was refused.
     pub fn new(
         alloc: Global,
         script: Vec<Scripted>,
@@ -91,21 +92,21 @@ impl MemoryEnd {
         })
     }
 
-    /// The part of the script that was delivered.
+    /// The part of the script that was delivered, in order.
     pub fn delivered(&self) -> &[Scripted]
         ensures { deliveries_of result.now ≡ self.now.delivered }
     {
         &self.script[..self.next]
     }
 
-    /// The datagrams that were taken, and where each was to go.
+    /// The datagrams that were taken, in order, each with the peer to which it was sent.
     pub fn taken(&self) -> &[(Peer, Packet)]
         ensures { sent_packets result.now ≡ self.now.taken }
     {
         &self.taken
     }
 
-    /// The number of receives and sends that failed.
+    /// How many receives and sends failed so far; at 2^64 - 1 the count stays.
     pub fn failures(&self) -> u64
         ensures { result ≡ self.now.failures }
     {

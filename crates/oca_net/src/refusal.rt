@@ -8,9 +8,10 @@ use std::time::Duration;
 /// How long a refusal is awaited, in milliseconds.
 const WAIT_MS: u64 = 200;
 
-/// Whether the host of a peer refuses its port, as where no program has it. A socket of its own, at this address and a
-/// port of the system's choice, sends the peer an empty datagram, which is malformed, so that a device takes no note of
-/// it, and awaits the refusal for 200 ms at most. `false` where none came: then nothing is known.
+/// Whether the host of a peer refuses its port, as it does if no program has the port. The call binds a socket of its
+/// own at the address `ip` and a port of the system's choice. `ip` is an IPv4 address as a number, the first byte
+/// highest; 0 stands for all of the machine's. It sends the peer an empty datagram, which is malformed, so that a
+/// device takes no note of it, and waits for the refusal, at most 200 ms. `false` if none came: then nothing is known.
 pub fn is_refused<R: Net>(rt: &R, ip: u32, peer: Peer) -> bool {
     match ask(rt, Peer { ip, port: 0 }, peer) {
         Ok(_) => false,
@@ -18,10 +19,11 @@ pub fn is_refused<R: Net>(rt: &R, ip: u32, peer: Peer) -> bool {
     }
 }
 
-/// Whether this machine has this address no longer: no socket can be bound there, at a port of the system's choice, since
-/// the address is not available. What an end sends that was bound there then fails. `false` where a socket can be bound,
-/// as at an address whose interface is down, from which the system may send by another one, and where another reason
-/// stands against it: then nothing is known.
+/// Whether this machine no longer has the address `ip` (an IPv4 address as a number, the first byte highest). `true` if
+/// no socket can be bound there, at a port of the system's choice, since the address is not available: then what an end
+/// sends that was bound there fails. `false` if a socket can be bound, as at an address whose interface is down, from
+/// which the system may send by another one. `false` also if the system refuses the socket for another reason: then
+/// nothing is known.
 pub fn is_gone<R: Net>(rt: &R, ip: u32) -> bool {
     let bound = UdpSocket::bind(rt, SocketAddrV4::from(Peer { ip, port: 0 }));
     lacks_address(reason_of(&bound))

@@ -30,7 +30,7 @@ const WAIT_MS: u64 = 50;
 /// How long a wait until a moment may be, in milliseconds: an hour.
 const LONGEST_WAIT_MS: u64 = 3_600_000;
 
-/// How often at most a call is begun again that signals interrupt, so that it ends even where the clock stands still.
+/// How often at most a call is begun again that signals interrupt, so that it ends even where the clock stops.
 const TRIES: u32 = 65_536;
 
 /// Why no end was bound. The numbers are promised (*profile*).
@@ -60,7 +60,7 @@ pub enum BindError {
 }
 
 impl BindError {
-    /// The fault, without its reason.
+    /// The fault, `Io` or `NoMemory`, without the system's reason.
     pub fn fault(&self) -> BindFault
         ensures { result ≡ fault_of self.now }
     {
@@ -129,14 +129,15 @@ impl<'a, C: Clock> Model for UdpEnd<'a, C> {
 }
 
 impl<'a, C: Clock> UdpEnd<'a, C> {
-    /// An end at this address (an IPv4 address as a number, the first byte highest) and port; at port 0 the system
-    /// chooses one. Takes the receive buffer first, then binds the socket. Refusals: `NoMemory` where the buffer's memory
-    /// was refused, `Io` where the system refused the socket.
+    /// An end bound at the address `ip` (an IPv4 address as a number, the first byte highest) and a port; at port 0 the
+    /// system chooses one. It takes the memory for its receive buffer, then binds the socket. Refusals: `NoMemory` if
+    /// the memory for the receive buffer was refused; otherwise `Io` if the system refused the socket.
     ///
-    /// At address 0, every one of the machine, the system chooses for each datagram from which it leaves: a device's
-    /// answers may leave from another one than was asked, and its controllers drop them; a controller's copies of one
-    /// command may leave from two, and are then of two peers, for each of which the device executes it. So bind a device
-    /// at the address at which it is asked, and a controller by `bind_towards`.
+    /// Bind a device at the address at which it is asked, and a controller by [`bind_towards`](UdpEnd::bind_towards).
+    /// Address 0 stands for all addresses of the machine: the system then chooses for each datagram from which address
+    /// it leaves. A device's answers may then leave from another address than was asked, and its controllers drop them.
+    /// A controller's transmissions of one command may leave from two addresses: these are two peers, and the device
+    /// executes the command for each.
     pub fn bind(alloc: Global, rt: &'a C, ip: u32, port: u16) -> Result<UdpEnd<'a, C>, BindFault>
     where
         C: Net,
@@ -149,7 +150,8 @@ impl<'a, C: Clock> UdpEnd<'a, C> {
         }
     }
 
-    /// As `bind`, and a refusal has the system's reason.
+    /// An end bound as [`bind`](UdpEnd::bind) does it. Refusals: `NoMemory` if the memory for the receive buffer was
+    /// refused; otherwise `Io` with the system's reason if the system refused the socket.
     pub fn bind_with_reason(
         alloc: Global,
         rt: &'a C,
@@ -178,10 +180,12 @@ impl<'a, C: Clock> UdpEnd<'a, C> {
         })
     }
 
-    /// An end for a device, at the address from which the system reaches it, and at this port; at port 0 the system
-    /// chooses one. The address is asked from the route, without a datagram. It is one address, so each copy of a command
-    /// leaves from there or not at all, and to the device all come from one peer: so a controller's end is bound. A
-    /// socket, a buffer and refusals as of `bind`; `Io` also where the system has no route to the device.
+    /// An end for a controller of this device, bound at the one address from which the system reaches the device, and
+    /// at a port; at port 0 the system chooses one. The address comes from the system's routes, without a datagram. So
+    /// all transmissions of a command leave from there or not at all, and are of one peer to the device.
+    ///
+    /// Refusals: `Io` if the system has no route to the device, or refused the socket; `NoMemory` if the memory for the
+    /// receive buffer was refused.
     pub fn bind_towards(
         alloc: Global,
         rt: &'a C,
@@ -199,7 +203,9 @@ impl<'a, C: Clock> UdpEnd<'a, C> {
         }
     }
 
-    /// As `bind_towards`, and a refusal has the system's reason.
+    /// An end bound as [`bind_towards`](UdpEnd::bind_towards) does it. Refusals: `Io` with the system's reason if the
+    /// system has no route to the device, or refused the socket; `NoMemory` if the memory for the receive buffer was
+    /// refused.
     pub fn bind_towards_with_reason(
         alloc: Global,
         rt: &'a C,
@@ -217,44 +223,47 @@ impl<'a, C: Clock> UdpEnd<'a, C> {
         }
     }
 
-    /// Where it is bound, the port that the system chose included.
+    /// The address and port at which the end is bound; the port is the one that the system chose, if it chose one.
     pub fn local(&self) -> Peer
         ensures { result ≡ self.now.local }
     {
         self.local
     }
 
-    /// The present moment: the milliseconds since `bind`. It is not before a moment that a receive has returned; where
-    /// the clock can't be read, it is the last of those.
+    /// The present moment: the milliseconds since the end was bound. It is not before a moment that a receive has
+    /// returned; if the clock can't be read, it is the last of those.
     pub fn now(&self) -> u64
         ensures { self.now.moment ≤ result }
     {
         self.socket.now()
     }
 
-    /// Why the last receive that failed did so.
+    /// Why the last receive that returned `Failed` did so. `None` if none has failed so far.
     pub fn last_failed_receive(&self) -> Option<io::Error>
         ensures { result ≡ self.now.receive_fault }
     {
         self.failed_receive
     }
 
-    /// Why the last send that failed did so.
+    /// Why the last send that returned `false` did so. `None` if none has failed so far.
     pub fn last_failed_send(&self) -> Option<io::Error>
         ensures { result ≡ self.now.send_fault }
     {
         self.failed_send
     }
 
-    /// How many bytes the system grants for datagrams that have not left, by its own count; 0 where it does not tell.
-    /// Those to a neighbour that does not answer hold up to some 213,000 of them, so a grant of several times as much
-    /// leaves room for the others.
+    /// How many bytes the system granted for datagrams that have not left, by its own count; 0 if it does not tell.
+    /// Datagrams to a neighbour that does not answer take up to some 213,000 of them, so a grant of several times as
+    /// much leaves room for others.
     pub fn send_buffer(&self) -> u32 {
         self.socket.send_buffer
     }
 
-    /// As `receive`, and waits until this moment of its own in place of 50 ms: an hour at most, and not at all where
-    /// the moment is not still to come.
+    /// Receives once. It waits until the moment `moment` of the end's clock, in milliseconds, for at most an hour, and
+    /// not at all if that moment is past. `Datagram` with its sender if a datagram came, and its bytes are in `packet`.
+    /// Otherwise `packet` is empty: `Quiet` if none came, `Oversize` if one of more than 1,472 bytes came. `Failed` if
+    /// the system returned anything else. That counts as a failure, and the call then waits until 50 ms after its
+    /// beginning, or until `moment` if that is sooner.
     #[tactic(auto, using(crate::proofs::Waiting::until_most, crate::proofs::Waiting::until_later))]
     pub fn receive_by(&mut self, packet: &mut Packet, moment: u64) -> Heard
         ensures packet { HoldsOnlyADatagram result packet.new.items }

@@ -9,7 +9,7 @@ use Rattle.oca_pdu.specs.declared.fault.PduFault.{PduFault}
 use Rattle.oca_pdu.specs.Messages.{Msg}
 use Rattle.oca_pdu.specs.Reading.{read_datagram}
 use Rattle.oca_device.specs.Events.{Event, Datagram, Tick, Local}
-use Rattle.oca_device.specs.Notes.{Note, is_within}
+use Rattle.oca_device.specs.Notes.{Note, is_recent}
 use Rattle.oca_device.specs.States.{State, moved_to, admits}
 use Rattle.oca_device.specs.LawByEvents.{Arrival, Happening, Passes, clock, admitted, session, last_moment, has_room}
 use Rattle.oca_device.proofs.Sessions.{latest, within, session_latest, Bridged, same_room, arrival}
@@ -92,13 +92,13 @@ one_other p q ms t D other e = sym (same_session (last_moment (arrivals_of p D))
 -- with no note, or where the peer is known at the moment
 abbrev pub IsKnownThen : ℕ → List Note → Type 0
 IsKnownThen t [] = Unit {0}
-IsKnownThen t (n ∷ ns) = is_within t (n ∷ ns) ≡ true
+IsKnownThen t (n ∷ ns) = is_recent t (n ∷ ns) ≡ true
 
 pub known_then : (w : DeviceSizes) (t : ℕ) (p : Peer) (ns : List Note) (D : List Arrival) → Bridged w ns (latest p D) → session t p D ≡ arrivals_of p D → IsKnownThen t ns
 known_then w t p [] D h e = tt
 known_then w t p (n ∷ ns) D h e = by_own (arrivals_of p D) refl
   where
-    by_own : (own : List Arrival) → arrivals_of p D ≡ own → is_within t (n ∷ ns) ≡ true
+    by_own : (own : List Arrival) → arrivals_of p D ≡ own → is_recent t (n ∷ ns) ≡ true
     by_own [] q = differs (sym (no_time n.at) ∙ h.moments n.at ∙ ap (within n.at) (no_latest p D q))
     by_own (a ∷ own) q = h.moments t ∙ (session_has t p D own a (e ∙ q)).0
 
@@ -139,7 +139,7 @@ arrived_read p ms bytes now g room read admitted_is =
 -- what is kept was kept before
 pub keeps_before : (p : Peer) (e : Event) (g : Past) → Keeps p (and_then e g) → Keeps p g
 keeps_before p (Tick now) g k = k
-keeps_before p (Local ono value) g k = k
+keeps_before p (Local ono change) g k = k
 keeps_before p (Datagram q bytes now) g k = by_read (read_datagram bytes) k
   where
     H1 : List Happening

@@ -20,7 +20,7 @@ use Rattle.oca_pair.specs.Happenings.{sayings, happenings}
 pub these_happened : ReadingIsExact → (E : List Event) → EventsAreBytes E → Happened E (happenings E)
 these_happened exact [] b = nothing
 these_happened exact (Tick now ∷ E) b = tick now (these_happened exact E b)
-these_happened exact (Local ono value ∷ E) b = local ono value (these_happened exact E b)
+these_happened exact (Local ono change ∷ E) b = local ono change (these_happened exact E b)
 these_happened exact (Datagram p bytes now ∷ E) b = by_read (these_happened exact E b.1) (read_datagram bytes) refl
   where
     not_both : (f : PduFault) (ms : List Msg) → Err f ≡ Ok ms → ⊥
@@ -38,7 +38,7 @@ these_happened exact (Datagram p bytes now ∷ E) b = by_read (these_happened ex
 pub stands_by : (w : DeviceSizes) (tree : List Object) (E : List Event) → Stands w tree (state_after w tree E) (happenings E)
 stands_by w tree [] = record { clock_is = refl; bridged = record { each = λ q. none_bridged w; opened_is = refl }; tree_is = refl; replied = λ q h e f. absurd cc; executions_are = refl }
 stands_by w tree (Tick now ∷ E) = passing w tree now (state_after w tree E) (happenings E) (stands_by w tree E)
-stands_by w tree (Local ono value ∷ E) = setting w tree ono value (state_after w tree E) (happenings E) (stands_by w tree E)
+stands_by w tree (Local ono change ∷ E) = setting w tree ono change (state_after w tree E) (happenings E) (stands_by w tree E)
 stands_by w tree (Datagram p bytes now ∷ E) = by_read (stands_by w tree E) (read_datagram bytes)
   where
     s1 : State

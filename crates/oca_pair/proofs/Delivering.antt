@@ -22,7 +22,7 @@ use Rattle.oca_device.specs.Notes.{Admitted, Heartbeat, Executed, Note, run, acc
 use Rattle.oca_device.specs.States.{State, noted, admits, judged_in, reply_of, after_command, after_message, after_reading, time_of}
 use Rattle.oca_device.specs.Answers.{response, answer_to_command, answers_to_messages, answers_to_reading, packets_of, packets}
 use Rattle.oca_control.specs.Answers.{AnswerFields, answer_of_response}
-use Rattle.oca_control.specs.Untaken.{Untaken, new_untaken, span_has_room, is_due, first_due, given_out, answered, answer_under, without_handle}
+use Rattle.oca_control.specs.Untaken.{Untaken, new_untaken, span_has_room, is_due, first_due, marked_sent, answered, answer_under, without_handle}
 use Rattle.oca_control.specs.declared.fault.ControlFault.{ControlFault}
 use Rattle.oca_control.specs.declared.fault.ControlFault.TheVariants as faults
 use Rattle.oca_control.specs.Links.{LinkState, Request, command_under, submission_under, submission, handle_after, after_submission, submitted, Decision, GivesCommand, GivesKeepAlive, GivesNothing, IsLost, decision_among, decision, after_due, gone_on, hears_content, received, taken, present_moment}
@@ -368,9 +368,9 @@ fair_submitted_by p q r a next us g out back handed other f =
     old : (c : CommandFields) (a : Result Handle ControlFault) → IsSubmitted p c (g.submitted ++ submitted_by q r a) → IsSubmitted p c g.submitted
     old c a i = elim (in_parts _ g.submitted (submitted_by q r a) i) [ inl b ↦ b | inr n ↦ absurd (not_his c a n) ]
 
-fair_given_out : (p : Peer) (g : Past) (t h : ℕ) (us : List Untaken) → AllByRecursion (IsFair p g) us → AllByRecursion (IsFair p g) (map (given_out t h) us)
-fair_given_out p g t h [] a = tt
-fair_given_out p g t h (u ∷ us) a = ((a.0.0, a.0.1), fair_given_out p g t h us a.1)
+fair_marked_sent : (p : Peer) (g : Past) (t h : ℕ) (us : List Untaken) → AllByRecursion (IsFair p g) us → AllByRecursion (IsFair p g) (map (marked_sent t h) us)
+fair_marked_sent p g t h [] a = tt
+fair_marked_sent p g t h (u ∷ us) a = ((a.0.0, a.0.1), fair_marked_sent p g t h us a.1)
 
 submitted_due : (p : Peer) (g : Past) (t : ℕ) (us : List Untaken) → AllByRecursion (IsFair p g) us → (u : Untaken) → first_due t us ≡ Some u → IsSubmitted p u.command g.submitted
 submitted_due p g t [] a u e = cc
@@ -383,9 +383,9 @@ submitted_due p g t (x ∷ xs) a u e = by_test (submitted_due p g t xs a.1 u) (i
 abbrev Outs : Peer → Past → Decision → Type 0
 Outs p g d = AllByRecursion (λ (x : SentDatagram). x.peer ≡ p → IsOut p g.submitted x.bytes) (sendings_in p (given_by d))
 
-given_out_is : (p : Peer) (now : ℕ) (l : LinkState) (g : Past) → AllByRecursion (IsFair p g) l.untaken →
+marked_sent_is : (p : Peer) (now : ℕ) (l : LinkState) (g : Past) → AllByRecursion (IsFair p g) l.untaken →
     AllByRecursion (λ (d : SentDatagram). d.peer ≡ p → IsOut p g.submitted d.bytes) (sendings_in p (given_by (decision now l)))
-given_out_is p now l g a = by_lost l.lost
+marked_sent_is p now l g a = by_lost l.lost
   where
     by_many : (u : Untaken) → IsSubmitted p u.command g.submitted → (b : Bool) → Outs p g (cond b (GivesCommand u.command) IsLost)
     by_many u q true = ((λ same. inl (u.command, q, refl)), tt)
@@ -405,7 +405,7 @@ given_out_is p now l g a = by_lost l.lost
 
 pub fair_gone_on : (p : Peer) (now : ℕ) (l : LinkState) (g : Past) (out back : List SentDatagram) (handed : List TakenAnswer) → Fair p l.next l.untaken g out back handed →
     Fair p (gone_on now l).next (gone_on now l).untaken g (out ++ sendings_in p (given_by (decision now l))) back handed
-fair_gone_on p now l g out back handed f = by_decision (decision now l) (given_out_is p now l g f.untaken)
+fair_gone_on p now l g out back handed f = by_decision (decision now l) (marked_sent_is p now l g f.untaken)
   where
     with_untaken : (us : List Untaken) (more : List SentDatagram) → AllByRecursion (IsFair p g) us → AllByRecursion (λ (d : SentDatagram). d.peer ≡ p → IsOut p g.submitted d.bytes) more →
         Fair p l.next us g (out ++ more) back handed
@@ -413,7 +413,7 @@ fair_gone_on p now l g out back handed f = by_decision (decision now l) (given_o
 
     by_decision : (d : Decision) → AllByRecursion (λ (x : SentDatagram). x.peer ≡ p → IsOut p g.submitted x.bytes) (sendings_in p (given_by d)) →
         Fair p (after_due d (present_moment now l) l).next (after_due d (present_moment now l) l).untaken g (out ++ sendings_in p (given_by d)) back handed
-    by_decision (GivesCommand c) new = with_untaken (map (given_out (present_moment now l) c.handle) l.untaken) (sendings_in p (given_by (GivesCommand c))) (fair_given_out p g (present_moment now l) c.handle l.untaken f.untaken) new
+    by_decision (GivesCommand c) new = with_untaken (map (marked_sent (present_moment now l) c.handle) l.untaken) (sendings_in p (given_by (GivesCommand c))) (fair_marked_sent p g (present_moment now l) c.handle l.untaken f.untaken) new
     by_decision GivesKeepAlive new = with_untaken l.untaken (sendings_in p (given_by GivesKeepAlive)) f.untaken new
     by_decision GivesNothing new = with_untaken l.untaken [] f.untaken new
     by_decision IsLost new = with_untaken l.untaken [] f.untaken new

@@ -36,7 +36,7 @@ the_starts = (record { peer = controller; first_handle = record { 0 = 1 } }) ∷
 abbrev get_state : Request
 get_state = record { target = 4097; level = 4; index = 1; count = 0; params = [] }
 
--- Three commands are given out. The third comes first and then again, the first comes later, and the second is lost.
+-- Three commands are sent. The third comes first and then again, the first comes later, and the second is lost.
 abbrev the_steps : List Step
 the_steps =
     Submit 0 get_state 0 ∷ Submit 0 get_state 0 ∷ Submit 0 get_state 0 ∷ Due 0 0 ∷ Due 0 0 ∷ Due 0 0
@@ -116,7 +116,7 @@ repeated_is_answered law tree =
     never_old_law law the_sizes 3 tree the_starts the_steps (lit< tt) (lit≤ tt) refl meets 2 400 0 sent_third the_link third
     refl refl carries_third (finds_room law) (keeps law)
 
--- Before the device's datagram, the fourth that it sent, comes to the link, the first command is given out again, the third is asked
+-- Before the device's datagram, the fourth that it sent, comes to the link, the first command is sent again, the third is asked
 -- for in vain, and the second comes to the device at last.
 abbrev between : List Step
 between = Due 0 410 ∷ Take 0 3 ∷ ToDevice 1 420 ∷ []

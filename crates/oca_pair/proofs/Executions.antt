@@ -11,7 +11,7 @@ use Rattle.oca_pdu.specs.Reading.{read_datagram}
 use Rattle.oca_tree.specs.declared.object.Object.{Object}
 use Rattle.oca_tree.specs.Execution.{execution}
 use Rattle.oca_tree.specs.Locks.{released}
-use Rattle.oca_tree.specs.Settings.{after_set}
+use Rattle.oca_tree.specs.LocalChanges.{after_change}
 use Rattle.oca_device.specs.Events.{Event, Datagram, Tick, Local}
 use Rattle.oca_device.specs.Notes.{Noted, Admitted, Heartbeat, Executed, Note, is_noted}
 use Rattle.oca_device.specs.States.{State, noted, moved_to, admits, after_messages, after_reading, state_after, time_of}
@@ -40,7 +40,7 @@ executed_for p (n ∷ notes) = (if same_peer n.peer p then executed_in n.what el
 executions_both : (p : Peer) (tree : List Object) (xs ys : List Change) → executions_in p tree (xs ++ ys) ≡ executions_in p (law.objects tree xs) ys ++ executions_in p tree xs
 executions_both p tree [] ys = sym (append-nil (executions_in p tree ys))
 executions_both p tree (Releases q ∷ xs) ys = executions_both p (released tree q) xs ys
-executions_both p tree (Sets ono value ∷ xs) ys = executions_both p (after_set tree ono value) xs ys
+executions_both p tree (Sets ono change ∷ xs) ys = executions_both p (after_change tree ono change) xs ys
 executions_both p tree (Executes q c ∷ xs) ys =
     let here : List Execution = cond (same_peer q p) (execution_of tree q c ∷ []) [] in
     let next : List Object = (execution tree q c).tree in
@@ -106,7 +106,7 @@ passing_executed w p tree now H =
 pub executions_are : (w : DeviceSizes) (p : Peer) (tree : List Object) (E : List Event) → executions_in p tree (changes w (happenings E)) ≡ executed_for p (state_after w tree E).notes
 executions_are w p tree [] = refl
 executions_are w p tree (Tick now ∷ E) = passing_executed w p tree now (happenings E) ∙ executions_are w p tree E
-executions_are w p tree (Local ono value ∷ E) = executions_both p tree (changes w (happenings E)) (Sets ono value ∷ []) ∙ executions_are w p tree E
+executions_are w p tree (Local ono change ∷ E) = executions_both p tree (changes w (happenings E)) (Sets ono change ∷ []) ∙ executions_are w p tree E
 executions_are w p tree (Datagram q bytes now ∷ E) = by_read (passing_executed w p tree now (happenings E) ∙ executions_are w p tree E) (read_datagram bytes)
   where
     s1 : State

@@ -11,7 +11,7 @@ use Rattle.oca_pdu.specs.Messages.{ResponseFields, Response, KeepAlive, Commands
 use Rattle.oca_pdu.specs.Encoding.{pdu_encoding}
 use Rattle.oca_pdu.specs.Reading.{read_datagram}
 use Rattle.oca_session.specs.Accepted.{Entry, window, outside, is_below, accepts, entry_under, asks_the_same, Fresh, Duplicate, Reused, judge_unaccepted, judgement}
-use Rattle.oca_model.specs.declared.value.Value.{Value}
+use Rattle.oca_tree.specs.LocalChanges.{LocalChange}
 use Rattle.oca_device.specs.Events.{Event, Datagram, Tick, Local}
 use Rattle.oca_device.specs.Notes.{Noted, Admitted, Heartbeat, Executed, Note}
 use Rattle.oca_device.specs.States.{State, moved_to, after_reading}
@@ -181,10 +181,10 @@ fair_tick p next us g out back handed now f = record {
 }
 
 -- A change at the front.
-pub fair_local : (p : Peer) (next : Option ℕ) (us : List Untaken) (g : Past) (out back : List SentDatagram) (handed : List TakenAnswer) (ono : ℕ) (value : Value) →
-    Fair p next us g out back handed → Fair p next us (and_then (Local ono value) g) out back handed
-fair_local p next us g out back handed ono value f =
-    let e : Event = Local ono value in
+pub fair_local : (p : Peer) (next : Option ℕ) (us : List Untaken) (g : Past) (out back : List SentDatagram) (handed : List TakenAnswer) (ono : ℕ) (change : LocalChange) →
+    Fair p next us g out back handed → Fair p next us (and_then (Local ono change) g) out back handed
+fair_local p next us g out back handed ono change f =
+    let e : Event = Local ono change in
     record {
       fits = f.fits;
       own = owns_then p g e (state_of g).notes f.own;

@@ -49,9 +49,9 @@ passed : (b : Bool) (s more : Status) → (s ≡ status.Ok → ⊥) → cond b s
 passed true s more wrong e = absurd (wrong e)
 passed false s more wrong e = e
 
-not_over : (b : Bool) → cond b status.BufferOverflow status.Ok ≡ status.Ok → b ≡ false
-not_over true e = cc
-not_over false e = refl
+not_over : (b c : Bool) → cond b status.BufferOverflow (cond c status.ProcessingFailed status.Ok) ≡ status.Ok → b ≡ false
+not_over true c e = cc
+not_over false c e = refl
 
 within : (n : ℕ) → nat_lt 1452 n ≡ false → n ≤ 1452
 within n e = grind (arith, nat_tests)
@@ -72,7 +72,7 @@ small tree p c = by_object (object_of tree c.target)
         by_request kind (Err fault) = refused_small tree (first_that_applies (status_lines tree p (Some o) kind (Err fault)))
         by_request kind (Ok r) = by_status_of r (first_that_applies (status_lines tree p (Some o) kind (Ok r)))
             (λ e. within (length (answer_encoding (answer_given tree o r)))
-            (not_over _ (passed _ status.InvalidRequest _ (λ x. cc) (passed _ status.ParameterOutOfRange _ (λ x. cc) (passed _ status.ParameterError _ (λ x. cc) (passed _ status.Locked _ (λ x. cc)
+            (not_over _ _ (passed _ status.InvalidRequest _ (λ x. cc) (passed _ status.ParameterOutOfRange _ (λ x. cc) (passed _ status.ParameterError _ (λ x. cc) (passed _ status.Locked _ (λ x. cc)
             (passed _ status.NotImplemented _ (λ x. cc) (passed _ status.BadMethod _ (λ x. cc) e))))))))
 
 status_fits : (s : Status) → status_number s < 256

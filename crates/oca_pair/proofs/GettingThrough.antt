@@ -18,8 +18,8 @@ use Rattle.oca_control.specs.declared.fault.ControlFault.{ControlFault}
 use Rattle.oca_control.specs.Answers.{AnswerFields}
 use Rattle.oca_control.specs.Untaken.{Untaken, answer_under, holds}
 use Rattle.oca_control.specs.Links.{LinkState, Request, command_under, submission, after_submission, Decision, GivesCommand, GivesKeepAlive, GivesNothing, IsLost as LosesLink, decision, due_answer, due_bytes, gone_on, reception, received, taken}
-use Rattle.oca_control.specs.Histories.{Call, Submits, GivesOut, Receives, TakesAnswer, clock_of_calls, commands, command_accepted, Sending, sending_of, sendings, answers_to, first_of, is_untaken, is_lost, IsCopy}
-use Rattle.oca_control.specs.Answering.{IsAskedEvery, IsInFlight}
+use Rattle.oca_control.specs.Histories.{Call, Submits, SendsDue, Receives, TakesAnswer, clock_of_calls, commands, command_accepted, Sending, sending_of, sendings, answers_to, first_of, is_untaken, is_lost, IsCopy}
+use Rattle.oca_control.specs.Answering.{IsAskedEvery, IsWaiting}
 use Rattle.oca_control.proofs.Calls.{answer_is}
 use Rattle.oca_control.proofs.Following.{each_both, IsSent}
 use Rattle.oca_control.proofs.Histories.{IsMade, IsMadeBy, HoldsAfter, holds_after_calls}
@@ -31,7 +31,7 @@ use Rattle.oca_pair.specs.Steps.{Step, Submit, Due, ToDevice, ToLink, Other, Tak
 use Rattle.oca_pair.specs.Steps as steps
 use Rattle.oca_pair.specs.Premises.{are_apart, Fit}
 use Rattle.oca_pair.specs.RoundTrip.{IsAnswerTo, GotItsAnswer, ComesBack, RoundTrips}
-use Rattle.oca_pair.specs.GettingThrough.{called, received_from, receiving, call_in, calls_in, IsLost, copy_of, WasSent, IsUnderWay, GetsThrough}
+use Rattle.oca_pair.specs.GettingThrough.{called, received_from, receiving, call_in, calls_in, IsLost, copy_of, WasSent, WaitsInTime, GetsThrough}
 use Rattle.oca_pair.proofs.Lists.{IsIn, contains_in, in_contains, in_more, in_behind, in_last, each_at, each_in, equal_is, equal_self}
 use Rattle.oca_pair.proofs.Core.{each_map}
 use Rattle.oca_pair.proofs.Truths.{past, IsSubmitted, IsTrueAnswer}
@@ -149,10 +149,10 @@ runs_step first s i p calls step n g = one step
     gives l now LosesLink same h a = a
 
     by_due : (k now : ℕ) (o : Option PeerLink) → slice_get n.links k ≡ o →
-        Runs first s i p (cond (nat_eq k i) (called (λ l. GivesOut now (due_answer (decision now l)) (due_bytes (decision now l))) (slice_get n.links i)) [] ++ calls) (after_due_step k now o n)
-    by_due k now None e = runs_none first s i p calls n k (λ l. GivesOut now (due_answer (decision now l)) (due_bytes (decision now l))) e g
+        Runs first s i p (cond (nat_eq k i) (called (λ l. SendsDue now (due_answer (decision now l)) (due_bytes (decision now l))) (slice_get n.links i)) [] ++ calls) (after_due_step k now o n)
+    by_due k now None e = runs_none first s i p calls n k (λ l. SendsDue now (due_answer (decision now l)) (due_bytes (decision now l))) e g
     by_due k now (Some l) e =
-        runs_link first s i p calls n (after_due_step k now (Some l) n) k l (λ l. GivesOut now (due_answer (decision now l)) (due_bytes (decision now l))) (gone_on now)
+        runs_link first s i p calls n (after_due_step k now (Some l) n) k l (λ l. SendsDue now (due_answer (decision now l)) (due_bytes (decision now l))) (gone_on now)
         (steps.sendings_in l.peer (given_by (decision now l.link))) e refl refl (refl, refl, refl) (gives l now (decision now l.link)) g
 
     by_delivery : (now : ℕ) (o : Option SentDatagram) → Runs first s i p calls (after_delivery now o n)
@@ -304,8 +304,8 @@ module _ (s first i : ℕ) (some : 0 < s) (p : Peer) (before : List Call) (r : R
       }
 
   -- it waits
-  waits : (g : Runs first s i p all n) → Sound s n → IsSubmitted p c n.submitted → RoundTrips n → sendings 0 h.0 before ≡ [] → IsAskedEvery ms since calls → IsInFlight device_address h.0 all →
-      IsUnderWay ms since i c p calls n
+  waits : (g : Runs first s i p all n) → Sound s n → IsSubmitted p c n.submitted → RoundTrips n → sendings 0 h.0 before ≡ [] → IsAskedEvery ms since calls → IsWaiting device_address h.0 all →
+      WaitsInTime ms since i c p calls n
   waits g sound sub trips none asked w = record {
     in_time = rw (clock_is, sent_is) at (in_time_made device_address first 0 s some before r now ms h calls g.link.link g.made asked w);
     copies = rw sent_is at copies;
@@ -461,17 +461,17 @@ gets_through law w s tree starts before later i x r now ms h some wide apart fit
     same_link = same_Some stands.link runs.link (sym stands.there ∙ runs.there)
 
     by_answer : is_lost all ≡ false → is_untaken h.0 all ≡ true → (o : Option AnswerFields) → first_of (answers_to device_address h.0 all) ≡ o →
-        GotItsAnswer i c p n ⊎ (IsLost i n ⊎ IsUnderWay ms (max (clock_of_calls 0 earlier) now) i c p calls n)
+        GotItsAnswer i c p n ⊎ (IsLost i n ⊎ WaitsInTime ms (max (clock_of_calls 0 earlier) now) i c p calls n)
     by_answer kept untaken (Some a) e = inl (has s f i some p earlier r now ms h calls n a runs sound sub
         (answer_is h.0 (λ y. answers_to device_address y all) runs.link.link.untaken at_end.now.are_answered
         ∙ ap (λ (b : Bool). cond b (first_of (answers_to device_address h.0 all)) None) (at_end.now.held h.0 ∙ untaken) ∙ e))
     by_answer kept untaken None e = inr (inr (waits s f i some p earlier r now ms h calls n runs sound sub trips none asked (record { untaken = untaken; unanswered = e; not_lost = kept })))
 
-    by_untaken : is_lost all ≡ false → (b : Bool) → is_untaken h.0 all ≡ b → GotItsAnswer i c p n ⊎ (IsLost i n ⊎ IsUnderWay ms (max (clock_of_calls 0 earlier) now) i c p calls n)
+    by_untaken : is_lost all ≡ false → (b : Bool) → is_untaken h.0 all ≡ b → GotItsAnswer i c p n ⊎ (IsLost i n ⊎ WaitsInTime ms (max (clock_of_calls 0 earlier) now) i c p calls n)
     by_untaken kept true e = by_answer kept e (first_of (answers_to device_address h.0 all)) refl
     by_untaken kept false e = inl (gave s f i some p earlier r now ms h calls n stands sound sub
         (ap (λ (y : PeerLink). holds h.0 y.link.untaken) same_link ∙ at_end.now.held h.0 ∙ e))
 
-    by_lost : (b : Bool) → is_lost all ≡ b → GotItsAnswer i c p n ⊎ (IsLost i n ⊎ IsUnderWay ms (max (clock_of_calls 0 earlier) now) i c p calls n)
+    by_lost : (b : Bool) → is_lost all ≡ b → GotItsAnswer i c p n ⊎ (IsLost i n ⊎ WaitsInTime ms (max (clock_of_calls 0 earlier) now) i c p calls n)
     by_lost true e = inr (inl (record { link = runs.link; there = runs.there; lost = at_end.others_are.lost_is ∙ e }))
     by_lost false e = by_untaken e (is_untaken h.0 all) refl

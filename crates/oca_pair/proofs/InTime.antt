@@ -28,7 +28,7 @@ use Rattle.oca_device.proofs.Standing.{Stands, passing}
 use Rattle.oca_control.specs.declared.fault.ControlFault.{ControlFault}
 use Rattle.oca_control.specs.Answers.{AnswerFields, answer_of_response}
 use Rattle.oca_control.specs.Limits.{longest_life}
-use Rattle.oca_control.specs.Untaken.{Untaken, new_untaken, is_due, is_late, first_due, given_out, answered, hears_all, answer_under, without_handle}
+use Rattle.oca_control.specs.Untaken.{Untaken, new_untaken, is_due, is_late, first_due, marked_sent, answered, hears_all, answer_under, without_handle}
 use Rattle.oca_control.specs.Links.{LinkState, Request, command_under, submission, handle_after, after_submission, Decision, GivesCommand, GivesKeepAlive, GivesNothing, IsLost, decision_among, decision, after_due, gone_on, hears_content, received, taken, present_moment, late_at}
 use Rattle.oca_pair.specs.declared.start.Start.{Start}
 use Rattle.oca_pair.specs.Networks.{Network, PeerLink, SentDatagram, SubmittedCommand, TakenAnswer, device_address, started, opening}
@@ -100,9 +100,9 @@ untaken_later born end m m' us le a = each_map (λ u h. (h.0, later u.submitted 
     later : (x : ℕ) → x ≤ m → x ≤ m'
     later x q = omega arith
 
-untaken_given_out : (born : ℕ → ℕ) (end m t h : ℕ) (us : List Untaken) → AllByRecursion (TimedUntaken born end m) us → AllByRecursion (TimedUntaken born end m) (map (given_out t h) us)
-untaken_given_out born end m t h [] a = tt
-untaken_given_out born end m t h (u ∷ us) a = ((a.0.0, a.0.1, a.0.2), untaken_given_out born end m t h us a.1)
+untaken_marked_sent : (born : ℕ → ℕ) (end m t h : ℕ) (us : List Untaken) → AllByRecursion (TimedUntaken born end m) us → AllByRecursion (TimedUntaken born end m) (map (marked_sent t h) us)
+untaken_marked_sent born end m t h [] a = tt
+untaken_marked_sent born end m t h (u ∷ us) a = ((a.0.0, a.0.1, a.0.2), untaken_marked_sent born end m t h us a.1)
 
 untaken_answered : (born : ℕ → ℕ) (end m h : ℕ) (x : AnswerFields) (us : List Untaken) → AllByRecursion (TimedUntaken born end m) us → AllByRecursion (TimedUntaken born end m) (map (answered h x) us)
 untaken_answered born end m h x [] a = tt
@@ -241,8 +241,8 @@ timed_due law p now l left out ns sendable none g = by_decision (decision now l)
     by_decision : (d : Decision) → AllByRecursion (TimedDeparture g.born (end_of l.next) p) (of_decision p t d) →
         Timed p (end_of (after_due d t l).next) (after_due d t l).moment (after_due d t l).untaken (left ++ of_decision p t d) (out ++ sendings_in p (given_by d)) ns
     by_decision (GivesCommand c) new =
-        timed_link p (end_of l.next) l.moment t l.untaken (map (given_out t c.handle) l.untaken) (left ++ of_decision p t (GivesCommand c)) (out ++ sendings_in p (given_by (GivesCommand c))) ns (later l.moment now)
-        (λ born a. untaken_given_out born (end_of l.next) t t c.handle l.untaken a)
+        timed_link p (end_of l.next) l.moment t l.untaken (map (marked_sent t c.handle) l.untaken) (left ++ of_decision p t (GivesCommand c)) (out ++ sendings_in p (given_by (GivesCommand c))) ns (later l.moment now)
+        (λ born a. untaken_marked_sent born (end_of l.next) t t c.handle l.untaken a)
         (timed_more p (end_of l.next) l.moment l.untaken left (of_decision p t (GivesCommand c)) out (sendings_in p (given_by (GivesCommand c))) ns refl g new)
     by_decision GivesKeepAlive new =
         timed_link p (end_of l.next) l.moment t l.untaken l.untaken (left ++ of_decision p t GivesKeepAlive) (out ++ sendings_in p (given_by GivesKeepAlive)) ns (later l.moment now) (λ born a. a)

@@ -13,6 +13,7 @@ use Rattle.oca_pdu.specs.Laws.{WrittenIsReadBack}
 use Rattle.oca_tree.specs.declared.object.Object.{Object}
 use Rattle.oca_session.specs.Accepted.{Entry}
 use Rattle.oca_model.specs.declared.value.Value.{Value}
+use Rattle.oca_tree.specs.LocalChanges.{ToValue}
 use Rattle.oca_device.specs.Events.{Datagram}
 use Rattle.oca_device.specs.Answers.{packets}
 use Rattle.oca_control.specs.declared.fault.ControlFault.{ControlFault}
@@ -32,7 +33,7 @@ use Rattle.oca_pair.proofs.Truths.{Past, past, and_then, state_of, IsSubmitted, 
 use Rattle.oca_pair.proofs.Fair.{end_of, IsOut, IsBack, IsHeld, Fair, fair_other, fair_tick, fair_local}
 use Rattle.oca_pair.proofs.Delivering.{granted, fair_command, fair_keep_alive, fair_submit, fair_submitted_by, fair_gone_on, fair_sent, fair_received, fair_taken, fair_taken_by, held_answer}
 use Rattle.oca_pair.proofs.Keeping.{Kept, accepted_by, IsGrown, delivers, kept_other, accepted_other, executed_has}
-use Rattle.oca_pair.proofs.Span.{Good, good_submit, good_submitted, good_given_out, good_answered, good_without, good_grown}
+use Rattle.oca_pair.proofs.Span.{Good, good_submit, good_submitted, good_marked_sent, good_answered, good_without, good_grown}
 
 -- No two links have one peer.
 abbrev pub Apart : List PeerLink → Type 0
@@ -176,7 +177,7 @@ sound_due s i now n g (Some l) e = record {
 
     good_kept : (f : ℕ) (d : Decision) → Good s f l.peer l.link.next l.link.untaken n.submitted (accepted_by l.peer (past n)) →
         Good s f l.peer (after_due d (present_moment now l.link) l.link).next (after_due d (present_moment now l.link) l.link).untaken n.submitted (accepted_by l.peer (past n))
-    good_kept f (GivesCommand c) w = good_given_out s f l.peer l.link.next l.link.untaken n.submitted (accepted_by l.peer (past n)) (present_moment now l.link) c.handle w
+    good_kept f (GivesCommand c) w = good_marked_sent s f l.peer l.link.next l.link.untaken n.submitted (accepted_by l.peer (past n)) (present_moment now l.link) c.handle w
     good_kept f GivesKeepAlive w = w
     good_kept f GivesNothing w = w
     good_kept f IsLost w = w
@@ -411,7 +412,7 @@ sound_local s ono value n g = record {
   apart = g.apart;
   each = each_map (λ z w. record {
     span = w.span;
-    fair = fair_local z.peer z.link.next z.link.untaken (past n) n.to_device n.to_links n.taken ono value w.fair;
+    fair = fair_local z.peer z.link.next z.link.untaken (past n) n.to_device n.to_links n.taken ono (ToValue value) w.fair;
     kept = w.kept;
     good = w.good;
   }) n.links g.each;

@@ -15,6 +15,8 @@ use Rattle.oca_model.specs.declared.request.Request.TheVariants as requests
 use Rattle.oca_model.specs.declared.value.Value.{Value as Setting}
 use Rattle.oca_tree.specs.declared.object.Object.{Object}
 use Rattle.oca_tree.specs.declared.setting.SetFault.{SetFault}
+use Rattle.oca_tree.specs.declared.front.FrontFault.{FrontFault}
+use Rattle.oca_tree.specs.LocalChanges.{LocalChange, ToValue, ToLabel, ToEnabled, ToUnlocked, ToFailing, front_fault_in, front_fault, changed_where, after_request, failing_where, after_failing, after_change}
 use Rattle.oca_tree.specs.Places.{Place}
 use Rattle.oca_tree.specs.Execution.{execution, asked_at, kind_at, status_of}
 use Rattle.oca_tree.specs.Typed.{changed_by, value_changed_by}
@@ -26,6 +28,7 @@ use Rattle.oca_tree.specs.Readers.{class_of_ono}
 use Rattle.oca_tree.specs.Trees.{IsTree, IsSound}
 use Rattle.oca_tree.specs.TypedLaws.{IsOfItsTypes, CommandDid}
 use Rattle.oca_tree.proofs.Fronts.{set_sound}
+use Rattle.oca_tree.proofs.LocalChanges.{label_sound, enabled_sound, unlock_sound, label_text, told, told_sound}
 use Rattle.oca_tree.proofs.TypedCommands.{commands_typed, refusals_change, same_end}
 use Rattle.oca_model.proofs.Carried.{SetsTexts, asked_texts}
 use Rattle.oca_tree.proofs.Names.{names_kept}
@@ -192,6 +195,63 @@ set_shapes : (tree : List Object) (number : ℕ) (value : Setting) → shapes (a
 set_shapes tree number value =
     by_set (KeepsShapes tree) tree number value (λ o there fine same. with_shapes tree number o (changed_by o front (requests.Set value)) there (changed_shape o front (requests.Set value))) refl
 
+-- the front asks for a label, to be enabled or not, or to be unlocked
+by_request : (P : List Object → Type 0) (tree : List Object) (number : ℕ) (r : Request) →
+    ((o : Object) → object_of tree number ≡ Some o → front_fault_in (Some o) r ≡ None → P tree → P (with_object tree (changed_by o front r))) → P tree → P (after_request tree number r)
+unfolding after_request front_fault
+by_request P tree number r sets h = by_object (object_of tree number) refl
+  where
+    by_fault : (o : Object) → object_of tree number ≡ Some o → (f : Option FrontFault) → front_fault_in (Some o) r ≡ f → P (changed_where f tree (Some o) r)
+    by_fault o there None fine = sets o there fine h
+    by_fault o there (Some f) fine = h
+
+    by_object : (x : Option Object) → object_of tree number ≡ x → P (changed_where (front_fault_in x r) tree x r)
+    by_object None there = h
+    by_object (Some o) there = by_fault o there (front_fault_in (Some o) r) refl
+
+request_good : (tree : List Object) (number : ℕ) (r : Request) → ((o : Object) → front_fault_in (Some o) r ≡ None → SetsTexts r) → ((o : Object) → IsSound o → IsSound (changed_by o front r)) →
+    IsGood tree → IsGood (after_request tree number r)
+request_good tree number r texts sound = by_request IsGood tree number r (λ o there fine.
+    good_with tree number o (changed_by o front r) there (changed_shape o front r) (sound o) (changed_typed o front r (texts o fine)))
+
+request_shapes : (tree : List Object) (number : ℕ) (r : Request) → shapes (after_request tree number r) ≡ shapes tree
+request_shapes tree number r =
+    by_request (KeepsShapes tree) tree number r (λ o there fine same. with_shapes tree number o (changed_by o front r) there (changed_shape o front r)) refl
+
+-- the front tells whether its hardware refuses
+by_told : (P : List Object → Type 0) (tree : List Object) (number : ℕ) (truth : Bool) →
+    ((o : Object) → object_of tree number ≡ Some o → P tree → P (with_object tree (told o truth))) → P tree → P (after_failing tree number truth)
+unfolding after_failing
+by_told P tree number truth tells h = by (object_of tree number) refl
+  where
+    by : (x : Option Object) → object_of tree number ≡ x → P (failing_where tree x truth)
+    by None there = h
+    by (Some o) there = tells o there h
+
+told_typed : (o : Object) (truth : Bool) → IsOfItsTypes o → IsOfItsTypes (told o truth)
+told_typed o truth h = record { role = h.role; label = h.label; names = h.names; number = h.number; container = h.container }
+
+told_good : (tree : List Object) (number : ℕ) (truth : Bool) → IsGood tree → IsGood (after_failing tree number truth)
+told_good tree number truth = by_told IsGood tree number truth (λ o there. good_with tree number o (told o truth) there refl (told_sound truth o) (told_typed o truth))
+
+told_shapes : (tree : List Object) (number : ℕ) (truth : Bool) → shapes (after_failing tree number truth) ≡ shapes tree
+told_shapes tree number truth = by_told (KeepsShapes tree) tree number truth (λ o there same. with_shapes tree number o (told o truth) there refl) refl
+
+change_good : (tree : List Object) (number : ℕ) (change : LocalChange) → IsGood tree → IsGood (after_change tree number change)
+unfolding SetsTexts
+change_good tree number (ToValue value) = set_good tree number value
+change_good tree number (ToLabel label) = request_good tree number (requests.SetLabel label) (label_text label) (label_sound label)
+change_good tree number (ToEnabled truth) = request_good tree number (requests.SetEnabled truth) (λ o fine. tt) (enabled_sound truth)
+change_good tree number ToUnlocked = request_good tree number requests.Unlock (λ o fine. tt) unlock_sound
+change_good tree number (ToFailing truth) = told_good tree number truth
+
+change_shapes : (tree : List Object) (number : ℕ) (change : LocalChange) → shapes (after_change tree number change) ≡ shapes tree
+change_shapes tree number (ToValue value) = set_shapes tree number value
+change_shapes tree number (ToLabel label) = request_shapes tree number (requests.SetLabel label)
+change_shapes tree number (ToEnabled truth) = request_shapes tree number (requests.SetEnabled truth)
+change_shapes tree number ToUnlocked = request_shapes tree number requests.Unlock
+change_shapes tree number (ToFailing truth) = told_shapes tree number truth
+
 without_typed : (peer : Peer) (o : Object) → IsOfItsTypes o → IsOfItsTypes (without_lock_of peer o)
 without_typed peer o h = by (is_held_by peer o.lock)
   where
@@ -219,13 +279,13 @@ released_kept tree peer = released_shapes peer tree
 pub objects_good : (tree : List Object) (C : List Change) → IsGood tree → IsGood (law.objects tree C)
 objects_good tree [] g = g
 objects_good tree (Releases p ∷ C) g = objects_good (released tree p) C (released_good tree p g)
-objects_good tree (Sets number value ∷ C) g = objects_good (after_set tree number value) C (set_good tree number value g)
+objects_good tree (Sets number change ∷ C) g = objects_good (after_change tree number change) C (change_good tree number change g)
 objects_good tree (Executes p c ∷ C) g = objects_good (execution tree p c).tree C (command_good tree p c g)
 
 objects_shapes : (tree : List Object) (C : List Change) → shapes (law.objects tree C) ≡ shapes tree
 objects_shapes tree [] = refl
 objects_shapes tree (Releases p ∷ C) = objects_shapes (released tree p) C ∙ released_kept tree p
-objects_shapes tree (Sets number value ∷ C) = objects_shapes (after_set tree number value) C ∙ set_shapes tree number value
+objects_shapes tree (Sets number change ∷ C) = objects_shapes (after_change tree number change) C ∙ change_shapes tree number change
 objects_shapes tree (Executes p c ∷ C) = objects_shapes (execution tree p c).tree C ∙ command_shapes tree p c
 
 -- the class by what stays

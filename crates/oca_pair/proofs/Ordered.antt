@@ -13,7 +13,7 @@ use Rattle.oca_tree.specs.declared.object.Object.{Object}
 use Rattle.oca_session.specs.Accepted.{Entry, has_handle}
 use Rattle.oca_session.specs.Limits.{longest_silence}
 use Rattle.oca_device.specs.Events.{Event, Datagram, Tick, Local}
-use Rattle.oca_device.specs.Notes.{Noted, Admitted, Heartbeat, Executed, Note, notes_of, is_within, unbroken, accepted, accepted_after}
+use Rattle.oca_device.specs.Notes.{Noted, Admitted, Heartbeat, Executed, Note, notes_of, is_recent, unbroken, accepted, accepted_after}
 use Rattle.oca_device.specs.States.{State, moved_to, after_reading, state_after}
 use Rattle.oca_pair.proofs.Core.{has}
 use Rattle.oca_pair.proofs.Lists.{equal_self}
@@ -48,7 +48,7 @@ ordered_after w tree (Tick now ∷ E) = passed now (state_after w tree E) (order
   where
     passed : (now : ℕ) (s : State) → AreOrdered s.moment s.notes → AreOrdered (max s.moment now) s.notes
     passed now s o = ordered_till s.moment (max s.moment now) s.notes (omega arith) o
-ordered_after w tree (Local ono value ∷ E) = ordered_after w tree E
+ordered_after w tree (Local ono change ∷ E) = ordered_after w tree E
 ordered_after w tree (Datagram p bytes now ∷ E) =
     let s : State = state_after w tree E in
     let s1 : State = moved_to (max s.moment now) s in
@@ -97,16 +97,16 @@ accepted_here h objects c r x A e q = rw (e, ← q) (let d : Entry = record { co
     second false false q = cc
 
 -- What was noted at most 120,000 ms before t is within the session that the peer has at t.
-pub still_accepted : (h since t : ℕ) (ns : List Note) → AreOrdered t ns → t ≤ since + longest_silence → WereNoted h since ns → (is_within t ns ≡ true) × (has h (accepted (unbroken ns)) ≡ true)
+pub still_accepted : (h since t : ℕ) (ns : List Note) → AreOrdered t ns → t ≤ since + longest_silence → WereNoted h since ns → (is_recent t ns ≡ true) × (has h (accepted (unbroken ns)) ≡ true)
 still_accepted h since t [] o near i = absurd i
-still_accepted h since t (n ∷ ns) o near (inl a) = (within n.at a.5, accepted_here h a.0 a.1 a.2 n.what (accepted (cond (is_within n.at ns) (unbroken ns) [])) a.3 a.4)
+still_accepted h since t (n ∷ ns) o near (inl a) = (within n.at a.5, accepted_here h a.0 a.1 a.2 n.what (accepted (cond (is_recent n.at ns) (unbroken ns) [])) a.3 a.4)
   where
     within : (x : ℕ) → since ≤ x → nat_le (t - x) longest_silence ≡ true
     within x q = grind (arith, nat_tests)
 still_accepted h since t (n ∷ ns) o near (inr i) =
-    let rest : (is_within n.at ns ≡ true) × (has h (accepted (unbroken ns)) ≡ true) = still_accepted h since n.at ns o.1 (nearer n.at o.0) i in
+    let rest : (is_recent n.at ns ≡ true) × (has h (accepted (unbroken ns)) ≡ true) = still_accepted h since n.at ns o.1 (nearer n.at o.0) i in
     let late : since ≤ n.at = since_then n.at ns o.1 i in
-    (within n.at late, accepted_one h n.what (accepted (cond (is_within n.at ns) (unbroken ns) [])) (goes_on (is_within n.at ns) rest.0 rest.1))
+    (within n.at late, accepted_one h n.what (accepted (cond (is_recent n.at ns) (unbroken ns) [])) (goes_on (is_recent n.at ns) rest.0 rest.1))
   where
     nearer : (x : ℕ) → x ≤ t → x ≤ since + longest_silence
     nearer x q = omega arith

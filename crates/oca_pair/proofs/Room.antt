@@ -100,7 +100,7 @@ IsLatelyOf peers t a = t - a.at ≤ 120000 → is_among_peers peers a.from ≡ t
 arrive_lately : (w : DeviceSizes) (peers : List Peer) (t : ℕ) (H : List Happening) → SpeakLately peers t H → AllByRecursion (IsLatelyOf peers t) (admitted w H)
 arrive_lately w peers t [] s = tt
 arrive_lately w peers t (Passes now ∷ H) s = arrive_lately w peers t H s
-arrive_lately w peers t (Sets ono value ∷ H) s = arrive_lately w peers t H s
+arrive_lately w peers t (Sets ono change ∷ H) s = arrive_lately w peers t H s
 arrive_lately w peers t (Says p ms ∷ H) s = by_room (has_room w (clock H) p (admitted w H)) (arrive_lately w peers t H s.1)
   where
     by_room : (b : Bool) → AllByRecursion (IsLatelyOf peers t) (admitted w H) →

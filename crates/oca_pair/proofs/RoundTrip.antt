@@ -13,6 +13,7 @@ use Rattle.oca_pdu.specs.Messages.{Msg, Response, KeepAlive, Command, ResponseFi
 use Rattle.oca_pdu.specs.Encoding.{pdu_encoding}
 use Rattle.oca_pdu.specs.Laws.{WrittenIsReadBack}
 use Rattle.oca_tree.specs.declared.object.Object.{Object}
+use Rattle.oca_tree.specs.LocalChanges.{ToValue}
 use Rattle.oca_device.specs.Events.{Datagram}
 use Rattle.oca_device.specs.Events as event
 use Rattle.oca_device.specs.Notes.{Noted, Admitted, Heartbeat, Executed, Note}
@@ -36,7 +37,7 @@ use Rattle.oca_pair.proofs.Executions.{executed_in, executed_for, executions_are
 use Rattle.oca_pair.proofs.Truths.{Past, past, state_of, IsSubmitted, IsHonest, IsTrueAnswer, IsOwn, executed_then}
 use Rattle.oca_pair.proofs.Fair.{end_of, IsFair, AreOwn}
 use Rattle.oca_pair.proofs.Delivering.{held_answer}
-use Rattle.oca_pair.proofs.Span.{holds_given_out, holds_answered, holds_without}
+use Rattle.oca_pair.proofs.Span.{holds_marked_sent, holds_answered, holds_without}
 use Rattle.oca_pair.proofs.Networks.{LinkSound, Sound, hears_peer, sound_step, sound_steps, sound_after}
 use Rattle.oca_pair.proofs.Lawful.{true_answer, never_old_law}
 
@@ -262,7 +263,7 @@ stands_step i h p step n g = one step
     by_answer l r now (Err fault) q = q
 
     by_decision : (l : LinkState) (now : ℕ) (d : Decision) → holds h l.untaken ≡ true → holds h (after_due d now l).untaken ≡ true
-    by_decision l now (GivesCommand c) q = holds_given_out now c.handle h l.untaken ∙ q
+    by_decision l now (GivesCommand c) q = holds_marked_sent now c.handle h l.untaken ∙ q
     by_decision l now GivesKeepAlive q = q
     by_decision l now GivesNothing q = q
     by_decision l now IsLost q = q
@@ -483,7 +484,7 @@ executed_steps p x (e ∷ es) n i = executed_steps p x es (after_step e n) (one 
     one (ToLink k now) = by_reception now (slice_get n.to_links k)
     one (Other from bytes now) = by_other from bytes now (has_link from n.links)
     one (steps.Tick now) = executed_then p x (past n) (event.Tick now) i
-    one (steps.Local ono value) = executed_then p x (past n) (event.Local ono value) i
+    one (steps.Local ono value) = executed_then p x (past n) (event.Local ono (ToValue value)) i
     one (Take k h) = by_take k h (slice_get n.links k)
 
 -- what a delivery is answered with was executed then or before

@@ -24,7 +24,6 @@ use Rattle.oca_model.specs.declared.request.Request.{Request as Asked}
 use Rattle.oca_model.specs.declared.request.Request.TheVariants as asked
 use Rattle.oca_model.specs.declared.value.Value.{Value}
 use Rattle.oca_model.specs.Answers.{answer_in, answer_count, answer_encoding, IsAnswer, AnswersAreRead}
-use Rattle.oca_model.specs.Lists.{Each}
 use Rattle.oca_model.specs.Requests.{AskedBy, IsRequest, request_in, count_of, parameters_of, RequestsAreUnderstood}
 use Rattle.oca_model.specs.Values.{class_of_value}
 use Rattle.oca_tree.specs.declared.object.Object.{Object}
@@ -32,7 +31,7 @@ use Rattle.oca_tree.specs.Objects.{class_of, object_of, with_object}
 use Rattle.oca_tree.specs.Execution.{TreeAndReply, execution, carried_out, status_of}
 use Rattle.oca_tree.specs.Readers.{class_of_ono}
 use Rattle.oca_tree.specs.Trees.{IsTree, IsSound}
-use Rattle.oca_tree.specs.Typed.{reading_held, answer_given, changed_by, set_to}
+use Rattle.oca_tree.specs.Typed.{reading_held, answer_given, changed_by, held_set_to}
 use Rattle.oca_tree.specs.TypedLaws.{IsOfItsTypes, IsRight, CommandDid, AnswersAreRight, SettingsAreRead}
 use Rattle.oca_device.specs.Events.{Tick}
 use Rattle.oca_device.specs.LawByEvents.{changes}
@@ -64,20 +63,24 @@ is_common methods.SetLabel = true
 is_common methods.GetOwner = true
 is_common _ = false
 
-abbrev IsOfItsClass : ℕ × Method → Type 0
-IsOfItsClass row = is_common row.1 ≡ false
+-- whether one of the rows has a method of every class
+abbrev has_common : List (ℕ × Method) → Bool
+has_common [] = false
+has_common (row ∷ rows) = cond (is_common row.1) true (has_common rows)
 
-row_of_its_class : (rows : List (ℕ × Method)) (index : ℕ) (m : Method) → Each IsOfItsClass rows → row_at rows index ≡ Some m → is_common m ≡ false
-row_of_its_class [] index m each e = absurd (cc)
-row_of_its_class (row ∷ rows) index m each e = by (index == row.0) (row_of_its_class rows index m each.1) e
+row_of_its_class : (rows : List (ℕ × Method)) (index : ℕ) (m : Method) → has_common rows ≡ false → row_at rows index ≡ Some m → is_common m ≡ false
+row_of_its_class [] index m none e = absurd (cc)
+row_of_its_class (row ∷ rows) index m none e = by (index == row.0) (is_common row.1) refl none (row_of_its_class rows index m) e
   where
-    by : (b : Bool) → (row_at rows index ≡ Some m → is_common m ≡ false) → cond b (Some row.1) (row_at rows index) ≡ Some m → is_common m ≡ false
-    by true further h = let same : row.1 ≡ m = cc in sym (ap is_common same) ∙ each.0
-    by false further h = further h
+    by : (b c : Bool) → is_common row.1 ≡ c → cond c true (has_common rows) ≡ false → (has_common rows ≡ false → row_at rows index ≡ Some m → is_common m ≡ false)
+        → cond b (Some row.1) (row_at rows index) ≡ Some m → is_common m ≡ false
+    by b true common none further h = absurd (cc)
+    by true false common none further h = let same : row.1 ≡ m = cc in sym (ap is_common same) ∙ common
+    by false false common none further h = further none h
 
-rows_of_its_class : (of : Class) → Each IsOfItsClass (class_methods of).1
-rows_of_its_class class.Switch = (refl, (refl, (refl, (refl, (refl, (refl, (refl, (refl, (refl, (refl, tt))))))))))
-rows_of_its_class _ = (refl, (refl, tt))
+rows_of_its_class : (of : Class) → has_common (class_methods of).1 ≡ false
+rows_of_its_class class.Switch = refl
+rows_of_its_class _ = refl
 
 -- a class has a method of every class where another one does
 common_kind : (of other : Class) (id : MethodId) (m : Method) → is_common m ≡ true → method_kind of id ≡ Known m (access m) → method_kind other id ≡ Known m (access m)
@@ -323,8 +326,8 @@ module _ (understood : RequestsAreUnderstood) (read : AnswersAreRead)
 
   record IsSet (o : Object) (p : Peer) (value : Value) (new : Object) : Type 0 where
     pub number : new.ono.0 ≡ o.ono.0
-    pub value_is : new.value ≡ set_to o.value value
-    pub whole : new ≡ record o { value = set_to o.value value }
+    pub value_is : new.value ≡ held_set_to o.value value
+    pub whole : new ≡ record o { value = held_set_to o.value value }
 
   is_set : (o : Object) (p : Peer) (value : Value) → IsSet o p value (changed_by o p (asked.Set value))
   unfolding changed_by

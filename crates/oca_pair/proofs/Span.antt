@@ -11,7 +11,7 @@ use Rattle.oca_types.specs.declared.words.Peer.{Peer}
 use Rattle.oca_types.specs.Peers.{CommandFields}
 use Rattle.oca_session.specs.Accepted.{Entry, window, has_handle, entry_under, asks_the_same, judgement}
 use Rattle.oca_control.specs.Answers.{AnswerFields}
-use Rattle.oca_control.specs.Untaken.{Untaken, new_untaken, span_has_room, given_out, answered, without_handle, holds}
+use Rattle.oca_control.specs.Untaken.{Untaken, new_untaken, span_has_room, marked_sent, answered, without_handle, holds}
 use Rattle.oca_control.specs.Links.{Request, command_under, handle_after}
 use Rattle.oca_pair.specs.Networks.{SubmittedCommand}
 use Rattle.oca_pair.proofs.Core.{has, Ordered, each_map, each_both, each_append, either_false, below_all, never_old, IsServed}
@@ -110,18 +110,18 @@ good_same s f p next us vs submitted A near same g = record {
   from = g.from;
 }
 
-pub holds_given_out : (t h x : ℕ) (us : List Untaken) → holds x (map (given_out t h) us) ≡ holds x us
-holds_given_out t h x [] = refl
-holds_given_out t h x (u ∷ us) = ap (λ b. eqb u.command.handle x || b) (holds_given_out t h x us)
+pub holds_marked_sent : (t h x : ℕ) (us : List Untaken) → holds x (map (marked_sent t h) us) ≡ holds x us
+holds_marked_sent t h x [] = refl
+holds_marked_sent t h x (u ∷ us) = ap (λ b. eqb u.command.handle x || b) (holds_marked_sent t h x us)
 
-near_given_out : (s f n t h : ℕ) (us : List Untaken) → AllByRecursion (Near s f n) us → AllByRecursion (Near s f n) (map (given_out t h) us)
-near_given_out s f n t h [] g = tt
-near_given_out s f n t h (u ∷ us) g = (record { from = g.0.from; below = g.0.below; near = g.0.near }, near_given_out s f n t h us g.1)
+near_marked_sent : (s f n t h : ℕ) (us : List Untaken) → AllByRecursion (Near s f n) us → AllByRecursion (Near s f n) (map (marked_sent t h) us)
+near_marked_sent s f n t h [] g = tt
+near_marked_sent s f n t h (u ∷ us) g = (record { from = g.0.from; below = g.0.below; near = g.0.near }, near_marked_sent s f n t h us g.1)
 
-pub good_given_out : (s f : ℕ) (p : Peer) (next : Option ℕ) (us : List Untaken) (submitted : List SubmittedCommand) (A : List Entry) (t h : ℕ) →
-    Good s f p next us submitted A → Good s f p next (map (given_out t h) us) submitted A
-good_given_out s f p next us submitted A t h g =
-    good_same s f p next us (map (given_out t h) us) submitted A (near_given_out s f (end_of next) t h us g.untaken) (λ x. holds_given_out t h x us) g
+pub good_marked_sent : (s f : ℕ) (p : Peer) (next : Option ℕ) (us : List Untaken) (submitted : List SubmittedCommand) (A : List Entry) (t h : ℕ) →
+    Good s f p next us submitted A → Good s f p next (map (marked_sent t h) us) submitted A
+good_marked_sent s f p next us submitted A t h g =
+    good_same s f p next us (map (marked_sent t h) us) submitted A (near_marked_sent s f (end_of next) t h us g.untaken) (λ x. holds_marked_sent t h x us) g
 
 pub holds_answered : (h x : ℕ) (a : AnswerFields) (us : List Untaken) → holds x (map (answered h a) us) ≡ holds x us
 holds_answered h x a [] = refl

@@ -11,7 +11,7 @@ use Rattle.oca_pdu.specs.Reading.{read_datagram}
 use Rattle.oca_tree.specs.declared.object.Object.{Object}
 use Rattle.oca_session.specs.Accepted.{Entry, window, has_handle, entry_under}
 use Rattle.oca_device.specs.Events.{Event, Datagram, Tick, Local}
-use Rattle.oca_device.specs.Notes.{Noted, Admitted, Heartbeat, Executed, Note, notes_of, is_within, unbroken, run, accepted, accepted_after}
+use Rattle.oca_device.specs.Notes.{Noted, Admitted, Heartbeat, Executed, Note, notes_of, is_recent, unbroken, run, accepted, accepted_after}
 use Rattle.oca_device.specs.States.{State, moved_to, reply_of, after_reading, state_after}
 use Rattle.oca_control.specs.Answers.{AnswerFields}
 use Rattle.oca_pair.specs.Networks.{Network, SubmittedCommand}
@@ -91,11 +91,11 @@ executed_grown p q t x ns ms g i = rw g.is (executed_more p x g.more ns i)
 pub event_peer : Event → Peer → Peer
 event_peer (Datagram from bytes now) p = from
 event_peer (Tick now) p = p
-event_peer (Local ono value) p = p
+event_peer (Local ono change) p = p
 
 pub executed_then : (p : Peer) (x : Execution) (g : Past) (e : Event) → IsIn x (executed_for p (state_of g).notes) → IsIn x (executed_for p (state_of (and_then e g)).notes)
 executed_then p x g (Tick now) i = i
-executed_then p x g (Local ono value) i = i
+executed_then p x g (Local ono change) i = i
 executed_then p x g (Datagram from bytes now) i =
     let s1 : State = moved_to (max (state_of g).moment now) (state_of g) in
     executed_grown p from s1.moment x s1.notes (after_reading g.sizes from (read_datagram bytes) s1).notes (grows_reading g.sizes from (read_datagram bytes) s1) i
@@ -143,7 +143,7 @@ accepted_noted e (n ∷ ns) i = by_what n.what refl i (accepted_noted e ns)
 noted_unbroken : (e : Entry) (ns : List Note) → HasNote e (unbroken ns) → HasNote e ns
 noted_unbroken e [] i = i
 noted_unbroken e (n ∷ ns) (inl a) = inl a
-noted_unbroken e (n ∷ ns) (inr b) = inr (by_test (is_within n.at ns) b (noted_unbroken e ns))
+noted_unbroken e (n ∷ ns) (inr b) = inr (by_test (is_recent n.at ns) b (noted_unbroken e ns))
   where
     by_test : (b : Bool) → HasNote e (cond b (unbroken ns) []) → (HasNote e (unbroken ns) → HasNote e ns) → HasNote e ns
     by_test true i rest = rest i

@@ -14,8 +14,8 @@ use Rattle.oca_tree.specs.declared.object.Object.{Object}
 use Rattle.oca_control.specs.Untaken.{answer_under}
 use Rattle.oca_control.specs.Links.{LinkState, Request, command_under, submission, decision, due_answer, due_bytes}
 use Rattle.oca_control.specs.Links.{reception}
-use Rattle.oca_control.specs.Histories.{Call, Submits, GivesOut, Receives, TakesAnswer, clock_of_calls, sendings}
-use Rattle.oca_control.specs.Answering.{IsAskedEvery, IsGivenOutInTime}
+use Rattle.oca_control.specs.Histories.{Call, Submits, SendsDue, Receives, TakesAnswer, clock_of_calls, sendings}
+use Rattle.oca_control.specs.Answering.{IsAskedEvery, IsSentInTime}
 use Rattle.oca_pair.specs.declared.outcome.Outcome.TheVariants as outcomes
 use Rattle.oca_pair.specs.declared.start.Start.{Start}
 use Rattle.oca_pair.specs.Networks.{Network, PeerLink, SentDatagram, device_address, opening}
@@ -52,7 +52,7 @@ call_in i (Submit link request now) n =
     if link == i then called (λ l. Submits request now (submission request l)) (slice_get n.links i) else []
 call_in i (Due link now) n =
     if link == i
-    then called (λ l. GivesOut now (due_answer (decision now l)) (due_bytes (decision now l))) (slice_get n.links i)
+    then called (λ l. SendsDue now (due_answer (decision now l)) (due_bytes (decision now l))) (slice_get n.links i)
     else []
 call_in i (ToLink k now) n = receiving now (slice_get n.to_links k) (slice_get n.links i)
 call_in i (Take link handle) n =
@@ -78,14 +78,14 @@ pub record IsLost (i : ℕ) (n : Network) : Type 0 where
 abbrev pub copy_of : Peer → CommandFields → SentDatagram
 copy_of p c = record { peer = p; bytes = pdu_encoding (Commands true (c ∷ [])) }
 
--- what was given out was a copy, and was sent to the device
+-- what was sent was a copy, and was sent to the device
 pub record WasSent (p : Peer) (c : CommandFields) (bytes : List ℕ) (n : Network) : Type 0 where
   pub bytes_are : bytes ≡ (copy_of p c).bytes
   pub sent : Contains n.to_device (copy_of p c)
 
--- The command waits for its answer. By the calls since its submit it was given out in time, each time as a copy.
-pub record IsUnderWay (ms since i : ℕ) (c : CommandFields) (p : Peer) (calls : List Call) (n : Network) : Type 0 where
-  pub in_time : IsGivenOutInTime ms since (clock_of_calls since calls) (sendings since c.handle calls)
+-- The command waits for its answer. By the calls since its submit it was sent in time, each time as a copy.
+pub record WaitsInTime (ms since i : ℕ) (c : CommandFields) (p : Peer) (calls : List Call) (n : Network) : Type 0 where
+  pub in_time : IsSentInTime ms since (clock_of_calls since calls) (sendings since c.handle calls)
   pub copies : AllByRecursion (λ x. WasSent p c x.bytes n) (sendings since c.handle calls)
   -- One copy that is delivered now, under the premises of the law of untaken commands, and the one datagram that the
   -- device then sends, whenever that is delivered, are enough: the round trip of `ComesBack`.
@@ -94,9 +94,9 @@ pub record IsUnderWay (ms since i : ℕ) (c : CommandFields) (p : Peer) (calls :
       AllByRecursion StepFits between →
       ComesBack k now between later i c p n
 
--- The link got the command's answer, or is lost, or the command is under way.
+-- The link got the command's answer, or is lost, or the command is waiting, and was sent in time.
 abbrev pub GetsThrough : ℕ → ℕ → ℕ → CommandFields → Peer → List Call → Network → Type 0
-GetsThrough ms since i c p calls n = GotItsAnswer i c p n ⊎ (IsLost i n ⊎ IsUnderWay ms since i c p calls n)
+GetsThrough ms since i c p calls n = GotItsAnswer i c p n ⊎ (IsLost i n ⊎ WaitsInTime ms since i c p calls n)
 
 -- Over every schedule, for all sizes where the window is at least twice the span less one: so it is of each command
 -- that the link of a start submitted in a step, where from this step on the link is asked every so many ms.

@@ -17,7 +17,7 @@ abbrev pub happenings : List Event → List Happening
 happenings [] = []
 happenings (Datagram from bytes now ∷ before) = sayings from (read_datagram bytes) ++ Passes now ∷ happenings before
 happenings (Tick now ∷ before) = Passes now ∷ happenings before
-happenings (Local ono value ∷ before) = Sets ono value ∷ happenings before
+happenings (Local ono change ∷ before) = Sets ono change ∷ happenings before
 
 -- They are what the law by events says that happened.
 abbrev pub TheseHappened : Type 0

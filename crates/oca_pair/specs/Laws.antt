@@ -12,7 +12,7 @@ use Rattle.oca_pdu.specs.Encoding.{pdu_encoding}
 use Rattle.oca_tree.specs.declared.object.Object.{Object}
 use Rattle.oca_tree.specs.Execution.{execution}
 use Rattle.oca_tree.specs.Locks.{released}
-use Rattle.oca_tree.specs.Settings.{after_set}
+use Rattle.oca_tree.specs.LocalChanges.{after_change}
 use Rattle.oca_device.specs.declared.verdict.Verdict.TheVariants as verdicts
 use Rattle.oca_device.specs.Events.{Event, Datagram, Tick}
 use Rattle.oca_device.specs.States.{reply_of}
@@ -45,7 +45,7 @@ execution_of tree p c = record { objects = tree; command = c; reply = reply_of t
 abbrev pub executions_in : Peer → List Object → List Change → List Execution
 executions_in p tree [] = []
 executions_in p tree (Releases q ∷ more) = executions_in p (released tree q) more
-executions_in p tree (Sets ono value ∷ more) = executions_in p (after_set tree ono value) more
+executions_in p tree (Sets ono change ∷ more) = executions_in p (after_change tree ono change) more
 executions_in p tree (Executes q c ∷ more) =
     executions_in p (execution tree q c).tree more
     ++ (if same_peer q p then execution_of tree q c ∷ [] else [])
@@ -124,7 +124,7 @@ EveryScheduleAnswersItsCommands =
 -- ---- THE LAW OF UNTAKEN COMMANDS
 
 -- A datagram of the link of this peer carries a command that the link holds untaken: its bytes are those that the link
--- gives out for it, whether for the first time or again.
+-- sends for it, whether for the first time or again.
 pub record CarriesUntaken (d : SentDatagram) (l : PeerLink) (c : CommandFields) : Type 0 where
   pub peer : l.peer ≡ d.peer
   pub untaken : Untaken

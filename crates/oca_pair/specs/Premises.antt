@@ -70,7 +70,7 @@ SpeakLately peers t [] = Unit {0}
 SpeakLately peers t (Says p messages ∷ before) =
     (t - clock before ≤ longest_silence → is_among_peers peers p ≡ true) × SpeakLately peers t before
 SpeakLately peers t (Passes now ∷ before) = SpeakLately peers t before
-SpeakLately peers t (Sets ono value ∷ before) = SpeakLately peers t before
+SpeakLately peers t (Sets ono change ∷ before) = SpeakLately peers t before
 
 -- WHERE FEW SPEAK THERE IS ROOM: no more peers spoke in the last 120,000 ms than there is room for, and each of them
 -- finds room.

@@ -37,7 +37,7 @@ Took (Ok outcome) step n new =
 Took (Err faults.Missing) step n new = is_there step n ≡ false
 Took (Err faults.NoMemory) step n new = Unit {0}
 
--- what a link gives out is what it decided
+-- what a link sends is what it decided
 abbrev pub GivesBy : Given → Decision → Type 0
 GivesBy (gives.Datagram packet) d = given_by d ≡ packet.items ∷ []
 GivesBy gives.Nothing d = d ≡ GivesNothing

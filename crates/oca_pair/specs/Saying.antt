@@ -24,7 +24,8 @@ use Rattle.oca_tree.specs.Objects.{class_of, object_of, with_object}
 use Rattle.oca_tree.specs.Execution.{execution, status_of}
 use Rattle.oca_tree.specs.Readers.{class_of_ono}
 use Rattle.oca_tree.specs.Trees.{IsTree}
-use Rattle.oca_tree.specs.Typed.{set_to, reading_held, reading_set_to, answer_given, changed_by}
+use Rattle.oca_model.specs.Settings.{reading_set_to}
+use Rattle.oca_tree.specs.Typed.{held_set_to, reading_held, answer_given, changed_by}
 use Rattle.oca_tree.specs.TypedLaws.{IsOfItsTypes}
 use Rattle.oca_device.specs.LawByEvents.{changes}
 use Rattle.oca_device.specs.LawByEvents as law
@@ -173,7 +174,7 @@ pub record SetsObject (target : ℕ) (value : Value) (met left : List Object) : 
   pub new : Object
   pub left_is : left ≡ with_object met new
   pub new_there : object_of left target ≡ Some new
-  pub new_is : new ≡ record object { value = set_to object.value value }
+  pub new_is : new ≡ record object { value = held_set_to object.value value }
   pub reads : reading_held new.value ≡ Some (reading_set_to reading value)
   pub value_is : value_without_limits (reading_set_to reading value) ≡ value
 

@@ -15,6 +15,7 @@ use Rattle.oca_device.specs.States.{state_after}
 use Rattle.oca_model.specs.declared.value.Value.{Value}
 use Rattle.oca_tree.specs.declared.setting.SetFault.{SetFault}
 use Rattle.oca_tree.specs.Settings.{set_fault}
+use Rattle.oca_tree.specs.LocalChanges.{ToValue}
 use Rattle.oca_control.specs.declared.fault.ControlFault.{ControlFault}
 use Rattle.oca_control.specs.Answers.{AnswerFields}
 use Rattle.oca_control.specs.Untaken.{answer_under}
@@ -83,7 +84,7 @@ abbrev pub submit_outcome : Result Handle ControlFault → Outcome
 submit_outcome (Ok h) = outcomes.Submitted h
 submit_outcome (Err fault) = outcomes.Refused fault
 
--- ---- DUE: what the link gives out is sent to the device
+-- ---- DUE: what the link sends is sent to the device
 abbrev pub given_by : Decision → List (List ℕ)
 given_by (GivesCommand c) = due_bytes (GivesCommand c) ∷ []
 given_by GivesKeepAlive = due_bytes GivesKeepAlive ∷ []
@@ -168,7 +169,7 @@ after_step (ToLink k now) n = after_reception now (slice_get n.to_links k) n
 after_step (Other from bytes now) n =
     if has_link from n.links then n else record n { events = Datagram from bytes now ∷ n.events }
 after_step (Tick now) n = record n { events = event.Tick now ∷ n.events }
-after_step (Local ono value) n = record n { events = event.Local ono value ∷ n.events }
+after_step (Local ono value) n = record n { events = event.Local ono (ToValue value) ∷ n.events }
 after_step (Take link handle) n = after_take link handle (slice_get n.links link) n
 
 -- THE NETWORK AFTER A SCHEDULE.

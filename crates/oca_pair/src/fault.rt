@@ -18,7 +18,7 @@ pub enum PairFault {
 }
 
 impl PairFault {
-    /// The number of the fault.
+    /// The number of the fault: 1 to 3 (*profile*).
     pub fn number(&self) -> u8
         ensures { result ≡ pair_fault_number self.now }
     {

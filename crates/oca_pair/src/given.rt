@@ -1,7 +1,7 @@
-//! What a link gives out.
+//! What a link sends.
 use oca_types::Packet;
 
-/// What a link gives out, when it is asked what is due.
+/// What a link sends, when it is asked what is due.
 #[derive(Drop)]
 pub(crate) enum Given {
     /// A datagram of a command or a keep-alive.

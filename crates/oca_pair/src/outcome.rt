@@ -11,7 +11,7 @@ pub enum Outcome {
     Submitted(Handle),
     /// The link refused the command.
     Refused(ControlFault),
-    /// The link gave out a command or a keep-alive: the datagram of this number, from 0, was sent to the device.
+    /// The link sent a command or a keep-alive: the datagram of this number, from 0, was sent to the device.
     Sent(usize),
     /// The link gave nothing out.
     Nothing,
@@ -23,9 +23,9 @@ pub enum Outcome {
     Link(Reception),
     /// The device's clock was read.
     Ticked,
-    /// The object was set at the device's own front.
+    /// The object was set at the local front panel.
     Set,
-    /// The object was not set at the device's own front, for this fault.
+    /// The object was not set at the local front panel, for this fault.
     NotSet(SetFault),
     /// The link gave this answer.
     Answer(Answer),

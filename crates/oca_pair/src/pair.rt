@@ -32,7 +32,8 @@ pub struct Transcript {
     pub log: Vec<Outcome>,
 }
 
-/// Runs a schedule as [`run_pair_with_sizes`] does, with reply windows of this size and sessions of at most 16 peers.
+/// Runs a schedule as [`run_pair_with_sizes`] does, with reply windows of this size and sessions of at most 16 peers;
+/// the refusals are the same.
 pub fn run_pair(
     alloc: Global,
     tree: Tree,
@@ -55,7 +56,8 @@ pub fn run_pair(
 ///
 /// Refusals: `SamePeer`, where two starts have one peer or one has the device's, is looked for first, before memory is
 /// taken. Then the steps are taken in order: `BadStep` is the number of the first one that names a link or a datagram
-/// that is not there, or that is an `Other` from a link's peer; `NoMemory` comes where memory is refused.
+/// that is not there, or that is an `Other` from a link's peer; `NoMemory` comes where memory is refused. A refusal
+/// returns nothing of the run.
 pub fn run_pair_with_sizes(
     alloc: Global,
     tree: Tree,

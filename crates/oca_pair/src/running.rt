@@ -88,7 +88,7 @@ impl PeerLink {
         }
     }
 
-    /// Gives out what is due of the link.
+    /// Sends what is due of the link.
     fn due(&mut self, now: u64) -> Given
         ensures answer { GivesBy result (decision now self.old.link) }
         ensures link { self.new ≡ record { peer = self.old.peer; link = gone_on now self.old.link } }
@@ -310,7 +310,7 @@ impl Running {
         Outcome::Ticked
     }
 
-    /// Sets an object at the device's own front.
+    /// Sets an object at the local front panel.
     fn set(&mut self, ono: Ono, value: Value) -> Outcome
         ensures { (n : Network) → Shows self.old n → Took (Ok result) (Local ono.0 value) n self.new }
     {

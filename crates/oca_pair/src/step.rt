@@ -40,7 +40,7 @@ pub enum Step<'a> {
     Tick {
         now: u64,
     },
-    /// An object is set at the device's own front. That has no moment: it happens at that of the device's clock.
+    /// An object is set at the local front panel. That has no moment: it happens at that of the device's clock.
     Local {
         ono: Ono,
         value: Value,

@@ -4,7 +4,7 @@ use Rattle.oca_types.specs.declared.words.Handle.{Handle}
 use Rattle.oca_types.specs.declared.words.Peer.{Peer}
 use Rattle.oca_net.specs.EndStates.{EndState, IsPresent}
 use Rattle.oca_control.specs.declared.report.DriveReport.{DriveReport}
-use Rattle.oca_control.specs.Driving.{GivesOut}
+use Rattle.oca_control.specs.Driving.{SendsDue}
 use Rattle.oca_control.specs.Links.{LinkState, new_link, submission, submitted}
 use Rattle.oca_panel.specs.Probes.{AsksQuestion, AsksRounds, handle_in, question}
 
@@ -21,7 +21,7 @@ asked-under device first now old r h new is some =
 
 pub asked-all : (device : Peer) (first now : ℕ) (old sub l last : LinkState) (d e f : EndState) (report : DriveReport) (h : Handle) (answered : Bool) (r : Option Handle)
     → IsPresent now d → old ≡ new_link device first now 16 → r ≡ handle_in (submission question old) → r ≡ Some h → sub ≡ submitted question now old
-    → GivesOut now (sub.span + 1) sub l d e report → AsksRounds device h.0 answered l last e f → AsksQuestion device first answered d f
+    → SendsDue now (sub.span + 1) sub l d e report → AsksRounds device h.0 answered l last e f → AsksQuestion device first answered d f
 asked-all device first now old sub l last d e f report h answered r present new is some submits gives rounds =
     let made : sub ≡ submitted question now (new_link device first now 16) = submits ∙ ap (submitted question now) new in
     record {
@@ -31,6 +31,6 @@ asked-all device first now old sub l last d e f report h answered r present new 
       last = last;
       between = e;
       report = report;
-      gives = subst (λ (s : LinkState). GivesOut now (s.span + 1) s l d e report) made gives;
+      gives = subst (λ (s : LinkState). SendsDue now (s.span + 1) s l d e report) made gives;
       rounds = subst (λ (n : ℕ). AsksRounds device n answered l last e f) (sym (asked-under device first now old r h new is some)) rounds;
     }

@@ -12,3 +12,4 @@ pub mod Renewals
 pub mod WalksApart
 pub mod Watching
 pub mod Probes
+pub mod Calls

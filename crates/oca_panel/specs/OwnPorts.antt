@@ -3,7 +3,7 @@ use Rattle.std.specs.Prelude.{◌≡◌, ◌≤◌, ◌<◌, ◌+◌, ◌*◌, �
 use Rattle.std.specs.Time.{FitsClock}
 use Rattle.oca_panel.specs.declared.own_port.OwnPort.{OwnPort}
 
--- Handles by the clock rise by 100,000 a second, and begin anew at 2^31, each 21,474.83648 seconds: a turn.
+-- Handles by the clock rise by 100,000 a second, and begin again at 2^31, each 21,474.83648 seconds: a turn.
 abbrev pub handles_since : (seconds microseconds : ℕ) → ℕ
 handles_since seconds microseconds = seconds * 100000 + microseconds / 10
 
@@ -14,7 +14,7 @@ handles_a_turn = 2147483648
 abbrev pub first_handle_at : (seconds microseconds : ℕ) → ℕ
 first_handle_at seconds microseconds = handles_since seconds microseconds % handles_a_turn
 
--- Two ports take turns: each is silent for a whole turn of the other before its handles begin anew.
+-- Two ports take turns: each is silent for a whole turn of the other before its handles begin again.
 abbrev pub even_or_odd : ℕ → ℕ
 even_or_odd rest = if rest == 0 then 65001 else 65002
 

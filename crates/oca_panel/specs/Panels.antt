@@ -81,7 +81,7 @@ pub record TurnsOnce (old new : PanelState) (further : Bool) : Type 0 where
   pub wait : new.wait ≡ old.wait
   pub unanswered : new.unanswered ≡ old.unanswered
 
--- How a command fared that was to be begun: it was waited for, or the link refused it, so that it was never sent.
+-- How a command ended that was to be begun: it was waited for, or the link refused it, so that it was never sent.
 abbrev pub EndsIn : Result Handle ControlFault → PanelState → PanelState → Outcome → Type 0
 EndsIn (Ok handle) old new outcome = FinishesIn handle.0 old new outcome
 EndsIn (Err fault) old new outcome = (outcome ≡ outcomes.Refused fault) × (new ≡ old)

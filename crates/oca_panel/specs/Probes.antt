@@ -12,7 +12,7 @@ use Rattle.oca_control.specs.declared.outcome.Outcome.{Outcome}
 use Rattle.oca_control.specs.declared.outcome.Outcome.TheVariants as outcomes
 use Rattle.oca_control.specs.declared.report.DriveReport.{DriveReport}
 use Rattle.oca_control.specs.Asking.{Waits}
-use Rattle.oca_control.specs.Driving.{GivesOut}
+use Rattle.oca_control.specs.Driving.{SendsDue}
 use Rattle.oca_control.specs.Links.{LinkState, new_link, submitted}
 use Rattle.oca_panel.specs.Watching.{WatchState, found_by}
 use Rattle.oca_panel.specs.declared.answering.Probed.{Probed}
@@ -67,7 +67,7 @@ pub record AsksQuestion (device : Peer) (first : ℕ) (answered : Bool) (before 
   pub last : LinkState
   pub between : EndState
   pub report : DriveReport
-  pub gives : GivesOut now 17 (submitted question now (new_link device first now 16)) link before between report
+  pub gives : SendsDue now 17 (submitted question now (new_link device first now 16)) link before between report
   pub rounds : AsksRounds device first answered link last between after
 
 -- A DEVICE WAS ASKED whether it answers commands of a port, by a question that changes nothing and by keep-alives; and

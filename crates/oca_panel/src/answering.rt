@@ -12,7 +12,7 @@ ghost use Rattle.oca_panel.specs.Watching.{found_by};
 
 use crate::walk::ROOT;
 use crate::watched::Watched;
-use oca_control::{Link, Outcome, give_out, wait_for};
+use oca_control::{Link, Outcome, send_due, wait_for};
 use oca_net::End;
 use oca_pdu::{Form, write_keepalive};
 use oca_types::{Handle, MethodId, Packet, Peer, Span};
@@ -37,11 +37,13 @@ pub enum Probed {
     NotHeard,
 }
 
-/// Asks a device whether it answers the commands of the end's port: for the class of its root, under this handle, and
-/// beside it for keep-alives, for a second at most, from the end's present moment on.
+/// Asks a device whether it answers the commands of the end's port. It sends a command that reads the class of the
+/// root, under this handle, and up to four keep-alives, with five receives after each, until the answer comes. At a
+/// socket that takes a second at most. `device` is to be the peer of the end.
 ///
-/// The question changes nothing on the device. It uses the handle up: a link over the same end begins above it. Where
-/// the device was heard, also before this call, and did not answer, another port is to be taken.
+/// `Answering` if the command is answered, whatever the status. Otherwise `NotAnswering` if the end has heard its peer,
+/// also before this call: then the panel must use another port. `NotHeard` if it has not. Nothing is changed on the
+/// device. The handle is used up: a link over the same end must begin above it.
 pub fn probe<E: End>(end: &mut Watched<E>, device: Peer, handle: Handle) -> Probed
     ensures { Probes device handle.0 end.old.end_state end.new result }
 {
@@ -80,7 +82,7 @@ fn asks<E: End>(
     let Some(handle) = submit(link, now) else {
         return false;
     };
-    give_out(link, end, now);
+    send_due(link, end, now);
     asks_rounds(link, end, device, handle)
 }
 
@@ -126,7 +128,8 @@ fn submit(link: &mut Link, now: u64) -> Option<Handle>
     }
 }
 
-/// Sends a device a keep-alive, which it echoes. It is one of five seconds, as those of a link.
+/// Sends a device a keep-alive with a heartbeat of five seconds, which the device returns. `true` if the end took the
+/// datagram; `false` if sending failed. It receives nothing.
 pub fn keep_alive<E: End>(end: &mut E, device: Peer) -> bool
     ensures { SendsKeepAlive device (E.state end.old) (E.state end.new) }
 {

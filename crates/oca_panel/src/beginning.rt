@@ -14,9 +14,11 @@ use oca_types::{Class, Handle, Method, Ono, Params};
 impl<E: End> Panel<E> {
     ghost use Rattle.oca_panel.specs.Beginnings.{BeginsAsking};
 
-    /// Submits what is asked of an object of the class and sends it at once, and returns its handle. Refusals, which
-    /// change nothing: `NotSubmitted` for those of [`begin`](Panel::begin); `NoValue` where no method of the class asks
-    /// it, or its parameters are too long.
+    /// Submits what is asked of an object of the class, sends it at once, and returns its handle. It is not sent if the
+    /// link is found lost at that.
+    ///
+    /// Refusals, which change and send nothing: `NoValue` if no method of the class asks it, or its parameters are too
+    /// long; `NotSubmitted` with the link's reason ([`begin`](Panel::begin)).
     pub fn begin_request(
         &mut self,
         ono: Ono,
@@ -44,9 +46,9 @@ impl<E: End> Panel<E> {
     }
 }
 
-/// The answer to a method, read by the class of its object, from the outcome of its command. Faults: `Refused` with the
-/// status where that is not OK; `Unreadable` where the status is OK and the parameters are no answer to the method;
-/// `NotSubmitted` where the link refused the command; `Lost` and `Unanswered` as the outcome says.
+/// Reads the answer to a method, by the class of its object, from the outcome of its command. Faults: `Refused` with
+/// the status if the status is not OK. `Unreadable` if the status is OK and the parameters are no answer to the method.
+/// `NotSubmitted` if the link refused the command. `Lost` and `Unanswered` if the outcome is that.
 pub fn answer_of(class: Class, method: Method, outcome: &Outcome) -> Result<Answer, Trouble>
     ensures { result ≡ model_answered class method outcome.now }
 {

@@ -76,7 +76,7 @@ impl<T: Copy + Default> InFlight<T> {
     ghost use Rattle.oca_panel.specs.InFlight.{BeginsBehind, FinishesFirst, SettlesFirst, is_full};
     ghost use Rattle.oca_panel.specs.PrivateInFlight.{IsFirst, TakesOff};
 
-    /// No command is in flight.
+    /// An empty queue: no command is in flight.
     pub fn new() -> InFlight<T>
         ensures { result ≡ [] }
     {
@@ -85,7 +85,7 @@ impl<T: Copy + Default> InFlight<T> {
         }
     }
 
-    /// How many commands are in flight, at most 32.
+    /// How many commands are in flight: 0 to 32.
     pub fn len(&self) -> usize
         ensures value { result ≡ length self.now }
         ensures most { result ≤ 32 }
@@ -100,7 +100,7 @@ impl<T: Copy + Default> InFlight<T> {
         self.commands.is_empty()
     }
 
-    /// Whether 32 commands are in flight, so that no other can be put behind them.
+    /// Whether 32 commands are in flight, so that no other can be added.
     pub fn is_full(&self) -> bool
         ensures value { result ≡ is_full self.now }
         ensures room { result ≡ false → length self.now < 32 }
@@ -108,8 +108,9 @@ impl<T: Copy + Default> InFlight<T> {
         self.commands.is_full()
     }
 
-    /// Puts a command that was begun on the panel behind the others, as [`Panel::begin_set`] or
-    /// [`Panel::begin_request`] returned its handle, with what is to be said of it. Fewer than 32 may be in flight.
+    /// Adds a command at the end of the queue, with an item that the caller gets back when the command is finished.
+    /// `handle` is what [`Panel::begin_set`] or [`Panel::begin_request`] returned for it. Fewer than 32 commands may be
+    /// in flight (a premise).
     pub fn push(&mut self, handle: Handle, item: T)
         requires { length self.old < 32 }
         ensures { self.new ≡ self.old ++ (handle.0, item) ∷ [] }
@@ -117,9 +118,11 @@ impl<T: Copy + Default> InFlight<T> {
         self.commands.push(Begun { handle, item });
     }
 
-    /// Begins a command as [`Panel::begin`] does, and puts it behind the others, with what is to be said of it. Returns
-    /// its handle. Refusals, which change neither the queue nor the panel: `SpanFull` where 32 are in flight, and those
-    /// of [`Panel::begin`].
+    /// Begins a command as [`Panel::begin`] does, and adds it at the end of the queue, with an item that the caller
+    /// gets back when the command is finished. Returns its handle. Refusals, which change neither the queue nor the
+    /// panel: `SpanFull` if 32 commands are in flight, or the next handle is not within the span. `Lost` if the link is
+    /// lost or late. `HandlesSpent` after the handle 4294967295. `TooLong` if the parameters have more than 1,445
+    /// bytes.
     pub fn begin_behind<E: End>(
         &mut self,
         panel: &mut Panel<E>,
@@ -140,11 +143,11 @@ impl<T: Copy + Default> InFlight<T> {
         }
     }
 
-    /// Waits for the first command in flight, as long as [`Panel::finish`] does; it is in flight no longer.
-    /// Returns what was said of it, and how it came out. `None` where none is in flight, which changes nothing.
+    /// Takes the first command out of the queue and waits for its answer, for the panel's `wait` milliseconds. Returns
+    /// its item, and its outcome as [`Panel::finish`] does. `None` if no command is in flight: then nothing is changed.
     ///
-    /// A command that comes out `Unanswered` is still one of the panel's: [`Panel::answered`] tells when its answer has
-    /// come.
+    /// A command that comes out `Unanswered` stays in flight at the panel: [`Panel::answered`] tells when its answer
+    /// has come.
     pub fn finish_first<E: End>(&mut self, panel: &mut Panel<E>) -> Option<(T, Outcome)>
         ensures { FinishesFirst result self.old self.new panel.old panel.new }
     {
@@ -154,8 +157,9 @@ impl<T: Copy + Default> InFlight<T> {
         Some((item, panel.finish(handle)))
     }
 
-    /// How the first command in flight came out, where that is known without a turn, and what was said of it; it is in
-    /// flight no longer then. `None` where that is not known, or none is in flight: that changes nothing.
+    /// Takes the first command out of the queue if its outcome is known without a turn: its answer is there, or the
+    /// link is lost. Returns its item and the outcome. `None` if the outcome is not known, or no command is in flight:
+    /// then nothing is changed.
     pub fn try_finish_first<E: End>(&mut self, panel: &mut Panel<E>) -> Option<(T, Outcome)>
         ensures { SettlesFirst result self.old self.new panel.old panel.new }
     {

@@ -33,8 +33,8 @@ fn parameters_in(outcome: &Outcome) -> Result<&[u8], Trouble>
     }
 }
 
-/// Ok where the command was answered with status OK, whatever its parameters are. Faults: `Refused` with any other
-/// status; `NotSubmitted` where the link refused the command; `Lost` and `Unanswered` as the outcome says.
+/// Ok if the command was answered with the status OK, whatever its parameters are. Faults: `Refused` with the status if
+/// that is another. `NotSubmitted` if the link refused the command. `Lost` and `Unanswered` if the outcome is that.
 pub fn done_in(outcome: &Outcome) -> Result<(), Trouble>
     ensures { result ≡ done_answered outcome.now }
 {

@@ -29,12 +29,12 @@ pub struct OwnPort {
 impl OwnPort {
     ghost use Rattle.oca_panel.specs.OwnPorts.{IsPortByClock, first_handle_at, other_port, port_at};
 
-    /// The port and the first handle of the moment that the clock reads, or of the beginning of 1970 where it can't be
+    /// The ports and the first handle for the present time of day, or for the beginning of 1970 if the clock can't be
     /// read.
     ///
     /// The handle rises by 100,000 a second, faster than commands are answered, so that a session that is used again
-    /// goes on rising. It begins anew at 2,147,483,648, each six hours; the port is then the other one, whose session
-    /// is forgotten by then, since it was silent for a whole turn.
+    /// goes on rising. It starts again from 0 when it reaches 2,147,483,648, about every six hours. The port is then
+    /// the other one, whose session is forgotten by then, since it was silent for a whole turn.
     pub fn now<C: Clock>(clock: &C) -> OwnPort
         ensures clock { IsPortByClock result }
         ensures below { result.first_handle.0 < 2147483648 }
@@ -45,7 +45,11 @@ impl OwnPort {
         }
     }
 
-    /// The port and the first handle so many seconds and microseconds after the beginning of 1970.
+    /// The ports and the first handle for so many seconds and microseconds after the beginning of 1970. `microseconds`
+    /// may be any number; a million of them are a second.
+    ///
+    /// `port` is 65001 or 65002, and `other` is the other of the two. `first_handle` is below 2,147,483,648. It rises
+    /// by 100,000 a second, and starts again from 0 about every six hours, when `port` changes.
     pub fn at(seconds: u64, microseconds: u32) -> OwnPort
         ensures handle { result.first_handle.0 ≡ first_handle_at seconds microseconds }
         ensures below { result.first_handle.0 < 2147483648 }
@@ -85,8 +89,8 @@ fn handles_in(seconds: u64, microseconds: u32) -> u128
     u128::from(seconds) * 100_000 + u128::from(microseconds / 10)
 }
 
-/// Where the clock goes on, a port's handles rise, or it was not used for more than 21,474 seconds: a device forgets a
-/// session after 120.
+/// Law: while the clock goes on, the handles of a port rise, or the port was not used for more than 21,474 seconds. A
+/// device forgets a session after 120 seconds. It does nothing at run time.
 pub fn law_of_turns()
     ensures { HandlesRiseOrRest }
 {}

@@ -9,6 +9,7 @@ use oca_net::End;
 use oca_types::{Handle, Peer, Request, Span};
 use std::marker::Model;
 
+mod calling;
 mod renewal;
 
 /// A panel for one device: a link, the end that it is driven over, for how many milliseconds a command waits for its
@@ -66,13 +67,14 @@ impl<E: End> Panel<E> {
     ghost use Rattle.oca_panel.specs.Renewals.{IsFoundLost};
 
     /// A panel for the device at this address, over an end, with a new link that is made at the end's present moment.
+    /// Nothing is sent.
     ///
-    /// `first` is the handle of the first command: on a port that this device has heard before, above all handles used
-    /// there since the last pause of more than two minutes in which nothing was sent from it
-    /// ([`OwnPort`](crate::OwnPort) chooses such a handle). `span` is how far above the
-    /// lowest untaken command the next handle may lie, and so how many commands can be in flight. A command waits for
-    /// its answer for `wait` milliseconds ([`wait_while`](oca_control::wait_while)), whatever else comes to the end
-    /// meanwhile; where the device is silent the link is lost after 5 to 10.25 seconds.
+    /// `first` is the handle of the first command ([`OwnPort`](crate::OwnPort) chooses one). On a port that this device
+    /// has heard before, `first` must be above the handles used there before. Those used before a pause of more than
+    /// two minutes in which nothing was sent from the port do not count. `span` is how far above the lowest handle in
+    /// flight the next one may lie, and so how many commands can be in flight. A command waits for its answer for
+    /// `wait` milliseconds ([`wait_while`](oca_control::wait_while)), whatever else comes to the end meanwhile. If the
+    /// device is silent the link is lost after 5 to 10.25 seconds.
     pub fn open(device: Peer, end: E, first: Handle, span: Span, wait: u32) -> Panel<E>
         ensures { IsOpened device first.0 (span_size span) wait (E.state end) result }
     {
@@ -80,8 +82,8 @@ impl<E: End> Panel<E> {
         Panel::new(link, end, wait)
     }
 
-    /// A panel over a link that is there, for which nothing was asked. A command waits for its answer for `wait`
-    /// milliseconds.
+    /// A panel over a link that exists already, by which no command was waited for. A command waits for its answer for
+    /// `wait` milliseconds. Nothing is sent.
     pub fn new(link: Link, end: E, wait: u32) -> Panel<E>
         ensures { result ≡ record { link = link; end_state = E.state end; wait = wait; unanswered = false } }
     {
@@ -93,21 +95,21 @@ impl<E: End> Panel<E> {
         }
     }
 
-    /// The end.
+    /// The panel's end, to look at.
     pub fn end(&self) -> &E
         ensures { E.state result.now ≡ self.now.end_state }
     {
         &self.end
     }
 
-    /// The link, to look at.
+    /// The panel's link, to look at.
     pub fn link(&self) -> &Link
         ensures { result.now ≡ self.now.link }
     {
         &self.link
     }
 
-    /// The end, where nothing more is to be asked.
+    /// Gives the end back, and drops the panel with its link: nothing more is sent of its commands.
     pub fn into_end(self) -> E
         ensures { E.state result ≡ self.end_state }
     {
@@ -120,8 +122,8 @@ impl<E: End> Panel<E> {
         end
     }
 
-    /// Takes one turn: receives once, at a socket for at most 50 ms, and sends what is due, keep-alives too. Returns
-    /// whether it may go on: the end is not closed, and the link was found neither lost nor late.
+    /// Takes one turn: receives once, at a socket for at most 50 ms, and sends what is due, keep-alives too. `true` if
+    /// the loop may go on. `false` if the end is closed, or the link was found lost or late.
     pub fn turn(&mut self) -> bool
         ensures { TurnsOnce self.old self.new result }
     {
@@ -129,24 +131,26 @@ impl<E: End> Panel<E> {
         report.turns == 1 && !report.lost
     }
 
-    /// The earliest moment, in milliseconds, at which a turn has something to send: a loop may wait until then. `None`
-    /// where that lies beyond 64 bits.
+    /// The earliest moment, in milliseconds and not before the link's own, at which a turn has something to send, a
+    /// keep-alive included: a loop may wait until then. `None` if that moment lies beyond 64 bits. At a lost link it is
+    /// the link's own moment, though nothing is sent any more: so end the loop once [`is_lost`](Panel::is_lost) is
+    /// true.
     pub fn next_due(&self) -> Option<u64>
         ensures { MatchOption result (NeverIsDue self.now.link) (λ t. IsNextDue self.now.link t) }
     {
         self.link.next_due()
     }
 
-    /// The moment, in milliseconds, at which the last well-formed datagram came from the device, and at first that of
-    /// the link's making.
+    /// The moment, in milliseconds, at which the last well-formed datagram came from the device. Until one came, the
+    /// moment at which the link was made.
     pub fn last_heard(&self) -> u64
         ensures { result ≡ self.now.link.heard }
     {
         self.link.last_heard()
     }
 
-    /// Whether the link is lost, or is late at the end's present moment: then it sends nothing any more, and a new
-    /// panel is to be opened.
+    /// Whether the link is lost, or is late at the end's present moment (a command is unanswered for more than 15,000
+    /// ms). Then open a new panel, or call [`renew`](Panel::renew).
     pub fn is_lost(&self) -> bool
         ensures { IsFoundLost self.now result }
     {
@@ -154,8 +158,8 @@ impl<E: End> Panel<E> {
         self.link.is_lost() || is_late(&self.link, now)
     }
 
-    /// The lowest handle whose answer came and was not taken yet; `None` where there is none. So a program finds the
-    /// answer to a command that a call gave up: `try_finish` takes it.
+    /// The lowest handle whose answer came and was not taken yet; `None` if there is none. So a program finds the
+    /// answer to a command that a call gave up: [`try_finish`](Panel::try_finish) takes it.
     pub fn answered(&self) -> Option<Handle>
         ensures { option_map (λ h. h.0) result ≡ first_answered self.now.link.untaken }
     {
@@ -169,16 +173,20 @@ impl<E: End> Panel<E> {
         self.link.next_handle()
     }
 
-    /// Whether a command that was waited for got no answer so far.
+    /// Whether a wait for a command of this panel ended with `Lost` or `Unanswered`, at any time since the panel was
+    /// made. It stays `true` also if the answer comes later.
     pub fn unanswered(&self) -> bool
         ensures { result ≡ self.now.unanswered }
     {
         self.unanswered
     }
 
-    /// Asks for one command, and waits for its answer. `Refused` where the link refuses it, so that it is never sent:
-    /// that changes nothing. Where no answer comes in the panel's time, the command stays in flight, under the handle
-    /// that [`next_handle`](Panel::next_handle) told before, and takes room in the span until its answer is taken.
+    /// Submits one command, sends it at once, and waits for its answer, for the panel's `wait` milliseconds.
+    ///
+    /// `Answered` with the answer, whatever its status. `Refused` if the link refuses the command
+    /// ([`begin`](Panel::begin)): then nothing is changed or sent. `Lost` if the link is lost or late. `Unanswered` if
+    /// no answer comes in that time: the command then stays in flight, under the handle that
+    /// [`next_handle`](Panel::next_handle) told before, and takes room in the span until its answer is taken.
     pub fn ask(&mut self, request: Request<'_>) -> Outcome
         ensures { AsksIn (request_of request.entry) self.old self.new result }
     {
@@ -188,17 +196,20 @@ impl<E: End> Panel<E> {
         }
     }
 
-    /// Submits a command and sends it at once, unless the link is found lost at that, and returns its handle, for
-    /// [`finish`](Panel::finish) or [`InFlight::push`](crate::InFlight::push). Refusals, which change nothing: those of
-    /// `begin` of `oca_control`.
+    /// Submits a command and sends it at once, and returns its handle, for [`finish`](Panel::finish) or
+    /// [`InFlight::push`](crate::InFlight::push). It is not sent if the link is found lost at that. Refusals, which
+    /// change and send nothing: `Lost` if the link is lost or late, `HandlesSpent` after the handle 4294967295. Then
+    /// `SpanFull` if the next handle is not within the span, `TooLong` if the parameters have more than 1,445 bytes.
     pub fn begin(&mut self, request: Request<'_>) -> Result<Handle, ControlFault>
         ensures { BeginsIn (request_of request.entry) result self.old self.new }
     {
         begin(&mut self.link, &mut self.end, request)
     }
 
-    /// Waits for the answer under this handle. Where none comes in the panel's time, the command stays in flight and
-    /// can be waited for again.
+    /// Waits for the answer under this handle, for the panel's `wait` milliseconds, and takes it. `Answered` with the
+    /// answer, whatever its status. `Lost` if the link is lost or late. `Unanswered` if no answer comes in that time,
+    /// and for a handle that no command has. After `Unanswered` the command stays in flight and can be waited for
+    /// again.
     pub fn finish(&mut self, handle: Handle) -> Outcome
         ensures { FinishesIn handle.0 self.old self.new result }
     {
@@ -207,8 +218,9 @@ impl<E: End> Panel<E> {
         outcome
     }
 
-    /// How the command under this handle fared, where that is known without a turn: its answer, which is taken then, or
-    /// that the link is lost. `None` changes nothing.
+    /// The outcome of the command under this handle, if it is known without a turn: `Answered` with its answer, which
+    /// is then taken, or `Lost` if the link is lost. It does not wait. `None` if neither is so: then nothing is
+    /// changed.
     pub fn try_finish(&mut self, handle: Handle) -> Option<Outcome>
         ensures { MaySettle result handle.0 self.old self.new }
     {

@@ -19,7 +19,8 @@ pub enum Trouble {
     NotSubmitted(ControlFault),
     /// The link is lost: the command may have been carried out, or not.
     Lost,
-    /// No answer came in the time that a command waits.
+    /// No answer came within the time that the panel waits for a command. The command stays in flight: it is still sent,
+    /// may still be carried out, and takes a place of the span until its answer is taken.
     Unanswered,
 }
 
@@ -29,7 +30,8 @@ impl Display for Trouble {
 
     ghost output = { λ trouble. Some (trouble_words trouble) };
 
-    /// Writes it in words.
+    /// Writes it in words: a refusal as the name of its status, or as `status` and its number, 0 to 255, if it has no
+    /// name (AES70-2). Fails only if the writer fails.
     fn fmt<W: fmt::Write>(&self, f: &mut Formatter<W>) -> fmt::Result {
         match self {
             Trouble::Refused(status) => match status_name(*status) {

@@ -35,7 +35,7 @@ impl<E: End + Drop> Drop for Watched<E> {
 impl<E: End> Watched<E> {
     ghost use Rattle.std.specs.Prelude.{◌≡◌, None};
 
-    /// An end of which nothing was heard from the peer so far.
+    /// An end that notes when it hears this peer, and has not heard the peer so far.
     pub fn new(end: E, peer: Peer) -> Watched<E>
         ensures { result ≡ record { end_state = E.state end; peer = peer; heard = None } }
     {
@@ -46,21 +46,22 @@ impl<E: End> Watched<E> {
         }
     }
 
-    /// The end.
+    /// The end inside, to look at.
     pub fn end(&self) -> &E
         ensures { E.state result.now ≡ self.now.end_state }
     {
         &self.end
     }
 
-    /// When the peer was last heard, where it was.
+    /// The moment, in milliseconds of the end's clock, at which the last datagram came from the peer. `None` if none
+    /// came since the making or the last [`forget`](Watched::forget).
     pub fn heard(&self) -> Option<u64>
         ensures { result ≡ self.now.heard }
     {
         self.heard
     }
 
-    /// Begins again: the peer was not heard so far.
+    /// Notes that the peer was not heard so far. The end stays as it is.
     pub fn forget(&mut self)
         ensures { self.new ≡ record self.old { heard = None } }
     {

@@ -152,9 +152,11 @@ fn check_all(bytes: &[u8]) -> Result<(), PduFault>
 }
 
 /// Checks that the bytes are a well-formed datagram: one or more PDUs (AES70-3), of at most 1,472 bytes together
-/// (profile). Refuses any other bytes, and names the first check that fails and its offset. The order of the checks is:
-/// the number of bytes; in each PDU sync, ProtocolVersion, PduSize, PduType and MessageCount; then the sizes of its
-/// messages.
+/// (*profile*). Nothing is copied: the result borrows the bytes.
+///
+/// Refusal: a [`PduFault`] that names the first check that fails, and its offset in bytes. The checks are in this
+/// order: the number of bytes; in each PDU sync, ProtocolVersion, PduSize, PduType and MessageCount; then the sizes of
+/// its messages.
 pub fn check(bytes: &[u8]) -> Result<Datagram<'_>, PduFault>
     ensures found { IfOk result
         (λ d. (ps : List Pdu) × IsDatagram ps bytes.now × (datagram_messages d ≡ flat_map messages_of ps)) }

@@ -7,7 +7,7 @@ ghost use Rattle.oca_pdu.specs.Reading.{least_size, message_in, content_of, keep
 use crate::message::{COMMAND_BYTES, Content, Form, Kind, Message, RESPONSE_BYTES};
 use oca_types::{Command, Handle, MethodId, Ono};
 
-/// The number in two bytes, the highest first. A `Cursor` would look once more whether there are two.
+/// The number in two bytes, the highest first. There must be exactly two bytes (a premise).
 pub fn u16_in(bytes: &[u8]) -> u16
     requires { length bytes.now ≡ 2 }
     ensures { result ≡ from_be_bytes w16 bytes.now }
@@ -15,7 +15,7 @@ pub fn u16_in(bytes: &[u8]) -> u16
     u16::from_be_bytes([bytes[0], bytes[1]])
 }
 
-/// The number in four bytes, the highest first. A `Cursor` would look once more whether there are four.
+/// The number in four bytes, the highest first. There must be exactly four bytes (a premise).
 pub fn u32_in(bytes: &[u8]) -> u32
     requires { length bytes.now ≡ 4 }
     ensures { result ≡ from_be_bytes w32 bytes.now }
@@ -23,7 +23,7 @@ pub fn u32_in(bytes: &[u8]) -> u32
     u32::from_be_bytes([bytes[0], bytes[1], bytes[2], bytes[3]])
 }
 
-/// The least size of a message.
+/// The least size of a message of this kind, in bytes: 17 for a command, 10 for a response.
 pub fn least(kind: Kind) -> usize
     ensures { result ≡ least_size kind }
 {
@@ -33,7 +33,7 @@ pub fn least(kind: Kind) -> usize
     }
 }
 
-/// What a PDU of this PduType holds.
+/// What a PDU of this PduType holds. `None` for any type but 0, 1, 3 and 4.
 pub fn content(pdu_type: u8) -> Option<Content>
     ensures { result ≡ content_of pdu_type }
 {
@@ -46,7 +46,8 @@ pub fn content(pdu_type: u8) -> Option<Content>
     }
 }
 
-/// The message that is all of the bytes.
+/// The message of this kind that is all of the bytes. There must be at least as many bytes as [`least`] says (a
+/// premise).
 pub fn read_message(kind: Kind, bytes: &[u8]) -> Message<'_>
     requires { least_size kind ≤ length bytes.now }
     ensures { msg_of result ≡ message_in kind bytes.now }
@@ -78,7 +79,8 @@ pub fn read_message(kind: Kind, bytes: &[u8]) -> Message<'_>
     }
 }
 
-/// The time of a keep-alive.
+/// The heartbeat of a keep-alive, which is all of the bytes: two are seconds, four are milliseconds. They must be those
+/// of a well-formed keep-alive (a premise).
 pub fn read_form(bytes: &[u8]) -> Form
     requires { IsTrue (is_ok (keep_alive_at 0 bytes.now)) }
     ensures { keep_alive_at 0 bytes.now ≡ Ok (msg_of (Message.KeepAlive result) ∷ []) }

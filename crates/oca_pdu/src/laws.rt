@@ -2,33 +2,34 @@
 ghost use Rattle.oca_pdu.specs.Laws.{OneListOfMessages, OneFirstFault, NoFaultOfADatagram, DatagramOrFault};
 ghost use Rattle.oca_pdu.specs.Laws.{ReadingIsExact, WrittenIsReadBack};
 
-/// Bytes are the encodings of one list of messages at most.
+/// Law: bytes are the encoding of at most one list of messages. It does nothing at run time.
 pub fn law_one_list_of_messages()
     ensures { OneListOfMessages }
 {}
 
-/// Bytes have one first fault at most.
+/// Law: bytes have at most one first fault. It does nothing at run time.
 pub fn law_one_first_fault()
     ensures { OneFirstFault }
 {}
 
-/// No bytes are a datagram and have a first fault.
+/// Law: bytes that are a datagram have no first fault. It does nothing at run time.
 pub fn law_no_fault_of_a_datagram()
     ensures { NoFaultOfADatagram }
 {}
 
-/// Bytes are a datagram or have a first fault.
+/// Law: bytes are a datagram or have a first fault. It does nothing at run time.
 pub fn law_datagram_or_fault()
     ensures { DatagramOrFault }
 {}
 
-/// Reading gives exactly the messages of a datagram, and exactly the first fault of other bytes.
+/// Law: reading gives exactly the messages of a datagram, and exactly the first fault of other bytes. It does nothing
+/// at run time.
 pub fn law_reading()
     ensures { ReadingIsExact }
 {}
 
-/// Law: where the PDUs before it and one more PDU together are a datagram, reading it gives the messages of the PDUs
-/// before and then those of that PDU. It does nothing at run time.
+/// Law: take PDUs and one more PDU that together are a datagram. Reading that datagram gives the messages of the PDUs
+/// before and then those of the PDU added. It does nothing at run time.
 pub fn law_written_is_read_back()
     ensures { WrittenIsReadBack }
 {}

@@ -35,8 +35,8 @@ fn put(packet: &mut Packet, bytes: &[u8])
     }
 }
 
-/// Appends a PDU of one command (AES70-3), of type 1 where it asks for a response. Refusal: `TooLong` where the packet
-/// would pass 1,472 bytes, and the packet is unchanged.
+/// Appends a PDU of one command (AES70-3) to the packet: of type 1 if `respond` asks for a response, else of type 0.
+/// Refusal: `TooLong` if the packet would have more than 1,472 bytes; then the packet is unchanged.
 pub fn write_command(
     packet: &mut Packet,
     respond: bool,
@@ -80,8 +80,8 @@ fn command_front(respond: bool, command: &Command) -> [u8; 27]
     ]
 }
 
-/// Appends a PDU of one response (AES70-3). Refusal: `TooLong` where the packet would pass 1,472 bytes, and the packet
-/// is unchanged.
+/// Appends a PDU of one response (AES70-3) to the packet. Refusal: `TooLong` if the packet would have more than 1,472
+/// bytes; then the packet is unchanged.
 pub fn write_response(packet: &mut Packet, handle: Handle, reply: &Reply) -> Result<(), WriteFault>
     ensures room { let pdu = Responses (response_with handle reply.now ∷ []) in
         IsOk result ↔ (length packet.old.items + length (pdu_encoding pdu) ≤ largest_datagram) }
@@ -102,8 +102,8 @@ pub fn write_response(packet: &mut Packet, handle: Handle, reply: &Reply) -> Res
     Ok(())
 }
 
-/// Writes a PDU of one response (AES70-3) in the place of all that the packet held. It always fits, since a reply has
-/// at most 1,452 bytes of parameters. Where the packet has as many bytes already, they are written over.
+/// Replaces all that the packet held by a PDU of one response (AES70-3). The response always fits, since a reply has at
+/// most 1,452 bytes of parameters. If the packet had as many bytes before, none is cleared first.
 #[inline(always)]
 pub fn replace_response(packet: &mut Packet, handle: Handle, reply: &Reply)
     ensures bytes { packet.new.items ≡ pdu_encoding (Responses (response_with handle reply.now ∷ [])) }
@@ -180,7 +180,8 @@ fn raise_header(pdu: &mut [u8], size: u32)
     pdu[8..10].copy_from_slice(&count.to_be_bytes());
 }
 
-/// Whether the PDU that a packet holds is of responses (AES70-3), so that [`extend_response`] may add one.
+/// Whether the PDU that the packet holds is one of responses (AES70-3), so that [`extend_response`] may add one;
+/// `false` for an empty packet. Only the first PDU of the packet is looked at.
 #[inline(always)]
 pub fn holds_responses(packet: &Packet) -> bool
     ensures { (p : Pdu) → packet.now.items ≡ pdu_encoding p → result ≡ is_of_responses p }
@@ -188,9 +189,9 @@ pub fn holds_responses(packet: &Packet) -> bool
     packet.as_slice().get(PDU_TYPE_AT) == Some(&RESPONSES)
 }
 
-/// Appends a response to the PDU of responses that the packet holds (AES70-3): the response, PduSize and MessageCount
-/// are those of one PDU with all of them, the new one last. Refusal: `TooLong` where the packet would pass 1,472 bytes,
-/// and the packet is unchanged.
+/// Adds a response to the PDU of responses that the packet holds (AES70-3): then it is one PDU with all of them, the
+/// new one last. The packet must hold a PDU of responses before (a premise; [`holds_responses`]). Refusal: `TooLong` if
+/// the packet would have more than 1,472 bytes; then the packet is unchanged.
 #[inline(always)]
 pub fn extend_response(packet: &mut Packet, handle: Handle, reply: &Reply) -> Result<(), WriteFault>
     requires { HoldsResponses packet.old.items }
@@ -216,8 +217,8 @@ pub fn extend_response(packet: &mut Packet, handle: Handle, reply: &Reply) -> Re
     Ok(())
 }
 
-/// Appends a PDU of one keep-alive (AES70-3). Refusal: `TooLong` where the packet would pass 1,472 bytes, and the
-/// packet is unchanged.
+/// Appends a PDU of one keep-alive (AES70-3) to the packet. Refusal: `TooLong` if the packet would have more than 1,472
+/// bytes; then the packet is unchanged.
 pub fn write_keepalive(packet: &mut Packet, form: Form) -> Result<(), WriteFault>
     ensures room { IsOk result
         ↔ (length packet.old.items + length (pdu_encoding (OneKeepAlive form)) ≤ largest_datagram) }

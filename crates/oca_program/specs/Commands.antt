@@ -1,16 +1,24 @@
 -- What a program takes on its command line, how matching words with that ends, and the command that matched words name.
-use Rattle.std.specs.Prelude.{◌≡◌, ℕ, List, [], ◌∷◌, false, true, Option, Some, None, Result, Ok, Err}
+use Rattle.std.specs.Prelude.{◌≡◌, ℕ, Bool, List, [], ◌∷◌, false, true, map, Option, Some, None, Result, Ok, Err}
 use Rattle.std.specs.Option.{option_map}
-use Rattle.clap.specs.declared.builder.action.ArgAction.TheVariants.{Set, SetTrue}
+use Rattle.clap.specs.declared.builder.action.ArgAction.TheVariants.{Append, Set, SetTrue}
 use Rattle.clap.specs.declared.builder.command.Command.{Command}
+use Rattle.clap.specs.declared.builder.command.Command.TheViews.{out-Command}
 use Rattle.clap.specs.declared.error.Error.{Error}
 use Rattle.clap.specs.declared.parser.matches.ArgMatches.{ArgMatches}
 use Rattle.clap.specs.Faults.{fault_of}
 use Rattle.clap.specs.Kinds.{HasKind}
+use Rattle.clap.specs.Lexer.{usize_max}
 use Rattle.clap.specs.Matches.{found_of, has_subcommand, subcommand_name_of}
-use Rattle.clap.specs.Simple.{App, Shape, app_of, matches_of, new_rule, new_shape, with_rule}
-use Rattle.clap.specs.Simple.{subcommand_of, subcommand_rows_of}
+use Rattle.clap.specs.Simple.{App, Shape, app_of, matches_of, new_app, new_rule, on_top, subcommand_of}
+use Rattle.clap.specs.Simple.{subcommand_rows_of, with_rule, with_subcommand}
 use Rattle.clap.specs.Walk.{Rule, rows_of}
+use Rattle.oca_program.specs.declared.form.Form.{Form}
+use Rattle.oca_program.specs.declared.form.Form.TheVariants as form
+use Rattle.oca_program.specs.declared.table.CommandRow.{CommandRow}
+use Rattle.oca_program.specs.declared.table.Kind.{Kind}
+use Rattle.oca_program.specs.declared.table.Kind.TheVariants as kind
+use Rattle.oca_program.specs.declared.table.OptionRow.{OptionRow}
 
 -- ---- what a program takes
 
@@ -24,18 +32,89 @@ required_rule name = record (option_rule name) { required = true }
 abbrev pub flag_rule : List ℕ → Rule
 flag_rule name = record (new_rule name) { long = Some name; action = Some SetTrue }
 
--- a command of this name that takes these, and no further command
-abbrev pub command_shape : List ℕ → List Rule → Shape
-command_shape name rules = record (new_shape name) { rules = rules }
+-- the words behind the options, one or more
+abbrev pub words_rule : List ℕ → Rule
+words_rule name =
+    record (new_rule name) {
+      action = Some Append;
+      range = Some (record { start_inclusive = 1; end_inclusive = usize_max });
+      value_names = 1;
+      required = true;
+    }
+
+abbrev pub rule_by : Kind → List ℕ → Rule
+rule_by kind.Required name = required_rule name
+rule_by kind.Optional name = option_rule name
+rule_by kind.Flag name = flag_rule name
+rule_by kind.Words name = words_rule name
+
+-- AN OPTION: its name, what it is, and the form of its value
+pub record OptionFields : Type 0 where
+  pub name : List ℕ
+  pub kind : Kind
+  pub form : Form
+
+abbrev pub row_fields : OptionRow → OptionFields
+row_fields row = record { name = row.name.now; kind = row.kind; form = row.form }
+
+abbrev pub row_rule : OptionFields → Rule
+row_rule row = rule_by row.kind row.name
+
+-- an option with a value of a form, with any text as its value, one that must be given, and a flag
+abbrev pub with_form : List ℕ → Form → OptionFields
+with_form name f = record { name = name; kind = kind.Optional; form = f }
+
+abbrev pub with_text : List ℕ → OptionFields
+with_text name = with_form name form.Text
+
+abbrev pub needed : List ℕ → Form → OptionFields
+needed name f = record { name = name; kind = kind.Required; form = f }
+
+abbrev pub a_flag : List ℕ → OptionFields
+a_flag name = record { name = name; kind = kind.Flag; form = form.Text }
+
+-- A COMMAND: its name and its options
+pub record CommandRows : Type 0 where
+  pub name : List ℕ
+  pub options : List OptionFields
+
+abbrev pub command_fields : CommandRow → CommandRows
+command_fields row = record { name = row.name.now; options = map row_fields row.options.now }
 
 -- a command that takes these as well, behind its own
 abbrev pub with_rules : App → List Rule → App
 with_rules app [] = app
 with_rules app (rule ∷ rules) = with_rules (with_rule app rule) rules
 
--- the new command is the old one that takes these as well
-abbrev pub AddsRules : List Rule → Command → Command → Type 0
-AddsRules rules old new = app_of new ≡ with_rules (app_of old) rules
+-- the command of this name that takes these options, and no further command
+abbrev pub row_app : CommandRows → App
+row_app row = with_rules (new_app row.name) (map row_rule row.options)
+
+abbrev pub row_command : CommandRows → Shape
+row_command row = (row_app row).top
+
+-- a program with these commands as well
+abbrev pub with_shapes : App → List Shape → App
+with_shapes app [] = app
+with_shapes app (shape ∷ shapes) = with_shapes (with_subcommand app shape) shapes
+
+-- a program with a version, without its commands
+abbrev pub bare_program : CommandRows → App
+bare_program row = on_top (λ s. record s { has_version = true }) (row_app row)
+
+-- THE COMMAND LINE of a program with these commands, one of which must be given
+abbrev pub program_app : CommandRows → List CommandRows → App
+program_app row commands =
+    with_shapes (on_top (λ s. record s { subcommand_required = true }) (bare_program row)) (map row_command commands)
+
+-- no argument of a command counts for the commands below it
+abbrev pub IsOwn : Command → Type 0
+IsOwn command = (out-Command command).has_globals ≡ false
+
+-- a command takes just these
+pub record TakesApp (app : App) (command : Command) : Type 0 where
+  pub takes : app_of command ≡ app
+  pub own : IsOwn command
 
 -- ---- how matching ends
 

@@ -3,3 +3,4 @@ pub mod Faults
 pub mod Options
 pub mod Sockets
 pub mod Notes
+pub mod Endings

@@ -1,6 +1,8 @@
 -- What the options of a command line say (*profile*).
-use Rattle.std.specs.Prelude.{ℕ, ◌==◌, List, Option, Some, None, is_some, nat_le, nat_lt, Bool, false, not, length}
-use Rattle.std.specs.Prelude.{◌&&◌, ◌||◌, if◌then◌else◌}
+use Rattle.std.specs.Prelude.{ℕ, ◌==◌, ◌≤◌, List, Option, Some, None, is_none, is_some, nat_le, nat_lt, Bool, false, true, not, length}
+use Rattle.std.specs.Prelude.{◌&&◌, ◌||◌, codes, if◌then◌else◌}
+use Rattle.std.specs.List.{find}
+use Rattle.std.specs.Str.{bytes_eq}
 use Rattle.std.specs.Option.{option_map}
 use Rattle.clap.specs.declared.parser.matches.ArgMatches.{ArgMatches}
 use Rattle.clap.specs.Words.{found_of, first_value}
@@ -8,7 +10,7 @@ use Rattle.oca_types.specs.declared.words.Peer.{Peer}
 use Rattle.oca_script.specs.Fields.{number_of, address_of, peer_of, hex_of, then_in}
 use Rattle.oca_program.specs.declared.form.Form.{Form}
 use Rattle.oca_program.specs.declared.form.Form.TheVariants as form
-use Rattle.oca_program.specs.declared.form.Rule.{Rule}
+use Rattle.oca_program.specs.Commands.{OptionFields}
 
 -- the text that the words give for an option, where they give it
 unfoldable pub given : ArgMatches → List ℕ → Option (List ℕ)
@@ -66,11 +68,49 @@ has_form form.Host text = is_some (host_of text)
 has_form form.Own text = is_some (own_of text)
 has_form form.AnyPeer text = is_some (peer_of text)
 has_form form.Bytes text = nat_le (length text) 2890 && is_some (hex_of text)
+has_form form.Text text = true
 
 abbrev pub is_unlike : Form → Option (List ℕ) → Bool
 is_unlike f None = false
 is_unlike f (Some text) = not (has_form f text)
 
 -- whether an option is given whose text is not of its form
-abbrev pub breaks : ArgMatches → Rule → Bool
-breaks words rule = is_unlike rule.form (given words rule.name.now)
+abbrev pub breaks : ArgMatches → OptionFields → Bool
+breaks words row = is_unlike row.form (given words row.name)
+
+-- NONE OF THESE OPTIONS is given with a text that is not of its form.
+abbrev pub fits : ArgMatches → List OptionFields → Bool
+fits words rows = is_none (find (breaks words) rows)
+
+-- ---- what an option says
+
+-- the number that a text of a form says
+abbrev pub at_least : ℕ → ℕ → Option ℕ
+at_least least n = if nat_le least n then Some n else None
+
+abbrev pub number_by : Form → List ℕ → Option ℕ
+number_by (form.Number digits least largest) text = then_in (number_of digits largest text) (at_least least)
+number_by other text = None
+
+-- the number, the address of a socket, or the text that an option says, where it is given and has its form
+abbrev pub number_said : ArgMatches → OptionFields → Option ℕ
+number_said words row = read_as (number_by row.form) (given words row.name)
+
+abbrev pub own_said : ArgMatches → OptionFields → Option ℕ
+own_said words row = read_as own_of (given words row.name)
+
+abbrev pub text_said : ArgMatches → OptionFields → Option (List ℕ)
+text_said words row = given words row.name
+
+-- a number that a form allows
+abbrev pub IsInForm : Form → ℕ → Type 0
+IsInForm (form.Number digits least largest) n = (least ≤ n) × (n ≤ largest)
+IsInForm other n = ⊥
+
+-- whether a flag stands among the words: its text is then `true`
+abbrev pub is_true : Option (List ℕ) → Bool
+is_true None = false
+is_true (Some text) = bytes_eq text (codes "true")
+
+abbrev pub has_flag : ArgMatches → OptionFields → Bool
+has_flag words row = is_true (given words row.name)

@@ -42,7 +42,7 @@ pub enum RunFault {
 }
 
 impl RunFault {
-    /// The exit status: 2 for what was asked wrongly, 1 for what could not be done.
+    /// The exit status: 2 for `BadWords`, `Line` and `Object`, and 1 for the others.
     pub fn status(self) -> u8
         ensures { result ≡ fault_status self }
     {
@@ -66,7 +66,7 @@ pub struct Failure {
 }
 
 impl Failure {
-    /// The fault, of which this is known.
+    /// The failure of this fault, with a note that says more.
     pub fn noted(fault: RunFault, note: String) -> Failure
         ensures fault { result.fault ≡ fault }
         ensures note { result.note ≡ Some note }
@@ -77,7 +77,7 @@ impl Failure {
         }
     }
 
-    /// The fault, with this note where there is memory for it.
+    /// The failure of this fault, with this note, which is copied; without a note if there is no memory for the copy.
     pub fn told(alloc: Global, fault: RunFault, note: &str) -> Failure
         ensures { result.fault ≡ fault }
     {
@@ -88,9 +88,9 @@ impl Failure {
     }
 }
 
-/// Prints why a run fails, and flushes it: a line that begins with `note: ` where more is known (one of more than
-/// 1,000 bytes is left out), and then the fault's own, which is the last. Returns the exit status, also where that
-/// can't be written.
+/// Prints why a run fails, and writes all that the printer holds. First comes a line that begins with `note: `, if more
+/// is known; a note of more than 1,000 bytes is left out. The last line is the fault's own. Returns the exit status, 1
+/// or 2, also if that can't be written.
 pub fn report<F: Sink>(failure: &Failure, faults: &mut Printer<F>) -> u8
     ensures status { result ≡ fault_status failure.now.fault }
     ensures lines { (end : Result Unit Failed) × WritesOut end faults.old faults.new (failure_text failure.now) }
@@ -99,8 +99,8 @@ pub fn report<F: Sink>(failure: &Failure, faults: &mut Printer<F>) -> u8
     failure.fault.status()
 }
 
-/// Prints a line that begins with `note: `, the first of the text, and flushes it, as far as the writes go. One of
-/// more than 1,000 bytes is left out.
+/// Prints a line that begins with `note: ` and has the first line of the text, and writes all that the printer holds. A
+/// line of more than 1,000 bytes is left out. A failed write is no fault.
 pub fn print_note<F: Sink>(note: &str, faults: &mut Printer<F>)
     ensures { (written : Result Unit Failed) × WritesOut written faults.old faults.new (note_text note.now) }
 {

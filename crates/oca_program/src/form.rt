@@ -1,13 +1,15 @@
 //! The forms of options, and the note on an option whose value is not of its form.
-ghost use Rattle.std.specs.Prelude.{◌≡◌};
+ghost use Rattle.std.specs.Prelude.{◌≡◌, ◌≤◌, IfErr, IfSome, is_ok, map};
 ghost use Rattle.std.specs.List.{find};
 ghost use Rattle.std.specs.Option.{option_copied};
+ghost use Rattle.oca_program.specs.Commands.{row_fields};
 ghost use Rattle.oca_program.specs.Options.{host_of, own_of, is_host as is_host_address, has_form};
-ghost use Rattle.oca_program.specs.Options.{breaks as breaks_rule};
+ghost use Rattle.oca_program.specs.Options.{IsInForm, breaks as breaks_form, fits, number_by};
 ghost use Rattle.oca_program.specs.declared.fault.RunFault.TheVariants.{BadWords};
 
 use super::fault::{Failure, RunFault};
 use super::options::text_of;
+use super::table::OptionRow;
 use clap::ArgMatches;
 use oca_script::field::{address, hex_bytes, number, peer};
 use oca_types::{MOST_COMMAND_PARAMETER_BYTES, Peer};
@@ -30,13 +32,8 @@ pub enum Form {
     AnyPeer,
     /// At most 1,445 bytes in hexadecimal, `-` for none.
     Bytes,
-}
-
-/// An option's name, and the form of its value.
-#[derive(Clone, Copy, PartialEq, Eq, Debug)]
-pub struct Rule {
-    pub name: &'static str,
-    pub form: Form,
+    /// Any text.
+    Text,
 }
 
 impl Form {
@@ -57,8 +54,34 @@ impl Form {
             Form::Own => own(text).is_some(),
             Form::AnyPeer => peer(text).is_some(),
             Form::Bytes => are_bytes(text),
+            Form::Text => true,
         }
     }
+
+    /// The number that a text of this form writes. `None` if the text is not of this form, or this is no form of a
+    /// number.
+    pub fn number(self, text: &[u8]) -> Option<u64>
+        ensures value { result ≡ number_by self text.now }
+        ensures within { IfSome result (IsInForm self) }
+    {
+        match self {
+            Form::Number {
+                digits,
+                least,
+                largest,
+            } => number_from(text, digits, least, largest),
+            _ => None,
+        }
+    }
+}
+
+/// The number of 1 to so many digits that a text says, from the one to the other.
+fn number_from(text: &[u8], digits: usize, least: u64, largest: u64) -> Option<u64>
+    ensures value { result ≡ number_by (Form.Number digits least largest) text.now }
+    ensures within { IfSome result (λ n. (least ≤ n) × (n ≤ largest)) }
+{
+    let said = number(text, digits, largest)?;
+    if least <= said { Some(said) } else { None }
 }
 
 /// Whether a text is at most 1,445 bytes in hexadecimal, or `-`.
@@ -100,32 +123,40 @@ pub(crate) fn own(text: &[u8]) -> Option<u32>
     }
 }
 
-/// Whether an option is given whose value is not of its form.
-pub fn breaks(words: &ArgMatches<'_>, rule: &Rule) -> bool
-    ensures { result ≡ breaks_rule words.now rule.now }
+/// Whether an option is given whose value is not of its form; `false` if it is not given.
+pub fn breaks(words: &ArgMatches<'_>, row: &OptionRow) -> bool
+    ensures { result ≡ breaks_form words.now (row_fields row.now) }
 {
-    match text_of(words, rule.name) {
-        Some(text) => !rule.form.takes(text.as_bytes()),
+    match text_of(words, row.name) {
+        Some(text) => !row.form.takes(text.as_bytes()),
         None => false,
     }
 }
 
-/// The first of these rules that the words break.
-pub fn first_broken<'r>(words: &ArgMatches<'_>, rules: &'r [Rule]) -> Option<&'r Rule>
-    ensures { option_copied result ≡ find (breaks_rule words.now) rules.now }
+/// The first of these options that is given with a value that is not of its form. `None` if there is none.
+pub fn first_broken<'r>(words: &ArgMatches<'_>, rows: &'r [OptionRow]) -> Option<&'r OptionRow>
+    ensures { option_copied result ≡ find (λ row. breaks_form words.now (row_fields row)) rows.now }
 {
-    rules.iter().find(|rule| breaks(words, rule))
+    rows.iter().find(|row| breaks(words, row))
 }
 
-/// Bad words: an option's value is not of its form. The note names the first such option of these rules with its value
-/// and its form; where there is none, it is the other text.
-pub fn bad_option(alloc: Global, words: &ArgMatches<'_>, rules: &[Rule], other: &str) -> Failure
+/// Checks that each of these options that is given has its form. Failure: `BadWords` if one has not, with a note that
+/// names the first such option, its value and its form, if there is memory for the note.
+pub fn check(alloc: Global, words: &ArgMatches<'_>, rows: &[OptionRow]) -> Result<(), Failure>
+    ensures ok { is_ok result ≡ fits words.now (map row_fields rows.now) }
+    ensures err { IfErr result (λ failure. failure.fault ≡ BadWords) }
+{
+    match first_broken(words, rows) {
+        Some(row) => Err(bad_value(alloc, words, row)),
+        None => Ok(()),
+    }
+}
+
+/// Bad words: the value of this option is not of its form, as the note says, where there is memory for it.
+fn bad_value(alloc: Global, words: &ArgMatches<'_>, row: &OptionRow) -> Failure
     ensures { result.fault ≡ BadWords }
 {
-    let Some(rule) = first_broken(words, rules) else {
-        return Failure::told(alloc, RunFault::BadWords, other);
-    };
-    match note_of(alloc, *rule, text_of(words, rule.name).unwrap_or("")) {
+    match note_of(alloc, row, text_of(words, row.name).unwrap_or("")) {
         Ok(note) => Failure::noted(RunFault::BadWords, note),
         Err(_) => Failure::from(RunFault::BadWords),
     }
@@ -135,9 +166,9 @@ pub fn bad_option(alloc: Global, words: &ArgMatches<'_>, rules: &[Rule], other: 
 const MOST_SHOWN: usize = 200;
 
 /// The note on an option's value that is not of its form; one of more than 200 bytes is not repeated.
-fn note_of(alloc: Global, rule: Rule, value: &str) -> Result<String, AllocError> {
-    let name = rule.name;
-    let form = words_for(alloc, rule.form)?;
+fn note_of(alloc: Global, row: &OptionRow, value: &str) -> Result<String, AllocError> {
+    let name = row.name;
+    let form = words_for(alloc, row.form)?;
     let form = form.as_str();
     if value.len() > MOST_SHOWN {
         return format!(in alloc; "--{name} is not valid: it must be {form}");
@@ -166,5 +197,6 @@ fn words_for(alloc: Global, form: Form) -> Result<String, AllocError> {
             alloc,
             "an even number of hexadecimal digits, 2 to 2890, or -",
         ),
+        Form::Text => String::from_str(alloc, "a text"),
     }
 }

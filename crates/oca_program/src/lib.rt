@@ -1,20 +1,25 @@
 //! What the programs over the two ends have in common: why a run fails, with its exit status and what is printed of it,
 //! and the words of a command line.
 //!
-//! A program's `main` takes its words by [`words_of`], and prints a [`Failure`] by [`report`]. [`options`] reads the
-//! values of the options that `clap` has found; [`socket`] binds an end.
+//! A program's `main` takes its words by [`words_of`], and prints a [`Failure`] by [`report`]. [`table`] has the rows of
+//! a command line; [`options`] reads the values of the options that `clap` has found; [`ending`] ends a run; [`socket`]
+//! binds an end.
 #![tactic(auto)]
 
+pub mod ending;
 pub mod fault;
 pub mod form;
 pub mod options;
 mod other_port;
 pub mod socket;
 pub mod start;
+pub mod table;
 mod version;
 
+pub use ending::{helped, replayed, status_of, written};
 pub use fault::{Failure, RunFault, print_note, report};
-pub use form::{Form, Rule};
+pub use form::Form;
 pub use other_port::note_other_port;
 pub use start::words_of;
+pub use table::{CommandRow, Kind, OptionRow};
 pub use version::VERSION;

@@ -1,75 +1,59 @@
 //! The values of options.
-ghost use Rattle.std.specs.Prelude.{◌≡◌, ◌≤◌, ◌∷◌, [], false, true, IfSome, IfErr, IfOk};
+ghost use Rattle.std.specs.Prelude.{◌≡◌, ◌≤◌, true, IfSome, IfErr, IfOk};
 ghost use Rattle.std.specs.Option.{option_map};
 ghost use Rattle.oca_script.specs.Fields.{number_of, peer_of};
-ghost use Rattle.oca_program.specs.Commands.{AddsRules, option_rule, required_rule, flag_rule};
+ghost use Rattle.oca_program.specs.Commands.{row_fields};
 ghost use Rattle.oca_program.specs.Faults.{asks_for_text, words_fault};
 ghost use Rattle.oca_program.specs.Options.{given, read_as, read_or, read_if, host_of, own_of};
-ghost use Rattle.clap.specs.Words.{kind_of, rule_of};
+ghost use Rattle.oca_program.specs.Options.{IsInForm, has_flag, number_said, own_said, text_said};
+ghost use Rattle.clap.specs.Words.{kind_of};
 
 use super::fault::{Failure, RunFault};
 use super::form::{host, own};
+use super::table::OptionRow;
 use clap::error::ErrorKind;
-use clap::{Arg, ArgAction, ArgMatches, Command, Error};
+use clap::{ArgMatches, Error};
 use oca_script::field::{number, peer};
 use oca_types::Peer;
 use std::alloc::{AllocError, Global};
 
-/// An option with a value.
-pub fn option<'a>(alloc: Global, name: &'a str, value: &'a str, help: &'a str) -> Arg<'a>
-    ensures rule { rule_of result ≡ option_rule name.entry.now }
-    ensures own { result.global ≡ false }
-{
-    Arg::new(alloc, name)
-        .long(name)
-        .value_name(value)
-        .help(help)
-        .action(ArgAction::Set)
+impl OptionRow {
+    /// The number that the words give for this option. `None` if the option is not given, or its text is not of the
+    /// option's form.
+    pub fn number(&self, words: &ArgMatches<'_>) -> Option<u64>
+        ensures value { result ≡ number_said words.now (row_fields self.now) }
+        ensures within { IfSome result (IsInForm self.now.form) }
+    {
+        self.form.number(text_of(words, self.name)?.as_bytes())
+    }
+
+    /// The address of a socket that the words give for this option, as a number with the first byte highest: that of
+    /// one host, 1.0.0.0 to 223.255.255.255, or 0.0.0.0. `None` if the option is not given, or not of this form.
+    pub fn own(&self, words: &ArgMatches<'_>) -> Option<u32>
+        ensures { result ≡ own_said words.now (row_fields self.now) }
+    {
+        own(text_of(words, self.name)?.as_bytes())
+    }
+
+    /// The text that the words give for this option. `None` if it is not given.
+    pub fn text<'a>(&self, words: &ArgMatches<'a>) -> Option<&'a str>
+        ensures { option_map (λ t. t.now) result ≡ text_said words.now (row_fields self.now) }
+    {
+        text_of(words, self.name)
+    }
+
+    /// Whether the words have this flag.
+    pub fn is_set(&self, words: &ArgMatches<'_>) -> bool
+        ensures { result ≡ has_flag words.now (row_fields self.now) }
+    {
+        match text_of(words, self.name) {
+            Some(text) => text.as_bytes() == b"true".as_slice(),
+            None => false,
+        }
+    }
 }
 
-/// The command with one more option, which has a value.
-pub fn with_option<'a>(
-    alloc: Global,
-    command: Command<'a>,
-    name: &'a str,
-    value: &'a str,
-    help: &'a str,
-) -> Result<Command<'a>, AllocError>
-    ensures { IfOk result (AddsRules (option_rule name.entry.now ∷ []) command.entry) }
-{
-    command.arg(option(alloc, name, value, help))
-}
-
-/// The command with one more option, which must be given.
-pub fn with_required<'a>(
-    alloc: Global,
-    command: Command<'a>,
-    name: &'a str,
-    value: &'a str,
-    help: &'a str,
-) -> Result<Command<'a>, AllocError>
-    ensures { IfOk result (AddsRules (required_rule name.entry.now ∷ []) command.entry) }
-{
-    command.arg(option(alloc, name, value, help).required(true))
-}
-
-/// The command with one more flag.
-pub fn with_flag<'a>(
-    alloc: Global,
-    command: Command<'a>,
-    name: &'a str,
-    help: &'a str,
-) -> Result<Command<'a>, AllocError>
-    ensures { IfOk result (AddsRules (flag_rule name.entry.now ∷ []) command.entry) }
-{
-    let flag = Arg::new(alloc, name)
-        .long(name)
-        .help(help)
-        .action(ArgAction::SetTrue);
-    command.arg(flag)
-}
-
-/// The text that the words give for an option.
+/// The text that the words give for an option. `None` if the option is not given.
 #[tactic(auto, unfolding(crate::specs::Options::given))]
 pub fn text_of<'a>(words: &ArgMatches<'a>, name: &str) -> Option<&'a str>
     ensures { option_map (λ t. t.now) result ≡ given words.now name.now }
@@ -77,8 +61,8 @@ pub fn text_of<'a>(words: &ArgMatches<'a>, name: &str) -> Option<&'a str>
     words.get_str(name)
 }
 
-/// The number of 1 to `most` digits, at most `largest`, that an option gives. `None` where it is not given, or not of
-/// this form.
+/// The number, of 1 to `most` decimal digits and at most `largest`, that an option gives. `None` if the option is not
+/// given, or not of this form.
 pub fn number_in(words: &ArgMatches<'_>, name: &str, most: usize, largest: u64) -> Option<u64>
     ensures value { result ≡ read_as (number_of most largest) (given words.now name.now) }
     ensures bound { IfSome result (λ n. n ≤ largest) }
@@ -86,7 +70,8 @@ pub fn number_in(words: &ArgMatches<'_>, name: &str, most: usize, largest: u64) 
     number(text_of(words, name)?.as_bytes(), most, largest)
 }
 
-/// The same, or another number where the option is not given.
+/// The number, of 1 to `most` decimal digits and at most `largest`, that an option gives, or `other` (at most
+/// `largest`, a premise) if the option is not given. `None` if the option is not of this form.
 pub fn number_or(
     words: &ArgMatches<'_>,
     name: &str,
@@ -104,7 +89,8 @@ pub fn number_or(
     }
 }
 
-/// The number that an option gives, where it is given. `None` where it is not of this form.
+/// The number, of 1 to `most` decimal digits and at most `largest`, that an option gives, or `Some(None)` if the option
+/// is not given. `None` if the option is not of this form.
 pub fn number_if(
     words: &ArgMatches<'_>,
     name: &str,
@@ -123,23 +109,23 @@ pub fn number_if(
     }
 }
 
-/// The peer that an option gives, `a.b.c.d:port`. `None` where it is not given, or not of this form.
+/// The peer that an option gives as `a.b.c.d:port`. `None` if the option is not given, or not of this form.
 pub fn peer_in(words: &ArgMatches<'_>, name: &str) -> Option<Peer>
     ensures { result ≡ read_as peer_of (given words.now name.now) }
 {
     peer(text_of(words, name)?.as_bytes())
 }
 
-/// Where the device is that an option names: the address of one host, 1.0.0.0 to 223.255.255.255, and a port but 0.
-/// `None` where the option is not given, or not of this form.
+/// The device that an option gives as `a.b.c.d:port`: the address of one host, 1.0.0.0 to 223.255.255.255, and a port
+/// that is not 0. `None` if the option is not given, or not of this form.
 pub fn host_in(words: &ArgMatches<'_>, name: &str) -> Option<Peer>
     ensures { result ≡ read_as host_of (given words.now name.now) }
 {
     host(text_of(words, name)?.as_bytes())
 }
 
-/// The address of a socket that an option gives, that of one host or 0.0.0.0, or another where it is not given. `None`
-/// where it is not of this form.
+/// The address of a socket that an option gives, as a number with the first byte highest: that of one host, 1.0.0.0 to
+/// 223.255.255.255, or 0.0.0.0. It is `other` if the option is not given. `None` if the option is not of this form.
 pub fn own_or(words: &ArgMatches<'_>, name: &str, other: u32) -> Option<u32>
     ensures { result ≡ read_or other own_of (given words.now name.now) }
 {
@@ -149,8 +135,8 @@ pub fn own_or(words: &ArgMatches<'_>, name: &str, other: u32) -> Option<u32>
     }
 }
 
-/// What words that were not matched come to: the text of `--help` or `--version` where they ask for one, else why the
-/// run fails.
+/// The text of `--help` or `--version`, if words that were not matched ask for one. Failures: `BadWords` if they ask
+/// for neither, with a note, if there is memory for it. `NoMemory` if memory was refused.
 pub fn help_or_failure(alloc: Global, error: &Error) -> Result<String, Failure>
     ensures text { IfOk result (λ _. asks_for_text (kind_of error.now) ≡ true) }
     ensures failure { IfErr result (λ failure. failure.fault ≡ words_fault (kind_of error.now)) }

@@ -6,8 +6,8 @@ use oca_script::{Printer, Sink};
 use oca_types::Peer;
 use std::alloc::Global;
 
-/// Prints the note that this device answers no command from this port, and that another is used instead, as far as the
-/// writes go. Without memory for it, nothing is printed.
+/// Prints the note that this device answers no command from `port`, and that the port `other` is used instead, and
+/// writes all that the printer holds. Without memory for the note nothing is printed; a failed write is no fault.
 pub fn note_other_port<F: Sink>(
     alloc: Global,
     device: Peer,

@@ -13,8 +13,9 @@ use std::io;
 use std::net::Net;
 use std::rt::Clock;
 
-/// An end at this address and port; at port 0 the system chooses one. A refusal is `NoMemory` where memory was refused,
-/// to the program or to the system, else `Socket`; the system's reason is its note where there is memory for that.
+/// An end bound at the address `ip` (the first byte highest) and a port; at port 0 the system chooses one. Failures:
+/// `NoMemory` if memory was refused, to the program or to the system. Otherwise `Socket` if the system refused the
+/// socket. The system's reason is the failure's note, if there is one and memory for it.
 pub fn bind<N: Net + Clock>(
     alloc: Global,
     system: &N,
@@ -31,9 +32,11 @@ pub fn bind<N: Net + Clock>(
     }
 }
 
-/// An end of a controller of this device, at this port; at port 0 the system chooses one. It is at this address; where
-/// that is 0, at the one from which the system reaches the device: so at one alone, from which each copy of a command
-/// leaves or none. Refusals as of `bind`, also where the system has no route to the device.
+/// An end for a controller of this device, at a port; at port 0 the system chooses one. It is bound at the address `ip`
+/// (the first byte highest), or, if that is 0, at the one from which the system reaches the device. So all
+/// transmissions of a command leave from one address or not at all. Failures: `NoMemory` if memory was refused, to the
+/// program or to the system. Otherwise `Socket` if the system refused the socket or has no route to the device. The
+/// system's reason is the failure's note, if there is one and memory for it.
 pub fn bind_towards<N: Net + Clock>(
     alloc: Global,
     system: &N,
@@ -80,7 +83,8 @@ fn fault_for(kind: io::ErrorKind) -> RunFault
     }
 }
 
-/// Prints how many sends failed and why the last of them did, where one has and there is memory for the line.
+/// Prints the note of how many sends failed and why the last of them did, and writes all that the printer holds.
+/// Nothing is printed if `last` is `None` or there is no memory for the note; a failed write is no fault.
 pub fn note_failed_sends<F: Sink>(
     alloc: Global,
     failed: u64,

@@ -2,4 +2,4 @@
 
 /// The version of the programs, and the toolchain that they are checked with, as `--version` prints them behind a
 /// program's name.
-pub const VERSION: &str = "1.7.0\nchecked with rattle-kit-13f logic dac8208d650f15bf";
+pub const VERSION: &str = "1.8.0\nchecked with rattle-kit-13f logic dac8208d650f15bf";

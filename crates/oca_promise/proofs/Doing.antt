@@ -1,8 +1,9 @@
 -- What the calls of a panel do with its link.
-use Rattle.std.proofs.Common.{◌≡◌, ℕ, ◌+◌, Bool, true, false, List, [], ◌∷◌, ◌++◌, length, Option, Some, None, Result, Ok, Err, refl, sym, ap, ◌∙◌, subst, arith, zero, suc, inl, inr, append_assoc, append-nil}
+use Rattle.std.proofs.Common.{◌≡◌, ℕ, ◌+◌, ◌<◌, ◌≤◌, ◌⊎◌, Bool, true, false, List, [], ◌∷◌, ◌++◌, length, Option, Some, None, Result, Ok, Err, refl, sym, ap, ◌∙◌, subst, arith, zero, suc, inl, inr, append_assoc, append-nil}
 use Rattle.std.specs.Prelude.{IsTrue, nat_le, if◌then◌else◌}
-use Rattle.std.specs.List.{flat_map, AllByRecursion}
+use Rattle.std.specs.List.{filter, flat_map}
 use Rattle.std.proofs.lemmas.Grind.{flat_map-append}
+use Rattle.std.proofs.lemmas.List.Elements.{filter-append}
 use Rattle.oca_types.specs.declared.words.Peer.{Peer}
 use Rattle.oca_types.specs.declared.words.Handle.{Handle}
 use Rattle.oca_types.specs.Peers.{RequestFields}
@@ -20,21 +21,24 @@ use Rattle.oca_control.specs.declared.answer.Answer.{Answer}
 use Rattle.oca_control.specs.declared.outcome.Outcome.{Outcome}
 use Rattle.oca_control.specs.declared.outcome.Outcome.TheVariants as outcomes
 use Rattle.oca_control.specs.declared.report.DriveReport.{DriveReport}
-use Rattle.oca_control.specs.Answers.{answer_fields}
+use Rattle.oca_control.specs.Answers.{AnswerFields, answer_fields}
 use Rattle.oca_control.specs.Contents.{IsContent}
 use Rattle.oca_control.specs.Untaken.{answer_under}
 use Rattle.oca_control.specs.Links.{LinkState, Decision, GivesCommand, IsLost, after_due, present_moment, decision, gone_on, late_at, received, submission, submitted, taken}
 use Rattle.oca_control.specs.Driving.{HearsDelivery, HearsDatagram, all_given_to, decisions_from, given_to, goes_on, link_from}
 use Rattle.oca_control.specs.Turning.{Turns, GivesAfter, decisions_in_time, link_in_time}
-use Rattle.oca_control.specs.Asking.{Begins, beginning}
+use Rattle.oca_control.specs.Asking.{Begins, TakesTurns, Waits, beginning}
+use Rattle.oca_control.specs.Asking as asking
 use Rattle.oca_control.specs.Waiting.{TakesTurnsBefore, WaitsUntil}
 use Rattle.oca_control.specs.Waiting as waiting
 use Rattle.oca_pair.specs.Networks.{device_address}
 use Rattle.oca_pair.specs.Steps.{content_read, messages_read}
-use Rattle.oca_panel.specs.Panels.{PanelState, AsksIn, EndsIn}
-use Rattle.oca_promise.specs.Doings.{Doing, Submits, Sends, Hears, Takes, done, all_done, hearing_of, is_hearing, hearings, IsOfDevice, AreOfDevice, WasDone, sent_by, IsSentOrHeard, AreSentInTime}
+use Rattle.oca_panel.specs.Panels.{PanelState, AsksIn, BeginsIn, EndsIn, FinishesIn, SettlesIn}
+use Rattle.oca_promise.specs.Doings.{Doing, Submits, Sends, Hears, Takes, done, all_done, hearing_of, is_hearing, hearings, IsOfDevice, AreOfDevice, WasDone, sent_by, is_begun_or_taken, AreSentInTime}
 use Rattle.oca_control.proofs.Copies.{calm_after, calm_submitted}
-use Rattle.oca_promise.specs.Calls.{IsDoneByCall, IsAll}
+use Rattle.oca_promise.specs.Calls.{IsDoneByCall, IsAll, NothingIsSentLate, EveryCallIsInTime}
+use Rattle.oca_promise.specs.Flights.{begun_by, takes_by, AreMade, WasInFlight, EveryFlightIsInTime}
+use Rattle.oca_promise.specs.Flights as flights
 
 -- ---- lists of doings
 
@@ -44,12 +48,7 @@ all_after [] ys l = refl
 all_after (x ∷ xs) ys l = all_after xs ys (done x l)
 
 hearings_both : (xs ys : List Doing) → hearings (xs ++ ys) ≡ hearings xs ++ hearings ys
-hearings_both [] ys = refl
-hearings_both (x ∷ xs) ys = by_test (is_hearing x) (hearings_both xs ys)
-  where
-    by_test : (b : Bool) → hearings (xs ++ ys) ≡ hearings xs ++ hearings ys → (if b then x ∷ hearings (xs ++ ys) else hearings (xs ++ ys)) ≡ (if b then x ∷ hearings xs else hearings xs) ++ hearings ys
-    by_test true e = ap (λ zs. x ∷ zs) e
-    by_test false e = e
+hearings_both xs ys = filter-append is_hearing xs ys
 
 first_of_both : (ds es : List Delivery) → AreOfDevice (ds ++ es) → AreOfDevice ds
 first_of_both [] es a = tt
@@ -67,10 +66,12 @@ sent_both (Submits request now ∷ xs) ys l = sent_both xs ys (submitted request
 sent_both (Hears bytes now ∷ xs) ys l = sent_both xs ys (received device_address (content_read bytes) now l)
 sent_both (Takes h ∷ xs) ys l = sent_both xs ys (taken h l)
 
--- sent and heard alone, and in time
-only_both : (xs ys : List Doing) → AllByRecursion IsSentOrHeard xs → AllByRecursion IsSentOrHeard ys → AllByRecursion IsSentOrHeard (xs ++ ys)
-only_both [] ys a b = b
-only_both (x ∷ xs) ys a b = (a.0, only_both xs ys a.1 b)
+-- what is begun and taken, in time
+abbrev asked_in : List Doing → List Doing
+asked_in xs = filter is_begun_or_taken xs
+
+asked_both : (xs ys us vs : List Doing) → asked_in xs ≡ us → asked_in ys ≡ vs → asked_in (xs ++ ys) ≡ us ++ vs
+asked_both xs ys us vs a b = filter-append is_begun_or_taken xs ys ∙ ap (λ zs. zs ++ asked_in ys) a ∙ ap (λ zs. us ++ zs) b
 
 in_time_both : (xs ys : List Doing) (l : LinkState) → AreSentInTime xs l → AreSentInTime ys (all_done xs l) → AreSentInTime (xs ++ ys) l
 unfolding all_done AreSentInTime
@@ -91,6 +92,23 @@ taken_in_time h l = tt
 no_more : (n : ℕ) → n ≡ n + 0
 no_more n = omega arith
 
+-- counts of failures: none is added, some are, or two are one after another
+none_fails : (n : ℕ) → n + 0 ≤ n
+none_fails n = omega arith
+
+some_fail : (n received sent after : ℕ) → after ≡ n + (received + sent) → n + sent ≤ after
+some_fail n received sent after is = omega (arith, is)
+
+sends_fail : (n sent after : ℕ) → after ≡ n + sent → n + sent ≤ after
+sends_fail n sent after is = omega (arith, is)
+
+fail_both : (a b c first second limit : ℕ) → (b < limit → a + first ≤ b) → (c < limit → b + second ≤ c) → c < limit → a + (first + second) ≤ c
+fail_both a b c first second limit one two below =
+    let later : b + second ≤ c = two below in
+    let inside : b < limit = omega (arith, later, below) in
+    let earlier : a + first ≤ b = one inside in
+    omega (arith, earlier, later)
+
 -- nothing was done
 nothing : (l : LinkState) (e : EndState) → WasDone [] l l e e
 unfolding all_done sent_by
@@ -101,6 +119,7 @@ nothing l e = record {
   heard = refl;
   link = λ of_device. refl;
   failed = 0;
+  failures = λ below. none_fails e.failures;
   sent = λ of_device tells. takes_none e.taken e.taken refl;
   sends = λ of_device below. no_more e.sends;
 }
@@ -114,6 +133,7 @@ both {xs} {ys} {a} {b} {c} {d} {e} {f} x y = record {
   heard = hearings_both xs ys ∙ ap (λ zs. zs ++ hearings ys) x.heard ∙ ap (λ zs. flat_map hearing_of x.deliveries ++ zs) y.heard ∙ sym (flat_map-append hearing_of x.deliveries y.deliveries);
   link = λ of_device. y.link (last_of_both x.deliveries y.deliveries of_device) ∙ ap (all_done ys) (x.link (first_of_both x.deliveries y.deliveries of_device)) ∙ sym (all_after xs ys a);
   failed = x.failed + y.failed;
+  failures = λ below. fail_both d.failures e.failures f.failures x.failed y.failed last_u64 x.failures y.failures below;
   sent = λ of_device tells.
       let before = first_of_both x.deliveries y.deliveries of_device in
       subst (λ (zs : List Sent). TakesAllBut (x.failed + y.failed) d.taken f.taken zs)
@@ -163,13 +183,13 @@ all_given now (suc n) l = ap (λ zs. given_to l.device (decision now l) ++ zs) (
     by_test true e = e
     by_test false e = refl
 
-only_sends : (now n : ℕ) (l : LinkState) → AllByRecursion IsSentOrHeard (sends now n l)
-only_sends now zero l = tt
-only_sends now (suc n) l = (tt, by_test (goes_on (decision now l)) (only_sends now n (gone_on now l)))
+only_sends : (now n : ℕ) (l : LinkState) → asked_in (sends now n l) ≡ []
+only_sends now zero l = refl
+only_sends now (suc n) l = by_test (goes_on (decision now l)) (only_sends now n (gone_on now l))
   where
-    by_test : (b : Bool) → AllByRecursion IsSentOrHeard (sends now n (gone_on now l)) → AllByRecursion IsSentOrHeard (if b then sends now n (gone_on now l) else [])
-    by_test true a = a
-    by_test false a = tt
+    by_test : (b : Bool) → asked_in (sends now n (gone_on now l)) ≡ [] → asked_in (if b then sends now n (gone_on now l) else []) ≡ []
+    by_test true e = e
+    by_test false e = refl
 
 calm_sends : (now n : ℕ) (l : LinkState) → late_at now l ≡ false → AreSentInTime (sends now n l) l
 unfolding AreSentInTime
@@ -198,19 +218,19 @@ none_in_time now l = by_test (late_at now l)
     by_test true = refl
     by_test false = none_heard now (l.span + 1) l
 
-given_in_time : (now : ℕ) (l : LinkState) → sent_by (sends_in_time now l) l ≡ all_given_to l.device (decisions_in_time now l)
+taken_in_time_by_end : (now : ℕ) (l : LinkState) → sent_by (sends_in_time now l) l ≡ all_given_to l.device (decisions_in_time now l)
 unfolding sent_by
-given_in_time now l = by_test (late_at now l)
+taken_in_time_by_end now l = by_test (late_at now l)
   where
     by_test : (b : Bool) → sent_by (if b then [] else sends now (l.span + 1) l) l ≡ all_given_to l.device (if b then IsLost ∷ [] else decisions_from now (l.span + 1) l)
     by_test true = refl
     by_test false = all_given now (l.span + 1) l
 
-only_in_time : (now : ℕ) (l : LinkState) → AllByRecursion IsSentOrHeard (sends_in_time now l)
+only_in_time : (now : ℕ) (l : LinkState) → asked_in (sends_in_time now l) ≡ []
 only_in_time now l = by_test (late_at now l)
   where
-    by_test : (b : Bool) → AllByRecursion IsSentOrHeard (if b then [] else sends now (l.span + 1) l)
-    by_test true = tt
+    by_test : (b : Bool) → asked_in (if b then [] else sends now (l.span + 1) l) ≡ []
+    by_test true = refl
     by_test false = only_sends now (l.span + 1) l
 
 calm_in_time : (now : ℕ) (l : LinkState) → AreSentInTime (sends_in_time now l) l
@@ -234,8 +254,8 @@ sent_after Failed old new decisions g = g.1
 
 given_after : (d : Delivery) (old new : LinkState) (decisions : List Decision) → GivesAfter d old new decisions → sent_by (sends_after d old) old ≡ all_given_to old.device decisions
 unfolding sent_by
-given_after (Datagram from bytes now) old new decisions g = given_in_time now old ∙ ap (all_given_to old.device) (sym g.0)
-given_after (Quiet now) old new decisions g = given_in_time now old ∙ ap (all_given_to old.device) (sym g.0)
+given_after (Datagram from bytes now) old new decisions g = taken_in_time_by_end now old ∙ ap (all_given_to old.device) (sym g.0)
+given_after (Quiet now) old new decisions g = taken_in_time_by_end now old ∙ ap (all_given_to old.device) (sym g.0)
 given_after Failed old new decisions g = ap (all_given_to old.device) (sym g.0)
 
 none_after : (d : Delivery) (l : LinkState) → hearings (sends_after d l) ≡ []
@@ -243,10 +263,10 @@ none_after (Datagram from bytes now) l = none_in_time now l
 none_after (Quiet now) l = none_in_time now l
 none_after Failed l = refl
 
-only_after : (d : Delivery) (l : LinkState) → AllByRecursion IsSentOrHeard (sends_after d l)
+only_after : (d : Delivery) (l : LinkState) → asked_in (sends_after d l) ≡ []
 only_after (Datagram from bytes now) l = only_in_time now l
 only_after (Quiet now) l = only_in_time now l
-only_after Failed l = tt
+only_after Failed l = refl
 
 calm_after_delivery : (d : Delivery) (l : LinkState) → AreSentInTime (sends_after d l) l
 calm_after_delivery (Datagram from bytes now) l = calm_in_time now l
@@ -331,14 +351,14 @@ heard_in_turn : (d : Delivery) (old between : LinkState) → hearings (turn_doin
 heard_in_turn d old between =
     hearings_both (hearing_of d) (sends_after d between) ∙ ap (λ zs. zs ++ hearings (sends_after d between)) (all_heard d) ∙ ap (λ zs. hearing_of d ++ zs) (none_after d between)
 
-only_hearing : (d : Delivery) → AllByRecursion IsSentOrHeard (hearing_of d)
+only_hearing : (d : Delivery) → asked_in (hearing_of d) ≡ []
 only_hearing (Datagram from bytes now) = by_test (nat_le (length bytes) 1472)
   where
-    by_test : (b : Bool) → AllByRecursion IsSentOrHeard (if b then Hears bytes now ∷ [] else [])
-    by_test true = (tt, tt)
-    by_test false = tt
-only_hearing (Quiet now) = tt
-only_hearing Failed = tt
+    by_test : (b : Bool) → asked_in (if b then Hears bytes now ∷ [] else []) ≡ []
+    by_test true = refl
+    by_test false = refl
+only_hearing (Quiet now) = refl
+only_hearing Failed = refl
 
 calm_hearing : (d : Delivery) (l : LinkState) → AreSentInTime (hearing_of d) l
 unfolding AreSentInTime
@@ -355,10 +375,10 @@ turn_in_time law d old between answered heard are =
     in_time_both (hearing_of d) (sends_after d between) old (calm_hearing d old)
     (subst (λ (l : LinkState). AreSentInTime (sends_after d between) l) (hears law d old between answered heard are.0) (calm_after_delivery d between))
 
--- Some doings make a link another, over an end: what is sent and heard alone, and in time.
-abbrev Does : LinkState → LinkState → EndState → EndState → Type 0
-Does old new before after =
-    (doings : List Doing) × (done : WasDone doings old new before after) × AllByRecursion IsSentOrHeard doings × (AreOfDevice done.deliveries → AreSentInTime doings old)
+-- Some doings make a link another, over an end, in time; this is what of them is begun and taken.
+abbrev Does : List Doing → LinkState → LinkState → EndState → EndState → Type 0
+Does asked old new before after =
+    (doings : List Doing) × (done : WasDone doings old new before after) × (asked_in doings ≡ asked) × (AreOfDevice done.deliveries → AreSentInTime doings old)
 
 sent_none : (l : LinkState) → [] ≡ sent_by [] l
 unfolding sent_by
@@ -368,7 +388,7 @@ done_none : (l : LinkState) → l ≡ all_done [] l
 unfolding all_done
 done_none l = refl
 
-turn_does : ReadingIsExact → (old new : LinkState) (e f : EndState) (r : DriveReport) → Turns old new e f r → Does old new e f
+turn_does : ReadingIsExact → (old new : LinkState) (e f : EndState) (r : DriveReport) → Turns old new e f r → Does [] old new e f
 turn_does law old new e f r (inl x) = (
   turn_doings x.delivery old x.turns.between,
   record {
@@ -378,12 +398,13 @@ turn_does law old new e f r (inl x) = (
     heard = heard_in_turn x.delivery old x.turns.between;
     link = λ are. one_delivery x.delivery old x.turns.between new x.decisions x.answered law x.turns.hears x.turns.gives are;
     failed = r.failed_sends;
+    failures = λ below. some_fail e.failures r.failed_receives r.failed_sends f.failures (x.runs.failures below);
     sent = λ are tells.
         subst (λ (zs : List Sent). TakesAllBut r.failed_sends e.taken f.taken zs)
         (sent_in_turn x.delivery old x.turns.between new x.decisions x.answered law x.turns.hears x.turns.gives are) (x.runs.taken tells);
     sends = λ are below. x.runs.sends below ∙ ap (λ (zs : List Sent). e.sends + length zs) (sent_in_turn x.delivery old x.turns.between new x.decisions x.answered law x.turns.hears x.turns.gives are);
   },
-  only_both (hearing_of x.delivery) (sends_after x.delivery x.turns.between) (only_hearing x.delivery) (only_after x.delivery x.turns.between),
+  asked_both (hearing_of x.delivery) (sends_after x.delivery x.turns.between) [] [] (only_hearing x.delivery) (only_after x.delivery x.turns.between),
   λ are. turn_in_time law x.delivery old x.turns.between x.answered x.turns.hears are,
 )
 turn_does law old new e f r (inr x) = (
@@ -395,28 +416,36 @@ turn_does law old new e f r (inr x) = (
     heard = refl;
     link = λ are. x.link ∙ done_none old;
     failed = 0;
+    failures = λ below. sends_fail e.failures 0 f.failures (x.received.failures ∙ no_more e.failures);
     sent = λ are tells. subst (λ (zs : List Sent). TakesAllBut 0 e.taken f.taken zs) (sent_none old) (takes_none e.taken f.taken (x.received.taken tells));
     sends = λ are below. x.received.sends ∙ no_more e.sends ∙ ap (λ (zs : List Sent). e.sends + length zs) (sent_none old);
   },
-  tt,
+  refl,
   λ are. none_in_time_sent old,
 )
 
-does_both : {a b c : LinkState} {d e f : EndState} → Does a b d e → Does b c e f → Does a c d f
+nothing_does : (l : LinkState) (e : EndState) → Does [] l l e e
+nothing_does l e = ([], nothing l e, refl, λ are. none_in_time_sent l)
+
+does_both : {us vs : List Doing} {a b c : LinkState} {d e f : EndState} → Does us a b d e → Does vs b c e f → Does (us ++ vs) a c d f
 unfolding both
-does_both {a} {b} {c} {d} {e} {f} x y = (
+does_both {us} {vs} {a} {b} {c} {d} {e} {f} x y = (
   x.0 ++ y.0,
   both x.1 y.1,
-  only_both x.0 y.0 x.2 y.2,
+  asked_both x.0 y.0 us vs x.2 y.2,
   λ are.
       let before = first_of_both x.1.deliveries y.1.deliveries are in
       in_time_both x.0 y.0 a (x.3 before)
       (subst (λ (l : LinkState). AreSentInTime y.0 l) (x.1.link before) (y.3 (last_of_both x.1.deliveries y.1.deliveries are))),
 )
 
-turns_do : ReadingIsExact → {h until n : ℕ} {lost closed : Bool} {old new : LinkState} {e f : EndState} → TakesTurnsBefore h until n lost closed old new e f → Does old new e f
-turns_do law (waiting.NoTurn {l = l} {e = e}) = ([], nothing l e, tt, λ are. none_in_time_sent l)
+turns_do : ReadingIsExact → {h until n : ℕ} {lost closed : Bool} {old new : LinkState} {e f : EndState} → TakesTurnsBefore h until n lost closed old new e f → Does [] old new e f
+turns_do law (waiting.NoTurn {l = l} {e = e}) = nothing_does l e
 turns_do law (waiting.OneTurn {l = l} {new = new} {e = e} {f = f} before none going time turn) = does_both (turns_do law before) (turn_does law l new e f turn.report turn.turns)
+
+looks_do : ReadingIsExact → {h n : ℕ} {lost : Bool} {old new : LinkState} {e f : EndState} → TakesTurns h n lost old new e f → Does [] old new e f
+looks_do law (asking.NoneTaken {l = l} {e = e}) = nothing_does l e
+looks_do law (asking.OneTaken {l = l} {new = new} {e = e} {f = f} before none going turn) = does_both (looks_do law before) (turn_does law l new e f turn.report turn.turns)
 
 -- ---- a command is begun
 
@@ -448,6 +477,7 @@ begin_does request h old new e f b =
       heard = none_heard b.now (l.span + 1) l;
       link = λ are. b.gives.1.link ∙ all_sent b.now (l.span + 1) l;
       failed = b.gives.0.failed_sends;
+      failures = λ below. sends_fail e.failures b.gives.0.failed_sends f.failures (b.gives.1.sends.failures below);
       sent = λ are tells.
           subst (λ (zs : List Sent). TakesAllBut b.gives.0.failed_sends e.taken f.taken zs)
           (sym (all_given b.now (l.span + 1) l)) (b.gives.1.sends.taken tells);
@@ -465,97 +495,143 @@ take_done h xs old l new e f d is = record {
   heard = hearings_both xs (Takes h ∷ []) ∙ append-nil (hearings xs) ∙ d.heard;
   link = λ are. is ∙ ap (taken h) (d.link are) ∙ sym (all_after xs (Takes h ∷ []) old);
   failed = d.failed;
+  failures = d.failures;
   sent = λ are tells.
       subst (λ (zs : List Sent). TakesAllBut d.failed e.taken f.taken zs)
       (sym (sent_both xs (Takes h ∷ []) old ∙ append-nil (sent_by xs old))) (d.sent are tells);
   sends = λ are below. d.sends are below ∙ ap (λ (zs : List Sent). e.sends + length zs) (sym (sent_both xs (Takes h ∷ []) old ∙ append-nil (sent_by xs old)));
 }
 
--- ---- a call
+-- ---- a command is begun, or waited for
 
-call_waits : ReadingIsExact → (request : RequestFields) (h : Handle) (old between new : PanelState) (a : Answer)
-    (b : Begins request (Ok h) old.link between.link old.end_state between.end_state) (until : ℕ) →
-    WaitsUntil h.0 until between.link (outcomes.Answered a) new.link between.end_state new.end_state →
-    (doings : List Doing) × (done : IsDoneByCall request h.0 (answer_fields a) doings old new) × IsAll done
-unfolding both take_done all_done AreSentInTime
-call_waits law request h old between new a b until w =
-    let turns = turns_do law w.5 in
-    let begun = begin_does request h old.link between.link old.end_state between.end_state b in
-    let xs = begin_doings request b.now old.link ++ turns.0 in
+-- a command was begun, or refused
+begun_does : (request : RequestFields) (returned : Result Handle ControlFault) (old new : LinkState) (e f : EndState) (b : Begins request returned old new e f) → Does (begun_by request b.now returned) old new e f
+unfolding AreSentInTime
+begun_does request (Ok h) old new e f b =
+    let called : LinkState = submitted request b.now old in (
+      Submits request b.now ∷ begin_doings request b.now old,
+      begin_does request h old new e f b,
+      ap (λ zs. Submits request b.now ∷ zs) (only_sends b.now (called.span + 1) called),
+      λ are. calm_sends b.now (called.span + 1) called (calm_submitted request b.now h old (sym (submission_of request b.now old h b.answer)) (not_late request b.now old h b.answer)),
+    )
+begun_does request (Err fault) old new e f b =
+    subst (λ (l : LinkState). Does [] old l e f) (sym b.gives.0) (subst (λ (x : EndState). Does [] old old e x) (sym b.gives.1) (nothing_does old e))
+
+-- The answer under a handle, which the link then held, was taken after this.
+record TakesAnswer (h : ℕ) (a : AnswerFields) (old new : LinkState) (e f : EndState) : Type 0 where
+  pub link : LinkState
+  pub before : Does [] old link e f
+  pub held : answer_under h link.untaken ≡ Some a
+  pub taken : new ≡ taken h link
+
+waited_takes : ReadingIsExact → (h until : ℕ) (a : Answer) (old new : LinkState) (e f : EndState) → WaitsUntil h until old (outcomes.Answered a) new e f → TakesAnswer h (answer_fields a) old new e f
+waited_takes law h until a old new e f w = record { link = w.0; before = turns_do law w.5; held = w.6; taken = w.7 }
+
+looked_takes : ReadingIsExact → (h n : ℕ) (a : Answer) (old new : LinkState) (e f : EndState) → Waits h n old (outcomes.Answered a) new e f → TakesAnswer h (answer_fields a) old new e f
+looked_takes law h n a old new e f w = record { link = w.0; before = looks_do law w.4; held = w.5; taken = w.6 }
+
+takes_does : {h : ℕ} {a : AnswerFields} {old new : LinkState} {e f : EndState} → TakesAnswer h a old new e f → Does (Takes h ∷ []) old new e f
+unfolding take_done
+takes_does {h} {a} {old} {new} {e} {f} t = (
+  t.before.0 ++ Takes h ∷ [],
+  take_done h t.before.0 old t.link new e f t.before.1 t.taken,
+  asked_both t.before.0 (Takes h ∷ []) [] (Takes h ∷ []) t.before.2 refl,
+  λ are. in_time_both t.before.0 (Takes h ∷ []) old (t.before.3 are) (taken_in_time h (all_done t.before.0 old)),
+)
+
+waited_does : ReadingIsExact → (h until : ℕ) (o : Outcome) (old new : LinkState) (e f : EndState) → WaitsUntil h until old o new e f → Does (takes_by h o) old new e f
+waited_does law h until (outcomes.Answered a) old new e f w = takes_does (waited_takes law h until a old new e f w)
+waited_does law h until (outcomes.Refused fault) old new e f w = absurd w
+waited_does law h until outcomes.Lost old new e f w = turns_do law w.4
+waited_does law h until outcomes.Unanswered old new e f w = turns_do law w.3
+
+looked_does : ReadingIsExact → (h n : ℕ) (o : Outcome) (old new : LinkState) (e f : EndState) → Waits h n old o new e f → Does (takes_by h o) old new e f
+looked_does law h n (outcomes.Answered a) old new e f w = takes_does (looked_takes law h n a old new e f w)
+looked_does law h n (outcomes.Refused fault) old new e f w = absurd w
+looked_does law h n outcomes.Lost old new e f w = looks_do law w.3
+looked_does law h n outcomes.Unanswered old new e f w = looks_do law w.0
+
+calls_do : ReadingIsExact → {xs : List Doing} {old new : PanelState} → AreMade xs old new → Does xs old.link new.link old.end_state new.end_state
+calls_do law (flights.NoCall {s = s}) = nothing_does s.link s.end_state
+calls_do law (flights.OneBegins {s = s} {new = new} {request = request} {returned = returned} made b) =
+    does_both (calls_do law made) (begun_does request returned s.link new.link s.end_state new.end_state b.begins)
+calls_do law (flights.OneWaits {outcome = outcome} made w) = does_both (calls_do law made) (waited_does law _ _ outcome _ _ _ _ w.waits.waits)
+calls_do law (flights.OneLooksUp {outcome = outcome} made w) = does_both (calls_do law made) (looked_does law _ _ outcome _ _ _ _ w.waits)
+calls_do law (flights.OneTurns {xs = xs} {old = old} {s = s} {new = new} made t) =
+    subst (λ (zs : List Doing). Does zs old.link new.link old.end_state new.end_state) (append-nil xs)
+    (does_both (calls_do law made) (turn_does law s.link new.link s.end_state new.end_state t.report t.takes))
+
+-- ---- a command in flight
+
+-- the answer was taken by either
+ended_takes : ReadingIsExact → (h : ℕ) (a : Answer) (last new : PanelState) → FinishesIn h last new (outcomes.Answered a) ⊎ SettlesIn h last new (outcomes.Answered a) →
+    TakesAnswer h (answer_fields a) last.link new.link last.end_state new.end_state
+ended_takes law h a last new (inl w) = waited_takes law h _ a last.link new.link last.end_state new.end_state w.waits.waits
+ended_takes law h a last new (inr w) = looked_takes law h _ a last.link new.link last.end_state new.end_state w.waits
+
+ended_does : ReadingIsExact → (h : ℕ) (o : Outcome) (last new : PanelState) → FinishesIn h last new o ⊎ SettlesIn h last new o → Does (takes_by h o) last.link new.link last.end_state new.end_state
+ended_does law h o last new (inl w) = waited_does law h _ o last.link new.link last.end_state new.end_state w.waits.waits
+ended_does law h o last new (inr w) = looked_does law h _ o last.link new.link last.end_state new.end_state w.waits
+
+pub flight_does : ReadingIsExact → (request : RequestFields) (handle : ℕ) (others : List Doing) (old new : PanelState) (a : Answer) → WasInFlight request handle others old new (outcomes.Answered a) →
+    (doings : List Doing) × (done : IsDoneByCall request handle (answer_fields a) doings old new) × IsAll others done
+unfolding both take_done all_done AreSentInTime begun_does begin_does
+flight_does law request handle others old new a f =
+    let h : Handle = record { 0 = handle } in
+    let b = f.begins.begins in
+    let begun = begin_does request h old.link f.begun.link old.end_state f.begun.end_state b in
+    let t = ended_takes law handle a f.last new f.ends in
+    let meanwhile = does_both (calls_do law f.meanwhile) t.before in
+    let xs = begin_doings request b.now old.link ++ meanwhile.0 in
     let called : LinkState = submitted request b.now old.link in
-    let before : WasDone (Submits request b.now ∷ xs) old.link w.0 old.end_state new.end_state = both begun turns.1 in (
-      Submits request b.now ∷ xs ++ Takes h.0 ∷ [],
+    let before : WasDone (Submits request b.now ∷ xs) old.link t.link old.end_state new.end_state = both begun meanwhile.1 in
+    let began = begun_does request (Ok h) old.link f.begun.link old.end_state f.begun.end_state b in (
+      Submits request b.now ∷ xs ++ Takes handle ∷ [],
       record {
         now = b.now;
         between = xs;
         doings_are = refl;
         accepted = submission_of request b.now old.link h b.answer;
-        done = take_done h.0 (Submits request b.now ∷ xs) old.link w.0 new.link old.end_state new.end_state before w.7;
-        held = λ are. ap (λ (l : LinkState). answer_under h.0 l.untaken) (sym (before.link are)) ∙ w.6;
+        done = take_done handle (Submits request b.now ∷ xs) old.link t.link new.link old.end_state new.end_state before t.taken;
+        held = λ are. ap (λ (l : LinkState). answer_under handle l.untaken) (sym (before.link are)) ∙ t.held;
       },
       record {
         present = b.present;
-        only = only_both (begin_doings request b.now old.link) turns.0 (only_sends b.now (called.span + 1) called) turns.2;
+        only = asked_both (begin_doings request b.now old.link) meanwhile.0 [] (others ++ []) (only_sends b.now (called.span + 1) called) meanwhile.2 ∙ append-nil others;
         in_time = λ are.
-            in_time_both xs (Takes h.0 ∷ []) called
-            (in_time_both (begin_doings request b.now old.link) turns.0 called
-            (calm_sends b.now (called.span + 1) called (calm_submitted request b.now h old.link (sym (submission_of request b.now old.link h b.answer)) (not_late request b.now old.link h b.answer)))
-            (subst (λ (l : LinkState). AreSentInTime turns.0 l) (begun.link (first_of_both begun.deliveries turns.1.deliveries are)) (turns.3 (last_of_both begun.deliveries turns.1.deliveries are))))
-            (taken_in_time h.0 (all_done xs called));
+            in_time_both xs (Takes handle ∷ []) called
+            (in_time_both (begin_doings request b.now old.link) meanwhile.0 called
+            (began.3 (first_of_both begun.deliveries meanwhile.1.deliveries are))
+            (subst (λ (l : LinkState). AreSentInTime meanwhile.0 l) (begun.link (first_of_both begun.deliveries meanwhile.1.deliveries are)) (meanwhile.3 (last_of_both begun.deliveries meanwhile.1.deliveries are))))
+            (taken_in_time handle (all_done xs called));
       },
     )
 
-pub call_does : ReadingIsExact → (request : RequestFields) (old new : PanelState) (a : Answer) → AsksIn request old new (outcomes.Answered a) →
-    (h : ℕ) × (doings : List Doing) × (done : IsDoneByCall request h (answer_fields a) doings old new) × IsAll done
-call_does law request old new a asks = by asks.returned asks.begins.begins asks.ends
+in_time_of : (us : List Doing) (old new : PanelState) → Does us old.link new.link old.end_state new.end_state → NothingIsSentLate old new
+in_time_of us old new d = (d.0, d.1, d.3)
+
+pub every_flight_does : ReadingIsExact → EveryFlightIsInTime
+every_flight_does law request handle others old new o f =
+    in_time_of _ old new (does_both (begun_does request (Ok (record { 0 = handle })) old.link f.begun.link old.end_state f.begun.end_state f.begins.begins)
+    (does_both (calls_do law f.meanwhile) (ended_does law handle o f.last new f.ends)))
+
+-- ---- a call is a command in flight during which no other call is made
+
+call_is_flight : {request : RequestFields} {old mid new : PanelState} {o : Outcome} (h : Handle) → BeginsIn request (Ok h) old mid → FinishesIn h.0 mid new o → WasInFlight request h.0 [] old new o
+call_is_flight {mid = mid} h begins ends = record { begun = mid; last = mid; begins = begins; meanwhile = flights.NoCall; ends = inl ends }
+
+pub call_does : (request : RequestFields) (old new : PanelState) (a : Answer) → AsksIn request old new (outcomes.Answered a) → (handle : ℕ) × WasInFlight request handle [] old new (outcomes.Answered a)
+call_does request old new a asks = by asks.returned asks.begins asks.ends
   where
-    by : (returned : Result Handle ControlFault) → Begins request returned old.link asks.between.link old.end_state asks.between.end_state → EndsIn returned asks.between new (outcomes.Answered a) →
-        (h : ℕ) × (doings : List Doing) × (done : IsDoneByCall request h (answer_fields a) doings old new) × IsAll done
-    by (Ok h) begins ends = let x = call_waits law request h old asks.between new a begins _ ends.waits.waits in (h.0, x.0, x.1, x.2)
+    by : (returned : Result Handle ControlFault) → BeginsIn request returned old asks.between → EndsIn returned asks.between new (outcomes.Answered a) → (handle : ℕ) × WasInFlight request handle [] old new (outcomes.Answered a)
+    by (Ok h) begins ends = (h.0, call_is_flight h begins ends)
     by (Err fault) begins ends = cc
 
--- ---- a call, however it came out
-
--- what was done in time makes a link another, over an end
-abbrev pub InTime : LinkState → LinkState → EndState → EndState → Type 0
-InTime old new before after = (doings : List Doing) × (done : WasDone doings old new before after) × (AreOfDevice done.deliveries → AreSentInTime doings old)
-
-begin_in_time : (request : RequestFields) (h : Handle) (old new : LinkState) (e f : EndState) → Begins request (Ok h) old new e f → InTime old new e f
-unfolding AreSentInTime
-begin_in_time request h old new e f b =
-    let called : LinkState = submitted request b.now old in (
-      Submits request b.now ∷ begin_doings request b.now old,
-      begin_does request h old new e f b,
-      λ are. calm_sends b.now (called.span + 1) called (calm_submitted request b.now h old (sym (submission_of request b.now old h b.answer)) (not_late request b.now old h b.answer)),
-    )
-
-then_in_time : {a b c : LinkState} {d e f : EndState} → InTime a b d e → Does b c e f → InTime a c d f
-unfolding both
-then_in_time {a} x y = (
-  x.0 ++ y.0,
-  both x.1 y.1,
-  λ are.
-      let before = first_of_both x.1.deliveries y.1.deliveries are in
-      in_time_both x.0 y.0 a (x.2 before)
-      (subst (λ (l : LinkState). AreSentInTime y.0 l) (x.1.link before) (y.3 (last_of_both x.1.deliveries y.1.deliveries are))),
-)
-
-pub every_call_does : ReadingIsExact → (request : RequestFields) (old new : PanelState) (o : Outcome) → AsksIn request old new o → InTime old.link new.link old.end_state new.end_state
-every_call_does law request old new o asks = by asks.returned asks.begins.begins asks.ends
+pub every_call_does : ReadingIsExact → EveryCallIsInTime
+every_call_does law request old new o asks = by asks.returned asks.begins asks.ends
   where
-    mid : PanelState
-    mid = asks.between
-
-    waited : (h : Handle) (o : Outcome) (b : Begins request (Ok h) old.link mid.link old.end_state mid.end_state) (until : ℕ) → WaitsUntil h.0 until mid.link o new.link mid.end_state new.end_state → InTime old.link new.link old.end_state new.end_state
-    waited h (outcomes.Answered a) b until w = let x = call_waits law request h old mid new a b until w in (x.0, x.1.done, x.2.in_time)
-    waited h (outcomes.Refused fault) b until w = absurd w
-    waited h outcomes.Lost b until w = then_in_time (begin_in_time request h old.link mid.link old.end_state mid.end_state b) (turns_do law w.4)
-    waited h outcomes.Unanswered b until w = then_in_time (begin_in_time request h old.link mid.link old.end_state mid.end_state b) (turns_do law w.3)
-
-    by : (returned : Result Handle ControlFault) → Begins request returned old.link mid.link old.end_state mid.end_state → EndsIn returned mid new o → InTime old.link new.link old.end_state new.end_state
-    by (Ok h) b ends = waited h o b _ ends.waits.waits
-    by (Err fault) b ends =
-        let link_is : new.link ≡ old.link = ap (λ (s : PanelState). s.link) ends.1 ∙ b.gives.0 in
-        let end_is : new.end_state ≡ old.end_state = ap (λ (s : PanelState). s.end_state) ends.1 ∙ b.gives.1 in
-        subst (λ (l : LinkState). InTime old.link l old.end_state new.end_state) (sym link_is)
-        (subst (λ (x : EndState). InTime old.link old.link old.end_state x) (sym end_is) ([], nothing old.link old.end_state, λ are. none_in_time_sent old.link))
+    by : (returned : Result Handle ControlFault) → BeginsIn request returned old asks.between → EndsIn returned asks.between new o → NothingIsSentLate old new
+    by (Ok h) begins ends = every_flight_does law request h.0 [] old new o (call_is_flight h begins ends)
+    by (Err fault) begins ends =
+        subst (λ (s : PanelState). NothingIsSentLate old s) (sym ends.1)
+        (in_time_of [] old asks.between (begun_does request (Err fault) old.link asks.between.link old.end_state asks.between.end_state begins.begins))

@@ -1,4 +1,4 @@
--- A call that was answered keeps what holds of each answer.
+-- A command that was in flight and answered keeps what holds of each answer, and so does a call.
 use Rattle.std.proofs.Common.{◌≡◌, ℕ, List, [], ◌∷◌, ◌++◌, refl, sym, ap, ◌∙◌, subst, inr, append_assoc}
 use Rattle.std.specs.List.{slice_get}
 use Rattle.oca_types.specs.declared.words.Handle.{Handle}
@@ -15,7 +15,8 @@ use Rattle.oca_pair.proofs.Lists.{in_contains}
 use Rattle.oca_panel.specs.Panels.{PanelState}
 use Rattle.oca_promise.specs.Doings.{Doing, Takes, all_done, AreOfDevice, Plays}
 use Rattle.oca_promise.specs.Calls.{OfAnAnswer, IsDoneByCall, HoldsInEachNetwork, EveryAnsweredCallKeeps}
-use Rattle.oca_promise.proofs.Doing.{call_does}
+use Rattle.oca_promise.specs.Flights.{EveryAnsweredFlightKeeps}
+use Rattle.oca_promise.proofs.Doing.{flight_does, call_does}
 use Rattle.oca_promise.proofs.Playing.{played_link, played_submit, played_take, after_both, HasTaken, submit_outcome_is, submit_there}
 
 parts : (before first : List Step) (step : Step) (later steps : List Step) → steps ≡ first ++ step ∷ later → before ++ steps ≡ (before ++ first) ++ step ∷ later
@@ -53,13 +54,17 @@ in_each_network Holds of_each request h a doings old new d are w s tree starts b
           (inr (in_contains _ _ (subst (λ (z : Network). HasTaken p h a (after_steps x.later (after_step step z))) (sym same) got))));
     }
 
+pub flights_keep : (Holds : OfAnAnswer) → OfEachAnswer Holds → ReadingIsExact → EveryAnsweredFlightKeeps Holds
+flights_keep Holds of_each law request handle others old new a flight =
+    let x = flight_does law request handle others old new a flight in
+    record {
+      doings = x.0;
+      by_call = x.1;
+      all = x.2;
+      holds = λ xs done. in_each_network Holds of_each request handle (answer_fields a) xs old new done;
+    }
+
 pub calls_keep : (Holds : OfAnAnswer) → OfEachAnswer Holds → ReadingIsExact → EveryAnsweredCallKeeps Holds
 calls_keep Holds of_each law request old new a asks =
-    let x = call_does law request old new a asks in
-    record {
-      handle = x.0;
-      doings = x.1;
-      by_call = x.2;
-      all = x.3;
-      holds = λ xs done. in_each_network Holds of_each request x.0 (answer_fields a) xs old new done;
-    }
+    let x = call_does request old new a asks in
+    (x.0, flights_keep Holds of_each law request x.0 [] old new a x.1)

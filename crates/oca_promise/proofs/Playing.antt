@@ -11,7 +11,7 @@ use Rattle.oca_control.specs.Untaken.{answer_under}
 use Rattle.oca_control.specs.Links.{LinkState, Request, submission, submitted, gone_on, received, taken}
 use Rattle.oca_pair.specs.Networks.{Network, PeerLink, SentDatagram, TakenAnswer, device_address}
 use Rattle.oca_pair.specs.declared.outcome.Outcome.TheVariants as outcomes
-use Rattle.oca_pair.specs.Steps.{Step, Submit, Due, ToDevice, ToLink, Other, Take, has_link, content_read, with_link, hears_datagram, after_submit, after_due_step, after_delivery, after_reception, taken_by, after_take, after_step, after_steps, on_link, submit_outcome, outcome_of}
+use Rattle.oca_pair.specs.Steps.{Step, Submit, Due, ToDevice, ToLink, Other, Take, has_link, content_read, hears_datagram, after_submit, after_due_step, after_delivery, after_reception, taken_by, after_take, after_step, after_steps, on_link, submit_outcome, outcome_of}
 use Rattle.oca_pair.specs.Steps as steps
 use Rattle.oca_pair.proofs.Lists.{same_self, IsIn, in_more, in_last}
 use Rattle.oca_device.specs.Events.{Datagram}

@@ -1,5 +1,5 @@
 -- What a panel says is so.
-use Rattle.std.proofs.Common.{◌≡◌, ℕ, ◌==◌, Bool, true, false, List, [], ◌∷◌, ◌++◌, Option, Some, None, Result, Ok, Err, refl, sym, ap, ◌∙◌, subst, inl, inr, eqb-true, append_assoc, ◌≢◌}
+use Rattle.std.proofs.Common.{◌≡◌, ℕ, ◌==◌, Bool, true, false, List, [], ◌∷◌, ◌++◌, Option, Some, None, Result, Ok, Err, refl, sym, ap, ◌∙◌, subst, inl, inr, eqb-true, append_assoc, ◌≢◌, ◌⊎◌}
 use Rattle.std.specs.Prelude.{if◌then◌else◌, map}
 use Rattle.std.specs.List.{slice_get, AllByRecursion}
 use Rattle.std.specs.Option.{option_map, option_and_then}
@@ -25,7 +25,7 @@ use Rattle.oca_model.specs.Members.{class_at, class_id_at, class_id_in, class_in
 use Rattle.oca_model.specs.Parameters.{whole}
 use Rattle.oca_model.specs.Readings.{reading_in, value_without_limits}
 use Rattle.oca_model.specs.Requests.{AskedBy, IsRequest}
-use Rattle.oca_model.specs.Values.{class_of_value, get_method}
+use Rattle.oca_model.specs.Values.{class_of_value, get_method, IsOfItsType}
 use Rattle.oca_tree.specs.declared.object.LockKind.TheVariants.{Total}
 use Rattle.oca_tree.specs.declared.object.Object.{Object}
 use Rattle.oca_tree.specs.Objects.{class_of, members, object_of, with_object}
@@ -48,11 +48,13 @@ use Rattle.oca_panel.specs.declared.trouble.Trouble.TheVariants as trouble
 use Rattle.oca_panel.specs.Panels.{PanelState, AsksIn}
 use Rattle.oca_panel.specs.Objects.{IsRequestTo, AsksFor, AsksClass, Reads, ReadsBy, ReadsFor, ReadsObject}
 use Rattle.oca_panel.specs.Outcomes.{on_ok, parameters_answered, readable, read_from, done_or_trouble, done_answered, known_class, class_of_fields, class_answered, fields_answered, text_answered}
-use Rattle.oca_panel.specs.Walks.{Describes, DescribesFrom, both}
-use Rattle.oca_promise.specs.Doings.{Plays}
+use Rattle.oca_panel.specs.Beginnings.{model_answered}
+use Rattle.oca_panel.specs.Walks.{DescribesFrom, both}
+use Rattle.oca_promise.specs.Doings.{Doing, Plays}
 use Rattle.oca_promise.specs.Calls.{OfAnAnswer, KeepsInNetworks}
 use Rattle.oca_promise.specs.Promises.{IsRightAtFirst, CallKeeps, WasSetTo, EverySetKeeps, HadReading, EveryReadingKeeps, WasLocked, WasUnlocked, EveryLockKeeps, EveryUnlockKeeps, WasRefused, EveryRefusedSetKeeps, HadClass, EveryClassKeeps, GetKeeps, EveryGetKeeps, HadText, EveryTextKeeps, EveryRoleKeeps, EveryLabelKeeps, HadMembers, EveryMembersKeep, HadFields, DescriptionKeeps, EveryDescriptionKeeps}
-use Rattle.oca_promise.proofs.Keeping.{calls_keep}
+use Rattle.oca_promise.specs.Flights.{WasInFlight, AnsweredSo, EverySetInFlightKeeps, EveryReadingInFlightKeeps, EveryAnswerInFlightKeeps}
+use Rattle.oca_promise.proofs.Keeping.{calls_keep, flights_keep}
 use Rattle.oca_promise.proofs.Playing.{played_link, after_both}
 
 object_class : (tree : List Object) (number : ℕ) (o : Object) (of : Class) → object_of tree number ≡ Some o → class_of_ono tree number ≡ Some of → class_of o.value ≡ of
@@ -70,18 +72,17 @@ also : (A B : OfAnAnswer) → OfEachAnswer A → OfEachAnswer B → OfEachAnswer
 also A B a b w s tree starts before later i l request now h answer apart fit time accepted own which =
     (a w s tree starts before later i l request now h answer apart fit time accepted own which, b w s tree starts before later i l request now h answer apart fit time accepted own which)
 
--- what follows from one for each network follows for the call
-follows : (A B : OfAnAnswer) (request : RequestFields) (answer : AnswerFields) (old new : PanelState) →
-    ((h : ℕ) (p : Peer) (later : List Step) (called : Network) → A p (command_under h request) answer later called → B p (command_under h request) answer later called) →
-    KeepsInNetworks A request answer old new → KeepsInNetworks B request answer old new
-follows A B request answer old new f k = record {
-  handle = k.handle;
+-- what follows from one for each network follows for the command
+follows : (A B : OfAnAnswer) (request : RequestFields) (handle : ℕ) (answer : AnswerFields) (others : List Doing) (old new : PanelState) →
+    ((p : Peer) (later : List Step) (called : Network) → A p (command_under handle request) answer later called → B p (command_under handle request) answer later called) →
+    KeepsInNetworks A request handle answer others old new → KeepsInNetworks B request handle answer others old new
+follows A B request handle answer others old new f k = record {
   doings = k.doings;
   by_call = k.by_call;
   all = k.all;
   holds = λ xs done are w s tree starts before steps i p apart fit time is plays.
       let x = k.holds xs done are w s tree starts before steps i p apart fit time is plays in
-      record { first = x.first; now = x.now; later = x.later; steps_are = x.steps_are; holds = f k.handle p x.later _ x.holds };
+      record { first = x.first; now = x.now; later = x.later; steps_are = x.steps_are; holds = f p x.later _ x.holds };
 }
 
 -- ---- what an outcome says
@@ -93,12 +94,22 @@ pub record IsOk (o : Outcome) (params : List ℕ) : Type 0 where
   pub ok : answer.status ≡ 0
   pub params_are : answer.params.items ≡ params
 
-ok_parameters : (o : Outcome) (params : List ℕ) → parameters_answered o ≡ Ok params → IsOk o params
-ok_parameters (outcomes.Answered a) params e = by (a.status == 0) refl e
+answered_ok : (a : Answer) (params : List ℕ) → parameters_answered (outcomes.Answered a) ≡ Ok params → a.status ≡ 0
+answered_ok a params e = by (a.status == 0) refl e
   where
-    by : (b : Bool) → (a.status == 0) ≡ b → (let x : Result (List ℕ) Trouble = if b then Ok a.params.items else Err (trouble.Refused a.status) in x) ≡ Ok params → IsOk (outcomes.Answered a) params
-    by true t q = record { answer = a; is = refl; ok = eqb-true a.status 0 t; params_are = let same : a.params.items ≡ params = cc in same }
+    by : (b : Bool) → (a.status == 0) ≡ b → (let x : Result (List ℕ) Trouble = if b then Ok a.params.items else Err (trouble.Refused a.status) in x) ≡ Ok params → a.status ≡ 0
+    by true t q = eqb-true a.status 0 t
     by false t q = absurd (cc)
+
+answered_parameters : (a : Answer) (params : List ℕ) → parameters_answered (outcomes.Answered a) ≡ Ok params → a.params.items ≡ params
+answered_parameters a params e = by (a.status == 0) e
+  where
+    by : (b : Bool) → (let x : Result (List ℕ) Trouble = if b then Ok a.params.items else Err (trouble.Refused a.status) in x) ≡ Ok params → a.params.items ≡ params
+    by true q = cc
+    by false q = absurd (cc)
+
+ok_parameters : (o : Outcome) (params : List ℕ) → parameters_answered o ≡ Ok params → IsOk o params
+ok_parameters (outcomes.Answered a) params e = record { answer = a; is = refl; ok = answered_ok a params e; params_are = answered_parameters a params e }
 ok_parameters (outcomes.Refused fault) params e = absurd (cc)
 ok_parameters outcomes.Lost params e = absurd (cc)
 ok_parameters outcomes.Unanswered params e = absurd (cc)
@@ -130,46 +141,62 @@ refused_status outcomes.Unanswered status e = absurd (cc)
 asks_of : (of : Class) (r : Asked) (target h : ℕ) (request : RequestFields) → IsRequest r → IsRequestTo target of r request → CommandAsks of r (command_under h request)
 asks_of of r target h request is_request to = (is_request, to.call)
 
--- an answered call of a panel, and what is known of its answer in every network
-answered_call : (A : OfAnAnswer) → OfEachAnswer A → ReadingIsExact → (target : ℕ) (of : Class) (r : Asked) (old new : PanelState) (o : Outcome) (a : Answer) (f : AsksFor target of r old new o) → o ≡ outcomes.Answered a →
-    KeepsInNetworks A f.request (answer_fields a) old new
-answered_call A of_each law target of r old new o a f is = calls_keep A of_each law f.request old new a (subst (λ (x : Outcome). AsksIn f.request old new x) is f.asks)
+-- what follows of an answer to the request
+abbrev Follows : OfAnAnswer → OfAnAnswer → RequestFields → Answer → Type 0
+Follows A B request a = (h : ℕ) (p : Peer) (later : List Step) (called : Network) → A p (command_under h request) (answer_fields a) later called → B p (command_under h request) (answer_fields a) later called
+
+-- a command that was in flight, and an answered call of a panel
+flight_keeps : (A B : OfAnAnswer) → OfEachAnswer A → ReadingIsExact → (request : RequestFields) (handle : ℕ) (others : List Doing) (old new : PanelState) (a : Answer) →
+    WasInFlight request handle others old new (outcomes.Answered a) → Follows A B request a → KeepsInNetworks B request handle (answer_fields a) others old new
+flight_keeps A B of_each law request handle others old new a flight f =
+    follows A B request handle (answer_fields a) others old new (f handle) (flights_keep A of_each law request handle others old new a flight)
+
+call_keeps : (A B : OfAnAnswer) → OfEachAnswer A → ReadingIsExact → (target : ℕ) (of : Class) (r : Asked) (old new : PanelState) (o : Outcome) (a : Answer) (f : AsksFor target of r old new o) → o ≡ outcomes.Answered a →
+    Follows A B f.request a → CallKeeps target of r B old new
+call_keeps A B of_each law target of r old new o a f is g =
+    let asks : AsksIn f.request old new (outcomes.Answered a) = subst (λ (x : Outcome). AsksIn f.request old new x) is f.asks in
+    let x = calls_keep A of_each law f.request old new a asks in
+    record {
+      request = f.request;
+      asks = f.calls;
+      handle = x.0;
+      answer = a;
+      answered = asks;
+      keeps = follows A B f.request x.0 (answer_fields a) [] old new (g x.0) x.1;
+    }
 
 -- ---- set
+
+abbrev SetAll : OfAnAnswer
+SetAll = Both IsOfOneExecutionSince SettingsWereMade
+
+was_set : (target : ℕ) (value : Value) (request : RequestFields) (a : Answer) → IsOfItsType value → IsRequestTo target (class_of_value value) (asked.Set value) request → a.status ≡ 0 → Follows SetAll (WasSetTo target value) request a
+was_set target value request a fits to ok h p later called (said, made) right class_is = (
+  said,
+  subst (λ (t : ℕ). SetsObject t value said.execution.objects (objects_left said.between)) to.object
+      (made value right.0 right.1 (ap (λ (t : ℕ). class_of_ono called.tree t) to.object ∙ class_is) (asks_of (class_of_value value) (asked.Set value) target h request fits to) ok said),
+)
 
 pub sets_keep : OfEachAnswer IsOfOneExecutionSince → OfEachAnswer SettingsWereMade → ReadingIsExact → EverySetKeeps
 sets_keep between sets law target value old new fits (o, f, e) =
     let params = done_parameters (parameters_answered o) e in
     let ok = ok_parameters o params.0 params.1 in
-    let to : f.request.target ≡ target = f.calls.object in
-    record {
-      request = f.request;
-      asks = f.calls;
-      answer = ok.answer;
-      answered = subst (λ (x : Outcome). AsksIn f.request old new x) ok.is f.asks;
-      keeps = follows (Both IsOfOneExecutionSince SettingsWereMade) (WasSetTo target value) f.request (answer_fields ok.answer) old new
-          (λ h p later called (said, made) right class_is. (
-            said,
-            subst (λ (t : ℕ). SetsObject t value said.execution.objects (objects_left said.between)) to
-                (made value right.0 right.1 (ap (λ (t : ℕ). class_of_ono called.tree t) to ∙ class_is) (asks_of (class_of_value value) (asked.Set value) target h f.request fits f.calls) ok.ok said),
-          ))
-          (answered_call (Both IsOfOneExecutionSince SettingsWereMade) (also IsOfOneExecutionSince SettingsWereMade between sets) law target (class_of_value value) (asked.Set value) old new o ok.answer f ok.is);
-    }
+    call_keeps SetAll (WasSetTo target value) (also IsOfOneExecutionSince SettingsWereMade between sets) law target (class_of_value value) (asked.Set value) old new o ok.answer f ok.is
+    (was_set target value f.request ok.answer fits f.calls ok.ok)
+
+pub sets_in_flight_keep : OfEachAnswer IsOfOneExecutionSince → OfEachAnswer SettingsWereMade → ReadingIsExact → EverySetInFlightKeeps
+sets_in_flight_keep between sets law target value request handle others old new a fits to flight e =
+    let params = done_parameters (parameters_answered (outcomes.Answered a)) (sym e) in
+    flight_keeps SetAll (WasSetTo target value) (also IsOfOneExecutionSince SettingsWereMade between sets) law request handle others old new a flight
+    (was_set target value request a fits to (answered_ok a params.0 params.1))
 
 -- ---- refused
 
 pub refused_sets_keep : OfEachAnswer IsOfOneExecutionSince → OfEachAnswer RefusalsChangeNothing → ReadingIsExact → EveryRefusedSetKeeps
 refused_sets_keep between refused law target value status old new (o, f, e) =
     let r = refused_status o status e in
-    record {
-      request = f.request;
-      asks = f.calls;
-      answer = r.0;
-      answered = subst (λ (x : Outcome). AsksIn f.request old new x) r.1 f.asks;
-      keeps = follows (Both IsOfOneExecutionSince RefusalsChangeNothing) (WasRefused status) f.request (answer_fields r.0) old new
-          (λ h p later called (said, changed). (r.2, (said, changed (not_zero r.0.status r.3) said)))
-          (answered_call (Both IsOfOneExecutionSince RefusalsChangeNothing) (also IsOfOneExecutionSince RefusalsChangeNothing between refused) law target (class_of_value value) (asked.Set value) old new o r.0 f r.1);
-    }
+    call_keeps (Both IsOfOneExecutionSince RefusalsChangeNothing) (WasRefused status) (also IsOfOneExecutionSince RefusalsChangeNothing between refused) law target (class_of_value value) (asked.Set value) old new o r.0 f r.1
+    (λ h p later called (said, changed). (r.2, (said, changed (not_zero r.0.status r.3) said)))
   where
     not_zero : (n : ℕ) → (n == 0) ≡ false → n ≢ 0
     not_zero n t z = let same : (0 == 0) ≡ false = subst (λ (m : ℕ). (m == 0) ≡ false) z t in absurd (cc)
@@ -212,6 +239,11 @@ read_so target of m reading request a get to ok in_is h p later called ((said, m
     subst (λ (t : ℕ). ReadSo t reading later called) to.object
     (reads of m reading right.0 right.1 class_here asks get ok (answer_is_shaped of m a.count a.params.items (answers.Reading reading) _ its (reading_shaped of m a.params.items reading get in_is)))
 
+of_reads_all : OfEachAnswer IsOfOneExecutionSince → OfEachAnswer OksSayWhatIsHeld → OfEachAnswer ReadingsWereHeld → OfEachAnswer ClassesMetAreThoseAtFirst → OfEachAnswer ReadsAll
+of_reads_all between oks reads met =
+    also (Both IsOfOneExecutionSince ClassesMetAreThoseAtFirst) (Both OksSayWhatIsHeld ReadingsWereHeld)
+    (also IsOfOneExecutionSince ClassesMetAreThoseAtFirst between met) (also OksSayWhatIsHeld ReadingsWereHeld oks reads)
+
 pub readings_keep : OfEachAnswer IsOfOneExecutionSince → OfEachAnswer OksSayWhatIsHeld → OfEachAnswer ReadingsWereHeld → OfEachAnswer ClassesMetAreThoseAtFirst → ReadingIsExact → EveryReadingKeeps
 readings_keep between oks reads met law target of reading old new r = by (get_method of) refl r
   where
@@ -220,16 +252,16 @@ readings_keep between oks reads met law target of reading old new r = by (get_me
     by (Some m) get (o, f, e) =
         let params = read_parameters (reading_in of) (parameters_answered o) reading e in
         let ok = ok_parameters o params.0 params.1 in
-        record {
-          request = f.request;
-          asks = f.calls;
-          answer = ok.answer;
-          answered = subst (λ (x : Outcome). AsksIn f.request old new x) ok.is f.asks;
-          keeps = follows ReadsAll (HadReading target of reading) f.request (answer_fields ok.answer) old new
-              (read_so target of m reading f.request ok.answer get f.calls ok.ok (ap (reading_in of) ok.params_are ∙ params.2))
-              (answered_call ReadsAll
-              (also (Both IsOfOneExecutionSince ClassesMetAreThoseAtFirst) (Both OksSayWhatIsHeld ReadingsWereHeld) (also IsOfOneExecutionSince ClassesMetAreThoseAtFirst between met) (also OksSayWhatIsHeld ReadingsWereHeld oks reads)) law target of asked.Get old new o ok.answer f ok.is);
-        }
+        call_keeps ReadsAll (HadReading target of reading) (of_reads_all between oks reads met) law target of asked.Get old new o ok.answer f ok.is
+        (read_so target of m reading f.request ok.answer get f.calls ok.ok (ap (reading_in of) ok.params_are ∙ params.2))
+
+pub readings_in_flight_keep : OfEachAnswer IsOfOneExecutionSince → OfEachAnswer OksSayWhatIsHeld → OfEachAnswer ReadingsWereHeld → OfEachAnswer ClassesMetAreThoseAtFirst → ReadingIsExact → EveryReadingInFlightKeeps
+readings_in_flight_keep between oks reads met law target of reading request handle others old new a to flight e =
+    let params = read_parameters (reading_in of) (parameters_answered (outcomes.Answered a)) reading (sym e) in
+    let ok = answered_ok a params.0 params.1 in
+    let by_method = to.call.of_method in
+    flight_keeps ReadsAll (HadReading target of reading) (of_reads_all between oks reads met) law request handle others old new a flight
+    (read_so target of by_method.0 reading request a by_method.1 to ok (ap (reading_in of) (answered_parameters a params.0 params.1) ∙ params.2))
 
 -- ---- lock and unlock
 
@@ -241,49 +273,38 @@ unlocked_object : (o : Object) (p : Peer) → changed_by o p asked.Unlock ≡ re
 unfolding changed_by
 unlocked_object o p = refl
 
+abbrev OfOks : OfAnAnswer
+OfOks = Both IsOfOneExecutionSince OksSayWhatIsHeld
+
 pub locks_keep : OfEachAnswer IsOfOneExecutionSince → OfEachAnswer OksSayWhatIsHeld → ReadingIsExact → EveryLockKeeps
 locks_keep between oks law target old new (o, f, e) =
     let params = done_parameters (parameters_answered o) e in
     let ok = ok_parameters o params.0 params.1 in
-    record {
-      request = f.request;
-      asks = f.calls;
-      answer = ok.answer;
-      answered = subst (λ (x : Outcome). AsksIn f.request old new x) ok.is f.asks;
-      keeps = follows (Both IsOfOneExecutionSince OksSayWhatIsHeld) (WasLocked target) f.request (answer_fields ok.answer) old new
-          (λ h p later called (said, held) right.
-          let by = held class.Block asked.LockTotal right.0 right.1 (asks_of class.Block asked.LockTotal target h f.request tt f.calls) ok.ok said in (
-            said,
-            record {
-              object = by.object;
-              there = ap (λ (t : ℕ). object_of said.execution.objects t) (sym f.calls.object) ∙ by.there;
-              left_is = (by.answers (inr refl)).left_is ∙ ap (with_object said.execution.objects) (locked_object by.object p);
-            },
-          ))
-          (answered_call (Both IsOfOneExecutionSince OksSayWhatIsHeld) (also IsOfOneExecutionSince OksSayWhatIsHeld between oks) law target class.Block asked.LockTotal old new o ok.answer f ok.is);
-    }
+    call_keeps OfOks (WasLocked target) (also IsOfOneExecutionSince OksSayWhatIsHeld between oks) law target class.Block asked.LockTotal old new o ok.answer f ok.is
+    (λ h p later called (said, held) right.
+    let by = held class.Block asked.LockTotal right.0 right.1 (asks_of class.Block asked.LockTotal target h f.request tt f.calls) ok.ok said in (
+      said,
+      record {
+        object = by.object;
+        there = ap (λ (t : ℕ). object_of said.execution.objects t) (sym f.calls.object) ∙ by.there;
+        left_is = (by.answers (inr refl)).left_is ∙ ap (with_object said.execution.objects) (locked_object by.object p);
+      },
+    ))
 
 pub unlocks_keep : OfEachAnswer IsOfOneExecutionSince → OfEachAnswer OksSayWhatIsHeld → ReadingIsExact → EveryUnlockKeeps
 unlocks_keep between oks law target old new (o, f, e) =
     let params = done_parameters (parameters_answered o) e in
     let ok = ok_parameters o params.0 params.1 in
-    record {
-      request = f.request;
-      asks = f.calls;
-      answer = ok.answer;
-      answered = subst (λ (x : Outcome). AsksIn f.request old new x) ok.is f.asks;
-      keeps = follows (Both IsOfOneExecutionSince OksSayWhatIsHeld) (WasUnlocked target) f.request (answer_fields ok.answer) old new
-          (λ h p later called (said, held) right.
-          let by = held class.Block asked.Unlock right.0 right.1 (asks_of class.Block asked.Unlock target h f.request tt f.calls) ok.ok said in (
-            said,
-            record {
-              object = by.object;
-              there = ap (λ (t : ℕ). object_of said.execution.objects t) (sym f.calls.object) ∙ by.there;
-              left_is = (by.answers (inr refl)).left_is ∙ ap (with_object said.execution.objects) (unlocked_object by.object p);
-            },
-          ))
-          (answered_call (Both IsOfOneExecutionSince OksSayWhatIsHeld) (also IsOfOneExecutionSince OksSayWhatIsHeld between oks) law target class.Block asked.Unlock old new o ok.answer f ok.is);
-    }
+    call_keeps OfOks (WasUnlocked target) (also IsOfOneExecutionSince OksSayWhatIsHeld between oks) law target class.Block asked.Unlock old new o ok.answer f ok.is
+    (λ h p later called (said, held) right.
+    let by = held class.Block asked.Unlock right.0 right.1 (asks_of class.Block asked.Unlock target h f.request tt f.calls) ok.ok said in (
+      said,
+      record {
+        object = by.object;
+        there = ap (λ (t : ℕ). object_of said.execution.objects t) (sym f.calls.object) ∙ by.there;
+        left_is = (by.answers (inr refl)).left_is ∙ ap (with_object said.execution.objects) (unlocked_object by.object p);
+      },
+    ))
 
 -- ---- get: the class first
 
@@ -333,19 +354,15 @@ had_class target of request a to ok in_is h p later called ((said, met), oks) ri
     let same : of ≡ class_of by.object.value = same_class of (class_of by.object.value) (sym read ∙ its ∙ ap Some (class_answer said.execution.objects by.object)) in
     ap (λ (t : ℕ). class_of_ono called.tree t) (sym to.object) ∙ sym (met said request.target) ∙ ap (λ (x : Option Object). option_map (λ (y : Object). class_of y.value) x) by.there ∙ ap Some (sym same)
 
+of_class_all : OfEachAnswer IsOfOneExecutionSince → OfEachAnswer OksSayWhatIsHeld → OfEachAnswer ClassesMetAreThoseAtFirst → OfEachAnswer ClassAll
+of_class_all between oks met = also (Both IsOfOneExecutionSince ClassesMetAreThoseAtFirst) OksSayWhatIsHeld (also IsOfOneExecutionSince ClassesMetAreThoseAtFirst between met) oks
+
 pub classes_keep : OfEachAnswer IsOfOneExecutionSince → OfEachAnswer OksSayWhatIsHeld → OfEachAnswer ClassesMetAreThoseAtFirst → ReadingIsExact → EveryClassKeeps
 classes_keep between oks met law target of old new (o, f, e) =
     let params = class_said o of e in
     let ok = ok_parameters o params.0 params.1 in
-    record {
-      request = f.request;
-      asks = f.calls;
-      answer = ok.answer;
-      answered = subst (λ (x : Outcome). AsksIn f.request old new x) ok.is f.asks;
-      keeps = follows ClassAll (HadClass target of) f.request (answer_fields ok.answer) old new
-          (had_class target of f.request ok.answer f.calls ok.ok (ap class_in ok.params_are ∙ params.2))
-          (answered_call ClassAll (also (Both IsOfOneExecutionSince ClassesMetAreThoseAtFirst) OksSayWhatIsHeld (also IsOfOneExecutionSince ClassesMetAreThoseAtFirst between met) oks) law target class.Block asked.GetClassIdentification old new o ok.answer f ok.is);
-    }
+    call_keeps ClassAll (HadClass target of) (of_class_all between oks met) law target class.Block asked.GetClassIdentification old new o ok.answer f ok.is
+    (had_class target of f.request ok.answer f.calls ok.ok (ap class_in ok.params_are ∙ params.2))
 
 -- ---- get: the whole
 
@@ -427,9 +444,6 @@ gets_keep between oks reads met law target value old new (read, asks, e) = by_re
 same_text : (a b : List ℕ) → Some (answers.Text a) ≡ Some (answers.Text b) → a ≡ b
 same_text a b e = cc
 
-abbrev OfOks : OfAnAnswer
-OfOks = Both IsOfOneExecutionSince OksSayWhatIsHeld
-
 had_text : (r : Asked) (m : Method) (text_of : Object → List ℕ) → IsRequest r → is_of_every_class r ≡ true → AskedBy class.Block r m → shape_of m ≡ shape.Text →
     ((tree : List Object) (o : Object) → answer_given tree o r ≡ answers.Text (text_of o)) →
     (target : ℕ) (text : List ℕ) (request : RequestFields) (a : Answer) → IsRequestTo target class.Block r request → a.status ≡ 0 → whole (text_at a.params.items) ≡ Some text →
@@ -452,15 +466,8 @@ texts_keep : OfEachAnswer IsOfOneExecutionSince → OfEachAnswer OksSayWhatIsHel
 texts_keep between oks law r m text_of is_request every by_method shape_is_text gives target text old new (o, f, e) =
     let params = read_parameters (λ ps. whole (text_at ps)) (parameters_answered o) text e in
     let ok = ok_parameters o params.0 params.1 in
-    record {
-      request = f.request;
-      asks = f.calls;
-      answer = ok.answer;
-      answered = subst (λ (x : Outcome). AsksIn f.request old new x) ok.is f.asks;
-      keeps = follows OfOks (HadText text_of target text) f.request (answer_fields ok.answer) old new
-          (had_text r m text_of is_request every by_method shape_is_text gives target text f.request ok.answer f.calls ok.ok (ap (λ ps. whole (text_at ps)) ok.params_are ∙ params.2))
-          (answered_call OfOks (also IsOfOneExecutionSince OksSayWhatIsHeld between oks) law target class.Block r old new o ok.answer f ok.is);
-    }
+    call_keeps OfOks (HadText text_of target text) (also IsOfOneExecutionSince OksSayWhatIsHeld between oks) law target class.Block r old new o ok.answer f ok.is
+    (had_text r m text_of is_request every by_method shape_is_text gives target text f.request ok.answer f.calls ok.ok (ap (λ ps. whole (text_at ps)) ok.params_are ∙ params.2))
 
 role_answer : (tree : List Object) (o : Object) → answer_given tree o asked.GetRole ≡ answers.Text o.role
 unfolding answer_given
@@ -508,11 +515,8 @@ number_of_found (x ∷ xs) number o e = by (x.ono.0 == number) refl (number_of_f
     by true t later q = let same : x ≡ o = cc in ap (λ (y : Object). y.ono.0) (sym same) ∙ eqb-true x.ono.0 number t
     by false t later q = later q
 
-abbrev MembersAll : OfAnAnswer
-MembersAll = Both (Both IsOfOneExecutionSince ClassesMetAreThoseAtFirst) OksSayWhatIsHeld
-
 had_members : (target : ℕ) (numbers : List ℕ) (request : RequestFields) (a : Answer) → IsRequestTo target class.Block asked.GetMembers request → a.status ≡ 0 → members_in a.params.items ≡ Some numbers →
-    (h : ℕ) (p : Peer) (later : List Step) (called : Network) → MembersAll p (command_under h request) (answer_fields a) later called → HadMembers target numbers p (command_under h request) (answer_fields a) later called
+    (h : ℕ) (p : Peer) (later : List Step) (called : Network) → ClassAll p (command_under h request) (answer_fields a) later called → HadMembers target numbers p (command_under h request) (answer_fields a) later called
 had_members target numbers request a to ok in_is h p later called ((said, met), oks) right class_is =
     let class_here = ap (λ (t : ℕ). class_of_ono called.tree t) to.object ∙ class_is in
     let by = oks class.Block asked.GetMembers right.0 right.1 (asks_of class.Block asked.GetMembers target h request tt to) ok said in
@@ -533,15 +537,8 @@ pub members_keep : OfEachAnswer IsOfOneExecutionSince → OfEachAnswer OksSayWha
 members_keep between oks met law target numbers old new (o, f, e) =
     let params = read_parameters members_in (parameters_answered o) numbers e in
     let ok = ok_parameters o params.0 params.1 in
-    record {
-      request = f.request;
-      asks = f.calls;
-      answer = ok.answer;
-      answered = subst (λ (x : Outcome). AsksIn f.request old new x) ok.is f.asks;
-      keeps = follows MembersAll (HadMembers target numbers) f.request (answer_fields ok.answer) old new
-          (had_members target numbers f.request ok.answer f.calls ok.ok (ap members_in ok.params_are ∙ params.2))
-          (answered_call MembersAll (also (Both IsOfOneExecutionSince ClassesMetAreThoseAtFirst) OksSayWhatIsHeld (also IsOfOneExecutionSince ClassesMetAreThoseAtFirst between met) oks) law target class.Block asked.GetMembers old new o ok.answer f ok.is);
-    }
+    call_keeps ClassAll (HadMembers target numbers) (of_class_all between oks met) law target class.Block asked.GetMembers old new o ok.answer f ok.is
+    (had_members target numbers f.request ok.answer f.calls ok.ok (ap members_in ok.params_are ∙ params.2))
 
 -- ---- a description
 
@@ -566,15 +563,8 @@ fields_keep : OfEachAnswer IsOfOneExecutionSince → OfEachAnswer OksSayWhatIsHe
 fields_keep between oks met law target fields old new (o, f, e) =
     let params = read_parameters class_id_in (parameters_answered o) fields e in
     let ok = ok_parameters o params.0 params.1 in
-    record {
-      request = f.request;
-      asks = f.calls;
-      answer = ok.answer;
-      answered = subst (λ (x : Outcome). AsksIn f.request old new x) ok.is f.asks;
-      keeps = follows ClassAll (HadFields target fields) f.request (answer_fields ok.answer) old new
-          (had_fields target fields f.request ok.answer f.calls ok.ok (ap class_id_in ok.params_are ∙ params.2))
-          (answered_call ClassAll (also (Both IsOfOneExecutionSince ClassesMetAreThoseAtFirst) OksSayWhatIsHeld (also IsOfOneExecutionSince ClassesMetAreThoseAtFirst between met) oks) law target class.Block asked.GetClassIdentification old new o ok.answer f ok.is);
-    }
+    call_keeps ClassAll (HadFields target fields) (of_class_all between oks met) law target class.Block asked.GetClassIdentification old new o ok.answer f ok.is
+    (had_fields target fields f.request ok.answer f.calls ok.ok (ap class_id_in ok.params_are ∙ params.2))
 
 abbrev pair_told : Result (List ℕ × List ℕ) Trouble → List ℕ × List ℕ
 pair_told (Ok p) = p
@@ -599,3 +589,42 @@ descriptions_keep between oks met law target fields role old new (read, mid, ask
     by : (r : Result (List ℕ) Trouble) → Reads target class.Block asked.GetClassIdentification fields_answered old mid r → DescribesFrom r target mid new (Ok (fields, role)) → DescriptionKeeps target fields role old new
     by (Err t) one (same, q) = absurd (cc)
     by (Ok fs) one (r, two, q) = by_role fs r one two q
+
+-- ---- any method, of a command in flight
+
+-- an answer that is read has status OK
+model_ok : (of : Class) (m : Method) (a : Answer) (typed : Typed) → model_answered of m (outcomes.Answered a) ≡ Ok typed → (a.status ≡ 0) × (answer_in of m a.count a.params.items ≡ Some typed)
+model_ok of m a typed e = by (a.status == 0) refl e
+  where
+    read : (o : Option Typed) → readable o ≡ Ok typed → o ≡ Some typed
+    read None q = absurd (cc)
+    read (Some x) q = let same : x ≡ typed = cc in ap Some same
+
+    by : (b : Bool) → (a.status == 0) ≡ b → (let x : Result Typed Trouble = if b then readable (answer_in of m a.count a.params.items) else Err (trouble.Refused a.status) in x) ≡ Ok typed → (a.status ≡ 0) × (answer_in of m a.count a.params.items ≡ Some typed)
+    by true t q = (eqb-true a.status 0 t, read (answer_in of m a.count a.params.items) q)
+    by false t q = absurd (cc)
+
+same_typed : (a b : Typed) → Some a ≡ Some b → a ≡ b
+same_typed a b e = cc
+
+answered_so : (target : ℕ) (of : Class) (r : Asked) (m : Method) (typed : Typed) (request : RequestFields) (a : Answer) → IsRequest r → AskedBy of r m → IsRequestTo target of r request → a.status ≡ 0 →
+    answer_in of m a.count a.params.items ≡ Some typed → Follows ClassAll (AnsweredSo target of r typed) request a
+answered_so target of r m typed request a is_request by_method to ok read h p later called ((said, met), oks) right which =
+    let by = oks of r right.0 right.1 (asks_of of r target h request is_request to) ok said in
+    let its = by.answers (its_class by.object by.there which) in (
+      said,
+      by.object,
+      ap (λ (t : ℕ). object_of said.execution.objects t) (sym to.object) ∙ by.there,
+      same_typed typed (answer_given said.execution.objects by.object r) (sym read ∙ its.said m by_method),
+      its.left_is,
+    )
+  where
+    its_class : (o : Object) → object_of said.execution.objects request.target ≡ Some o → (class_of_ono called.tree target ≡ Some of) ⊎ (is_of_every_class r ≡ true) → (class_of o.value ≡ of) ⊎ (is_of_every_class r ≡ true)
+    its_class o there (inl is) = inl (object_class said.execution.objects request.target o of there (met said request.target ∙ ap (λ (t : ℕ). class_of_ono called.tree t) to.object ∙ is))
+    its_class o there (inr every) = inr every
+
+pub answers_in_flight_keep : OfEachAnswer IsOfOneExecutionSince → OfEachAnswer OksSayWhatIsHeld → OfEachAnswer ClassesMetAreThoseAtFirst → ReadingIsExact → EveryAnswerInFlightKeeps
+answers_in_flight_keep between oks met law target of r m typed request handle others old new a is_request by_method to flight e =
+    let ok = model_ok of m a typed e in
+    flight_keeps ClassAll (AnsweredSo target of r typed) (of_class_all between oks met) law request handle others old new a flight
+    (answered_so target of r m typed request a is_request by_method to ok.0 ok.1)

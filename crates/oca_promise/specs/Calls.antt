@@ -1,7 +1,7 @@
 -- WHAT A CALL OF A PANEL IS IN A NETWORK (profile): what was done with its link, and what then holds where a schedule
 -- plays that.
 use Rattle.std.specs.Prelude.{◌≡◌, ℕ, true, List, [], ◌∷◌, ◌++◌, Some, Ok}
-use Rattle.std.specs.List.{slice_get, AllByRecursion}
+use Rattle.std.specs.List.{filter, slice_get}
 use Rattle.oca_types.specs.declared.words.Peer.{Peer}
 use Rattle.oca_types.specs.Peers.{CommandFields, RequestFields}
 use Rattle.oca_types.specs.Sizes.{DeviceSizes}
@@ -19,7 +19,7 @@ use Rattle.oca_pair.specs.Steps.{Step, Submit, after_step, after_steps}
 use Rattle.oca_pair.specs.Premises.{are_apart, Fit}
 use Rattle.oca_pair.specs.InTime.{AreInTime}
 use Rattle.oca_panel.specs.Panels.{PanelState, AsksIn}
-use Rattle.oca_promise.specs.Doings.{Doing, Submits, Takes, all_done, IsSentOrHeard, AreSentInTime, AreOfDevice}
+use Rattle.oca_promise.specs.Doings.{Doing, Submits, Takes, all_done, is_begun_or_taken, AreSentInTime, AreOfDevice}
 use Rattle.oca_promise.specs.Doings.{WasDone, Plays}
 
 -- THIS WAS DONE BY A CALL that asked the request and got the answer: the command was given to the link under this
@@ -35,12 +35,14 @@ pub record IsDoneByCall (request : RequestFields) (handle : ℕ) (answer : Answe
       answer_under handle (all_done (Submits request now ∷ between) old.link).untaken ≡ Some answer
 
 -- The call did that alone: the command was submitted at a present moment of the end, and then it was sent and heard until
--- the answer was taken. Nothing was sent while the link was late.
-pub record IsAll {request : RequestFields} {handle : ℕ} {answer : AnswerFields} {doings : List Doing}
-    {old new : PanelState} (by_call : IsDoneByCall request handle answer doings old new) : Type 0 where
-  pub present : IsPresent by_call.now old.end_state
-  pub only : AllByRecursion IsSentOrHeard by_call.between
-  pub in_time : AreOfDevice by_call.done.deliveries → AreSentInTime doings old.link
+-- the answer was taken. What was begun or taken meanwhile by other calls is this, in order. Nothing was sent while the
+-- link was late.
+pub record IsAll (others : List Doing) {request : RequestFields} {handle : ℕ} {answer : AnswerFields}
+    {doings : List Doing} {old new : PanelState} (by_call : IsDoneByCall request handle answer doings old new) : Type 0
+  where
+    pub present : IsPresent by_call.now old.end_state
+    pub only : filter is_begun_or_taken by_call.between ≡ others
+    pub in_time : AreOfDevice by_call.done.deliveries → AreSentInTime doings old.link
 
 -- What holds of a command of a peer and its answer, by the network just after the command was submitted and the steps
 -- from there on.
@@ -68,26 +70,30 @@ HoldsInEachNetwork Holds request handle answer doings old =
     slice_get n.links i ≡ Some (record { peer = p; link = old.link }) → Plays i p n doings steps →
     HoldsFromSubmit Holds i p request handle answer steps n
 
--- THE CALL KEEPS IT: something was done by it; and whatever that was, it holds in each network whose datagrams are all
--- that came.
-pub record KeepsInNetworks (Holds : OfAnAnswer) (request : RequestFields) (answer : AnswerFields)
-    (old new : PanelState) : Type 0 where
-  pub handle : ℕ
+-- THE CALL KEEPS IT: something was done by it, beside what other calls began and took meanwhile; and whatever that was, it
+-- holds in each network whose datagrams are all that came.
+pub record KeepsInNetworks (Holds : OfAnAnswer) (request : RequestFields) (handle : ℕ) (answer : AnswerFields)
+    (others : List Doing) (old new : PanelState) : Type 0 where
   pub doings : List Doing
   pub by_call : IsDoneByCall request handle answer doings old new
-  pub all : IsAll by_call
+  pub all : IsAll others by_call
   pub holds : (xs : List Doing) (done : IsDoneByCall request handle answer xs old new) →
       AreOfDevice done.done.deliveries → HoldsInEachNetwork Holds request handle answer xs old
 
--- EVERY CALL IS IN TIME, however it came out: something was done by it, and nothing was sent while the link was late.
-abbrev pub EveryCallIsInTime : Type 0
-EveryCallIsInTime =
-    (request : RequestFields) (old new : PanelState) (outcome : Outcome) → AsksIn request old new outcome →
+-- Something was done between two states of a panel, and nothing was sent while its link was late.
+abbrev pub NothingIsSentLate : PanelState → PanelState → Type 0
+NothingIsSentLate old new =
     (doings : List Doing) × (done : WasDone doings old.link new.link old.end_state new.end_state)
     × (AreOfDevice done.deliveries → AreSentInTime doings old.link)
 
--- Each call that asked a request, and to which an answer came, keeps it.
+-- EVERY CALL IS IN TIME, however it came out.
+abbrev pub EveryCallIsInTime : Type 0
+EveryCallIsInTime =
+    (request : RequestFields) (old new : PanelState) (outcome : Outcome) → AsksIn request old new outcome →
+    NothingIsSentLate old new
+
+-- Each call that asked a request, and to which an answer came, keeps it. No other call was made meanwhile.
 abbrev pub EveryAnsweredCallKeeps : OfAnAnswer → Type 0
 EveryAnsweredCallKeeps Holds =
     (request : RequestFields) (old new : PanelState) (a : Answer) → AsksIn request old new (outcomes.Answered a) →
-    KeepsInNetworks Holds request (answer_fields a) old new
+    (handle : ℕ) × KeepsInNetworks Holds request handle (answer_fields a) [] old new

@@ -1,6 +1,6 @@
 -- WHAT IS DONE WITH A LINK (profile), and a schedule of a network in which that is done. Of doings the first stands first;
 -- moments are in milliseconds.
-use Rattle.std.specs.Prelude.{◌≡◌, ◌⊎◌, ℕ, ◌+◌, ◌<◌, Bool, true, false, IsTrue, if◌then◌else◌, nat_le, List, [], ◌∷◌, ◌++◌, length, Some}
+use Rattle.std.specs.Prelude.{◌≡◌, ◌⊎◌, ℕ, ◌+◌, ◌<◌, ◌≤◌, Bool, true, false, IsTrue, if◌then◌else◌, nat_le, List, [], ◌∷◌, ◌++◌, length, Some}
 use Rattle.std.specs.List.{filter, flat_map, slice_get, AllByRecursion}
 use Rattle.oca_types.specs.declared.words.Peer.{Peer}
 use Rattle.oca_net.specs.Deliveries.{Delivery, Datagram, Quiet, Failed, Sent}
@@ -35,12 +35,12 @@ unfoldable pub all_done : List Doing → LinkState → LinkState
 all_done [] l = l
 all_done (x ∷ xs) l = all_done xs (done x l)
 
--- it is sent or heard
-abbrev pub IsSentOrHeard : Doing → Type 0
-IsSentOrHeard (Sends now) = Unit {0}
-IsSentOrHeard (Hears bytes now) = Unit {0}
-IsSentOrHeard (Submits request now) = ⊥
-IsSentOrHeard (Takes h) = ⊥
+-- a command is given to the link, or an answer is taken
+abbrev pub is_begun_or_taken : Doing → Bool
+is_begun_or_taken (Submits request now) = true
+is_begun_or_taken (Sends now) = false
+is_begun_or_taken (Hears bytes now) = false
+is_begun_or_taken (Takes h) = true
 
 -- nothing is sent at a moment at which the link is late
 unfoldable pub AreSentInTime : List Doing → LinkState → Type 0
@@ -88,7 +88,7 @@ AreOfDevice deliveries = AllByRecursion IsOfDevice deliveries
 
 -- THIS WAS DONE with a link over an end, which became another by it. Where the end tells, what was heard is what it
 -- delivered; and where each of these datagrams is the device's, the link is what is said, the end was given just as many
--- datagrams as are sent, and where it tells it took these but for so many sends that failed.
+-- datagrams as are sent, and where it tells it took these but for so many sends that failed, no more than it counted.
 pub record WasDone (doings : List Doing) (old new : LinkState) (before after : EndState) : Type 0 where
   pub deliveries : List Delivery
   pub telling : after.tells ≡ before.tells
@@ -96,6 +96,7 @@ pub record WasDone (doings : List Doing) (old new : LinkState) (before after : E
   pub heard : hearings doings ≡ flat_map hearing_of deliveries
   pub link : AreOfDevice deliveries → new ≡ all_done doings old
   pub failed : ℕ
+  pub failures : after.failures < last_u64 → before.failures + failed ≤ after.failures
   pub sent : AreOfDevice deliveries → IsTrue before.tells →
       TakesAllBut failed before.taken after.taken (sent_by doings old)
   pub sends : AreOfDevice deliveries → after.sends < last_u64 →

@@ -1,3 +1,4 @@
 pub mod Doings
 pub mod Calls
 pub mod Promises
+pub mod Flights

@@ -33,7 +33,7 @@ use Rattle.oca_pair.specs.Saying.{IsOfOneExecutionSince, ChangedNothing, SetsObj
 use Rattle.oca_panel.specs.declared.trouble.Trouble.TheVariants as trouble
 use Rattle.oca_panel.specs.Panels.{PanelState, AsksIn}
 use Rattle.oca_panel.specs.Objects.{AsksClass, IsRequestTo, Reads, ReadsBy, SetsValue, GetsValue}
-use Rattle.oca_panel.specs.Outcomes.{done_answered, fields_answered, members_answered, text_answered}
+use Rattle.oca_panel.specs.Outcomes.{done_answered, members_answered, text_answered}
 use Rattle.oca_panel.specs.Walks.{Describes}
 use Rattle.oca_promise.specs.Doings.{Doing, AreOfDevice, Plays}
 use Rattle.oca_promise.specs.Calls.{OfAnAnswer, IsDoneByCall, KeepsInNetworks}
@@ -46,9 +46,10 @@ IsRightAtFirst tree = IsTree tree × All IsOfItsTypes tree
 pub record CallKeeps (target : ℕ) (of : Class) (r : Asked) (Holds : OfAnAnswer) (old new : PanelState) : Type 0 where
   pub request : RequestFields
   pub asks : IsRequestTo target of r request
+  pub handle : ℕ
   pub answer : Answer
   pub answered : AsksIn request old new (outcomes.Answered answer)
-  pub keeps : KeepsInNetworks Holds request (answer_fields answer) old new
+  pub keeps : KeepsInNetworks Holds request handle (answer_fields answer) [] old new
 
 -- ---- SET: the object, where it is of the value's class, was set to the value by the only execution of the command, which
 -- lies between the call and its return.
@@ -136,8 +137,8 @@ pub record GetKeeps (target : ℕ) (value : Value) (old new : PanelState) : Type
   pub class_call : CallKeeps target class.Block asked.GetClassIdentification (HadClass target of) old between
   pub value_call : CallKeeps target of asked.Get (HadReading target of reading) between new
   pub read : (xs ys : List Doing)
-      (class_done : IsDoneByCall class_call.request class_call.keeps.handle (answer_fields class_call.answer) xs old between)
-      (value_done : IsDoneByCall value_call.request value_call.keeps.handle (answer_fields value_call.answer) ys between new) →
+      (class_done : IsDoneByCall class_call.request class_call.handle (answer_fields class_call.answer) xs old between)
+      (value_done : IsDoneByCall value_call.request value_call.handle (answer_fields value_call.answer) ys between new) →
       AreOfDevice class_done.done.deliveries → AreOfDevice value_done.done.deliveries →
       (w : DeviceSizes) (s : ℕ) (tree : List Object) (starts : List Start) (before one two : List Step) (i : ℕ)
       (p : Peer) →

@@ -3,4 +3,4 @@
 
 mod law;
 
-pub use law::law_of_calls;
+pub use law::{law_of_calls, law_of_flights};

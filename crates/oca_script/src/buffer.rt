@@ -22,7 +22,7 @@ impl<const CAP: usize> Model for Buffer<CAP> {
 }
 
 impl<const CAP: usize> Buffer<CAP> {
-    /// No bytes.
+    /// A buffer without bytes; it takes no memory from the heap.
     pub fn new() -> Self
         ensures { result ≡ [] }
     {
@@ -32,7 +32,7 @@ impl<const CAP: usize> Buffer<CAP> {
         }
     }
 
-    /// The number of bytes.
+    /// The number of bytes in the buffer: 0 to `CAP`.
     pub fn len(&self) -> usize
         ensures len { result ≡ length self.now }
         ensures most { result ≤ CAP }
@@ -40,14 +40,14 @@ impl<const CAP: usize> Buffer<CAP> {
         self.len
     }
 
-    /// Whether there are no bytes.
+    /// Whether there are no bytes in the buffer.
     pub fn is_empty(&self) -> bool
         ensures { result ≡ (length self.now == 0) }
     {
         self.len == 0
     }
 
-    /// The bytes.
+    /// The bytes in the buffer.
     pub fn as_slice(&self) -> &[u8]
         ensures value { result.now ≡ self.now }
         ensures most { length self.now ≤ CAP }
@@ -55,14 +55,14 @@ impl<const CAP: usize> Buffer<CAP> {
         &self.bytes[..self.len]
     }
 
-    /// Leaves no bytes.
+    /// Removes all bytes.
     pub fn clear(&mut self)
         ensures { self.new ≡ [] }
     {
         self.len = 0;
     }
 
-    /// Appends the bytes.
+    /// Appends the bytes. There must be room for them (a premise): with those before they are at most `CAP`.
     #[inline]
     pub fn put(&mut self, bytes: &[u8])
         requires { length self.old + length bytes.now ≤ CAP }
@@ -74,7 +74,7 @@ impl<const CAP: usize> Buffer<CAP> {
         self.len = start + bytes.len();
     }
 
-    /// Appends a byte.
+    /// Appends a byte. There must be room for it (a premise): the buffer has fewer than `CAP` bytes.
     #[inline]
     pub fn push(&mut self, byte: u8)
         requires { length self.old + 1 ≤ CAP }
@@ -86,7 +86,7 @@ impl<const CAP: usize> Buffer<CAP> {
         self.len = start + 1;
     }
 
-    /// Appends the bytes in lower case hexadecimal digits, two a byte.
+    /// Appends the bytes in lower case hexadecimal digits, two a byte. There must be room for the digits (a premise).
     #[inline]
     pub fn put_digits(&mut self, bytes: &[u8])
         requires { length self.old + 2 * length bytes.now ≤ CAP }

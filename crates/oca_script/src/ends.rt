@@ -21,14 +21,15 @@ pub trait Source {
     // Whether it is known that a read does not wait: since there are bytes, or the end is reached, or it never waits.
     ghost ready: { Self → Bool } = { λ _. true };
 
-    /// Waits at most so many milliseconds until a read does not wait, or until the descriptor beside, where there is
-    /// one, has something. Returns whether a read does not wait, and reads nothing.
+    /// Waits until a read does not wait, or until there is something at the descriptor `beside`, for at most so many
+    /// milliseconds. It reads nothing. `true` if a read does not wait: there are bytes, or the end is reached. `false`
+    /// otherwise.
     fn await_input(&mut self, beside: Option<RawFd>, milliseconds: u64) -> bool
         ensures ready { ready self.new ≡ result }
         ensures source { input (remaining self.new) (failed self.new) ≡ input (remaining self.old) (failed self.old) };
 
-    /// Puts the next bytes at the front of the buffer and returns how many there are: none only at the end, or where
-    /// the buffer has no room. `ReadFailed` where nothing can be read.
+    /// Puts the next bytes at the front of the buffer and returns how many there are: 0 at the end, or if the buffer
+    /// has no room. `ReadFailed` if reading failed: what the buffer then holds is not known.
     fn read(&mut self, buf: &mut [u8]) -> Result<usize, ReadFailed>
         ensures within { ReadsAtMost result buf.new }
         ensures bytes { ReadConsumes (remaining self.old) (remaining self.new) result buf.new }
@@ -43,8 +44,8 @@ pub trait Sink {
     // Whether a write has failed.
     ghost failed: { Self → Bool };
 
-    /// Takes a front of the bytes, and returns how many it took: one or more, where there are any. `WriteFailed` where
-    /// it can take none.
+    /// Takes bytes from the front, and returns how many it took: at least one, unless there are none. `WriteFailed` if
+    /// it took none since writing failed.
     fn write(&mut self, bytes: &[u8]) -> Result<usize, WriteFailed>
         ensures within { WritesAtMost result bytes.now }
         ensures some { IfOk result (λ n. 0 < length bytes.now → 0 < n) }
@@ -63,8 +64,7 @@ pub struct FromReader<R> {
 }
 
 impl<R: Read> FromReader<R> {
-    /// The reader, of which no read has failed. It is taken for one of which no read waits, as those of files and of
-    /// memory.
+    /// A source of this reader, of which no read has failed. Each read is taken not to wait, as with files and memory.
     pub fn new(reader: R) -> FromReader<R>
         ensures reader { result.reader ≡ reader }
         ensures unfailed { result.failed ≡ false }
@@ -79,7 +79,8 @@ impl<R: Read> FromReader<R> {
         }
     }
 
-    /// The same of a reader that is awaited by its descriptor: a read of it may wait.
+    /// A source of this reader, of which no read has failed. A read may wait: so the source asks the system about the
+    /// reader's descriptor.
     pub fn awaited(reader: R) -> FromReader<R>
     where
         R: AsRawFd,
@@ -170,7 +171,7 @@ pub struct ToWriter<W> {
 }
 
 impl<W: Write> ToWriter<W> {
-    /// The writer, to which no write has failed.
+    /// A sink of this writer, to which no write has failed.
     pub fn new(writer: W) -> ToWriter<W>
         ensures writer { result.writer ≡ writer }
         ensures unfailed { result.failed ≡ false }

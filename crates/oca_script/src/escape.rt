@@ -28,7 +28,8 @@ impl Model for Escaped {
 }
 
 impl Escaped {
-    /// The text as it is printed.
+    /// The text as it is printed: at most 512 bytes, without a character that ends a line, moves a cursor or changes
+    /// the direction of a text. The text must have at most 64 bytes (a premise).
     pub fn of(text: &str) -> Escaped
         requires { length text.now ≤ 64 }
         ensures { result ≡ escaped text.now }
@@ -38,7 +39,7 @@ impl Escaped {
         }
     }
 
-    /// The bytes.
+    /// The bytes that are printed: at most 512.
     pub fn as_bytes(&self) -> &[u8]
         ensures value { result.now ≡ self.now }
         ensures most { length self.now ≤ 512 }
@@ -47,7 +48,8 @@ impl Escaped {
     }
 }
 
-/// Whether a text has a character that is printed as another, a backslash left aside.
+/// Whether a text has a character that is printed as an escape. A backslash does not count, though it is printed as
+/// two.
 pub fn has_hidden(text: &str) -> bool
     ensures { result ≡ has_hidden_char text.now }
 {
@@ -144,7 +146,7 @@ fn digit(value: u8) -> u8
     }
 }
 
-/// Each text is read back from what is printed of it. A law over the definitions: it does nothing.
+/// Law: each text can be read back from what is printed of it. It does nothing at run time.
 pub fn law_of_escapes()
     ensures { LawOfEscapes }
 {}

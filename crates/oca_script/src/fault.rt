@@ -23,7 +23,7 @@ pub enum LineFault {
 }
 
 impl LineFault {
-    /// The word that is printed for the fault.
+    /// The word that is printed for the fault, as PROTOCOL.md lists it.
     pub fn word(self) -> &'static str
         ensures { result.now ≡ fault_word self }
     {
@@ -65,7 +65,7 @@ pub enum ReplayFault {
 }
 
 impl ReplayFault {
-    /// The number of the fault, 1 to 4.
+    /// The number of the fault: 1 of a line, 2 of a read, 3 of a write, 4 of too much input.
     pub fn number(self) -> u8
         ensures { result ≡ script_fault_number self }
     {

@@ -10,8 +10,8 @@ use oca_types::Peer;
 /// Whatever digit follows a number of at most this, the result has 64 bits.
 const MOST_TENTH: u64 = (u64::MAX - 9) / 10;
 
-/// The number that one to `most` decimal digits write, where it is at most `largest`. Leading
-/// zeros count as digits.
+/// The number that one to `most` decimal digits write; leading zeros count as digits. `None` if the text is anything
+/// else, or the number is above `largest`.
 #[tactic(auto, unfolding(crate::specs::Fields::number_of, crate::specs::Fields::at_most), using(crate::proofs::FieldLemmas::number_rules))]
 pub fn number(digits: &[u8], most: usize, largest: u64) -> Option<u64>
     ensures value { result ≡ number_of most largest digits.now }
@@ -35,8 +35,9 @@ pub fn number(digits: &[u8], most: usize, largest: u64) -> Option<u64>
     if value <= largest { Some(value) } else { None }
 }
 
-/// The number of one to `most` digits, at most `largest`, that stands before the first byte `end`, and what stands
-/// after that byte. `None` where there is no byte `end`, or what stands before the first is no such number.
+/// The number that stands before the first byte `end`, and what stands after that byte. The number has one to `most`
+/// decimal digits. `end` must be no digit (a premise). `None` if there is no byte `end`, what stands before it is no
+/// such number, or the number is above `largest`.
 #[tactic(auto, using(crate::proofs::NumberLemmas::number_before_rules))]
 pub fn number_before(text: &[u8], end: u8, most: usize, largest: u64) -> Option<(u64, &[u8])>
     requires { (end < 48) ⊎ (57 < end) }
@@ -98,14 +99,16 @@ fn octet_before(text: &[u8], end: u8) -> Option<(u64, &[u8])>
     Some((three, &text[4..]))
 }
 
-/// A moment in milliseconds: one to twenty decimal digits, at most 2^64 - 1. `None` where the text is anything else.
+/// The moment, in milliseconds, that one to twenty decimal digits write. `None` if the text is anything else, or the
+/// number does not fit in 64 bits.
 pub fn moment(text: &[u8]) -> Option<u64>
     ensures { result ≡ moment_of text.now }
 {
     number(text, 20, u64::MAX)
 }
 
-/// The text before the first byte that is the separator, and the text after it; `None` where it has none.
+/// The text before the first byte that is the separator, and the text after that byte. `None` if the text has no such
+/// byte.
 pub fn split_at_byte(text: &[u8], separator: u8) -> Option<(&[u8], &[u8])>
     ensures value { split_view result ≡ split_at separator text.now }
     ensures within { IfSome result (λ p. length p.0.now + length p.1.now + 1 ≡ length text.now) }
@@ -116,8 +119,8 @@ pub fn split_at_byte(text: &[u8], separator: u8) -> Option<(&[u8], &[u8])>
     }
 }
 
-/// The first field, which ends at the first space, and the text after that space; `None` in its place where there is no
-/// space.
+/// The first field of a text, up to the first space, and the text after that space. If there is no space the whole text
+/// is the field, and `None` stands for the rest.
 #[tactic(auto, using(crate::proofs::FieldLemmas::field_rules))]
 pub fn first_field(text: &[u8]) -> (&[u8], Option<&[u8]>)
     ensures value { fields text.now ≡ result.0.now ∷ fields_after (option_copied result.1) }
@@ -130,8 +133,8 @@ pub fn first_field(text: &[u8]) -> (&[u8], Option<&[u8]>)
     }
 }
 
-/// An address: `a.b.c.d`, four decimal numbers of at most 255 with one to three digits each, the first in the highest
-/// byte. `None` where the text is anything else.
+/// The IPv4 address `a.b.c.d` as a number, the first byte highest: four decimal numbers of at most 255, of one to three
+/// digits each. `None` if the text is anything else.
 #[tactic(auto, unfolding(crate::specs::Fields::address_of))]
 pub fn address(text: &[u8]) -> Option<u32>
     ensures { result ≡ address_of text.now }
@@ -160,8 +163,8 @@ fn address_before(text: &[u8], end: u8) -> Option<(u64, &[u8])>
     Some((((a * 256 + b) * 256 + c) * 256 + d, rest))
 }
 
-/// A peer: `a.b.c.d:port` in decimal numbers of at most 255 and 65,535, one to three and one to
-/// five digits.
+/// The peer `a.b.c.d:port`: four decimal numbers of at most 255, of one to three digits each, and a port of at most
+/// 65,535, of one to five digits. `None` if the text is anything else.
 #[tactic(auto, unfolding(crate::specs::Fields::peer_of))]
 pub fn peer(text: &[u8]) -> Option<Peer>
     ensures { result ≡ peer_of text.now }
@@ -174,8 +177,8 @@ pub fn peer(text: &[u8]) -> Option<Peer>
     })
 }
 
-/// The peer that stands before the first space, and what stands after that space. `None` where there is no space, or
-/// what stands before it is no peer.
+/// The peer `a.b.c.d:port` that stands before the first space, and what stands after that space. `None` if there is no
+/// space, or what stands before it is no peer.
 #[tactic(auto, using(crate::proofs::AddressLemmas::peer_rules))]
 pub fn peer_before(text: &[u8]) -> Option<(Peer, &[u8])>
     ensures value { read_view result ≡ read_before peer_of 32 text.now }
@@ -190,8 +193,9 @@ pub fn peer_before(text: &[u8]) -> Option<(Peer, &[u8])>
     Some((peer, rest))
 }
 
-/// The bytes of a field: `-` for none, else an even number, two or more, of hexadecimal digits of
-/// either case. They are put into `room`. Text that has bytes is one field.
+/// The bytes that a field writes: `-` stands for none; otherwise there are hexadecimal digits of either case, two a
+/// byte and at least two. They are put at the front of `room`, which must have a byte for each two of the text (a
+/// premise). `None` if the text is anything else; then discard what `room` holds.
 #[tactic(auto, unfolding(crate::specs::Fields::hex_of), using(crate::proofs::HexLemmas::hex_field_rules))]
 pub fn hex_bytes<'a>(text: &[u8], room: &'a mut [u8]) -> Option<&'a [u8]>
     requires { length text.now ≤ 2 * length room.old }

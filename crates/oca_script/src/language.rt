@@ -23,7 +23,7 @@ pub trait Language {
     // What the fields of a line ask for, or their fault.
     ghost asked: { List (List ℕ) → Result Self.Request LineFault };
 
-    // A state in which nothing is under way, so that it may be left for as long as a read takes.
+    // A state in which nothing is in flight, so that it may be left for as long as a read takes.
     ghost rests: { Self.State → Type 0 } = { λ _. Unit {0} };
 
     // By itself, between requests, a state leads to a state, and prints a text.
@@ -32,8 +32,9 @@ pub trait Language {
     // From a state a request leads to a state, and prints a text.
     ghost serves: { Self.State → Self.Request → Self.State → List ℕ → Type 0 };
 
-    /// Serves what the line asks for and prints its text; or returns the fault of its fields, and then does nothing.
-    /// Lines that are skipped or are not ASCII do not come here.
+    /// Serves what a line asks for, and prints its text. The line has at most 4,096 bytes (a premise); lines that are
+    /// skipped or are not ASCII do not come here. `Line` with the fault of its fields: then nothing is done or printed.
+    /// `Write` if a write failed.
     fn serve_line<W: Sink>(
         state: &mut Self::State,
         room: &mut Self::Room,
@@ -43,9 +44,9 @@ pub trait Language {
         requires { length line.now ≤ longest_line }
         ensures { ServesLine (asked (fields line.now)) serves state.old state.new result printer.old printer.new };
 
-    /// Is called before each read, where nothing is held: drives what is under way until a read does not wait, or until
-    /// nothing is under way, and prints what comes of it, so that nothing is held again. It reads nothing. A language
-    /// of which nothing is ever under way has nothing to do here.
+    /// Is called before each read, when nothing is held. It drives what is in flight until a read does not wait, or
+    /// nothing is in flight, and prints what comes of it; then nothing is held again. It reads nothing. Without
+    /// anything in flight it does nothing. `WriteFailed` if a write failed.
     fn before_read<R: Source, W: Sink>(
         state: &mut Self::State,
         reader: &mut R,

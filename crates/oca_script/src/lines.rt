@@ -166,13 +166,16 @@ fn serve_piece<L: Language, W: Sink>(
     keep(progress, rest)
 }
 
-/// Serves the lines that the source has to give, by the rules of a language: the lines are counted from 1, and the text
-/// of the requests before the first bad line is written, and before it what the printer held. Faults: `Line` with the
-/// first bad line and its fault; `TooMuch` beyond 16,777,216 bytes where no line within them is bad; `Read` and `Write`
-/// where a read or a write of ends that had not failed before failed in this call, and nowhere else: some first
-/// requests were served then, and their text was written, or at `Write` a front of it. Before each read the language's
-/// `before_read` is called: a read that may wait is begun only where nothing is under way. (The form of a script is the
+/// Serves the lines of a script, by the rules of a language, until the source's end or a fault. What the printer held
+/// is written first, then the text of the requests before the first bad line. Before each read the language's
+/// `before_read` is called: a read that may wait begins only if nothing is in flight. (The form of a script is the
 /// profile's.)
+///
+/// Faults: `Line` if a line is bad, with the number of the first such line, counted from 1, and its fault. `TooMuch` if
+/// the script has more than 16,777,216 bytes, and no line within them is bad. After these two the requests before were
+/// served and their text was written. `Read` and `Write` only if a read or a write failed in this call, of ends that
+/// had not failed before. Then some first requests were served and their text was written; at `Write` only a first part
+/// of it.
 pub fn serve_lines<L: Language, R: Source, W: Sink>(
     state: &mut L::State,
     room: &mut L::Room,
@@ -274,7 +277,7 @@ fn read_on<L: Language, R: Source, W: Sink>(
     serve_line::<L, W>(state, room, progress.number, last, false, printer)
 }
 
-/// Hands on what is held, and lets the state go on by itself until a read does not wait or nothing is under way.
+/// Hands on what is held, and lets the state go on by itself until a read does not wait or nothing is in flight.
 fn await_read<L: Language, R: Source, W: Sink>(
     state: &mut L::State,
     reader: &mut R,
@@ -290,7 +293,7 @@ fn await_read<L: Language, R: Source, W: Sink>(
     L::before_read(state, reader, printer)
 }
 
-/// The next bytes, and none only at the end. It may take as long as it will only where nothing is under way.
+/// The next bytes, and none only at the end. It may take as long as it will only where nothing is in flight.
 fn read_piece<'a, L: Language, R: Source>(
     _state: &L::State,
     reader: &mut R,

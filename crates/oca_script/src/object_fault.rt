@@ -38,7 +38,7 @@ pub enum ObjectFault {
 }
 
 impl ObjectFault {
-    /// The word that is printed for the fault.
+    /// The word that is printed for the fault, as PROTOCOL.md lists it.
     pub fn word(self) -> &'static str
         ensures { result.now ≡ object_fault_word self }
     {

@@ -14,7 +14,7 @@ pub struct Progress {
 }
 
 impl Progress {
-    /// At the start of a script.
+    /// The progress at the start of a script: nothing was read, and the first line has the number 1.
     pub fn new() -> Progress
         ensures line { result.line ≡ [] }
         ensures number { result.number ≡ 1 }

@@ -174,7 +174,7 @@ held_full o hs cs above more n a held none le lt at =
     other : (o g n : ℕ) → (o == g) ≡ false → n ≡ o → (g == n) ≡ false
     other o g n apart is = grind (arith, nat_tests)
 
--- ---- what a push gives out
+-- ---- what a push removes
 
 keep_more : (hs : List Held) (n : Held) (size : ℕ) → length hs < size → drop (length (hs ++ n ∷ []) - size) (hs ++ n ∷ []) ≡ hs ++ n ∷ []
 keep_more hs n size room = let none : length (hs ++ n ∷ []) - size ≡ 0 = rw length-append (omega (arith, room)) in ap (λ k. drop k (hs ++ n ∷ [])) none

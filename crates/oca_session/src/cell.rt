@@ -20,7 +20,8 @@ pub struct Cell {
 }
 
 impl Cell {
-    /// A cell that holds this command and its reply.
+    /// A cell that holds this command, but for its handle, and its reply. The command has at most 1,445 bytes of
+    /// parameters (a premise).
     pub fn new(command: &Command<'_>, reply: &Reply) -> Cell
         requires { length command.now.params.now ≤ most_command_parameter_bytes }
         ensures { entry_in command.now.handle result ≡ record { command = fields_of command.now; reply = reply.now } }
@@ -41,7 +42,8 @@ impl Cell {
         cell
     }
 
-    /// Writes a command and its reply over those that the cell held. Parameters over as many are written here.
+    /// Replaces the command and the reply that the cell holds. The command has at most 1,445 bytes of parameters (a
+    /// premise). If both have as many bytes as those before, no byte is cleared first.
     pub fn set(&mut self, command: &Command<'_>, reply: &Reply)
         requires { length command.now.params.now ≤ most_command_parameter_bytes }
         ensures { entry_in command.now.handle self.new ≡ record { command = fields_of command.now; reply = reply.now } }
@@ -78,8 +80,8 @@ impl Cell {
         copy_bytes(&mut self.reply.params, reply.params.as_slice());
     }
 
-    /// Whether the command that it holds and this one ask the same. The bytes of the parameters are compared last,
-    /// where there are as many.
+    /// Whether the command in the cell and this one ask the same: the same target, DefLevel, MethodIndex, ParamCount
+    /// and parameter bytes. The handle is not compared.
     pub fn asks_the_same(&self, command: &Command<'_>) -> bool
         ensures { result ≡ asks_the_same (entry_in command.now.handle self.now).command (fields_of command.now) }
     {
@@ -90,7 +92,7 @@ impl Cell {
             && are_same(self.params.as_slice(), command.params)
     }
 
-    /// The reply.
+    /// The reply in the cell.
     pub fn reply(&self) -> &Reply
         ensures { result.now ≡ self.now.reply }
     {

@@ -10,7 +10,7 @@ ghost use Rattle.oca_session.specs.Table.{is_of, session_of, peers_of, lapsed, s
 ghost use Rattle.oca_types.specs.Moments.{HoldsFrom};
 ghost use Rattle.oca_session.specs.Lapses.{forgets, lapses};
 ghost use Rattle.oca_session.specs.Sound.{IsSession, IsOnePerPeer};
-ghost use Rattle.oca_session.specs.PrivateQuiet.{IsQuietUntil};
+ghost use Rattle.oca_session.specs.PrivateQuiet.{latest_quiet};
 
 use crate::slot::Slot;
 use crate::window::Judged;
@@ -70,9 +70,8 @@ impl Sessions {
     ghost use Rattle.oca_session.specs.Table.{with_heartbeat, with_entry, with_accepted, Hears, IsKnownAfter, AgreesAt};
     ghost use Rattle.oca_session.specs.Sound.{IsTable};
 
-    /// No session, at the moment 0, with room for 16. Each session will have a reply window of this size, for as long
-    /// as there are these sessions. Takes all the memory that they will need, and returns `NoMemory` where that is
-    /// refused.
+    /// A table without sessions, at the moment 0, with room for 16 sessions. Each will have a reply window of this
+    /// size. It takes all the memory that the sessions will need. Refusal: `NoMemory`, if memory was refused.
     pub fn new(alloc: Global, window: Window) -> Result<Sessions, NoMemory>
         ensures { IfOk result (λ t. t ≡ record {
           sizes = record { window = window_size window; peers = 16 };
@@ -89,8 +88,9 @@ impl Sessions {
         )
     }
 
-    /// No session, at the moment 0, with room for as many as these sizes say, each with a reply window of their size.
-    /// Takes all the memory that they will need, and returns `NoMemory` where that is refused.
+    /// A table without sessions, at the moment 0, with room for 1 to 64 sessions, each with a reply window of 1 to 64
+    /// commands, as `sizes` says. It takes all the memory that the sessions will need. Refusal: `NoMemory`, if memory
+    /// was refused.
     pub fn with_sizes(alloc: Global, sizes: Sizes) -> Result<Sessions, NoMemory>
         ensures { IfOk result (λ t. t ≡ record { sizes = sizes_of sizes; moment = 0; sessions = [] }) }
     {
@@ -111,7 +111,7 @@ impl Sessions {
         }
     }
 
-    /// The number of sessions: at most as many as were chosen.
+    /// How many sessions there are: at most as many as were chosen.
     pub fn len(&self) -> usize
         ensures len { result ≡ length self.now.sessions }
         ensures sound { IsTable self.now }
@@ -126,7 +126,7 @@ impl Sessions {
         self.count == 0
     }
 
-    /// The peer of the session at this index, counted from 0 in order of opening; nothing behind the last.
+    /// The peer of the session at this index, counted from 0 in order of opening. `None` if there are no more sessions.
     pub fn peer_at(&self, index: usize) -> Option<Peer>
         ensures { result ≡ slice_get (peers_of self.now.sessions) index }
     {
@@ -136,7 +136,7 @@ impl Sessions {
         }
     }
 
-    /// Whether the peer has a session.
+    /// Whether the peer has a session, since it was heard and is not forgotten.
     #[tactic(auto, using(crate::proofs::Tables::known_by_place))]
     pub fn is_known(&self, peer: Peer) -> bool
         ensures { result ≡ is_some (session_of peer self.now.sessions) }
@@ -144,12 +144,13 @@ impl Sessions {
         index_of(&self.slots[..self.count], self.recent, peer).is_some()
     }
 
-    /// Goes on to a moment, in milliseconds; one that is earlier than the present moment counts as the present.
-    /// `advance_into` returns the peers of more than 16 sessions.
+    /// Goes on to the moment `now`, in milliseconds; an earlier one counts as the present moment. Each session whose
+    /// silence passes 120,000 ms is then forgotten.
     ///
-    /// Returns, in order of opening, the first 16 of the peers whose silence passes three of their heartbeats (again
-    /// at each later call while they are silent): all of them where at most 16 sessions were chosen. Then forgets each
-    /// session whose silence passes 120,000 ms: its peer is one of those whose silence passes three heartbeats.
+    /// Returns the peers whose silence passes three of their heartbeats, in order of opening, the forgotten ones among
+    /// them. Only the first 16 are returned, which are all if at most 16 sessions were chosen
+    /// ([`advance_into`](Sessions::advance_into) returns all of more). A peer is returned again at each later call
+    /// while it is silent.
     pub fn advance(&mut self, now: u64) -> ArrayVec<Peer, 16>
         ensures lapsed { result.items ≡ take 16 (lapsed (present self.old now) self.old.sessions) }
         ensures all { self.old.sizes.peers ≤ 16 → result.items ≡ lapsed (present self.old now) self.old.sessions }
@@ -167,8 +168,9 @@ impl Sessions {
         peers
     }
 
-    /// Goes on to a moment and forgets, as `advance` does. All peers whose silence passes three heartbeats are put into
-    /// `peers`, in order of opening, in the place of what it held.
+    /// Goes on to the moment `now`, in milliseconds; an earlier one counts as the present moment. Each session whose
+    /// silence passes 120,000 ms is then forgotten. All peers whose silence passes three of their heartbeats, the
+    /// forgotten ones among them, replace what `peers` held, in order of opening.
     pub fn advance_into(&mut self, now: u64, peers: &mut ArrayVec<Peer, MOST_PEERS>)
         ensures lapsed { peers.new.items ≡ lapsed (present self.old now) self.old.sessions }
         ensures staying { self.new ≡ with_moment_and_sessions self.old (present self.old now)
@@ -198,10 +200,10 @@ impl Sessions {
         self.recent = self.recent.min(self.count.saturating_sub(1));
     }
 
-    /// Notes that a peer was heard at a moment, in milliseconds. A known peer's silence ends. For another a session is
-    /// opened, the last in order, with an empty window, no floor and the heartbeat 5,000; but where there are as many
-    /// sessions as were chosen already, no session changes. In all cases the present moment goes on to `now`, unless
-    /// that is earlier.
+    /// Notes that a peer was heard at the moment `now`, in milliseconds; an earlier one counts as the present moment.
+    /// `Known` if the peer has a session: its silence ends. `Opened` if a session was opened for it, the last in order,
+    /// with an empty window and a heartbeat of 5,000 ms. `NoRoom` if there are as many sessions as were chosen: then
+    /// only the present moment is changed.
     pub fn hear(&mut self, peer: Peer, now: u64) -> Admission
         ensures hears { Hears peer (present self.old now) self.old result self.new }
         ensures known { IsKnownAfter result peer self.new.sessions }
@@ -226,7 +228,8 @@ impl Sessions {
         Admission::Opened
     }
 
-    /// Sets the heartbeat of a known peer, in milliseconds: to 250 or 30,000 where it is below or above these.
+    /// Sets the heartbeat of a known peer, in milliseconds: to 250 if it is below that, and to 30,000 if it is above
+    /// that. The peer must be known (a premise; [`is_known`](Sessions::is_known)).
     pub fn beat(&mut self, peer: Peer, ms: u64)
         requires { IsSome (session_of peer self.old.sessions) }
         ensures heartbeat { self.new ≡ with_sessions self.old
@@ -241,23 +244,23 @@ impl Sessions {
         self.quiet_until = self.quiet_until.min(slot.quiet_until());
     }
 
-    /// The present moment, in milliseconds.
+    /// The present moment, in milliseconds: the latest that the table was told.
     pub fn moment(&self) -> u64
         ensures { result ≡ self.now.moment }
     {
         self.moment
     }
 
-    /// From which moment on a session is forgotten, where no peer is heard; nothing where there is no session,
-    /// or where that lies beyond 64 bits.
+    /// From which moment on, in milliseconds, a session is forgotten, if no peer is heard until then. `None` if there
+    /// is no session, or that moment lies beyond 64 bits.
     pub fn forgotten_from(&self) -> Option<u64>
         ensures { HoldsFrom (forgets self.now.sessions) result }
     {
         forgotten_from(&self.slots[..self.count])
     }
 
-    /// From which moment on the silence of a peer passes three of its heartbeats, where it is not heard;
-    /// nothing where it has no session, or where that lies beyond 64 bits.
+    /// From which moment on, in milliseconds, the silence of a peer passes three of its heartbeats, if the peer is not
+    /// heard until then. `None` if the peer has no session, or that moment lies beyond 64 bits.
     pub fn lapsed_from(&self, peer: Peer) -> Option<u64>
         ensures { HoldsFrom (lapses peer self.now.sessions) result }
     {
@@ -267,9 +270,12 @@ impl Sessions {
         }
     }
 
-    /// What the reply window of a known peer says of a command: it decides by the accepted commands of the
-    /// session, of which it retains the last, as many as its size. A command under a retained handle is a
-    /// duplicate where it asks the same (target, DefLevel, MethodIndex, ParamCount and parameter bytes).
+    /// What the reply window of a known peer says of a command; it retains the last accepted commands of the session,
+    /// as many as its size. `Kept` with its reply if the command is a duplicate: a retained command has its handle and
+    /// asks the same (target, DefLevel, MethodIndex, ParamCount and parameter bytes). `Reused` if a retained command
+    /// has its handle and asks something else. `Old` if no retained command has its handle, and the handle is at or
+    /// below one that the window pushed out. `Fresh` otherwise. Nothing is changed. The peer must be known (a premise;
+    /// [`is_known`](Sessions::is_known)).
     pub fn judge(&self, peer: Peer, command: &Command<'_>) -> Judged<'_>
         requires { IsSome (session_of peer self.now.sessions) }
         ensures retained { IfSome (session_of peer self.now.sessions)
@@ -280,9 +286,9 @@ impl Sessions {
         self.slots[self.index_of_known(peer)].judge(command)
     }
 
-    /// Adds a fresh command of a known peer, with its reply, to the accepted commands of the session. A full
-    /// window pushes its oldest command out. The command has at most 1,445 parameter bytes, as each that a
-    /// datagram brings.
+    /// Retains a fresh command of a known peer, with its reply, in the session's window. A full window pushes its
+    /// oldest command out. The command must be fresh and have at most 1,445 bytes of parameters, and the peer must be
+    /// known (premises).
     pub fn keep(&mut self, peer: Peer, command: &Command<'_>, reply: &Reply)
         requires known { IsSome (session_of peer self.old.sessions) }
         requires fresh { IfSome (session_of peer self.old.sessions)
@@ -389,9 +395,10 @@ fn put_lapsed(slots: &[Slot], moment: u64, peers: &mut ArrayVec<Peer, MOST_PEERS
     }
 }
 
-/// A moment up to which none of the sessions lapses: that before the first lapse, or the latest.
+/// The latest moment up to which none of the sessions lapses: that before the first lapse, or the latest of all.
+#[tactic(auto, using(crate::proofs::Quiet::latest_first), unfolding(crate::specs::PrivateQuiet::latest_quiet))]
 fn quiet_until(slots: &[Slot]) -> u64
-    ensures { IsQuietUntil result slots.now }
+    ensures { result ≡ latest_quiet slots.now }
 {
     let mut until = u64::MAX;
     for slot in slots {

@@ -7,6 +7,7 @@ ghost use Rattle.oca_session.specs.Judging.{as_judgement, judgement_by_window};
 ghost use Rattle.oca_session.specs.PrivateKeys.{key_of as number_of};
 ghost use Rattle.oca_session.specs.Table.{is_of, is_lapsed, stays, heard_at, with_heartbeat, opened_session};
 ghost use Rattle.oca_session.specs.Table.{with_entry};
+ghost use Rattle.oca_session.specs.PrivateQuiet.{latest_of};
 ghost use Rattle.oca_types.specs.Moments.{HoldsFrom};
 
 use crate::moments::passes_from;
@@ -51,7 +52,8 @@ impl Model for Slot {
 }
 
 impl Slot {
-    /// A slot that no session has had yet.
+    /// A slot that no session has had yet, with an empty window of this size, 1 to 64 (a premise). It takes the memory
+    /// for the window. `AllocError` if memory was refused.
     pub fn spare(alloc: Global, size: usize) -> Result<Slot, AllocError>
         requires { (0 < size) × (size ≤ 64) }
         ensures { IfOk result (λ s. s ≡ opened_session size (record { ip = 0; port = 0 }) 0) }
@@ -66,7 +68,7 @@ impl Slot {
         })
     }
 
-    /// Begins a session with an empty window.
+    /// Begins a session of the peer at a moment, in milliseconds: with an empty window, and a heartbeat of 5,000 ms.
     pub fn open(&mut self, peer: Peer, moment: u64)
         ensures { self.new ≡ opened_session self.old.retained.size peer moment }
     {
@@ -77,70 +79,75 @@ impl Slot {
         self.window.clear();
     }
 
-    /// Whose it is.
+    /// The peer whose session the slot has.
     pub fn peer(&self) -> Peer
         ensures { result ≡ self.now.peer }
     {
         self.peer
     }
 
-    /// Whether it is that of the peer.
+    /// Whether the slot has the session of this peer: the same address and port.
     pub fn is_of(&self, peer: Peer) -> bool
         ensures { result ≡ is_of peer self.now }
     {
         self.key == key_of(peer)
     }
 
-    /// Whether the silence passes three heartbeats.
+    /// Whether the silence of the peer passes three of its heartbeats at a moment, in milliseconds.
     pub fn is_lapsed(&self, moment: u64) -> bool
         ensures { result ≡ is_lapsed moment self.now }
     {
         3 * u64::from(self.heartbeat) < moment.saturating_sub(self.heard)
     }
 
-    /// A moment up to which its silence does not pass three heartbeats.
+    /// The latest moment, in milliseconds, up to which the peer's silence does not pass three of its heartbeats, if the
+    /// peer is not heard until then.
     pub fn quiet_until(&self) -> u64
-        ensures { result ≤ self.now.heard + 3 * self.now.heartbeat }
+        ensures { result ≡ latest_of self.now }
     {
         self.heard.saturating_add(3 * u64::from(self.heartbeat))
     }
 
-    /// Whether the silence does not pass 120,000 ms.
+    /// Whether the session stays at a moment, in milliseconds: its peer's silence does not pass 120,000 ms.
     pub fn stays(&self, moment: u64) -> bool
         ensures { result ≡ stays moment self.now }
     {
         moment.saturating_sub(self.heard) <= LONGEST_SILENCE
     }
 
-    /// From which moment on the silence passes three heartbeats; nothing where that lies beyond 64 bits.
+    /// From which moment on, in milliseconds, the silence passes three heartbeats. `None` if that moment lies beyond 64
+    /// bits.
     pub fn lapsed_from(&self) -> Option<u64>
         ensures { HoldsFrom (λ t. is_lapsed t self.now) result }
     {
         passes_from(self.heard, 3 * u64::from(self.heartbeat))
     }
 
-    /// From which moment on the silence passes 120,000 ms; nothing where that lies beyond 64 bits.
+    /// From which moment on, in milliseconds, the silence passes 120,000 ms. `None` if that moment lies beyond 64 bits.
     pub fn forgotten_from(&self) -> Option<u64>
         ensures { HoldsFrom (λ t. not (stays t self.now)) result }
     {
         passes_from(self.heard, LONGEST_SILENCE)
     }
 
-    /// Ends the silence.
+    /// Notes that the peer was heard at a moment, in milliseconds: its silence ends.
     pub fn note(&mut self, moment: u64)
         ensures { self.new ≡ heard_at moment self.old }
     {
         self.heard = moment;
     }
 
-    /// Sets the heartbeat, within its limits.
+    /// Sets the heartbeat, in milliseconds: to 250 if it is below that, and to 30,000 if it is above that.
     pub fn set_heartbeat(&mut self, ms: u64)
         ensures { self.new ≡ with_heartbeat ms self.old }
     {
         self.heartbeat = ms.min(GREATEST_HEARTBEAT).max(LEAST_HEARTBEAT) as u32;
     }
 
-    /// What its window says of a command.
+    /// What the session's window says of a command. `Kept` with its reply if the command is a duplicate: a retained
+    /// command has its handle and asks the same (target, DefLevel, MethodIndex, ParamCount and parameter bytes).
+    /// `Reused` if a retained command has its handle and asks something else. `Old` if no retained command has its
+    /// handle, and the handle is at or below one that the window pushed out. `Fresh` otherwise. Nothing is changed.
     pub fn judge(&self, command: &Command<'_>) -> Judged<'_>
         ensures exact { as_judgement result ≡ judgement_by_window self.now.retained (fields_of command.now) }
         ensures accepted { (w : ℕ) (A : List Entry) → AgreesWithAccepted w A self.now.retained →
@@ -149,7 +156,8 @@ impl Slot {
         self.window.judge(command)
     }
 
-    /// Retains a fresh command with its reply.
+    /// Retains a fresh command, with its reply, in the session's window. A full window pushes its oldest command out.
+    /// The command must be fresh and have at most 1,445 bytes of parameters (premises).
     pub fn keep(&mut self, command: &Command<'_>, reply: &Reply)
         requires fresh { judgement_by_window self.old.retained (fields_of command.now) ≡ Fresh }
         requires room { length command.now.params.now ≤ most_command_parameter_bytes }

@@ -77,7 +77,8 @@ impl Model for ReplyWindow {
 }
 
 impl ReplyWindow {
-    /// An empty window of this size, with room for all that it will retain.
+    /// An empty window of this size, 1 to 64 (a premise). It takes the memory for all that it will retain. `AllocError`
+    /// if memory was refused.
     pub fn new(alloc: Global, size: usize) -> Result<ReplyWindow, AllocError>
         requires { (0 < size) × (size ≤ 64) }
         ensures { IfOk result (λ k. k ≡ retained_of size []) }
@@ -92,7 +93,7 @@ impl ReplyWindow {
         })
     }
 
-    /// Empties the window, for another session.
+    /// Empties the window for another session: no command is retained or old. Its size stays.
     pub fn clear(&mut self)
         ensures { self.new ≡ retained_of self.old.size [] }
     {
@@ -102,7 +103,10 @@ impl ReplyWindow {
         self.above = 0;
     }
 
-    /// Whether a command is fresh, a duplicate of one in the window, another under its handle, or too old.
+    /// What the window says of a command. `Kept` with its reply if the command is a duplicate: a retained command has
+    /// its handle and asks the same (target, DefLevel, MethodIndex, ParamCount and parameter bytes). `Reused` if a
+    /// retained command has its handle and asks something else. `Old` if no retained command has its handle, and the
+    /// handle is at or below one that the window pushed out. `Fresh` otherwise. Nothing is changed.
     pub fn judge(&self, command: &Command<'_>) -> Judged<'_>
         ensures exact { as_judgement result ≡ judgement_by_window self.now (fields_of command.now) }
         ensures accepted { (w : ℕ) (A : List Entry) → AgreesWithAccepted w A self.now →
@@ -146,7 +150,8 @@ impl ReplyWindow {
         Judged::Fresh
     }
 
-    /// Retains a fresh command with its reply. A full window pushes its oldest out.
+    /// Retains a fresh command, with its reply. A full window pushes its oldest command out. The command must be fresh
+    /// and have at most 1,445 bytes of parameters (premises).
     pub fn keep(&mut self, command: &Command<'_>, reply: &Reply)
         requires fresh { judgement_by_window self.old (fields_of command.now) ≡ Fresh }
         requires room { length command.now.params.now ≤ most_command_parameter_bytes }

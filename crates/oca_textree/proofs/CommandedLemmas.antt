@@ -21,6 +21,9 @@ use Rattle.oca_tree.specs.declared.object.Value.{Value}
 use Rattle.oca_tree.specs.Execution.{TreeAndReply, execution, asked_at, kind_at, status_of, by_status}
 use Rattle.oca_tree.specs.Typed.{changed_by, value_changed_by}
 use Rattle.oca_tree.specs.declared.setting.SetFault.{SetFault}
+use Rattle.oca_tree.specs.declared.front.FrontFault.{FrontFault}
+use Rattle.oca_tree.specs.LocalChanges.{LocalChange, ToValue, ToLabel, ToEnabled, ToUnlocked, ToFailing, front_fault_in, front_fault, changed_where, after_request, failing_where, after_failing, after_change}
+use Rattle.oca_tree.proofs.LocalChanges.{label_text, told}
 use Rattle.oca_tree.specs.Settings.{front, set_fault, set_where, after_set}
 use Rattle.oca_tree.specs.Objects.{class_of, has_number, object_of, with_object}
 use Rattle.oca_tree.specs.Locks.{without_lock_of, is_held_by, released}
@@ -151,9 +154,48 @@ by-fault tree n None None value at root named = (root, named)
 by-fault tree n (Some fault) o value at root named = (root, named)
 
 -- Setting an object at the front panel leaves them so too.
-pub set-kept : (tree : List Object) (number : ℕ) (value : Setting) → Rooted tree → All IsNamed tree → Rooted (after_set tree number value) × All IsNamed (after_set tree number value)
+set-kept : (tree : List Object) (number : ℕ) (value : Setting) → Rooted tree → All IsNamed tree → Rooted (after_set tree number value) × All IsNamed (after_set tree number value)
 unfolding after_set
 set-kept tree number value = by-fault tree number (set_fault tree number value) (object_of tree number) value refl
+
+by-front-fault : (tree : List Object) (n : ℕ) (fault : Option FrontFault) (o : Option Object) (r : Request) → object_of tree n ≡ o → ((x : Object) → o ≡ Some x → fault ≡ None → SetsTexts r)
+    → Rooted tree → All IsNamed tree → Rooted (changed_where fault tree o r) × All IsNamed (changed_where fault tree o r)
+by-front-fault tree n None (Some o) r at is root named = carried tree front n o r at (is o refl refl) root named
+by-front-fault tree n None None r at is root named = (root, named)
+by-front-fault tree n (Some fault) o r at is root named = (root, named)
+
+request-kept : (tree : List Object) (number : ℕ) (r : Request) → ((o : Object) → front_fault_in (Some o) r ≡ None → SetsTexts r) → Rooted tree → All IsNamed tree
+    → Rooted (after_request tree number r) × All IsNamed (after_request tree number r)
+unfolding after_request front_fault
+request-kept tree number r is = by (object_of tree number) refl
+  where
+    by : (o : Option Object) → object_of tree number ≡ o → Rooted tree → All IsNamed tree
+        → Rooted (changed_where (front_fault_in o r) tree o r) × All IsNamed (changed_where (front_fault_in o r) tree o r)
+    by None at root named = (root, named)
+    by (Some o) at root named = by-front-fault tree number (front_fault_in (Some o) r) (Some o) r at (λ x same fine. is o fine) root named
+
+-- whether its hardware refuses is no part of a line
+told-same : (o : Object) (truth : Bool) → IsSameBut o (told o truth)
+told-same o truth = record { number = refl; role = refl; lockable = refl; named = λ h. record { ono = h.ono; container = h.container; role = h.role; some = h.some; label = h.label; names = h.names } }
+
+told-kept : (tree : List Object) (number : ℕ) (truth : Bool) → Rooted tree → All IsNamed tree → Rooted (after_failing tree number truth) × All IsNamed (after_failing tree number truth)
+unfolding after_failing
+told-kept tree number truth = by (object_of tree number) refl
+  where
+    by : (o : Option Object) → object_of tree number ≡ o → Rooted tree → All IsNamed tree → Rooted (failing_where tree o truth) × All IsNamed (failing_where tree o truth)
+    by None at root named = (root, named)
+    by (Some o) at root named =
+        let same = told-same o truth in
+        (root-placed tree number o (told o truth) at same root, placed tree (told o truth) (same.named (named-at tree number o at named)) named)
+
+-- Changing an object at the front panel leaves them so too.
+pub change-kept : (tree : List Object) (number : ℕ) (change : LocalChange) → Rooted tree → All IsNamed tree → Rooted (after_change tree number change) × All IsNamed (after_change tree number change)
+unfolding SetsTexts
+change-kept tree number (ToValue value) = set-kept tree number value
+change-kept tree number (ToLabel label) = request-kept tree number (requests.SetLabel label) (label_text label)
+change-kept tree number (ToEnabled truth) = request-kept tree number (requests.SetEnabled truth) (λ o fine. tt)
+change-kept tree number ToUnlocked = request-kept tree number requests.Unlock (λ o fine. tt)
+change-kept tree number (ToFailing truth) = told-kept tree number truth
 
 -- ---- locks that are released
 

@@ -1,9 +1,8 @@
 -- The line of an object is read back as the object, and a tree's text as the tree.
 use Rattle.std.proofs.Common.{◌≡◌, ℕ, suc, ◌+◌, ◌<◌, ◌≤◌, ◌==◌, Bool, true, false, cond, ◌⊎◌, inl, inr, List, [], ◌∷◌, ◌++◌, length, Option, Some, None, Ok, Err, refl, sym, ap, ◌∙◌, subst, arith, append_assoc, append-nil, length-append, eqb-true, eq-eqb}
-use Rattle.std.specs.Prelude.{codes, decimal, Result, nat_lt, nat_le, is_some, int_lt}
+use Rattle.std.specs.Prelude.{codes, decimal, Result, nat_lt, nat_le, is_some}
 use Rattle.std.specs.Option.{option_map_or}
 use Rattle.std.specs.List.{flat_map, All}
-use Rattle.std.proofs.lemmas.Int.{ints}
 use Rattle.std.proofs.lemmas.Bool.Decides.{nat_tests}
 use Rattle.std.proofs.lemmas.List.Elements.{All-head, All-tail}
 use Rattle.oca_types.specs.declared.class.Class.{Class}
@@ -77,13 +76,7 @@ not-long t h = grind (arith, nat_tests)
 
 good-value : (v : Value) → IsSoundValue v → is_bad_value (plain_value v) ≡ false
 unfolding IsSoundValue is_bad_value plain_value
-good-value (values.Number range) h =
-    let above = h.above in
-    let below = h.below in
-    let a : int_lt range.greatest range.least ≡ false = grind (arith, ints) in
-    let b : int_lt range.setting range.least ≡ false = grind (arith, ints) in
-    let c : int_lt range.greatest range.setting ≡ false = grind (arith, ints) in
-    rw (a, b, c) refl
+good-value (values.Reads r) h = rw h.within refl
 good-value (values.Switch s) h =
     let position = h.position in
     let few = h.few in

@@ -1,6 +1,6 @@
 -- What a text lists: each object has a role, texts in UTF-8 of at most 64 bytes and numbers of 32 bits, and no lock.
 use Rattle.std.proofs.Common.{◌≡◌, ℕ, zero, suc, ◌+◌, ◌<◌, ◌≤◌, ◌^◌, ◌==◌, Bool, true, false, cond, ◌||◌, not, ◌⊎◌, inl, inr, List, [], ◌∷◌, ◌++◌, length, Option, Some, None, Ok, Err, refl, sym, ap, ◌∙◌, subst, arith, IsUtf8}
-use Rattle.std.specs.Prelude.{codes, Result, nat_lt, nat_le, ℤ, is_some}
+use Rattle.std.specs.Prelude.{codes, Result, nat_lt, nat_le, ℤ, nat_abs, is_some}
 use Rattle.std.specs.List.{list_any, All}
 use Rattle.std.specs.Option.{option_map, option_or}
 use Rattle.std.specs.Str.{is_utf8, bytes_eq}
@@ -19,7 +19,9 @@ use Rattle.oca_tree.specs.declared.builder.AddFault.TheVariants as adds
 use Rattle.oca_tree.specs.Objects.{object_of}
 use Rattle.oca_tree.specs.Places.{places, is_block, depth}
 use Rattle.oca_tree.specs.declared.object.Lock.{Lock}
-use Rattle.oca_tree.specs.declared.object.NumberKind.{NumberKind}
+use Rattle.oca_model.specs.declared.reading.Ranged.{Ranged}
+use Rattle.oca_model.specs.declared.reading.Reading.{Reading}
+use Rattle.oca_model.specs.declared.reading.Reading.TheVariants as readings
 use Rattle.oca_tree.specs.declared.object.Object.{Object}
 use Rattle.oca_tree.specs.declared.object.Value.{Value}
 use Rattle.oca_tree.specs.declared.object.Value.TheVariants as values
@@ -247,15 +249,12 @@ one-of-two a x b y h k word z e = by (bytes_eq word a) (bytes_eq word b) e
     by false true t = let same : y ≡ z = cc in subst (λ (v : Value). names_in v ≡ []) same k
     by false false t = absurd (cc)
 
-number-nameless : (k : NumberKind) (setting least greatest : ℤ) → names_in (number k setting least greatest) ≡ []
+by-limits : {X : Type 0} (of : Ranged X → Reading) (typed : ℤ → X) (low high : ℤ) (rest : Option (List ℕ)) (v : Valued) → by_limits of typed low high rest ≡ Ok v → AreTexts v
 unfolding names_in
-number-nameless k setting least greatest = refl
-
-by-limits : (k : NumberKind) (low high : ℤ) (rest : Option (List ℕ)) (v : Valued) → by_limits k low high rest ≡ Ok v → AreTexts v
-by-limits k low high rest v e =
+by-limits of typed low high rest v e =
     let l = then-ok (limits_of low high rest) _ v e in
-    texts-of (valued (number k l.0.setting l.0.least l.0.greatest) l.0.rest) v (ok-same _ _ l.2)
-    (nameless (number k l.0.setting l.0.least l.0.greatest) l.0.rest (number-nameless k l.0.setting l.0.least l.0.greatest))
+    texts-of (valued (number of (typed l.0.setting) (typed l.0.least) (typed l.0.greatest)) l.0.rest) v (ok-same _ _ l.2)
+    (nameless (number of (typed l.0.setting) (typed l.0.least) (typed l.0.greatest)) l.0.rest refl)
 
 -- the names of a switch are those that it was made with
 pub switch-names : (names : List (List ℕ)) (position : ℕ) → names_in (switch names position) ≡ names
@@ -290,16 +289,23 @@ value-texts : (k : Class) (rest : Option (List ℕ)) (v : Valued) → value_at k
 unfolding value_at names_in
 value-texts class.Block rest v e = texts-of (valued values.Block rest) v (ok-same _ _ e) (nameless values.Block rest refl)
 value-texts class.Mute rest v e =
-    by-word (one_of (codes "muted") (values.Mute Muted) (codes "unmuted") (values.Mute Unmuted))
-    (one-of-two (codes "muted") (values.Mute Muted) (codes "unmuted") (values.Mute Unmuted) refl refl) rest v e
+    by-word (one_of (codes "muted") (values.Reads (readings.Mute Muted)) (codes "unmuted") (values.Reads (readings.Mute Unmuted)))
+    (one-of-two (codes "muted") (values.Reads (readings.Mute Muted)) (codes "unmuted") (values.Reads (readings.Mute Unmuted)) refl refl) rest v e
 value-texts class.Polarity rest v e =
-    by-word (one_of (codes "non-inverted") (values.Polarity NonInverted) (codes "inverted") (values.Polarity Inverted))
-    (one-of-two (codes "non-inverted") (values.Polarity NonInverted) (codes "inverted") (values.Polarity Inverted) refl refl) rest v e
+    by-word (one_of (codes "non-inverted") (values.Reads (readings.Polarity NonInverted)) (codes "inverted") (values.Reads (readings.Polarity Inverted)))
+    (one-of-two (codes "non-inverted") (values.Reads (readings.Polarity NonInverted)) (codes "inverted") (values.Reads (readings.Polarity Inverted)) refl refl) rest v e
 value-texts class.Boolean rest v e =
-    by-word (one_of (codes "on") (values.Boolean true) (codes "off") (values.Boolean false))
-    (one-of-two (codes "on") (values.Boolean true) (codes "off") (values.Boolean false) refl refl) rest v e
+    by-word (one_of (codes "on") (values.Reads (readings.Boolean true)) (codes "off") (values.Reads (readings.Boolean false)))
+    (one-of-two (codes "on") (values.Reads (readings.Boolean true)) (codes "off") (values.Reads (readings.Boolean false)) refl refl) rest v e
 value-texts class.Switch rest v e = by-positions rest v e
-value-texts _ rest v e = by-limits _ _ _ rest v e
+value-texts class.Int8 rest v e = by-limits readings.Int8 (λ z. z) _ _ rest v e
+value-texts class.Int16 rest v e = by-limits readings.Int16 (λ z. z) _ _ rest v e
+value-texts class.Int32 rest v e = by-limits readings.Int32 (λ z. z) _ _ rest v e
+value-texts class.Int64 rest v e = by-limits readings.Int64 (λ z. z) _ _ rest v e
+value-texts class.Uint8 rest v e = by-limits readings.Uint8 nat_abs _ _ rest v e
+value-texts class.Uint16 rest v e = by-limits readings.Uint16 nat_abs _ _ rest v e
+value-texts class.Uint32 rest v e = by-limits readings.Uint32 nat_abs _ _ rest v e
+value-texts class.Uint64 rest v e = by-limits readings.Uint64 nat_abs _ _ rest v e
 
 -- ---- what the tree does not refuse
 
@@ -343,6 +349,7 @@ refused-not tree container ono role bad_name v e =
 pub record IsFresh (o : Object) : Type 0 where
   pub named : IsNamed o
   pub no_lock : o.lock ≡ None
+  pub works : o.failing ≡ false
 
 -- the objects with a fresh one behind them, or as they were
 abbrev pub Grew : List Object → List Object → Type 0
@@ -375,6 +382,7 @@ new-fresh container ono lockable role v c n utf8 tested texts = record {
     names = all-short (names_in v.value) texts.names (sym texts.flag ∙ tested.names);
   };
   no_lock = refl;
+  works = refl;
 }
 
 unless-added : (f : Option AddFault) (tree new : List Object) (o : Object) → (f ≡ None → IsFresh o) → added_unless f tree o ≡ Ok new → Grew tree new
@@ -431,18 +439,7 @@ reading-other k rest reading e =
 reading-texts : (k : Class) (rest : Option (List ℕ)) (reading : Flagged) → flagged_at k rest ≡ Ok reading → AreTexts reading.valued
 unfolding flagged_at
 reading-texts class.Switch rest reading e = reading-switch rest reading e
-reading-texts class.Block rest reading e = reading-other class.Block rest reading e
-reading-texts class.Mute rest reading e = reading-other class.Mute rest reading e
-reading-texts class.Polarity rest reading e = reading-other class.Polarity rest reading e
-reading-texts class.Boolean rest reading e = reading-other class.Boolean rest reading e
-reading-texts class.Int8 rest reading e = reading-other class.Int8 rest reading e
-reading-texts class.Int16 rest reading e = reading-other class.Int16 rest reading e
-reading-texts class.Int32 rest reading e = reading-other class.Int32 rest reading e
-reading-texts class.Int64 rest reading e = reading-other class.Int64 rest reading e
-reading-texts class.Uint8 rest reading e = reading-other class.Uint8 rest reading e
-reading-texts class.Uint16 rest reading e = reading-other class.Uint16 rest reading e
-reading-texts class.Uint32 rest reading e = reading-other class.Uint32 rest reading e
-reading-texts class.Uint64 rest reading e = reading-other class.Uint64 rest reading e
+reading-texts k rest reading e = reading-other k rest reading e
 
 label-short : (rest : Option (List ℕ)) (p : Bool × List ℕ) → start_at rest ≡ Ok p → IsShortText p.1
 unfolding start_at
@@ -475,11 +472,7 @@ pub flags-names : (flags : Option (List Bool)) (v : Value) → names_in (with_fl
 unfolding names_in
 flags-names None v = refl
 flags-names (Some flags) values.Block = refl
-flags-names (Some flags) (values.Mute state) = refl
-flags-names (Some flags) (values.Polarity state) = refl
-flags-names (Some flags) (values.Switch s) = refl
-flags-names (Some flags) (values.Boolean truth) = refl
-flags-names (Some flags) (values.Number range) = refl
+flags-names (Some flags) _ = refl
 
 stored-fresh : (container ono : ℕ) (ending : Ending) (v : Valued) (flags : Option (List Bool)) → container < 2 ^ 32 → ono < 2 ^ 32 → EndTexts ending → HasShortTexts ending.role v.bad_name
     → AreTexts v → IsFresh (stored_object ono container ending v.value flags)
@@ -493,6 +486,7 @@ stored-fresh container ono ending v flags c n ends tested texts = record {
     names = subst (All IsShortText) (sym (flags-names flags v.value)) (all-short (names_in v.value) texts.names (sym texts.flag ∙ tested.names));
   };
   no_lock = refl;
+  works = refl;
 }
 
 no-fault : (o : Option AddFault) (r : Option ObjectFault) → option_or (option_map object_fault_of o) r ≡ None → o ≡ None
@@ -602,6 +596,7 @@ root-fresh label enabled h = record {
       names = no-names;
     };
     no_lock = refl;
+    works = refl;
   }) (All-nil IsFresh);
 }
 
@@ -630,12 +625,14 @@ pub text-listed : (text : List ℕ) (tree : List Object) → objects_of_text tex
 unfolding objects_of_text
 text-listed text tree e = from-root (after_word (codes "root") (line_before (split_at 10 text) text)) text tree e
 
-unlocked-same : (o : Object) → o.lock ≡ None → unlocked o ≡ o
-unlocked-same o e = ap (λ (l : Option Lock). let x : Object = record o { lock = l } in x) (sym e)
+unlocked-same : (o : Object) → o.lock ≡ None → o.failing ≡ false → unlocked o ≡ o
+unlocked-same o e f =
+    ap (λ (l : Option Lock). let x : Object = record o { lock = l; failing = false } in x) (sym e)
+    ∙ ap (λ (b : Bool). let x : Object = record o { failing = b } in x) (sym f)
 
--- fresh objects have no lock to be left aside
+-- fresh objects have no lock to be left aside, and their hardware refuses nothing
 pub all-unlocked : (tree : List Object) → All IsFresh tree → all_unlocked tree ≡ tree
 all-unlocked [] h = refl
 all-unlocked (o ∷ os) h =
-    ap (λ (x : Object). x ∷ all_unlocked os) (unlocked-same o (All-head IsFresh o os h).no_lock)
+    ap (λ (x : Object). x ∷ all_unlocked os) (unlocked-same o (All-head IsFresh o os h).no_lock (All-head IsFresh o os h).works)
     ∙ ap (λ (xs : List Object). o ∷ xs) (all-unlocked os (All-tail IsFresh o os h))

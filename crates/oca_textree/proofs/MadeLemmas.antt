@@ -22,14 +22,14 @@ use Rattle.oca_tree.specs.Places.{places, is_block, depth}
 use Rattle.oca_tree.specs.Starts.{flags_of, has_other_flags, restored, start_fault}
 use Rattle.oca_tree.specs.Execution.{execution}
 use Rattle.oca_tree.specs.Locks.{released}
-use Rattle.oca_tree.specs.Settings.{after_set}
+use Rattle.oca_tree.specs.LocalChanges.{after_change}
 use Rattle.oca_tree.specs.Trees.{IsTree}
 use Rattle.oca_textree.specs.Made.{IsTyped, IsMade, MadeIsReadBack, ListedIsReadBack}
 use Rattle.oca_textree.specs.Made as made
 use Rattle.oca_textree.specs.Written.{IsShortText, IsNamed}
 use Rattle.oca_textree.proofs.SplitLemmas.{any-map}
 use Rattle.oca_textree.proofs.ListedLemmas.{AreListed, IsFresh, Rooted, rooted-root, plain-root, root-stays, text-listed, all-unlocked, HasShortTexts, texts-tested, sixth-none, all-short, short-text, not-long-short, flags-names}
-use Rattle.oca_textree.proofs.CommandedLemmas.{command-kept, set-kept, release-kept}
+use Rattle.oca_textree.proofs.CommandedLemmas.{command-kept, change-kept, release-kept}
 use Rattle.oca_textree.proofs.LinesBack.{tree-back}
 
 -- ---- additions
@@ -126,9 +126,9 @@ made-named _ (made.listed text tree e) = listed-named tree (text-listed text tre
 made-named _ (made.executed tree peer command h) =
     let n = made-named tree h in
     kept (execution tree peer command).tree (command-kept tree peer command n.root_first n.named)
-made-named _ (made.set_locally tree number value h) =
+made-named _ (made.set_locally tree number change h) =
     let n = made-named tree h in
-    kept (after_set tree number value) (set-kept tree number value n.root_first n.named)
+    kept (after_change tree number change) (change-kept tree number change n.root_first n.named)
 made-named _ (made.unlocked_by tree peer h) =
     let n = made-named tree h in
     kept (released tree peer) (release-kept tree peer n.root_first n.named)

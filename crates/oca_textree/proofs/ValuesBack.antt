@@ -1,6 +1,7 @@
 -- How an object is set is read back from its line.
 use Rattle.std.proofs.Common.{◌≡◌, ℕ, ◌<◌, true, false, List, [], ◌∷◌, ◌++◌, length, map, Some, None, Ok, refl, arith, append_assoc}
-use Rattle.std.specs.Prelude.{decimal, ℤ, pos, negsuc, ◌≤ℤ◌, Result, nat_lt}
+use Rattle.std.specs.Prelude.{decimal, ℤ, pos, negsuc, ◌≤ℤ◌, ◌^◌, FitsSigned, Result, nat_lt}
+use Rattle.std.specs.Int.{w8, w16, w32, w64, byte_len}
 use Rattle.std.specs.Fmt.{signed_decimal}
 use Rattle.std.specs.List.{list_any, All}
 use Rattle.std.proofs.lemmas.Int.{ints}
@@ -9,26 +10,28 @@ use Rattle.std.proofs.lemmas.Fmt.{length-decimal-le}
 use Rattle.std.proofs.lemmas.List.Elements.{All-head, All-tail}
 use Rattle.oca_model.specs.declared.value.MuteState.TheVariants.{Muted, Unmuted}
 use Rattle.oca_model.specs.declared.value.PolarityState.TheVariants.{NonInverted, Inverted}
-use Rattle.oca_tree.specs.declared.object.NumberKind.{NumberKind}
-use Rattle.oca_tree.specs.declared.object.NumberKind.TheVariants as kinds
+use Rattle.oca_model.specs.declared.reading.Ranged.{Ranged}
+use Rattle.oca_model.specs.declared.reading.Reading.{Reading}
+use Rattle.oca_model.specs.declared.reading.Reading.TheVariants as readings
+use Rattle.oca_model.specs.Readings.{All3, IsReading}
+use Rattle.oca_model.specs.Settings.{class_of_reading}
 use Rattle.oca_tree.specs.declared.object.Value.{Value}
 use Rattle.oca_tree.specs.declared.object.Value.TheVariants as values
 use Rattle.oca_tree.specs.declared.object.Switch.{Switch}
-use Rattle.oca_tree.specs.declared.tree.Setting.TheVariants.{Number, Position}
-use Rattle.oca_tree.specs.Kinds.{IsOfType, number_class}
+use Rattle.oca_tree.specs.declared.tree.Setting.TheVariants.{Position}
 use Rattle.oca_tree.specs.Objects.{class_of}
-use Rattle.oca_tree.specs.Readers.{value_setting}
+use Rattle.oca_tree.specs.Readers.{reading_setting, value_setting}
 use Rattle.oca_tree.specs.Copies.{names_in, flags_in}
-use Rattle.oca_tree.specs.Trees.{IsSoundValue, IsSoundSwitch}
-use Rattle.oca_tree.specs.Building.{number, switch, is_long}
+use Rattle.oca_tree.specs.Trees.{IsSoundValue, IsSoundSwitch, is_position_reading}
+use Rattle.oca_tree.specs.Building.{switch, is_long}
 use Rattle.oca_tree.specs.Starts.{with_flags}
 use Rattle.oca_script.specs.declared.object_fault.ObjectFault.{ObjectFault}
 use Rattle.oca_script.specs.declared.object_fault.ObjectFault.TheVariants as fault
 use Rattle.oca_textree.specs.Lines.{field_at, then_by, some_or_fault, class_of_word, limits_of, by_word, one_of, value_at, has_control}
 use Rattle.oca_textree.specs.Stored.{Flagged, flagged_at, switch_at}
 use Rattle.oca_textree.specs.Written.{class_before, set_fields, value_fields, range_fields, switch_fields, names_field, flag_digit, IsShortText}
-use Rattle.oca_textree.specs.PrivateWritten.{IsInteger}
-use Rattle.oca_textree.proofs.Standing.{integer-of}
+use Rattle.oca_textree.specs.PrivateWritten.{IsInteger, IsWritten}
+use Rattle.oca_textree.proofs.Standing.{written-reading}
 use Rattle.oca_textree.proofs.FieldsBack.{field-word, word-decimal, number-decimal, word-signed, integer-back}
 use Rattle.oca_textree.proofs.TextsBack.{flags-back, word-flags, names-back, names-shown, word-shown, shown-append}
 
@@ -57,9 +60,6 @@ limits-back low high least greatest setting rest a b c =
     regrouped : (x y z : List ℕ) → (((x ++ 32 ∷ []) ++ (y ++ 32 ∷ [])) ++ z) ++ 32 ∷ rest ≡ x ++ 32 ∷ (y ++ 32 ∷ (z ++ 32 ∷ rest))
     regrouped x y z = simp append_assoc
 
-lies : (k : NumberKind) (z low high : ℤ) → IsOfType k z → low ≤ℤ z → z ≤ℤ high → Lies low high z
-lies k z low high h a b = record { integer = integer-of k z h; above = a; below = b }
-
 -- what is read of a value: as it is, but a switch has all its positions enabled, and the flags beside
 unfoldable pub plain_value : Value → Value
 plain_value (values.Switch s) = switch s.names.items s.position
@@ -73,48 +73,50 @@ reading_of v rest = record { valued = record { bad_name = false; value = plain_v
 unfoldable pub read_value : List ℕ → Result Flagged ObjectFault
 read_value text = then_by (field_at (Some text)) (λ c. then_by (some_or_fault fault.Class (class_of_word c.0)) (λ k. flagged_at k c.1))
 
-module _ (setting least greatest : ℤ) (rest : List ℕ) where
-  abbrev Of : NumberKind → Type 0
-  Of k = IsOfType k setting × IsOfType k least × IsOfType k greatest
+-- the integers of a type lie between its first and its last
+all-back : {X : Type 0} (number : X → ℤ) (Fits : X → Type 0) (low high : ℤ) → ((x : X) → Fits x → Lies low high (number x)) → (r : Ranged X) (rest : List ℕ) → All3 Fits r
+    → limits_of low high (Some (range_fields (number r.least) (number r.greatest) (number r.setting) ++ 32 ∷ rest))
+    ≡ Ok (record { least = number r.least; greatest = number r.greatest; setting = number r.setting; rest = Some rest })
+all-back number Fits low high lies r rest h =
+    limits-back low high (number r.least) (number r.greatest) (number r.setting) rest (lies r.least h.least) (lies r.greatest h.greatest) (lies r.setting h.setting)
 
-  abbrev Back : NumberKind → Type 0
-  Back k = read_value ((class_before (number_class k) ++ set_fields (number_class k) (Some (Number setting least greatest)) [] None) ++ 32 ∷ rest)
-      ≡ Ok (record { valued = record { bad_name = false; value = number k setting least greatest; rest = Some rest }; flags = None })
+abbrev Back : Reading → List ℕ → Type 0
+Back r rest = read_value ((class_before (class_of_reading r) ++ set_fields (class_of_reading r) (reading_setting r) [] None) ++ 32 ∷ rest)
+    ≡ Ok (record { valued = record { bad_name = false; value = values.Reads r; rest = Some rest }; flags = None })
 
-  numbers-back : (k : NumberKind) → Of k → Back k
-  unfolding read_value field_at class_of_word flagged_at value_at class_before set_fields
-  numbers-back kinds.Int8 h =
-      let e = limits-back (negsuc 127) (pos 127) least greatest setting rest (lies kinds.Int8 least _ _ h.1 (omega (arith, ints)) (omega (arith, ints)))
-      (lies kinds.Int8 greatest _ _ h.2 (omega (arith, ints)) (omega (arith, ints))) (lies kinds.Int8 setting _ _ h.0 (omega (arith, ints)) (omega (arith, ints))) in
-      rw e refl
-  numbers-back kinds.Int16 h =
-      let e = limits-back (negsuc 32767) (pos 32767) least greatest setting rest (lies kinds.Int16 least _ _ h.1 (omega (arith, ints)) (omega (arith, ints)))
-      (lies kinds.Int16 greatest _ _ h.2 (omega (arith, ints)) (omega (arith, ints))) (lies kinds.Int16 setting _ _ h.0 (omega (arith, ints)) (omega (arith, ints))) in
-      rw e refl
-  numbers-back kinds.Int32 h =
-      let e = limits-back (negsuc 2147483647) (pos 2147483647) least greatest setting rest (lies kinds.Int32 least _ _ h.1 (omega (arith, ints)) (omega (arith, ints)))
-      (lies kinds.Int32 greatest _ _ h.2 (omega (arith, ints)) (omega (arith, ints))) (lies kinds.Int32 setting _ _ h.0 (omega (arith, ints)) (omega (arith, ints))) in
-      rw e refl
-  numbers-back kinds.Int64 h =
-      let e = limits-back (negsuc 9223372036854775807) (pos 9223372036854775807) least greatest setting rest (lies kinds.Int64 least _ _ h.1 (omega (arith, ints)) (omega (arith, ints)))
-      (lies kinds.Int64 greatest _ _ h.2 (omega (arith, ints)) (omega (arith, ints))) (lies kinds.Int64 setting _ _ h.0 (omega (arith, ints)) (omega (arith, ints))) in
-      rw e refl
-  numbers-back kinds.Uint8 h =
-      let e = limits-back (pos 0) (pos 255) least greatest setting rest (lies kinds.Uint8 least _ _ h.1 (omega (arith, ints)) (omega (arith, ints)))
-      (lies kinds.Uint8 greatest _ _ h.2 (omega (arith, ints)) (omega (arith, ints))) (lies kinds.Uint8 setting _ _ h.0 (omega (arith, ints)) (omega (arith, ints))) in
-      rw e refl
-  numbers-back kinds.Uint16 h =
-      let e = limits-back (pos 0) (pos 65535) least greatest setting rest (lies kinds.Uint16 least _ _ h.1 (omega (arith, ints)) (omega (arith, ints)))
-      (lies kinds.Uint16 greatest _ _ h.2 (omega (arith, ints)) (omega (arith, ints))) (lies kinds.Uint16 setting _ _ h.0 (omega (arith, ints)) (omega (arith, ints))) in
-      rw e refl
-  numbers-back kinds.Uint32 h =
-      let e = limits-back (pos 0) (pos 4294967295) least greatest setting rest (lies kinds.Uint32 least _ _ h.1 (omega (arith, ints)) (omega (arith, ints)))
-      (lies kinds.Uint32 greatest _ _ h.2 (omega (arith, ints)) (omega (arith, ints))) (lies kinds.Uint32 setting _ _ h.0 (omega (arith, ints)) (omega (arith, ints))) in
-      rw e refl
-  numbers-back kinds.Uint64 h =
-      let e = limits-back (pos 0) (pos 18446744073709551615) least greatest setting rest (lies kinds.Uint64 least _ _ h.1 (omega (arith, ints)) (omega (arith, ints)))
-      (lies kinds.Uint64 greatest _ _ h.2 (omega (arith, ints)) (omega (arith, ints))) (lies kinds.Uint64 setting _ _ h.0 (omega (arith, ints)) (omega (arith, ints))) in
-      rw e refl
+reading-back : (r : Reading) (rest : List ℕ) → IsReading r → is_position_reading r ≡ false → Back r rest
+unfolding read_value field_at class_of_word flagged_at value_at class_before set_fields reading_setting by_word one_of
+reading-back (readings.Mute Muted) rest h o = refl
+reading-back (readings.Mute Unmuted) rest h o = refl
+reading-back (readings.Polarity NonInverted) rest h o = refl
+reading-back (readings.Polarity Inverted) rest h o = refl
+reading-back (readings.Boolean true) rest h o = refl
+reading-back (readings.Boolean false) rest h o = refl
+reading-back (readings.Switch r) rest h o = cc
+reading-back (readings.Int8 r) rest h o =
+    let e = all-back (λ z. z) (FitsSigned w8) (negsuc 127) (pos 127) (λ z f. record { integer = record { above = omega (arith, ints, f); below = omega (arith, ints, f) }; above = omega (arith, ints, f); below = omega (arith, ints, f) }) r rest h in
+    rw e refl
+reading-back (readings.Int16 r) rest h o =
+    let e = all-back (λ z. z) (FitsSigned w16) (negsuc 32767) (pos 32767) (λ z f. record { integer = record { above = omega (arith, ints, f); below = omega (arith, ints, f) }; above = omega (arith, ints, f); below = omega (arith, ints, f) }) r rest h in
+    rw e refl
+reading-back (readings.Int32 r) rest h o =
+    let e = all-back (λ z. z) (FitsSigned w32) (negsuc 2147483647) (pos 2147483647) (λ z f. record { integer = record { above = omega (arith, ints, f); below = omega (arith, ints, f) }; above = omega (arith, ints, f); below = omega (arith, ints, f) }) r rest h in
+    rw e refl
+reading-back (readings.Int64 r) rest h o =
+    let e = all-back (λ z. z) (FitsSigned w64) (negsuc 9223372036854775807) (pos 9223372036854775807) (λ z f. record { integer = record { above = omega (arith, ints, f); below = omega (arith, ints, f) }; above = omega (arith, ints, f); below = omega (arith, ints, f) }) r rest h in
+    rw e refl
+reading-back (readings.Uint8 r) rest h o =
+    let e = all-back pos (λ n. n < 256 ^ byte_len w8) (pos 0) (pos 255) (λ n f. record { integer = record { above = omega (arith, ints, f); below = omega (arith, ints, f) }; above = omega (arith, ints, f); below = omega (arith, ints, f) }) r rest h in
+    rw e refl
+reading-back (readings.Uint16 r) rest h o =
+    let e = all-back pos (λ n. n < 256 ^ byte_len w16) (pos 0) (pos 65535) (λ n f. record { integer = record { above = omega (arith, ints, f); below = omega (arith, ints, f) }; above = omega (arith, ints, f); below = omega (arith, ints, f) }) r rest h in
+    rw e refl
+reading-back (readings.Uint32 r) rest h o =
+    let e = all-back pos (λ n. n < 256 ^ byte_len w32) (pos 0) (pos 4294967295) (λ n f. record { integer = record { above = omega (arith, ints, f); below = omega (arith, ints, f) }; above = omega (arith, ints, f); below = omega (arith, ints, f) }) r rest h in
+    rw e refl
+reading-back (readings.Uint64 r) rest h o =
+    let e = all-back pos (λ n. n < 256 ^ byte_len w64) (pos 0) (pos 18446744073709551615) (λ n f. record { integer = record { above = omega (arith, ints, f); below = omega (arith, ints, f) }; above = omega (arith, ints, f); below = omega (arith, ints, f) }) r rest h in
+    rw e refl
 
 -- ---- a switch
 
@@ -155,13 +157,7 @@ fields_of v = value_fields (class_of v) (value_setting v) (names_in v) (flags_in
 pub value-back : (v : Value) (rest : List ℕ) → IsSoundValue v → All IsShortText (names_in v) → read_value (fields_of v ++ 32 ∷ rest) ≡ Ok (reading_of v rest)
 unfolding read_value reading_of plain_value field_at class_of_word flagged_at value_at class_before set_fields class_of value_setting names_in flags_in IsSoundValue by_word one_of
 value-back values.Block rest h names = refl
-value-back (values.Mute Muted) rest h names = refl
-value-back (values.Mute Unmuted) rest h names = refl
-value-back (values.Polarity NonInverted) rest h names = refl
-value-back (values.Polarity Inverted) rest h names = refl
-value-back (values.Boolean true) rest h names = refl
-value-back (values.Boolean false) rest h names = refl
-value-back (values.Number range) rest h names = numbers-back range.setting range.least range.greatest rest range.kind (h.setting, h.least, h.greatest)
+value-back (values.Reads r) rest h names = reading-back r rest h.typed h.other
 value-back (values.Switch s) rest h names =
     let e = switch-back s rest h names in
     let short = no-long s.names.items names in
@@ -184,25 +180,23 @@ range-shown least greatest setting a b c =
     (shown-append (signed_decimal least ++ 32 ∷ []) (signed_decimal greatest ++ 32 ∷ []) (limit-shown least a) (limit-shown greatest b))
     (word-shown (signed_decimal setting) (word-signed setting c))
 
-number-shown : (k : NumberKind) (s l g : ℤ) → has_control (range_fields l g s) ≡ false
-    → has_control (class_before (number_class k) ++ set_fields (number_class k) (Some (Number s l g)) [] None) ≡ false
-unfolding class_before set_fields
-number-shown kinds.Int8 s l g h = h
-number-shown _ s l g h = h
+reading-shown : (r : Reading) → is_position_reading r ≡ false → IsWritten (reading_setting r)
+    → has_control (class_before (class_of_reading r) ++ set_fields (class_of_reading r) (reading_setting r) [] None) ≡ false
+unfolding class_before set_fields reading_setting
+reading-shown (readings.Mute Muted) o w = refl
+reading-shown (readings.Mute Unmuted) o w = refl
+reading-shown (readings.Polarity NonInverted) o w = refl
+reading-shown (readings.Polarity Inverted) o w = refl
+reading-shown (readings.Boolean true) o w = refl
+reading-shown (readings.Boolean false) o w = refl
+reading-shown (readings.Switch r) o w = cc
+reading-shown _ o w = range-shown _ _ _ w.1 w.2 w.0
 
 -- a value is written without a control character
 pub value-shown : (v : Value) → IsSoundValue v → All IsShortText (names_in v) → has_control (fields_of v) ≡ false
 unfolding class_before set_fields class_of value_setting names_in flags_in IsSoundValue
 value-shown values.Block h names = refl
-value-shown (values.Mute Muted) h names = refl
-value-shown (values.Mute Unmuted) h names = refl
-value-shown (values.Polarity NonInverted) h names = refl
-value-shown (values.Polarity Inverted) h names = refl
-value-shown (values.Boolean true) h names = refl
-value-shown (values.Boolean false) h names = refl
-value-shown (values.Number range) h names =
-    number-shown range.kind range.setting range.least range.greatest (range-shown range.least range.greatest range.setting
-    (integer-of range.kind range.least h.least) (integer-of range.kind range.greatest h.greatest) (integer-of range.kind range.setting h.setting))
+value-shown (values.Reads r) h names = reading-shown r h.other (written-reading r h.typed)
 value-shown (values.Switch s) h names =
     let few = h.few in
     let position = h.position in

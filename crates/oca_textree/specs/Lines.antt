@@ -1,7 +1,7 @@
 -- What a line of a text lists: an object, or a fault (*profile*).
 use Rattle.std.specs.Prelude.{ℕ, ◌+◌, ◌-◌, ◌^◌, ◌==◌, ◌&&◌, ◌||◌, not, nat_lt, nat_le, Bool, true, false, if◌then◌else◌}
 use Rattle.std.specs.Prelude.{List, [], ◌∷◌, ◌++◌, length, codes, Option, Some, None, is_some, Result, Ok, Err, ℤ, pos}
-use Rattle.std.specs.Prelude.{negsuc, neg_ℤ, int_le}
+use Rattle.std.specs.Prelude.{negsuc, neg_ℤ, nat_abs, int_le}
 use Rattle.std.specs.Option.{option_map}
 use Rattle.std.specs.List.{list_any}
 use Rattle.std.specs.Str.{bytes_eq, is_utf8}
@@ -9,10 +9,11 @@ use Rattle.oca_types.specs.declared.class.Class.{Class}
 use Rattle.oca_types.specs.declared.class.Class.TheVariants as class
 use Rattle.oca_script.specs.Escapes.{has_hidden}
 use Rattle.oca_script.specs.Fields.{split_at, split_on, number_of}
+use Rattle.oca_model.specs.declared.reading.Ranged.{Ranged}
+use Rattle.oca_model.specs.declared.reading.Reading.{Reading}
+use Rattle.oca_model.specs.declared.reading.Reading.TheVariants as readings
 use Rattle.oca_model.specs.declared.value.MuteState.TheVariants.{Muted, Unmuted}
 use Rattle.oca_model.specs.declared.value.PolarityState.TheVariants.{NonInverted, Inverted}
-use Rattle.oca_tree.specs.declared.object.NumberKind.{NumberKind}
-use Rattle.oca_tree.specs.declared.object.NumberKind.TheVariants as kind
 use Rattle.oca_tree.specs.declared.object.Object.{Object}
 use Rattle.oca_tree.specs.declared.object.Value.{Value}
 use Rattle.oca_tree.specs.declared.object.Value.TheVariants as value
@@ -135,9 +136,11 @@ limits_of low high rest =
     then_by (field_at b.1) (λ c. then_by (some_or_fault fault.Number (integer_of low high c.0)) (λ setting.
     Ok (record { least = least; greatest = greatest; setting = setting; rest = c.1 })))))))
 
-abbrev pub by_limits : NumberKind → ℤ → ℤ → Option (List ℕ) → Result Valued ObjectFault
-by_limits k low high rest =
-    then_by (limits_of low high rest) (λ l. Ok (valued (number k l.setting l.least l.greatest) l.rest))
+-- as what reads so, by numbers of its type
+abbrev pub by_limits : {X : Type 0} → (Ranged X → Reading) → (ℤ → X) → ℤ → ℤ → Option (List ℕ) → Result Valued ObjectFault
+by_limits of typed low high rest =
+    then_by (limits_of low high rest)
+    (λ l. Ok (valued (number of (typed l.setting) (typed l.least) (typed l.greatest)) l.rest))
 
 -- UTF-8 in which no character is printed as an escape, a backslash left aside
 abbrev pub is_text : List ℕ → Bool
@@ -174,21 +177,21 @@ by_positions rest =
 unfoldable pub value_at : Class → Option (List ℕ) → Result Valued ObjectFault
 value_at class.Block rest = Ok (valued value.Block rest)
 value_at class.Mute rest = by_word
-    (one_of (codes "muted") (value.Mute Muted) (codes "unmuted") (value.Mute Unmuted)) rest
+    (one_of (codes "muted") (value.Reads (readings.Mute Muted)) (codes "unmuted") (value.Reads (readings.Mute Unmuted))) rest
 value_at class.Polarity rest =
-    by_word (one_of (codes "non-inverted") (value.Polarity NonInverted) (codes "inverted")
-    (value.Polarity Inverted)) rest
+    by_word (one_of (codes "non-inverted") (value.Reads (readings.Polarity NonInverted)) (codes "inverted")
+    (value.Reads (readings.Polarity Inverted))) rest
 value_at class.Boolean rest = by_word
-    (one_of (codes "on") (value.Boolean true) (codes "off") (value.Boolean false)) rest
+    (one_of (codes "on") (value.Reads (readings.Boolean true)) (codes "off") (value.Reads (readings.Boolean false))) rest
 value_at class.Switch rest = by_positions rest
-value_at class.Int8 rest = by_limits kind.Int8 (negsuc 127) (pos (2 ^ 7 - 1)) rest
-value_at class.Int16 rest = by_limits kind.Int16 (negsuc 32767) (pos (2 ^ 15 - 1)) rest
-value_at class.Int32 rest = by_limits kind.Int32 (negsuc 2147483647) (pos (2 ^ 31 - 1)) rest
-value_at class.Int64 rest = by_limits kind.Int64 (negsuc 9223372036854775807) (pos (2 ^ 63 - 1)) rest
-value_at class.Uint8 rest = by_limits kind.Uint8 (pos 0) (pos (2 ^ 8 - 1)) rest
-value_at class.Uint16 rest = by_limits kind.Uint16 (pos 0) (pos (2 ^ 16 - 1)) rest
-value_at class.Uint32 rest = by_limits kind.Uint32 (pos 0) (pos (2 ^ 32 - 1)) rest
-value_at class.Uint64 rest = by_limits kind.Uint64 (pos 0) (pos (2 ^ 64 - 1)) rest
+value_at class.Int8 rest = by_limits readings.Int8 (λ z. z) (negsuc 127) (pos (2 ^ 7 - 1)) rest
+value_at class.Int16 rest = by_limits readings.Int16 (λ z. z) (negsuc 32767) (pos (2 ^ 15 - 1)) rest
+value_at class.Int32 rest = by_limits readings.Int32 (λ z. z) (negsuc 2147483647) (pos (2 ^ 31 - 1)) rest
+value_at class.Int64 rest = by_limits readings.Int64 (λ z. z) (negsuc 9223372036854775807) (pos (2 ^ 63 - 1)) rest
+value_at class.Uint8 rest = by_limits readings.Uint8 nat_abs (pos 0) (pos (2 ^ 8 - 1)) rest
+value_at class.Uint16 rest = by_limits readings.Uint16 nat_abs (pos 0) (pos (2 ^ 16 - 1)) rest
+value_at class.Uint32 rest = by_limits readings.Uint32 nat_abs (pos 0) (pos (2 ^ 32 - 1)) rest
+value_at class.Uint64 rest = by_limits readings.Uint64 nat_abs (pos 0) (pos (2 ^ 64 - 1)) rest
 
 -- ---- the object
 

@@ -4,7 +4,6 @@ use Rattle.std.specs.Prelude.{◌≡◌, ◌<◌, ◌^◌, IsUtf8, ℕ, List, []
 use Rattle.std.specs.List.{All}
 use Rattle.oca_types.specs.declared.words.Peer.{Peer}
 use Rattle.oca_types.specs.Peers.{CommandFields}
-use Rattle.oca_model.specs.declared.value.Value.{Value}
 use Rattle.oca_tree.specs.declared.builder.Spec.{Spec}
 use Rattle.oca_tree.specs.declared.object.Object.{Object}
 use Rattle.oca_tree.specs.declared.object.Value.TheVariants.{Block}
@@ -13,7 +12,7 @@ use Rattle.oca_tree.specs.Building.{root, value_of, object_of_spec, add_fault}
 use Rattle.oca_tree.specs.Copies.{names_in, all_unlocked}
 use Rattle.oca_tree.specs.Execution.{execution}
 use Rattle.oca_tree.specs.Locks.{released}
-use Rattle.oca_tree.specs.Settings.{after_set}
+use Rattle.oca_tree.specs.LocalChanges.{LocalChange, after_change}
 use Rattle.oca_tree.specs.Starts.{restored, start_fault, add_with_fault}
 use Rattle.oca_textree.specs.Texts.{objects_of_text}
 use Rattle.oca_textree.specs.Written.{text_of}
@@ -27,7 +26,8 @@ pub record IsTyped (block number : ℕ) (spec : Spec) : Type 0 where
 
 -- THE OBJECTS ARE MADE BY CALLS, one after another: a builder begins with the root and adds objects, each with what was
 -- stored of it or without; or the text of a file lists them; then commands are executed, objects are set at the local
--- front panel (or not, where that is refused), and locks are released.
+-- front panel (to a value, their label, whether they are enabled, unlocked, whether their hardware refuses; or not, where
+-- that is refused), and locks are released.
 pub data IsMade : List Object → Type 0 where
   begun : IsMade (root ∷ [])
   begun_with : (start : Start) → IsUtf8 start.label.now → start_fault Block start ≡ None
@@ -40,10 +40,11 @@ pub data IsMade : List Object → Type 0 where
   listed : (text : List ℕ) (tree : List Object) → objects_of_text text ≡ Ok tree → IsMade tree
   executed : (tree : List Object) (peer : Peer) (command : CommandFields) → IsMade tree
       → IsMade (execution tree peer command).tree
-  set_locally : (tree : List Object) (number : ℕ) (value : Value) → IsMade tree → IsMade (after_set tree number value)
+  set_locally : (tree : List Object) (number : ℕ) (change : LocalChange) → IsMade tree
+      → IsMade (after_change tree number change)
   unlocked_by : (tree : List Object) (peer : Peer) → IsMade tree → IsMade (released tree peer)
 
--- OBJECTS THAT CALLS MADE are read back from their text: the same, but for their locks.
+-- OBJECTS THAT CALLS MADE are read back from their text: the same, but for their locks and what their hardware refuses.
 abbrev pub MadeIsReadBack : List Object → Type 0
 MadeIsReadBack tree = IsMade tree → objects_of_text (text_of tree) ≡ Ok (all_unlocked tree)
 

@@ -141,6 +141,7 @@ stored_object ono container ending v flags = record {
   enabled = ending.enabled;
   value = with_flags flags v;
   lock = None;
+  failing = false;
 }
 
 -- why a tree refuses what was stored: the label, or other than one flag a position

@@ -193,6 +193,6 @@ abbrev pub IsRoot : List Object → Type 0
 IsRoot [] = Unit {0}
 IsRoot (o ∷ os) = (o.role ≡ codes "root") × (o.lockable ≡ true)
 
--- A TREE THAT IS WRITTEN AS A TEXT IS READ BACK: the same objects, but for their locks.
+-- A TREE THAT IS WRITTEN AS A TEXT IS READ BACK: the same objects, but for their locks and what their hardware refuses.
 abbrev pub IsReadBack : List Object → Type 0
 IsReadBack tree = IsRoot tree → All IsNamed tree → objects_of_text (text_of tree) ≡ Ok (all_unlocked tree)

@@ -6,7 +6,8 @@ use oca_script::ObjectFault;
 use oca_tree::{AddFault, StartFault};
 use thiserror::Error;
 
-/// Why the tree refuses the object of a line.
+/// The fault of a line of which the tree refuses the object. `NoSuchBlock` becomes `Container`, `TooDeep` `Depth`,
+/// `BadText` `Text`, and `BadRange` `Range`; the others keep their names.
 pub fn fault_of(fault: AddFault) -> ObjectFault
     ensures { result ≡ object_fault_of fault }
 {
@@ -22,7 +23,8 @@ pub fn fault_of(fault: AddFault) -> ObjectFault
     }
 }
 
-/// Why the tree refuses the object of a line with what was stored of it.
+/// The fault of a line of which the tree refuses the object with what was stored of it. `BadLabel` becomes `Text`,
+/// `BadFlags` becomes `Value`, and the fault in `Add` what [`fault_of`] makes of it.
 pub fn fault_of_stored(fault: StartFault) -> ObjectFault
     ensures { result ≡ stored_fault_of fault }
 {

@@ -120,7 +120,7 @@ fn is_skipped(line: &[u8]) -> bool
     }
 }
 
-/// What stands behind this word and a space, where a line begins with them.
+/// What stands after this word and a space, if the line begins with both; `None` otherwise.
 pub fn behind<'a>(word: &[u8], line: &'a [u8]) -> Option<&'a [u8]>
     ensures { option_copied result ≡ behind_word word.now line.entry.now }
 {
@@ -130,7 +130,10 @@ pub fn behind<'a>(word: &[u8], line: &'a [u8]) -> Option<&'a [u8]>
     }
 }
 
-/// Adds the object that a line lists, where it lists one. Where it has a fault, the builder is as it was.
+/// Adds the object that a line lists, after all others. An empty line and one that begins with `#` add nothing.
+/// Refusal: the first fault from the left of a field that can't be read; if all can be read, why the tree refuses the
+/// object ([`ObjectFault`] says when each comes). The builder is then unchanged. The builder must have room for 4,096
+/// objects (a premise).
 #[tactic(auto, unfolding(crate::specs::Stored::after_line))]
 pub fn add_line(builder: &mut TreeBuilder, line: &[u8]) -> Result<(), ObjectFault>
     requires { builder.old.room ≡ 4096 }

@@ -24,10 +24,8 @@ use std::alloc::Global;
 const MOST_OBJECTS: u16 = 4096;
 
 /// The tree of a text: the root, of which the first line may say what was stored, and the objects of its lines in
-/// order.
-/// Refusals: `Line` with the number of the first line that has a fault, counted from 1, and the first fault of that
-/// line;
-/// `NoMemory`, where the room of 4,096 objects was refused. (The text's form is the profile's; [`crate`] has it.)
+/// order. (The text's form is the profile's; [`crate`] has it.) Refusals: `Line` if a line has a fault, with the number
+/// of the first such line, counted from 1, and its first fault. `NoMemory` if the memory for 4,096 objects was refused.
 #[tactic(auto, unfolding(crate::specs::Texts::objects_of_text))]
 pub fn tree_from_text(alloc: Global, text: &[u8]) -> Result<Tree, TreeFault>
     ensures ok { IfOk result (λ tree. objects_of_text text.now ≡ ok tree) }

@@ -58,7 +58,7 @@ fn polarity(word: &[u8]) -> Option<PolarityState>
     }
 }
 
-/// A Boolean by its word.
+/// The Boolean for which a word stands: `on` is true, `off` is false. `None` for any other word.
 #[tactic(auto, unfolding(crate::specs::Lines::one_of))]
 pub fn truth(word: &[u8]) -> Option<bool>
     ensures { result ≡ one_of (codes "on") true (codes "off") false word.now }
@@ -72,7 +72,7 @@ pub fn truth(word: &[u8]) -> Option<bool>
     }
 }
 
-/// Whether an object can be locked, by the word that says so.
+/// Whether an object can be locked, by the word that says so: `lockable` or `no-lock`. `None` for any other word.
 #[tactic(auto, unfolding(crate::specs::Lines::one_of))]
 pub fn lockable(word: &[u8]) -> Option<bool>
     ensures { result ≡ one_of (codes "lockable") true (codes "no-lock") false word.now }
@@ -190,7 +190,12 @@ fn place(name: &[u8], names: &[&str]) -> Option<u16>
     }
 }
 
-/// The positions of a switch, put into `names`, which holds none before, and the current one.
+/// Reads the positions of a switch, whose names are put into `names`, and the current position, counted from 0. Returns
+/// that and what is left of the line. `names` must be empty before (a premise).
+///
+/// Refusals, the first from the left: `Form` if no field is left, or a quote is left open or followed by anything but a
+/// space. `Text` if a name is no text of a position, `Range` at a seventeenth name, `Value` if the current position is
+/// none of the names. After a refusal discard `names`.
 #[tactic(auto, unfolding(crate::specs::Lines::positions_of))]
 pub fn positions<'a>(
     rest: Option<&'a [u8]>,
@@ -357,7 +362,10 @@ fn uint64_at(rest: Option<&[u8]>) -> Read<'_>
     Ok((kind, read.rest))
 }
 
-/// What the object of a class but a switch is, and what is left of its line.
+/// Reads what an object of this class is, and returns that and what is left of its line. The class is not that of a
+/// switch (a premise). Refusals, the first from the left: `Form` if no field is left, or a quote is left open or
+/// followed by anything but a space. `Value` if the word is none of the class. `Number` if an integer is not of its
+/// form, or not of the class's type.
 #[tactic(auto, unfolding(crate::specs::Lines::value_at, oca_tree::specs::Building::value_of))]
 pub fn kind_at(class: Class, rest: Option<&[u8]>) -> Read<'_>
     requires { class ≡ Class.Switch → ⊥ }

@@ -1,6 +1,6 @@
 -- Which methods a value has.
 use Rattle.std.proofs.Common.{◌≡◌, ℕ, Bool, true, false, cond, List, [], ◌∷◌, refl, sym, ap, ◌∙◌}
-use Rattle.std.specs.Prelude.{Option, Some, None, ◌==◌}
+use Rattle.std.specs.Prelude.{Option, Some, None, ◌==◌, not}
 use Rattle.oca_types.specs.declared.class.Access.{Access}
 use Rattle.oca_types.specs.declared.class.Method.{Method}
 use Rattle.oca_types.specs.declared.class.Method.TheVariants as methods
@@ -8,18 +8,16 @@ use Rattle.oca_types.specs.declared.class.MethodKind.TheVariants.{Known}
 use Rattle.oca_types.specs.declared.words.MethodId.{MethodId}
 use Rattle.oca_types.specs.Methods.{method_kind, kind_from, row_at, own_methods, class_methods, is_left_out}
 use Rattle.oca_model.specs.Lists.{Each}
-use Rattle.oca_tree.specs.declared.object.NumberKind.{NumberKind}
-use Rattle.oca_tree.specs.declared.object.NumberKind.TheVariants as kinds
-use Rattle.oca_tree.specs.declared.object.Range.{Range}
+use Rattle.oca_model.specs.declared.reading.Reading.TheVariants as readings
 use Rattle.oca_tree.specs.declared.object.Value.{Value as Held}
 use Rattle.oca_tree.specs.declared.object.Value.TheVariants as held
-use Rattle.oca_tree.specs.Kinds.{number_class}
+use Rattle.oca_tree.specs.Trees.{IsSoundValue, is_position_reading}
 use Rattle.oca_tree.specs.Objects.{class_of}
 use Rattle.oca_tree.specs.Places.{is_block_value}
 
 abbrev pub has_state : Held → Bool
-has_state (held.Mute _) = true
-has_state (held.Polarity _) = true
+has_state (held.Reads (readings.Mute _)) = true
+has_state (held.Reads (readings.Polarity _)) = true
 has_state _ = false
 
 abbrev pub has_positions : Held → Bool
@@ -27,9 +25,11 @@ has_positions (held.Switch _) = true
 has_positions _ = false
 
 abbrev pub has_setting : Held → Bool
-has_setting (held.Boolean _) = true
-has_setting (held.Number _) = true
-has_setting _ = false
+has_setting held.Block = false
+has_setting (held.Switch _) = false
+has_setting (held.Reads (readings.Mute _)) = false
+has_setting (held.Reads (readings.Polarity _)) = false
+has_setting _ = true
 
 abbrev pub belongs : Held → Method → Bool
 belongs value methods.GetMembers = is_block_value value
@@ -62,18 +62,20 @@ module _ (value : Held) where
       by true further h = let same : row.1 ≡ m = cc in sym (ap (belongs value) same) ∙ each.0
       by false further h = further h
 
-number_methods : (range : Range) (k : NumberKind) → Each (Belongs (held.Number range)) (class_methods (number_class k)).1
-number_methods range kinds.Int8 = (refl, (refl, tt))
-number_methods range _ = (refl, (refl, tt))
+-- a reading is that of a position alone where a switch holds it
+abbrev is_held_so : Held → Bool
+is_held_so (held.Reads r) = not (is_position_reading r)
+is_held_so _ = true
 
-class_belongs : (value : Held) → Each (Belongs value) (class_methods (class_of value)).1
+class_belongs : (value : Held) → is_held_so value ≡ true → Each (Belongs value) (class_methods (class_of value)).1
 unfolding class_of
-class_belongs (held.Switch switch) = (refl, (refl, (refl, (refl, (refl, (refl, (refl, (refl, (refl, (refl, tt))))))))))
-class_belongs (held.Number range) = number_methods range range.kind
-class_belongs _ = (refl, (refl, tt))
+class_belongs (held.Reads (readings.Switch r)) so = let no : ⊥ = cc in absurd no
+class_belongs (held.Reads (readings.Mute state)) so = (refl, (refl, tt))
+class_belongs (held.Switch switch) so = (refl, (refl, (refl, (refl, (refl, (refl, (refl, (refl, (refl, (refl, tt))))))))))
+class_belongs _ so = (refl, (refl, tt))
 
-level_belongs : (value : Held) (level : ℕ) → Each (Belongs value) (own_methods (class_of value) level)
-level_belongs value level = by (level == 1) (level == 2) (level == (class_methods (class_of value)).0)
+level_belongs : (value : Held) (level : ℕ) → is_held_so value ≡ true → Each (Belongs value) (own_methods (class_of value) level)
+level_belongs value level so = by (level == 1) (level == 2) (level == (class_methods (class_of value)).0)
   where
     by : (one two own : Bool)
         → Each (Belongs value) (cond one ((1, methods.GetClassIdentification) ∷ (2, methods.GetLockable) ∷ (3, methods.LockTotal) ∷ (4, methods.Unlock) ∷ (5, methods.GetRole) ∷ (6, methods.LockReadonly) ∷ [])
@@ -81,14 +83,19 @@ level_belongs value level = by (level == 1) (level == 2) (level == (class_method
         (cond own (class_methods (class_of value)).1 [])))
     by true two own = (refl, (refl, (refl, (refl, (refl, (refl, tt))))))
     by false true own = (refl, (refl, (refl, (refl, (refl, tt)))))
-    by false false true = class_belongs value
+    by false false true = class_belongs value so
     by false false false = tt
 
-pub known_belongs : (value : Held) (id : MethodId) (m : Method) (reached : Access) → method_kind (class_of value) id ≡ Known m reached → belongs value m ≡ true
+held_so : (value : Held) → IsSoundValue value → is_held_so value ≡ true
+unfolding IsSoundValue
+held_so (held.Reads r) sound = ap not sound.other
+held_so _ sound = refl
+
+pub known_belongs : (value : Held) → IsSoundValue value → (id : MethodId) (m : Method) (reached : Access) → method_kind (class_of value) id ≡ Known m reached → belongs value m ≡ true
 unfolding method_kind
-known_belongs value id m reached e = by (row_at (own_methods (class_of value) id.level) id.index) (is_left_out (class_of value) id) refl e
+known_belongs value sound id m reached e = by (row_at (own_methods (class_of value) id.level) id.index) (is_left_out (class_of value) id) refl e
   where
     by : (found : Option Method) (left : Bool) → row_at (own_methods (class_of value) id.level) id.index ≡ found → kind_from found left ≡ Known m reached → belongs value m ≡ true
     by None true is h = cc
     by None false is h = cc
-    by (Some other) left is h = let same : other ≡ m = cc in row_belongs value (own_methods (class_of value) id.level) id.index m (level_belongs value id.level) (is ∙ ap Some same)
+    by (Some other) left is h = let same : other ≡ m = cc in row_belongs value (own_methods (class_of value) id.level) id.index m (level_belongs value id.level (held_so value sound)) (is ∙ ap Some same)

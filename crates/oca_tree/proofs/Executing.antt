@@ -1,12 +1,13 @@
 -- What a command does, from what each of its steps found.
 use Rattle.std.proofs.Common.{◌≡◌, ℕ, ◌<◌, ◌≤◌, Bool, true, false, cond, List, [], ◌∷◌, length, get_or, set, refl, sym, ap, ◌∙◌, arith, eqb-true}
-use Rattle.std.specs.Prelude.{Option, Some, None, Result, Ok, Err, not, nat_lt, ◌==◌}
+use Rattle.std.specs.Prelude.{Option, Some, None, Result, Ok, Err, not, nat_lt, ◌==◌, ◌&&◌}
 use Rattle.std.specs.List.{position}
 use Rattle.std.proofs.lemmas.List.{set-get_or}
 use Rattle.oca_types.specs.declared.words.Peer.{Peer}
 use Rattle.oca_types.specs.declared.status.Status.{Status}
 use Rattle.oca_types.specs.declared.status.Status.TheVariants as statuses
 use Rattle.oca_types.specs.declared.class.Method.{Method}
+use Rattle.oca_types.specs.declared.class.Method.TheVariants as methods
 use Rattle.oca_types.specs.declared.class.Access.{Access}
 use Rattle.oca_types.specs.declared.class.MethodKind.TheVariants.{Known}
 use Rattle.oca_types.specs.declared.class.Class.{Class}
@@ -14,18 +15,20 @@ use Rattle.oca_types.specs.declared.words.MethodId.{MethodId}
 use Rattle.oca_types.specs.Methods.{access, method_kind, kind_from, row_at, own_methods, is_left_out}
 use Rattle.oca_types.specs.Peers.{CommandFields}
 use Rattle.oca_model.specs.declared.request.Request.{Request}
+use Rattle.oca_model.specs.declared.request.Request.TheVariants as requests
+use Rattle.oca_model.specs.declared.value.Value.{Value as Setting}
 use Rattle.oca_model.specs.declared.value.ValueFault.{ValueFault}
 use Rattle.oca_model.specs.declared.value.ValueFault.TheVariants.{Malformed, Unlisted}
 use Rattle.oca_model.specs.Answers.{answer_encoding, answer_count}
-use Rattle.oca_model.specs.Requests.{request_in}
+use Rattle.oca_model.specs.Requests.{as_request, request_in, set_in}
 use Rattle.oca_tree.specs.declared.object.Object.{Object}
 use Rattle.oca_tree.specs.Objects.{class_of, object_of, has_number, with_object}
-use Rattle.oca_tree.specs.Requests.{fits_positions, asks_out_of_range, asks_invalid}
+use Rattle.oca_tree.specs.Requests.{cannot_be, fits_positions, asks_out_of_range, asks_invalid}
 use Rattle.oca_tree.specs.Typed.{answer_given, changed_by}
-use Rattle.oca_tree.specs.Execution.{kind_at, asked_at, status_of, by_status, carried_out, refused, execution}
+use Rattle.oca_tree.specs.Execution.{kind_at, asked_at, is_write, is_failing, status_of, by_status, carried_out, refused, execution}
 use Rattle.oca_tree.specs.Trees.{IsTree, IsSound}
 use Rattle.oca_tree.specs.Written.{is_ok}
-use Rattle.oca_tree.specs.PrivateSteps.{plain_request, status_of_fault, refusal_of, MayCall, IsRefusedAt, IsAskedRightly, PutsAnswer, Executes}
+use Rattle.oca_tree.specs.PrivateSteps.{plain_request, sets_value, setting_in, status_of_fault, refusal_of, MayCall, MaySet, IsRefusedAt, IsAskedRightly, PutsAnswer, Executes}
 use Rattle.oca_tree.proofs.Plain.{plain}
 use Rattle.oca_tree.proofs.Positions.{find_some, find_passes, place_found, with_object_at, same_element}
 use Rattle.oca_tree.proofs.Sound.{changed_place, changed_ono, changed_sound, written_tree}
@@ -39,6 +42,37 @@ known_access class id method reached e = by (row_at (own_methods class id.level)
     by None true h = cc
     by None false h = cc
     by (Some m) left h = cc
+
+-- a set method asks that the object is set to what its parameters give
+pub set_asks : (of : Class) (method : Method) (count : ℕ) (bytes : List ℕ) → sets_value method ≡ true → request_in of method count bytes ≡ set_in of count bytes
+unfolding request_in
+set_asks of methods.SetState count bytes e = refl
+set_asks of methods.SetPosition count bytes e = refl
+set_asks of methods.SetSetting count bytes e = refl
+set_asks of _ count bytes e = cc
+
+-- a set method writes
+set_writes : (method : Method) → sets_value method ≡ true → is_write (Known method (access method)) ≡ true
+set_writes methods.SetState e = refl
+set_writes methods.SetPosition e = refl
+set_writes methods.SetSetting e = refl
+set_writes _ e = cc
+
+both_false : (a b : Bool) → b ≡ false → (a && b) ≡ false
+both_false true b e = e
+both_false false b e = refl
+
+-- hardware refuses a set method exactly where it refuses to be changed
+pub fails_to_set : (o : Object) (peer : Peer) (c : CommandFields) → MaySet o peer c → o.failing ≡ true → is_failing (Some o) (kind_at (Some o) c) ≡ true
+fails_to_set o peer c may e = rw (may.may.0, e) (set_writes may.method may.sets)
+
+pub works : (o : Object) (c : CommandFields) → o.failing ≡ false → is_failing (Some o) (kind_at (Some o) c) ≡ false
+works o c e = rw e refl
+
+-- what sets an object answers nothing
+pub nothing_put : (tree : List Object) (o : Object) (v : Setting) → PutsAnswer (Ok 0) [] [] (answer_given tree o (requests.Set v))
+unfolding answer_given answer_encoding
+nothing_put tree o v = (refl, refl)
 
 -- ---- one object
 
@@ -81,6 +115,23 @@ module _ (o : Object) (peer : Peer) (c : CommandFields) (method : Method) (may :
         by true true invalid f w v h = let is : statuses.ParameterOutOfRange ≡ s = cc in rw (← is) (λ tree. rw (may.0, may.1, asked, f, w) refl, refl)
         by false out invalid f w v h = let is : statuses.ParameterError ≡ s = cc in rw (← is) (λ tree. rw (may.0, may.1, asked, f) refl, refl)
 
+  -- what a set method sets it to
+  module _ (sets : sets_value method ≡ true) where
+    pub setting_not_understood : (fault : ValueFault) → setting_in (class_of o.value) c.count c.params ≡ Err fault → Refuses (status_of_fault fault)
+    setting_not_understood fault e = not_understood fault (set_asks (class_of o.value) method c.count c.params sets ∙ ap (as_request requests.Set) e)
+
+    module _ (v : Setting) (e : setting_in (class_of o.value) c.count c.params ≡ Ok v) where
+      sets_to : request_in (class_of o.value) method c.count c.params ≡ Ok (requests.Set v)
+      sets_to = set_asks (class_of o.value) method c.count c.params sets ∙ ap (as_request requests.Set) e
+
+      pub setting_ok : cannot_be o.value v ≡ false → IsAskedRightly (requests.Set v) o peer c
+      unfolding asks_out_of_range asks_invalid
+      setting_ok within = request_ok (requests.Set v) sets_to refl within refl
+
+      pub setting_refused : cannot_be o.value v ≡ true → Refuses statuses.ParameterOutOfRange
+      unfolding asks_out_of_range
+      setting_refused beyond = refuses (requests.Set v) sets_to statuses.ParameterOutOfRange (rw beyond refl)
+
   no_bytes : (bytes : List ℕ) → length bytes ≡ 0 → bytes ≡ []
   no_bytes [] e = refl
   no_bytes (b ∷ bytes) e = absurd (omega arith)
@@ -111,14 +162,17 @@ module _ (tree : List Object) (peer : Peer) (c : CommandFields) where
       abbrev long : ℕ
       long = length (answer_encoding (answer_given tree o r))
 
-      with_request : execution tree peer c ≡ by_status tree peer (Some o) (Ok r) (cond (nat_lt 1452 long) statuses.BufferOverflow statuses.Ok)
+      with_request : execution tree peer c ≡ by_status tree peer (Some o) (Ok r) (cond (nat_lt 1452 long) statuses.BufferOverflow (cond (is_failing (Some o) (kind_at (Some o) c)) statuses.ProcessingFailed statuses.Ok))
       with_request = at_object ∙ ap (λ x. by_status tree peer (Some o) x (status_of tree peer (Some o) c)) asked.asked ∙ ap (by_status tree peer (Some o) (Ok r)) (asked.ends tree)
 
       pub exec_full : 1452 < long → execution tree peer c ≡ refused tree statuses.BufferOverflow
       exec_full h = let over : nat_lt 1452 long ≡ true = grind arith in with_request ∙ rw over refl
 
-      pub exec_ok : long ≤ 1452 → execution tree peer c ≡ carried_out tree peer o r
-      exec_ok h = let fits : nat_lt 1452 long ≡ false = grind arith in with_request ∙ rw fits refl
+      pub exec_ok : long ≤ 1452 → is_failing (Some o) (kind_at (Some o) c) ≡ false → execution tree peer c ≡ carried_out tree peer o r
+      exec_ok h works = let fits : nat_lt 1452 long ≡ false = grind arith in with_request ∙ rw (fits, works) refl
+
+      pub exec_failed : long ≤ 1452 → is_failing (Some o) (kind_at (Some o) c) ≡ true → execution tree peer c ≡ refused tree statuses.ProcessingFailed
+      exec_failed h fails = let fits : nat_lt 1452 long ≡ false = grind arith in with_request ∙ rw (fits, fails) refl
 
 -- what was found at an index
 module _ (tree : List Object) (peer : Peer) (c : CommandFields) (i : ℕ) (o : Object) (place : Some i ≡ position (has_number c.target) tree) (here : o ≡ get_or tree i o) where
@@ -147,9 +201,12 @@ module _ (tree : List Object) (peer : Peer) (c : CommandFields) (i : ℕ) (o : O
     new = changed_by o peer r
 
     module _ (count : ℕ) (puts : PutsAnswer (Ok count) [] out (answer_given tree o r)) (short : length out ≤ 1452) where
-      pub done_at : execution tree peer c ≡ record { tree = set tree i new; status = statuses.Ok; count = count; parameters = out }
-      done_at =
-          exec_ok tree peer c o found_at r asked (rw (← puts.0) short)
+      pub failed_at : is_failing (Some o) (kind_at (Some o) c) ≡ true → execution tree peer c ≡ refused tree statuses.ProcessingFailed
+      failed_at fails = exec_failed tree peer c o found_at r asked (rw (← puts.0) short) fails
+
+      pub done_at : is_failing (Some o) (kind_at (Some o) c) ≡ false → execution tree peer c ≡ record { tree = set tree i new; status = statuses.Ok; count = count; parameters = out }
+      done_at works =
+          exec_ok tree peer c o found_at r asked (rw (← puts.0) short) works
           ∙ ap (λ t. record { tree = t; status = statuses.Ok; count = answer_count (answer_given tree o r); parameters = answer_encoding (answer_given tree o r) }) (placed new (changed_ono o peer r))
           ∙ ap (λ n. record { tree = set tree i new; status = statuses.Ok; count = n; parameters = answer_encoding (answer_given tree o r) }) (sym puts.1)
           ∙ ap (λ xs. record { tree = set tree i new; status = statuses.Ok; count = count; parameters = xs }) (sym puts.0)
@@ -165,6 +222,7 @@ module _ (tree : List Object) (peer : Peer) (c : CommandFields) (i : ℕ) (o : O
   read_at method r may is none empty (Ok count) out puts short =
       let same : set tree i (changed_by o peer r) ≡ tree =
       ap (set tree i) ((plain method r is).same o peer ∙ here) ∙ set-get_or tree i o in
-      done_at r (plain_ok o peer c method may r is none empty) out count puts short
+      let reads : is_failing (Some o) (kind_at (Some o) c) ≡ false = rw may.0 (both_false o.failing (is_write (Known method (access method))) (plain method r is).reads) in
+      done_at r (plain_ok o peer c method may r is none empty) out count puts short reads
       ∙ ap (λ t. record { tree = t; status = statuses.Ok; count = count; parameters = out }) same
   read_at method r may is none empty (Err s) out puts short = (full_at r (plain_ok o peer c method may r is none empty) out s puts, refl, ap is_ok puts.0)

@@ -1,6 +1,6 @@
 -- What setting an object does, from what each of its steps found.
 use Rattle.std.proofs.Common.{◌≡◌, ℕ, Bool, true, false, cond, List, [], get_or, set, refl, sym, ap, ◌∙◌}
-use Rattle.std.specs.Prelude.{Some, None, Ok, not}
+use Rattle.std.specs.Prelude.{Some, None, Ok, not, is_some}
 use Rattle.std.specs.List.{position}
 use Rattle.oca_types.specs.Peers.{CommandFields}
 use Rattle.oca_types.specs.declared.class.Class.TheVariants as class
@@ -27,7 +27,8 @@ use Rattle.oca_model.specs.Requests.{request_in}
 use Rattle.oca_tree.specs.Requests.{cannot_be, asks_out_of_range, asks_invalid}
 use Rattle.oca_tree.specs.Execution.{TreeAndReply, kind_at, asked_at, is_locked, carried_out, refused, execution}
 use Rattle.oca_tree.specs.Typed.{answer_given, changed_by}
-use Rattle.oca_tree.specs.Settings.{is_of_its_class, fault_at, set_fault_in, set_fault, front, set_where, after_set, AnyPeerSetsTheSame, status_for, SetsTheSame, FrontSetsAsPeersDo}
+use Rattle.oca_model.proofs.Settled.{makes}
+use Rattle.oca_tree.specs.Settings.{fault_at, is_of_its_class, set_fault_in, set_fault, front, set_where, after_set, AnyPeerSetsTheSame, status_for, SetsTheSame, FrontSetsAsPeersDo}
 use Rattle.oca_tree.specs.Trees.{IsTree, IsSound}
 use Rattle.oca_tree.proofs.Executing.{found_at, within_at, sound_at, every_at, placed}
 use Rattle.oca_tree.proofs.Sound.{changed_place, changed_ono, changed_sound, written_tree}
@@ -38,7 +39,7 @@ any_peer o peer value = refl
 
 -- what has no fault can be set so
 pub in_range : (held : Held) (value : Value) → fault_at held value ≡ None → cannot_be held value ≡ false
-in_range held value e = by (is_block_value held) (is_of_its_class (class_of held) value) (cannot_be held value) e
+in_range held value e = by (is_block_value held) (is_of_its_class held value) (cannot_be held value) e
   where
     by : (a b out : Bool) → cond a (Some faults.NoSetting) (cond (not b) (Some faults.OtherKind) (cond out (Some faults.OutOfRange) None)) ≡ None → out ≡ false
     by a b false h = refl
@@ -92,22 +93,24 @@ module _ (tree : List Object) (number i : ℕ) (o : Object) (place : Some i ≡ 
 
 module _ (tree : List Object) (peer : Peer) (c : CommandFields) (o : Object) (found : object_of tree c.target ≡ Some o) (method : Method) (reached : Access)
     (kind : kind_at (Some o) c ≡ Known method reached) (free : lock_refuses o.lock peer reached ≡ false) (value : Value)
-    (asked : request_in (class_of o.value) method c.count c.params ≡ Ok (asks.Set value)) where
+    (works : o.failing ≡ false) (asked : request_in (class_of o.value) method c.count c.params ≡ Ok (asks.Set value)) where
   refused_set : cannot_be o.value value ≡ true → execution tree peer c ≡ refused tree statuses.ParameterOutOfRange
   unfolding execution asks_out_of_range
   refused_set e = rw (found, kind, free, asked, e) refl
 
   carried_set : cannot_be o.value value ≡ false → execution tree peer c ≡ carried_out tree peer o (asks.Set value)
   unfolding execution asks_out_of_range asks_invalid answer_given answer_encoding
-  carried_set e = rw (found, kind, free, asked, e) refl
+  carried_set e = rw (found, kind, free, asked, e, works) refl
 
 -- ---- the front sets as a peer's command does
 
--- a value is one of its own class, which is none of a block
-own_class : (value : Value) → is_of_its_class (class_of_value value) value ≡ true
-unfolding is_of_its_class
-own_class (to_set.Mute s) = refl
-own_class _ = refl
+-- a value of the class of what is held is one that can be set; a block has none
+of_class : (held : Held) (value : Value) → class_of held ≡ class_of_value value → is_of_its_class held value ≡ true
+unfolding class_of
+of_class (values.Reads r) value e = ap is_some (makes r value e).made
+of_class (values.Switch switch) (to_set.Switch n) e = refl
+of_class _ (to_set.Mute s) e = let no : ⊥ = cc in absurd no
+of_class _ _ e = let no : ⊥ = cc in absurd no
 
 no_block : (held : Held) (value : Value) → class_of held ≡ class_of_value value → is_block_value held ≡ false
 unfolding class_of
@@ -115,30 +118,19 @@ no_block values.Block value e = absurd (no_block_value value e)
   where
     no_block_value : (v : Value) → class.Block ≡ class_of_value v → ⊥
     no_block_value (to_set.Mute s) h = cc
-    no_block_value (to_set.Polarity s) h = cc
-    no_block_value (to_set.Switch n) h = cc
-    no_block_value (to_set.Boolean b) h = cc
-    no_block_value (to_set.Int8 n) h = cc
-    no_block_value (to_set.Int16 n) h = cc
-    no_block_value (to_set.Int32 n) h = cc
-    no_block_value (to_set.Int64 n) h = cc
-    no_block_value (to_set.Uint8 n) h = cc
-    no_block_value (to_set.Uint16 n) h = cc
-    no_block_value (to_set.Uint32 n) h = cc
-    no_block_value (to_set.Uint64 n) h = cc
+    no_block_value _ h = cc
 no_block _ value e = refl
 
 -- then the fault is whether the object cannot be it
 fault_taken : (held : Held) (value : Value) (out : Bool) → class_of held ≡ class_of_value value →
     cannot_be held value ≡ out → fault_at held value ≡ cond out (Some faults.OutOfRange) None
 fault_taken held value out same e =
-    let takes : is_of_its_class (class_of held) value ≡ true =
-    ap (λ c. is_of_its_class c value) same ∙ own_class value in
+    let takes : is_of_its_class held value ≡ true = of_class held value same in
     rw (no_block held value same, takes, e) refl
 
 pub as_peers : FrontSetsAsPeersDo
 unfolding set_fault after_set
-as_peers tree peer c o value found same free asked = by_kind (kind_at (Some o) c) refl free asked
+as_peers tree peer c o value found same free works asked = by_kind (kind_at (Some o) c) refl free asked
   where
     fault_is : (out : Bool) → cannot_be o.value value ≡ out → set_fault tree c.target value ≡ cond out (Some faults.OutOfRange) None
     fault_is out e = ap (λ x. set_fault_in x value) found ∙ fault_taken o.value value out same e
@@ -150,13 +142,13 @@ as_peers tree peer c o value found same free asked = by_kind (kind_at (Some o) c
         request_in (class_of o.value) method c.count c.params ≡ Ok (asks.Set value) → (out : Bool) → cannot_be o.value value ≡ out →
         SetsTheSame tree c.target value (execution tree peer c)
     by_range method reached kind free asked true e =
-        let refused = refused_set tree peer c o found method reached kind free value asked e in
+        let refused = refused_set tree peer c o found method reached kind free value works asked e in
         record {
           tree_is = ap (λ (x : TreeAndReply). x.tree) refused ∙ sym (unset tree c.target value faults.OutOfRange (fault_is true e));
           status_is = ap (λ (x : TreeAndReply). x.status) refused ∙ sym (ap status_for (fault_is true e));
         }
     by_range method reached kind free asked false e =
-        let carried = carried_set tree peer c o found method reached kind free value asked e in
+        let carried = carried_set tree peer c o found method reached kind free value works asked e in
         record {
           tree_is = ap (λ (x : TreeAndReply). x.tree) carried ∙ ap (with_object tree) (any_peer o peer value) ∙ sym (set_here e);
           status_is = ap (λ (x : TreeAndReply). x.status) carried ∙ sym (ap status_for (fault_is false e));

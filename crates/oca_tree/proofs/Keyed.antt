@@ -81,6 +81,11 @@ pub change_there : (es : List (Ono × Object)) (i : ℕ) (old new : Object) (pee
 change_there es i old new peer r d at is =
     values-set_value_at es i new ∙ ap (set (values_of es) i) is ∙ ap (λ (o : Object). set (values_of es) i (changed_by o peer r)) (sym (get_or_from_slice_get (values_of es) i old d at))
 
+pub told_there : (es : List (Ono × Object)) (i : ℕ) (old new : Object) (truth : Bool) (d : Object) → slice_get (values_of es) i ≡ Some old → new ≡ record old { failing = truth }
+    → values_of (set_value_at es i new) ≡ set (values_of es) i (record (get_or (values_of es) i d) { failing = truth })
+told_there es i old new truth d at is =
+    values-set_value_at es i new ∙ ap (set (values_of es) i) is ∙ ap (λ (o : Object). set (values_of es) i (record o { failing = truth })) (sym (get_or_from_slice_get (values_of es) i old d at))
+
 pub released_ono : (peer : Peer) (o : Object) → (without_lock_of peer o).ono ≡ o.ono
 released_ono peer o = by (is_held_by peer o.lock)
   where

@@ -16,10 +16,10 @@ pub mod Keyed
 pub mod Takes
 pub mod Totals
 pub mod Fronts
+pub mod LocalChanges
 pub mod SetRequests
 pub mod Belonging
 pub mod SetReads
 pub mod TypedRight
 pub mod TypedCommands
-pub mod NumberKinds
 pub mod Names

@@ -10,17 +10,14 @@ use Rattle.oca_tree.specs.declared.object.Switch.{Switch}
 use Rattle.oca_tree.specs.declared.object.Value.{Value}
 use Rattle.oca_tree.specs.declared.object.Value.TheVariants as values
 use Rattle.oca_tree.specs.Copies.{names_in}
-use Rattle.oca_tree.specs.Typed.{value_changed_by, set_to, with_positions, with_name, enabled_at}
+use Rattle.oca_tree.specs.Typed.{value_changed_by, held_set_to, with_positions, with_name, enabled_at}
 
-set_names : (v : Value) (new : Setting) → names_in (set_to v new) ≡ names_in v
+set_names : (v : Value) (new : Setting) → names_in (held_set_to v new) ≡ names_in v
 unfolding names_in
 set_names values.Block new = refl
-set_names (values.Mute state) (settings.Mute s) = refl
-set_names (values.Polarity state) (settings.Polarity s) = refl
+set_names (values.Reads r) new = refl
 set_names (values.Switch switch) (settings.Switch n) = refl
-set_names (values.Boolean truth) (settings.Boolean b) = refl
-set_names (values.Number range) new = refl
-set_names _ _ = refl
+set_names (values.Switch switch) _ = refl
 
 -- what holds of each list of texts, and of a list that has it with a text put into it, holds of the names still
 module _ (P : List (List ℕ) → Type 0) (texts : (xs : List (List ℕ)) → Each IsText xs → P xs)

@@ -4,11 +4,14 @@ use Rattle.std.specs.Prelude.{Some, Ok}
 use Rattle.oca_types.specs.declared.class.Class.{Class}
 use Rattle.oca_types.specs.declared.class.Method.{Method}
 use Rattle.oca_types.specs.declared.class.Method.TheVariants as methods
+use Rattle.oca_types.specs.declared.class.MethodKind.TheVariants.{Known}
 use Rattle.oca_types.specs.declared.words.Peer.{Peer}
+use Rattle.oca_types.specs.Methods.{access}
 use Rattle.oca_model.specs.declared.request.Request.{Request}
 use Rattle.oca_model.specs.Requests.{request_in}
 use Rattle.oca_tree.specs.declared.object.Object.{Object}
 use Rattle.oca_tree.specs.Requests.{fits_positions, asks_out_of_range, asks_invalid}
+use Rattle.oca_tree.specs.Execution.{is_write}
 use Rattle.oca_tree.specs.Typed.{changed_by}
 use Rattle.oca_tree.specs.PrivateSteps.{plain_request}
 
@@ -18,6 +21,7 @@ pub record IsPlain (method : Method) (r : Request) : Type 0 where
   pub fits : (o : Object) → fits_positions o.value r ≡ true
   pub within : (o : Object) → asks_out_of_range o.value r ≡ false
   pub valid : (o : Object) → asks_invalid o r ≡ false
+  pub reads : is_write (Known method (access method)) ≡ false
   pub same : (o : Object) (peer : Peer) → changed_by o peer r ≡ o
 
 asks_this : (method : Method) (q r : Request) → Some q ≡ Some r → IsPlain method q → IsPlain method r
@@ -39,4 +43,4 @@ plain methods.GetPositionEnabled r e = cc
 plain methods.SetPositionEnabled r e = cc
 plain methods.SetPositionEnableds r e = cc
 plain methods.SetSetting r e = cc
-plain _ r e = asks_this _ _ r e (record { asked = λ of. refl; fits = λ o. refl; within = λ o. refl; valid = λ o. refl; same = λ o peer. refl })
+plain _ r e = asks_this _ _ r e (record { asked = λ of. refl; fits = λ o. refl; within = λ o. refl; valid = λ o. refl; reads = refl; same = λ o peer. refl })

@@ -1,31 +1,30 @@
 -- What is asked and in range keeps a tree one.
 use Rattle.std.proofs.Common.{◌≡◌, ℕ, zero, suc, ◌<◌, Bool, true, false, cond, List, [], ◌∷◌, map, length, get_or, set as put, refl, sym, ap, ◌∙◌, arith, eqb-true}
-use Rattle.std.specs.Prelude.{Option, Some, None, ℤ, ◌≤ℤ◌, ◌&&◌, not, IsTrue, nat_lt, ◌==◌}
-use Rattle.std.proofs.lemmas.Int.{ints}
+use Rattle.std.specs.Prelude.{None, ◌&&◌, not, IsTrue, nat_lt, ◌==◌}
 use Rattle.std.proofs.Math.ListN.{length-set}
 use Rattle.std.proofs.lemmas.List.{length-map}
 use Rattle.std.proofs.lemmas.List.Elements.{All-map, All-set, All-weaker}
 use Rattle.oca_types.specs.declared.class.Class.{Class}
+use Rattle.oca_types.specs.declared.class.Class.TheVariants as class
 use Rattle.oca_types.specs.declared.words.Peer.{Peer}
 use Rattle.oca_model.specs.declared.request.Request.{Request}
 use Rattle.oca_model.specs.declared.request.Request.TheVariants as asked
 use Rattle.oca_model.specs.declared.value.Value.{Value as Setting}
 use Rattle.oca_model.specs.declared.value.Value.TheVariants as set
-use Rattle.oca_model.specs.ValueNumbers.{integer_in}
-use Rattle.oca_tree.specs.declared.object.NumberKind.{NumberKind}
-use Rattle.oca_tree.specs.declared.object.NumberKind.TheVariants.{Uint8, Uint16, Uint32, Uint64}
+use Rattle.oca_model.specs.declared.reading.Reading.{Reading}
+use Rattle.oca_model.specs.declared.reading.Reading.TheVariants as readings
+use Rattle.oca_model.specs.Settings.{class_of_reading, reading_set_to}
+use Rattle.oca_model.proofs.Settled.{same_class, stays_typed, stays_within}
 use Rattle.oca_tree.specs.declared.object.Object.{Object}
-use Rattle.oca_tree.specs.declared.object.Range.{Range}
 use Rattle.oca_tree.specs.declared.object.Switch.{Switch}
 use Rattle.oca_tree.specs.declared.object.Value.{Value}
 use Rattle.oca_tree.specs.declared.object.Value.TheVariants as values
-use Rattle.oca_tree.specs.Kinds.{IsOfType}
 use Rattle.oca_tree.specs.Objects.{class_of}
 use Rattle.oca_tree.specs.Places.{Place, place_of, places, is_block_value}
 use Rattle.oca_tree.specs.Locks.{without_lock_of, is_held_by}
-use Rattle.oca_tree.specs.Requests.{positions, is_enabled, can_be_current, fits_positions, is_beyond, cannot_be, asks_out_of_range, asks_invalid}
-use Rattle.oca_tree.specs.Typed.{set_number, set_to, with_positions, with_name, enabled_at, value_changed_by, changed_by}
-use Rattle.oca_tree.specs.Trees.{IsTree, IsSound, IsSoundValue, IsSoundRange, IsSoundSwitch}
+use Rattle.oca_tree.specs.Requests.{positions, is_enabled, can_be_current, fits_positions, cannot_be, asks_out_of_range, asks_invalid}
+use Rattle.oca_tree.specs.Typed.{held_set_to, with_positions, with_name, enabled_at, value_changed_by, changed_by}
+use Rattle.oca_tree.specs.Trees.{IsTree, IsSound, IsSoundValue, IsSoundSwitch, is_position_reading}
 
 -- ---- changing an object
 
@@ -37,20 +36,12 @@ unfolding class_of
 positions_alike change (values.Switch switch) = (refl, refl)
 positions_alike change _ = (refl, refl)
 
-number_alike : (range : Range) (found : Option ℤ) → Alike (values.Number (set_number range found)) (values.Number range)
-unfolding class_of
-number_alike range None = (refl, refl)
-number_alike range (Some z) = (refl, refl)
-
-set_alike : (v : Value) (new : Setting) → Alike (set_to v new) v
+set_alike : (v : Value) (new : Setting) → Alike (held_set_to v new) v
 unfolding class_of
 set_alike values.Block new = (refl, refl)
-set_alike (values.Mute state) (set.Mute s) = (refl, refl)
-set_alike (values.Polarity state) (set.Polarity s) = (refl, refl)
+set_alike (values.Reads r) new = (refl, same_class r new)
 set_alike (values.Switch switch) (set.Switch n) = (refl, refl)
-set_alike (values.Boolean truth) (set.Boolean b) = (refl, refl)
-set_alike (values.Number range) new = number_alike range (integer_in new)
-set_alike _ _ = (refl, refl)
+set_alike (values.Switch switch) _ = (refl, refl)
 
 value_alike : (v : Value) (r : Request) → Alike (value_changed_by v r) v
 value_alike v (asked.Set new) = set_alike v new
@@ -88,20 +79,17 @@ changed_place o peer r = ap (λ (s : Place × Class). s.0) (changed_shape o peer
 pub changed_ono : (o : Object) (peer : Peer) (r : Request) → (changed_by o peer r).ono.0 ≡ o.ono.0
 changed_ono o peer r = ap (λ (p : Place). p.number) (changed_place o peer r)
 
--- a number between two of a type is of the type
-pub between : (kind : NumberKind) (low z high : ℤ) → IsOfType kind low → IsOfType kind high → low ≤ℤ z → z ≤ℤ high → IsOfType kind z
-between Uint8 low z high a b c d = (omega (arith, ints), omega (arith, ints))
-between Uint16 low z high a b c d = (omega (arith, ints), omega (arith, ints))
-between Uint32 low z high a b c d = (omega (arith, ints), omega (arith, ints))
-between Uint64 low z high a b c d = (omega (arith, ints), omega (arith, ints))
-between _ low z high a b c d = omega (arith, ints)
+-- whether a reading is that of a position is known by its class
+abbrev is_switch : Class → Bool
+is_switch class.Switch = true
+is_switch _ = false
 
-number_sound : (range : Range) (found : Option ℤ) → IsSoundRange range → is_beyond range found ≡ false → IsSoundRange (set_number range found)
-number_sound range None s e = s
-number_sound range (Some n) s e =
-    let low : range.least ≤ℤ n = grind (arith, ints) in
-    let high : n ≤ℤ range.greatest = grind (arith, ints) in
-    record { setting = between range.kind range.least n range.greatest s.least s.greatest low high; least = s.least; greatest = s.greatest; above = low; below = high }
+pub position_by_class : (r : Reading) → is_switch (class_of_reading r) ≡ is_position_reading r
+position_by_class (readings.Switch r) = refl
+position_by_class _ = refl
+
+same_kind : (a b : Reading) → class_of_reading a ≡ class_of_reading b → is_position_reading a ≡ is_position_reading b
+same_kind a b e = sym (position_by_class a) ∙ ap is_switch e ∙ position_by_class b
 
 -- a position that can be the current one is there
 current_there : (a b : Bool) → not (a && b) ≡ false → a ≡ true
@@ -111,18 +99,12 @@ current_there false b e = cc
 position_there : (switch : Switch) (n : ℕ) → not (can_be_current switch n) ≡ false → n < length switch.names.items
 position_there switch n e = let t = current_there (nat_lt n (length switch.names.items)) (is_enabled switch n) e in grind (arith, t)
 
-set_sound : (v : Value) (new : Setting) → IsSoundValue v → cannot_be v new ≡ false → IsSoundValue (set_to v new)
+set_sound : (v : Value) (new : Setting) → IsSoundValue v → cannot_be v new ≡ false → IsSoundValue (held_set_to v new)
 unfolding IsSoundValue
 set_sound values.Block new s e = tt
-set_sound (values.Mute state) (set.Mute x) s e = tt
-set_sound (values.Mute state) _ s e = tt
-set_sound (values.Polarity state) (set.Polarity x) s e = tt
-set_sound (values.Polarity state) _ s e = tt
+set_sound (values.Reads r) new s e = record { typed = stays_typed r new s.typed e; within = stays_within r new s.within e; other = same_kind (reading_set_to r new) r (same_class r new) ∙ s.other }
 set_sound (values.Switch switch) (set.Switch n) s e = record { few = s.few; both = s.both; position = position_there switch n e }
 set_sound (values.Switch switch) _ s e = s
-set_sound (values.Boolean truth) (set.Boolean x) s e = tt
-set_sound (values.Boolean truth) _ s e = tt
-set_sound (values.Number range) new s e = number_sound range (integer_in new) s e
 
 -- a change of positions that keeps a switch sound
 positions_sound : (change : Switch → Switch) (v : Value) → ((switch : Switch) → v ≡ values.Switch switch → IsSoundSwitch switch → IsSoundSwitch (change switch)) → IsSoundValue v → IsSoundValue (with_positions change v)

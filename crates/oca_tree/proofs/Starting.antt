@@ -17,11 +17,7 @@ use Rattle.oca_tree.proofs.Adding.{places_push}
 flags_block : (flags : Option (List Bool)) (v : Value) → is_block_value (with_flags flags v) ≡ is_block_value v
 flags_block None v = refl
 flags_block (Some fs) values.Block = refl
-flags_block (Some fs) (values.Mute state) = refl
-flags_block (Some fs) (values.Polarity state) = refl
-flags_block (Some fs) (values.Switch switch) = refl
-flags_block (Some fs) (values.Boolean truth) = refl
-flags_block (Some fs) (values.Number range) = refl
+flags_block (Some fs) _ = refl
 
 pub restored_place : (start : Start) (o : Object) → place_of (restored start o) ≡ place_of o
 restored_place start o =

@@ -20,10 +20,10 @@ use Rattle.oca_tree.specs.declared.object.Object.{Object}
 use Rattle.oca_tree.specs.Objects.{class_of, object_of}
 use Rattle.oca_tree.specs.Locks.{lock_refuses}
 use Rattle.oca_tree.specs.Requests.{fits_positions, asks_out_of_range, asks_invalid}
-use Rattle.oca_tree.specs.Execution.{TreeAndReply, kind_at, asked_at, is_malformed, sets_unlisted, status_of, by_status, execution}
+use Rattle.oca_tree.specs.Execution.{TreeAndReply, kind_at, asked_at, is_malformed, sets_unlisted, is_write, is_failing, status_of, by_status, execution}
 use Rattle.oca_tree.specs.Typed.{answer_given}
 use Rattle.oca_tree.specs.Written.{is_ok}
-use Rattle.oca_tree.specs.TypedLaws.{CommandDid, CommandsAreTyped, RefusedKeepsTree}
+use Rattle.oca_tree.specs.TypedLaws.{CommandDid, CommandsAreTyped, RefusedKeepsTree, FailingRefusesWrites}
 use Rattle.oca_tree.proofs.Executing.{known_access}
 
 not_fits : (b : Bool) → not b ≡ false → b ≡ true
@@ -43,21 +43,22 @@ same_end tree peer (Some o) (Ok q) _ = refl
 module _ (tree : List Object) (peer : Peer) (c : CommandFields) where
   module _ (o : Object) (found : object_of tree c.target ≡ Some o) (method : Method) (reached : Access) (kind : kind_at (Some o) c ≡ Known method reached)
       (q : Request) (asked : request_in (class_of o.value) method c.count c.params ≡ Ok q) where
-    abbrev its_end : Bool → Bool → Bool → Bool → Bool → TreeAndReply
-    its_end a b d e f = by_status tree peer (Some o) (Ok q) (cond a statuses.Locked (cond b statuses.ParameterError (cond d statuses.ParameterOutOfRange (cond e statuses.InvalidRequest (cond f statuses.BufferOverflow statuses.Ok)))))
+    abbrev its_end : Bool → Bool → Bool → Bool → Bool → Bool → TreeAndReply
+    its_end a b d e f g = by_status tree peer (Some o) (Ok q) (cond a statuses.Locked (cond b statuses.ParameterError (cond d statuses.ParameterOutOfRange (cond e statuses.InvalidRequest (cond f statuses.BufferOverflow (cond g statuses.ProcessingFailed statuses.Ok))))))
 
-    at_end : execution tree peer c ≡ its_end (lock_refuses o.lock peer reached) (not (fits_positions o.value q)) (asks_out_of_range o.value q) (asks_invalid o q) (nat_lt 1452 (length (answer_encoding (answer_given tree o q))))
+    at_end : execution tree peer c ≡ its_end (lock_refuses o.lock peer reached) (not (fits_positions o.value q)) (asks_out_of_range o.value q) (asks_invalid o q) (nat_lt 1452 (length (answer_encoding (answer_given tree o q)))) (is_failing (Some o) (Known method reached))
     unfolding execution
     at_end = rw (found, kind, asked) refl
 
-    by_lines : (a b d e f : Bool) → lock_refuses o.lock peer reached ≡ a → not (fits_positions o.value q) ≡ b → asks_out_of_range o.value q ≡ d → asks_invalid o q ≡ e → nat_lt 1452 (length (answer_encoding (answer_given tree o q))) ≡ f
-        → execution tree peer c ≡ its_end a b d e f → is_ok (its_end a b d e f).status ≡ true → CommandDid tree peer c
-    by_lines true b d e f la lb ld le lf ends ok = let no : ⊥ = cc in absurd no
-    by_lines false true d e f la lb ld le lf ends ok = let no : ⊥ = cc in absurd no
-    by_lines false false true e f la lb ld le lf ends ok = let no : ⊥ = cc in absurd no
-    by_lines false false false true f la lb ld le lf ends ok = let no : ⊥ = cc in absurd no
-    by_lines false false false false true la lb ld le lf ends ok = let no : ⊥ = cc in absurd no
-    by_lines false false false false false la lb ld le lf ends ok =
+    by_lines : (a b d e f g : Bool) → lock_refuses o.lock peer reached ≡ a → not (fits_positions o.value q) ≡ b → asks_out_of_range o.value q ≡ d → asks_invalid o q ≡ e → nat_lt 1452 (length (answer_encoding (answer_given tree o q))) ≡ f
+        → is_failing (Some o) (Known method reached) ≡ g → execution tree peer c ≡ its_end a b d e f g → is_ok (its_end a b d e f g).status ≡ true → CommandDid tree peer c
+    by_lines true b d e f g la lb ld le lf lg ends ok = let no : ⊥ = cc in absurd no
+    by_lines false true d e f g la lb ld le lf lg ends ok = let no : ⊥ = cc in absurd no
+    by_lines false false true e f g la lb ld le lf lg ends ok = let no : ⊥ = cc in absurd no
+    by_lines false false false true f g la lb ld le lf lg ends ok = let no : ⊥ = cc in absurd no
+    by_lines false false false false true g la lb ld le lf lg ends ok = let no : ⊥ = cc in absurd no
+    by_lines false false false false false true la lb ld le lf lg ends ok = let no : ⊥ = cc in absurd no
+    by_lines false false false false false false la lb ld le lf lg ends ok =
         let reached_is : reached ≡ access method = known_access (class_of o.value) (record { level = c.level; index = c.index }) method reached kind in
         record {
           object = o;
@@ -70,25 +71,26 @@ module _ (tree : List Object) (peer : Peer) (c : CommandFields) where
           within = ld;
           valid = le;
           short = not_above (length (answer_encoding (answer_given tree o q))) lf;
+          works = ap (λ (r : Access). is_failing (Some o) (Known method r)) (sym reached_is) ∙ lg;
           did = ends;
         }
 
     pub of_request : is_ok (execution tree peer c).status ≡ true → CommandDid tree peer c
-    of_request ok = by_lines (lock_refuses o.lock peer reached) (not (fits_positions o.value q)) (asks_out_of_range o.value q) (asks_invalid o q) (nat_lt 1452 (length (answer_encoding (answer_given tree o q)))) refl refl refl refl refl at_end
+    of_request ok = by_lines (lock_refuses o.lock peer reached) (not (fits_positions o.value q)) (asks_out_of_range o.value q) (asks_invalid o q) (nat_lt 1452 (length (answer_encoding (answer_given tree o q)))) (is_failing (Some o) (Known method reached)) refl refl refl refl refl refl at_end
         (sym (ap (λ (x : TreeAndReply). is_ok x.status) at_end) ∙ ok)
 
   -- what was not understood is refused
-  fault_refused : (o : Object) (fault : ValueFault) (locked : Bool)
-      → is_ok (by_status tree peer (Some o) (Err fault) (cond locked statuses.Locked (cond (is_malformed (Err fault) || false) statuses.ParameterError (cond (sets_unlisted (Err fault) || false) statuses.ParameterOutOfRange statuses.Ok)))).status ≡ true → ⊥
-  fault_refused o fault true e = cc
-  fault_refused o Malformed false e = cc
-  fault_refused o Unlisted false e = cc
+  fault_refused : (o : Object) (fault : ValueFault) (locked fails : Bool)
+      → is_ok (by_status tree peer (Some o) (Err fault) (cond locked statuses.Locked (cond (is_malformed (Err fault) || false) statuses.ParameterError (cond (sets_unlisted (Err fault) || false) statuses.ParameterOutOfRange (cond fails statuses.ProcessingFailed statuses.Ok))))).status ≡ true → ⊥
+  fault_refused o fault true fails e = cc
+  fault_refused o Malformed false fails e = cc
+  fault_refused o Unlisted false fails e = cc
 
   by_asked : (o : Object) → object_of tree c.target ≡ Some o → (method : Method) (reached : Access) → kind_at (Some o) c ≡ Known method reached
       → (asked : Result Request ValueFault) → request_in (class_of o.value) method c.count c.params ≡ asked → is_ok (execution tree peer c).status ≡ true → CommandDid tree peer c
   unfolding execution
   by_asked o found method reached kind (Ok q) is ok = of_request o found method reached kind q is ok
-  by_asked o found method reached kind (Err fault) is ok = absurd (fault_refused o fault (lock_refuses o.lock peer reached) (rw (found, kind, is) at ok))
+  by_asked o found method reached kind (Err fault) is ok = absurd (fault_refused o fault (lock_refuses o.lock peer reached) (is_failing (Some o) (Known method reached)) (rw (found, kind, is) at ok))
 
   by_kind : (o : Object) → object_of tree c.target ≡ Some o → (kind : MethodKind) → kind_at (Some o) c ≡ kind → is_ok (execution tree peer c).status ≡ true → CommandDid tree peer c
   unfolding execution
@@ -119,3 +121,27 @@ refusals_change tree peer c e =
     let asked = asked_at o (kind_at o c) c in
     let s = status_of tree peer o c in
     by_end tree peer c o asked s (sym (ap is_ok (same_end tree peer o asked s)) ∙ e)
+
+-- ---- hardware that refuses
+
+pub writes_refused : FailingRefusesWrites
+writes_refused tree peer c o found fails writes = (not_ok, refusals_change tree peer c not_ok)
+  where
+    same_object : (x : Object) → object_of tree c.target ≡ Some x → x ≡ o
+    same_object x e = let is : Some x ≡ Some o = sym e ∙ found in cc
+
+    never : CommandDid tree peer c → ⊥
+    never did =
+        let is = same_object did.object did.found in
+        let here : is_write (kind_at (Some did.object) c) ≡ true = rw is writes in
+        let there : is_write (Known did.method (access did.method)) ≡ true = rw did.known at here in
+        let failing : did.object.failing ≡ true = rw is fails in
+        let no : true ≡ false = sym (rw (failing, there) refl) ∙ did.works in
+        cc
+
+    by : (b : Bool) → is_ok (execution tree peer c).status ≡ b → b ≡ false
+    by true ok = absurd (never (commands_typed tree peer c ok))
+    by false ok = refl
+
+    not_ok : is_ok (execution tree peer c).status ≡ false
+    not_ok = by (is_ok (execution tree peer c).status) refl

@@ -1,10 +1,9 @@
 -- What an object answers is an answer of its class, of the kind that the method has.
 use Rattle.std.proofs.Common.{◌≡◌, ℕ, zero, suc, ◌+◌, ◌*◌, ◌<◌, ◌≤◌, Bool, true, false, cond, List, [], ◌∷◌, ◌++◌, length, refl, sym, ◌∙◌, subst, arith, lit<, lit≤, length-append}
-use Rattle.std.specs.Prelude.{Result, Ok, Err, ℤ, pos, negsuc, nat_abs, map, ◌≤ℤ◌, ◌<ℤ◌, slice_index_or, ◌==◌, ◌&&◌}
+use Rattle.std.specs.Prelude.{Result, Ok, Err, map, slice_index_or, ◌==◌, ◌&&◌}
 use Rattle.std.specs.List.{All, flat_map}
 use Rattle.std.specs.Option.{option_map_or}
 use Rattle.std.specs.Int.{w16, w32}
-use Rattle.std.proofs.lemmas.Int.{ints}
 use Rattle.std.proofs.lemmas.List.{length-map}
 use Rattle.std.proofs.lemmas.List.Folds.{flat_map-map}
 use Rattle.std.proofs.lemmas.List.Elements.{All-filter, All-head, All-tail}
@@ -30,18 +29,14 @@ use Rattle.oca_model.specs.Members.{member_encoding, descendant_encoding, IsMemb
 use Rattle.oca_model.specs.Requests.{bare, as_request, counted, request_in}
 use Rattle.oca_model.specs.Parameters.{pair_at}
 use Rattle.oca_model.specs.Values.{value_in, all as model_all}
-use Rattle.oca_tree.specs.declared.object.NumberKind.{NumberKind}
-use Rattle.oca_tree.specs.declared.object.NumberKind.TheVariants as kinds
 use Rattle.oca_tree.specs.declared.object.Object.{Object}
-use Rattle.oca_tree.specs.declared.object.Range.{Range}
 use Rattle.oca_tree.specs.declared.object.Value.{Value as Held}
 use Rattle.oca_tree.specs.declared.object.Value.TheVariants as held
 use Rattle.oca_tree.specs.Copies.{names_in}
-use Rattle.oca_tree.specs.Kinds.{number_class}
 use Rattle.oca_tree.specs.Objects.{class_of, members, descendants}
 use Rattle.oca_tree.specs.Places.{places, reaches}
-use Rattle.oca_tree.specs.Trees.{IsSound, IsSoundValue, IsSoundRange}
-use Rattle.oca_tree.specs.Typed.{reading_held, number_reading, answer_given, of_positions, member_of, descendant_of}
+use Rattle.oca_tree.specs.Trees.{IsSound, IsSoundValue}
+use Rattle.oca_tree.specs.Typed.{reading_held, answer_given, of_positions, member_of, descendant_of}
 use Rattle.oca_tree.specs.TypedLaws.{IsOfItsTypes, IsRight, AnswersAreRight}
 use Rattle.oca_tree.proofs.Belonging.{known_belongs, belongs, has_state, has_positions, has_setting}
 
@@ -51,18 +46,6 @@ record Is (of : Class) (kind : Shape) (a : Answer) : Type 0 where
   shape : kind ≡ shape_of_answer a
 
 -- ---- readings
-
-natural_fits : (most : ℕ) (z : ℤ) → (pos 0 ≤ℤ z) × (z <ℤ pos most) → nat_abs z < most
-natural_fits most (pos n) fits = omega (arith, ints, fits)
-natural_fits most (negsuc n) fits = absurd (omega (arith, ints, fits))
-
-module _ (range : Range) (sound : IsSoundRange range) where
-  number_right : (k : NumberKind) → range.kind ≡ k → Is (number_class k) shape.Reading (answers.Reading (number_reading k range))
-  number_right kinds.Uint8 e = record { answer = (refl, record { setting = natural_fits _ range.setting (rw e at sound.setting); least = natural_fits _ range.least (rw e at sound.least); greatest = natural_fits _ range.greatest (rw e at sound.greatest) }); shape = refl }
-  number_right kinds.Uint16 e = record { answer = (refl, record { setting = natural_fits _ range.setting (rw e at sound.setting); least = natural_fits _ range.least (rw e at sound.least); greatest = natural_fits _ range.greatest (rw e at sound.greatest) }); shape = refl }
-  number_right kinds.Uint32 e = record { answer = (refl, record { setting = natural_fits _ range.setting (rw e at sound.setting); least = natural_fits _ range.least (rw e at sound.least); greatest = natural_fits _ range.greatest (rw e at sound.greatest) }); shape = refl }
-  number_right kinds.Uint64 e = record { answer = (refl, record { setting = natural_fits _ range.setting (rw e at sound.setting); least = natural_fits _ range.least (rw e at sound.least); greatest = natural_fits _ range.greatest (rw e at sound.greatest) }); shape = refl }
-  number_right _ e = record { answer = (refl, record { setting = rw e at sound.setting; least = rw e at sound.least; greatest = rw e at sound.greatest }); shape = refl }
 
 abbrev can_be_read : Held → Bool
 can_be_read held.Block = false
@@ -83,15 +66,12 @@ setting_can _ e = refl
 reading_right : (value : Held) → can_be_read value ≡ true → IsSoundValue value → Is (class_of value) shape.Reading (option_map_or answers.Reading (reading_held value) answers.Done)
 unfolding class_of reading_held IsSoundValue
 reading_right held.Block e sound = let no : ⊥ = cc in absurd no
-reading_right (held.Mute state) e sound = record { answer = (refl, tt); shape = refl }
-reading_right (held.Polarity state) e sound = record { answer = (refl, tt); shape = refl }
 reading_right (held.Switch switch) e sound =
     let n = length switch.names.items in
     let few : n ≤ 16 = sound.few in
     let here : switch.position < n = sound.position in
     record { answer = (refl, record { setting = omega arith; least = lit< tt; greatest = omega arith }); shape = refl }
-reading_right (held.Boolean truth) e sound = record { answer = (refl, tt); shape = refl }
-reading_right (held.Number range) e sound = number_right range sound range.kind refl
+reading_right (held.Reads r) e sound = record { answer = (refl, sound.typed); shape = refl }
 
 -- ---- positions
 
@@ -255,4 +235,4 @@ module _ (tree : List Object) (o : Object) (all : All IsOfItsTypes tree) (typed 
 
 pub answers_right : AnswersAreRight
 answers_right tree o all typed sound id m reached known count params q e short =
-    each_right tree o all typed sound count params m (known_belongs o.value id m reached known) q e short
+    each_right tree o all typed sound count params m (known_belongs o.value sound.value id m reached known) q e short

@@ -1,10 +1,11 @@
 -- How a tree is built (the order of the faults is the profile's).
 use Rattle.std.specs.Prelude.{◌≡◌, ℕ, ◌+◌, ◌==◌, ◌||◌, not, Bool, true, false, if◌then◌else◌, nat_lt, nat_le, List, []}
-use Rattle.std.specs.Prelude.{◌∷◌, ◌++◌, length, map, replicate, codes, Option, Some, None, is_some, Result, Ok, Err, ℤ}
-use Rattle.std.specs.Prelude.{int_lt, pos}
+use Rattle.std.specs.Prelude.{◌∷◌, ◌++◌, length, map, replicate, codes, Option, Some, None, is_some, Result, Ok, Err}
 use Rattle.std.specs.List.{list_any}
-use Rattle.oca_tree.specs.declared.object.NumberKind.{NumberKind}
-use Rattle.oca_tree.specs.declared.object.NumberKind.TheVariants as kinds
+use Rattle.oca_model.specs.declared.reading.Ranged.{Ranged}
+use Rattle.oca_model.specs.declared.reading.Reading.{Reading}
+use Rattle.oca_model.specs.declared.reading.Reading.TheVariants as readings
+use Rattle.oca_model.specs.Settings.{is_within}
 use Rattle.oca_tree.specs.declared.object.Object.{Object}
 use Rattle.oca_tree.specs.declared.object.Value.{Value}
 use Rattle.oca_tree.specs.declared.object.Value.TheVariants as values
@@ -18,9 +19,10 @@ use Rattle.oca_tree.specs.Places.{places, is_block, depth}
 
 -- ---- the object that is added
 
-abbrev pub number : NumberKind → ℤ → ℤ → ℤ → Value
-number kind setting least greatest =
-    values.Number (record { kind = kind; setting = setting; least = least; greatest = greatest })
+-- an integer actuator: its class's reading, of a setting with its limits
+abbrev pub number : {X : Type 0} → (Ranged X → Reading) → X → X → X → Value
+number of setting least greatest =
+    values.Reads (of (record { setting = setting; least = least; greatest = greatest }))
 
 -- a switch whose positions are all enabled
 abbrev pub switch : List (List ℕ) → ℕ → Value
@@ -32,20 +34,20 @@ switch names position = values.Switch (record {
 
 unfoldable pub value_of : Kind → Value
 value_of given.Block = values.Block
-value_of (given.Mute state) = values.Mute state
-value_of (given.Polarity state) = values.Polarity state
+value_of (given.Mute state) = values.Reads (readings.Mute state)
+value_of (given.Polarity state) = values.Reads (readings.Polarity state)
 value_of (given.Switch names position) = switch (map (λ name. name.now) names.now) position
-value_of (given.Boolean truth) = values.Boolean truth
-value_of (given.Int8 setting least greatest) = number kinds.Int8 setting least greatest
-value_of (given.Int16 setting least greatest) = number kinds.Int16 setting least greatest
-value_of (given.Int32 setting least greatest) = number kinds.Int32 setting least greatest
-value_of (given.Int64 setting least greatest) = number kinds.Int64 setting least greatest
-value_of (given.Uint8 setting least greatest) = number kinds.Uint8 (pos setting) (pos least) (pos greatest)
-value_of (given.Uint16 setting least greatest) = number kinds.Uint16 (pos setting) (pos least) (pos greatest)
-value_of (given.Uint32 setting least greatest) = number kinds.Uint32 (pos setting) (pos least) (pos greatest)
-value_of (given.Uint64 setting least greatest) = number kinds.Uint64 (pos setting) (pos least) (pos greatest)
+value_of (given.Boolean truth) = values.Reads (readings.Boolean truth)
+value_of (given.Int8 setting least greatest) = number readings.Int8 setting least greatest
+value_of (given.Int16 setting least greatest) = number readings.Int16 setting least greatest
+value_of (given.Int32 setting least greatest) = number readings.Int32 setting least greatest
+value_of (given.Int64 setting least greatest) = number readings.Int64 setting least greatest
+value_of (given.Uint8 setting least greatest) = number readings.Uint8 setting least greatest
+value_of (given.Uint16 setting least greatest) = number readings.Uint16 setting least greatest
+value_of (given.Uint32 setting least greatest) = number readings.Uint32 setting least greatest
+value_of (given.Uint64 setting least greatest) = number readings.Uint64 setting least greatest
 
--- an object as it is at first: with an empty label, enabled and unlocked
+-- an object as it is at first: with an empty label, enabled and unlocked, and its hardware refuses nothing
 abbrev pub new_object : ℕ → ℕ → Bool → List ℕ → Value → Object
 new_object ono container lockable role value = record {
   ono = record { 0 = ono };
@@ -56,6 +58,7 @@ new_object ono container lockable role value = record {
   enabled = true;
   value = value;
   lock = None;
+  failing = false;
 }
 
 abbrev pub root : Object
@@ -73,10 +76,10 @@ abbrev pub has_bad_name : Kind → Bool
 has_bad_name (given.Switch names position) = list_any (λ name. is_long name.now) names.now
 has_bad_name _ = false
 
--- limits the wrong way round, a setting outside them, other than 1 to 16 positions, a position that is not there
+-- a setting outside its limits, as each is where they are the wrong way round; other than 1 to 16 positions, a position
+-- that is not there
 unfoldable pub is_bad_value : Value → Bool
-is_bad_value (values.Number range) =
-    int_lt range.greatest range.least || int_lt range.setting range.least || int_lt range.greatest range.setting
+is_bad_value (values.Reads r) = not (is_within r)
 is_bad_value (values.Switch switch) =
     (length switch.names.items == 0) || nat_lt 16 (length switch.names.items)
     || nat_le (length switch.names.items) switch.position

@@ -1,5 +1,5 @@
 -- What is read of an object so that the same object can be added again (profile).
-use Rattle.std.specs.Prelude.{◌≡◌, ℕ, Bool, List, [], map, Option, Some, None}
+use Rattle.std.specs.Prelude.{◌≡◌, ℕ, Bool, false, List, [], map, Option, Some, None}
 use Rattle.std.specs.Option.{option_map}
 use Rattle.oca_tree.specs.declared.object.Object.{Object}
 use Rattle.oca_tree.specs.declared.object.Value.{Value}
@@ -50,11 +50,11 @@ lockable_at tree number = option_map (λ o. o.lockable) (object_of tree number)
 
 -- ---- the same but for locks
 
--- the object without its lock
+-- the object without what lasts no longer than the device runs: its lock, and that its hardware refuses
 abbrev pub unlocked : Object → Object
-unlocked o = record o { lock = None }
+unlocked o = record o { lock = None; failing = false }
 
--- the objects without their locks
+-- the objects without both
 abbrev pub all_unlocked : List Object → List Object
 all_unlocked tree = map unlocked tree
 
@@ -70,7 +70,7 @@ pub record Describe (o : Object) (spec : Spec) (start : Start) : Type 0 where
   pub names : names_in (value_of spec.kind) ≡ names_in o.value
   pub stored : stored_in start ≡ stored_of o
 
--- An object that is added by its description is the same, but for its lock.
+-- An object that is added by its description is the same, but for its lock and what its hardware refuses.
 abbrev pub DescriptionMakesAgain : Type 0
 DescriptionMakesAgain = (o : Object) (spec : Spec) (start : Start) → Describe o spec start →
     restored start (object_of_spec o.container.0 o.ono.0 spec) ≡ unlocked o

@@ -1,9 +1,10 @@
 -- What a command does to a tree, and what is answered (AES70-2; the order of the statuses is the profile's).
-use Rattle.std.specs.Prelude.{ℕ, ◌||◌, not, Bool, true, false, if◌then◌else◌, List, [], ◌∷◌, length, nat_lt, Option}
+use Rattle.std.specs.Prelude.{ℕ, ◌||◌, ◌&&◌, not, Bool, true, false, if◌then◌else◌, List, [], ◌∷◌, length, nat_lt, Option}
 use Rattle.std.specs.Prelude.{Some, None, is_none, Result, Ok, Err}
 use Rattle.oca_types.specs.declared.words.Peer.{Peer}
 use Rattle.oca_types.specs.declared.status.Status.{Status}
 use Rattle.oca_types.specs.declared.status.Status.TheVariants as status
+use Rattle.oca_types.specs.declared.class.Access.TheVariants.{Write}
 use Rattle.oca_types.specs.declared.class.MethodKind.{MethodKind}
 use Rattle.oca_types.specs.declared.class.MethodKind.TheVariants.{Known, LeftOut, Unknown}
 use Rattle.oca_types.specs.Sizes.{most_parameter_bytes}
@@ -44,6 +45,16 @@ abbrev pub is_locked : Option Object → MethodKind → Peer → Bool
 is_locked (Some o) (Known method access) peer = lock_refuses o.lock peer access
 is_locked _ _ peer = false
 
+-- the method writes; one that takes the lock or gives it back does not
+abbrev pub is_write : MethodKind → Bool
+is_write (Known method Write) = true
+is_write _ = false
+
+-- whether the object's hardware refuses what the method writes
+abbrev pub is_failing : Option Object → MethodKind → Bool
+is_failing None method = false
+is_failing (Some o) method = o.failing && is_write method
+
 -- parameters that are not the method's
 abbrev pub is_malformed : Result Request ValueFault → Bool
 is_malformed (Err Malformed) = true
@@ -66,7 +77,7 @@ first_that_applies (line ∷ lines) = if line.0 then line.1 else first_that_appl
 
 -- the profile's order of the refusals: no such object, no such method, a method that is left out, a lock of another
 -- peer, parameters that are not the method's or a list that does not fit the positions, a value out of range, a lock
--- that cannot be made or is not there, a long answer
+-- that cannot be made or is not there, a long answer, and behind all these hardware that refuses to be changed
 abbrev pub status_lines : List Object → Peer → Option Object → MethodKind → Result Request ValueFault →
     List (Bool × Status)
 status_lines tree peer o method asked =
@@ -81,6 +92,7 @@ status_lines tree peer o method asked =
       on_both (λ o r. nat_lt most_parameter_bytes (length (answer_encoding (answer_given tree o r)))) o asked,
       status.BufferOverflow,
     )
+    ∷ (is_failing o method, status.ProcessingFailed)
     ∷ []
 
 abbrev pub status_of : List Object → Peer → Option Object → CommandFields → Status

@@ -1,4 +1,3 @@
-pub mod Kinds
 pub mod Places
 pub mod Objects
 pub mod Locks
@@ -15,6 +14,7 @@ pub mod Readers
 pub mod Copies
 pub mod Settings
 pub mod SetRequests
+pub mod LocalChanges
 pub mod TypedLaws
 pub mod PrivateSteps
 pub mod PrivateObjects

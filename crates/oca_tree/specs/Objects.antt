@@ -5,17 +5,14 @@ use Rattle.oca_types.specs.declared.class.Class.{Class}
 use Rattle.oca_types.specs.declared.class.Class.TheVariants as class
 use Rattle.oca_tree.specs.declared.object.Object.{Object}
 use Rattle.oca_tree.specs.declared.object.Value.{Value}
-use Rattle.oca_tree.specs.declared.object.Value.TheVariants.{Block, Mute, Polarity, Switch, Boolean, Number}
-use Rattle.oca_tree.specs.Kinds.{number_class}
+use Rattle.oca_model.specs.Settings.{class_of_reading}
+use Rattle.oca_tree.specs.declared.object.Value.TheVariants.{Block, Switch, Reads}
 use Rattle.oca_tree.specs.Places.{places, reaches}
 
 unfoldable pub class_of : Value → Class
 class_of Block = class.Block
-class_of (Mute _) = class.Mute
-class_of (Polarity _) = class.Polarity
 class_of (Switch _) = class.Switch
-class_of (Boolean _) = class.Boolean
-class_of (Number range) = number_class range.kind
+class_of (Reads r) = class_of_reading r
 
 abbrev pub has_number : ℕ → Object → Bool
 has_number number o = o.ono.0 == number

@@ -1,6 +1,6 @@
 -- What the tree's own functions say to one another. No public clause cites it.
 use Rattle.std.specs.Prelude.{◌≡◌, ℕ, ◌==◌, Bool, true, false, if◌then◌else◌, List, [], ◌∷◌, ◌++◌, map, length, ◌+◌}
-use Rattle.std.specs.Prelude.{◌<◌, nat_lt, not, slice_index_or, Option, Some, None, Result, Ok, Err}
+use Rattle.std.specs.Prelude.{◌<◌, nat_lt, not, Option, Some, None, Result, Ok, Err}
 use Rattle.std.specs.List.{flat_map, filter}
 use Rattle.std.specs.Option.{option_map_or}
 use Rattle.std.specs.Result.{result_ok}
@@ -9,7 +9,9 @@ use Rattle.oca_types.specs.declared.fault.PutFault.{PutFault}
 use Rattle.oca_types.specs.declared.class.Access.{Access}
 use Rattle.oca_types.specs.declared.class.Access.TheVariants.{Read}
 use Rattle.oca_types.specs.declared.class.Class.TheVariants as class
+use Rattle.oca_types.specs.declared.class.Class.{Class}
 use Rattle.oca_types.specs.declared.class.Method.{Method}
+use Rattle.oca_types.specs.declared.class.Method.TheVariants as method
 use Rattle.oca_types.specs.declared.class.MethodKind.TheVariants.{Known}
 use Rattle.oca_types.specs.Sizes.{most_parameter_bytes}
 use Rattle.oca_types.specs.Methods.{access}
@@ -19,18 +21,22 @@ use Rattle.oca_types.specs.Peers.{CommandFields}
 use Rattle.oca_model.specs.declared.answer.Answer.{Answer}
 use Rattle.oca_model.specs.declared.answer.Answer.TheVariants as answers
 use Rattle.oca_model.specs.declared.asked.Asked.{Asked}
+use Rattle.oca_model.specs.declared.reading.Reading.{Reading}
+use Rattle.oca_model.specs.Readings.{IsReading}
 use Rattle.oca_model.specs.declared.request.Request.{Request}
 use Rattle.oca_model.specs.declared.request.Request.TheVariants as asked
+use Rattle.oca_model.specs.declared.value.Value.{Value as Setting}
 use Rattle.oca_model.specs.declared.value.ValueFault.{ValueFault}
 use Rattle.oca_model.specs.declared.value.ValueFault.TheVariants.{Malformed, Unlisted}
 use Rattle.oca_model.specs.Answers.{answer_encoding, answer_count}
 use Rattle.oca_model.specs.HeldRequests.{asked_by}
 use Rattle.oca_model.specs.Members.{member_encoding, descendant_encoding}
-use Rattle.oca_model.specs.Requests.{request_in}
+use Rattle.oca_model.specs.Requests.{counted, request_in}
+use Rattle.oca_model.specs.Values.{value_in}
 use Rattle.oca_tree.specs.declared.lengths.Lengths.{Lengths}
 use Rattle.oca_tree.specs.declared.object.Object.{Object}
-use Rattle.oca_tree.specs.declared.object.Range.{Range}
 use Rattle.oca_tree.specs.declared.object.Value.{Value}
+use Rattle.oca_tree.specs.declared.object.Value.TheVariants as values
 use Rattle.oca_tree.specs.declared.builder.AddFault.{AddFault}
 use Rattle.oca_tree.specs.declared.builder.Kind.{Kind}
 use Rattle.oca_tree.specs.declared.builder.Kind.TheVariants as given
@@ -38,16 +44,15 @@ use Rattle.oca_tree.specs.declared.builder.Spec.{Spec}
 use Rattle.oca_tree.specs.declared.start.Start.{Start}
 use Rattle.oca_tree.specs.declared.start.StartFault.{StartFault}
 use Rattle.oca_tree.specs.declared.start.StartFault.TheVariants.{BadFlags}
-use Rattle.oca_tree.specs.Kinds.{IsOfType}
 use Rattle.oca_tree.specs.Places.{places, reaches}
 use Rattle.oca_tree.specs.Objects.{Store, members, descendants}
 use Rattle.oca_tree.specs.Locks.{lock_refuses}
 use Rattle.oca_tree.specs.Requests.{fits_positions, asks_out_of_range, asks_invalid}
-use Rattle.oca_tree.specs.Typed.{reading_held, answer_given, member_of, descendant_of, of_positions}
-use Rattle.oca_tree.specs.Execution.{kind_at, asked_at, status_of, by_status, refused, execution}
+use Rattle.oca_tree.specs.Typed.{reading_held, answer_given, member_of, descendant_of}
+use Rattle.oca_tree.specs.Execution.{kind_at, asked_at, is_failing, status_of, by_status, refused, execution}
 use Rattle.oca_tree.specs.Written.{is_ok}
-use Rattle.oca_tree.specs.Trees.{IsTree, IsSoundValue}
-use Rattle.oca_tree.specs.Building.{add_fault, object_of_spec, is_bad_value}
+use Rattle.oca_tree.specs.Trees.{IsTree, IsSoundValue, is_position_reading}
+use Rattle.oca_tree.specs.Building.{add_fault, object_of_spec, value_of, is_bad_value}
 use Rattle.oca_tree.specs.Starts.{with_flags, has_other_flags, restored, start_fault}
 
 -- members and descendants in one: whether an object is listed, and how
@@ -104,16 +109,6 @@ PutsAnswer (Err s) old new a =
 abbrev pub reading_answer : Value → Answer
 reading_answer value = option_map_or answers.Reading (reading_held value) answers.Done
 
--- what is answered of the positions of a switch
-abbrev pub positions_answer : Value → Request → Answer
-positions_answer value (asked.GetPositionName n) =
-    of_positions value (λ switch. answers.Text (slice_index_or switch.names.items n []))
-positions_answer value asked.GetPositionNames = of_positions value (λ switch. answers.Names switch.names)
-positions_answer value (asked.GetPositionEnabled n) =
-    of_positions value (λ switch. answers.Truth (slice_index_or switch.enableds.items n false))
-positions_answer value asked.GetPositionEnableds = of_positions value (λ switch. answers.Flags switch.enableds)
-positions_answer value _ = answers.Done
-
 -- whether a method of this access only reads
 abbrev pub only_reads : Access → Bool
 only_reads Read = true
@@ -151,7 +146,8 @@ abbrev pub IsMethodFor : Result Method Status → Object → Peer → CommandFie
 IsMethodFor (Ok method) o peer c = MayCall method o peer c
 IsMethodFor (Err s) o peer c = IsRefusedAt s o peer c × (is_ok s ≡ false)
 
--- The request is what the command asks of the object, and only its answer can be too long.
+-- The request is what the command asks of the object, and only its answer can be too long, or the object's hardware
+-- refuse it.
 pub record IsAskedRightly (r : Request) (o : Object) (peer : Peer) (c : CommandFields) : Type 0 where
   pub asked : asked_at (Some o) (kind_at (Some o) c) c ≡ Ok r
   pub fits : fits_positions o.value r ≡ true
@@ -160,12 +156,34 @@ pub record IsAskedRightly (r : Request) (o : Object) (peer : Peer) (c : CommandF
   pub ends : (tree : List Object) →
       status_of tree peer (Some o) c
       ≡ (if nat_lt most_parameter_bytes (length (answer_encoding (answer_given tree o r))) then status.BufferOverflow
-      else status.Ok)
+      else (if is_failing (Some o) (kind_at (Some o) c) then status.ProcessingFailed else status.Ok))
 
 -- A command is understood at an object, or it is refused whatever the tree.
 abbrev pub IsRequestFor : Result Asked Status → Object → Peer → CommandFields → Type 0
 IsRequestFor (Ok r) o peer c = IsAskedRightly (asked_by r) o peer c
 IsRequestFor (Err s) o peer c = IsRefusedAt s o peer c × (is_ok s ≡ false)
+
+-- whether it is the set method of some class
+abbrev pub sets_value : Method → Bool
+sets_value method.SetState = true
+sets_value method.SetPosition = true
+sets_value method.SetSetting = true
+sets_value _ = false
+
+-- what a set method with these parameters sets an object of the class to
+abbrev pub setting_in : Class → ℕ → List ℕ → Result Setting ValueFault
+setting_in of count bytes = counted 1 count (value_in of bytes)
+
+-- The command calls a set method, which the object has, and no lock keeps the peer from it.
+pub record MaySet (o : Object) (peer : Peer) (c : CommandFields) : Type 0 where
+  pub method : Method
+  pub sets : sets_value method ≡ true
+  pub may : MayCall method o peer c
+
+-- A command is understood as one that sets the object, or it is refused whatever the tree.
+abbrev pub IsSettingFor : Result Setting Status → Object → Peer → CommandFields → Type 0
+IsSettingFor (Ok v) o peer c = IsAskedRightly (asked.Set v) o peer c
+IsSettingFor (Err s) o peer c = IsRefusedAt s o peer c × (is_ok s ≡ false)
 
 -- A command was carried out, or refused with nothing changed, as its execution says.
 abbrev pub Executes : Result ℕ Status → List Object → List Object → List ℕ → Peer → CommandFields → Type 0
@@ -178,20 +196,17 @@ abbrev pub MakesValue : Option Value → Value → Type 0
 MakesValue None value = is_bad_value value ≡ true
 MakesValue (Some v) value = (v ≡ value) × (is_bad_value value ≡ false) × IsSoundValue v
 
--- whether a kind is an integer actuator
-abbrev pub is_integer_kind : Kind → Bool
-is_integer_kind given.Block = false
-is_integer_kind (given.Mute _) = false
-is_integer_kind (given.Polarity _) = false
-is_integer_kind (given.Switch _ _) = false
-is_integer_kind (given.Boolean _) = false
-is_integer_kind _ = true
+-- whether an object of the kind holds a reading: it is no block and no switch
+abbrev pub holds_reading : Kind → Bool
+holds_reading given.Block = false
+holds_reading (given.Switch _ _) = false
+holds_reading _ = true
 
--- The setting and the limits are numbers of the type.
-pub record IsTypedRange (range : Range) : Type 0 where
-  pub setting : IsOfType range.kind range.setting
-  pub least : IsOfType range.kind range.least
-  pub greatest : IsOfType range.kind range.greatest
+-- An object of the kind reads so, by numbers of their types, and is no switch.
+pub record HoldsReading (kind : Kind) (r : Reading) : Type 0 where
+  pub value : value_of kind ≡ values.Reads r
+  pub typed : IsReading r
+  pub other : is_position_reading r ≡ false
 
 -- An object was made for a place that is free, or the first line that applies refuses it.
 abbrev pub Makes : Result Object AddFault → Store → ℕ → ℕ → Spec → Type 0

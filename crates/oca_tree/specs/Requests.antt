@@ -1,13 +1,12 @@
 -- What an object cannot be asked (AES70-2).
-use Rattle.std.specs.Prelude.{ℕ, ◌==◌, ◌&&◌, not, Bool, true, false, length, nat_lt, slice_index_or, Option, Some, None}
-use Rattle.std.specs.Prelude.{is_none, ℤ, int_le}
+use Rattle.std.specs.Prelude.{ℕ, ◌==◌, ◌&&◌, not, Bool, true, false, length, nat_lt, slice_index_or}
+use Rattle.std.specs.Prelude.{is_none}
 use Rattle.oca_model.specs.declared.request.Request.{Request}
 use Rattle.oca_model.specs.declared.request.Request.TheVariants as asked
 use Rattle.oca_model.specs.declared.value.Value.{Value as Setting}
 use Rattle.oca_model.specs.declared.value.Value.TheVariants as set
-use Rattle.oca_model.specs.ValueNumbers.{integer_in}
+use Rattle.oca_model.specs.Settings.{is_beyond}
 use Rattle.oca_tree.specs.declared.object.Object.{Object}
-use Rattle.oca_tree.specs.declared.object.Range.{Range}
 use Rattle.oca_tree.specs.declared.object.Switch.{Switch}
 use Rattle.oca_tree.specs.declared.object.Value.{Value}
 use Rattle.oca_tree.specs.declared.object.Value.TheVariants as values
@@ -40,15 +39,10 @@ abbrev pub lacks_position : Value → ℕ → Bool
 lacks_position (values.Switch switch) n = not (is_position switch n)
 lacks_position _ n = false
 
--- a setting outside its range
-abbrev pub is_beyond : Range → Option ℤ → Bool
-is_beyond range None = false
-is_beyond range (Some n) = not (int_le range.least n && int_le n range.greatest)
-
 -- what the object cannot be set to: a position that is not there or disabled, a setting outside its range
 abbrev pub cannot_be : Value → Setting → Bool
 cannot_be (values.Switch switch) (set.Switch n) = not (can_be_current switch n)
-cannot_be (values.Number range) setting = is_beyond range (integer_in setting)
+cannot_be (values.Reads r) setting = is_beyond r setting
 cannot_be _ setting = false
 
 unfoldable pub asks_out_of_range : Value → Request → Bool

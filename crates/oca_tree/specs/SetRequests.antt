@@ -33,13 +33,13 @@ IsUnderstood = (value : Value) (request : ValueRequest) (handle target : ℕ) (o
     SetsTo value request → class_of o.value ≡ class_of_value value
     → let c = command_for handle target request in asked_at (Some o) (kind_at (Some o) c) c ≡ Ok (asked.Set value)
 
--- Executing it, where no lock refuses it, sets the object as the device's own front would: to that value, or not at all
--- where it is out of range.
+-- Executing it, where neither a lock nor the object's hardware refuses it, sets the object as the device's own front
+-- would: to that value, or not at all where it is out of range.
 abbrev pub IsCarriedOut : Type 0
 IsCarriedOut =
     (value : Value) (request : ValueRequest) (handle : ℕ) (tree : List Object) (peer : Peer) (target : ℕ) (o : Object) →
     IsOfItsType value → SetsTo value request
     → object_of tree target ≡ Some o → class_of o.value ≡ class_of_value value
     → let c = command_for handle target request in
-    is_locked (Some o) (kind_at (Some o) c) peer ≡ false →
+    is_locked (Some o) (kind_at (Some o) c) peer ≡ false → o.failing ≡ false →
     (execution tree peer c).tree ≡ after_set tree target value

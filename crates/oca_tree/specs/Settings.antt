@@ -1,19 +1,18 @@
--- A change at the device's own front: an object is set as its class's own set method sets it, and no lock refuses it
--- (profile).
-use Rattle.std.specs.Prelude.{◌≡◌, ℕ, Bool, true, false, not, if◌then◌else◌, List, Option, Some, None, Ok}
+-- A change at the device's own front: an object is set as its class's own set method sets it, and neither a lock nor
+-- its hardware refuses it (profile).
+use Rattle.std.specs.Prelude.{◌≡◌, ℕ, Bool, true, false, not, if◌then◌else◌, List, Option, Some, None, is_some, Ok}
 use Rattle.oca_types.specs.declared.words.Peer.{Peer}
 use Rattle.oca_types.specs.declared.status.Status.{Status}
 use Rattle.oca_types.specs.declared.status.Status.TheVariants as statuses
 use Rattle.oca_types.specs.Peers.{CommandFields}
-use Rattle.oca_types.specs.declared.class.Class.{Class}
-use Rattle.oca_types.specs.declared.class.Class.TheVariants as class
 use Rattle.oca_model.specs.declared.value.Value.{Value}
-use Rattle.oca_model.specs.declared.value.Value.TheVariants.{Mute, Polarity, Switch, Boolean, Int8, Int16, Int32, Int64}
-use Rattle.oca_model.specs.declared.value.Value.TheVariants.{Uint8, Uint16, Uint32, Uint64}
+use Rattle.oca_model.specs.declared.value.Value.TheVariants as set
 use Rattle.oca_model.specs.declared.request.Request.TheVariants as asked
+use Rattle.oca_model.specs.Settings.{with_value}
 use Rattle.oca_model.specs.Values.{class_of_value}
 use Rattle.oca_tree.specs.declared.object.Object.{Object}
 use Rattle.oca_tree.specs.declared.object.Value.{Value as Held}
+use Rattle.oca_tree.specs.declared.object.Value.TheVariants as held
 use Rattle.oca_tree.specs.declared.setting.SetFault.{SetFault}
 use Rattle.oca_tree.specs.declared.setting.SetFault.TheVariants as faults
 use Rattle.oca_tree.specs.Places.{is_block_value}
@@ -22,29 +21,19 @@ use Rattle.oca_tree.specs.Requests.{cannot_be}
 use Rattle.oca_tree.specs.Typed.{changed_by}
 use Rattle.oca_tree.specs.Execution.{TreeAndReply, execution, kind_at, asked_at, is_locked}
 
--- whether the value is one of the class
-unfoldable pub is_of_its_class : Class → Value → Bool
-is_of_its_class class.Mute (Mute _) = true
-is_of_its_class class.Polarity (Polarity _) = true
-is_of_its_class class.Switch (Switch _) = true
-is_of_its_class class.Boolean (Boolean _) = true
-is_of_its_class class.Int8 (Int8 _) = true
-is_of_its_class class.Int16 (Int16 _) = true
-is_of_its_class class.Int32 (Int32 _) = true
-is_of_its_class class.Int64 (Int64 _) = true
-is_of_its_class class.Uint8 (Uint8 _) = true
-is_of_its_class class.Uint16 (Uint16 _) = true
-is_of_its_class class.Uint32 (Uint32 _) = true
-is_of_its_class class.Uint64 (Uint64 _) = true
+-- whether the value is one of the class of what is held
+abbrev pub is_of_its_class : Held → Value → Bool
+is_of_its_class (held.Switch _) (set.Switch _) = true
+is_of_its_class (held.Reads r) value = is_some (with_value r value)
 is_of_its_class _ _ = false
 
 -- why an object cannot be set so, the first that applies: it is a block, it is of another class than the value, or the
 -- value is out of range
 abbrev pub fault_at : Held → Value → Option SetFault
-fault_at held value =
-    if is_block_value held then Some faults.NoSetting
-    else (if not (is_of_its_class (class_of held) value) then Some faults.OtherKind
-    else (if cannot_be held value then Some faults.OutOfRange else None))
+fault_at value_held value =
+    if is_block_value value_held then Some faults.NoSetting
+    else (if not (is_of_its_class value_held value) then Some faults.OtherKind
+    else (if cannot_be value_held value then Some faults.OutOfRange else None))
 
 -- before all these: there is no object
 abbrev pub set_fault_in : Option Object → Value → Option SetFault
@@ -84,12 +73,12 @@ pub record SetsTheSame (tree : List Object) (number : ℕ) (value : Value) (x : 
   pub tree_is : x.tree ≡ after_set tree number value
   pub status_is : x.status ≡ status_for (set_fault tree number value)
 
--- What the front sets is what a peer's command sets that asks for the same value of the object's class, where no lock
--- refuses it; and the front refuses it exactly where the command's status is not OK.
+-- What the front sets is what a peer's command sets that asks for the same value of the object's class, where neither a
+-- lock nor the object's hardware refuses it; and the front refuses it exactly where the command's status is not OK.
 abbrev pub FrontSetsAsPeersDo : Type 0
 FrontSetsAsPeersDo = (tree : List Object) (peer : Peer) (c : CommandFields) (o : Object) (value : Value) →
     object_of tree c.target ≡ Some o → class_of o.value ≡ class_of_value value →
-    is_locked (Some o) (kind_at (Some o) c) peer ≡ false →
+    is_locked (Some o) (kind_at (Some o) c) peer ≡ false → o.failing ≡ false →
     asked_at (Some o) (kind_at (Some o) c) c ≡ Ok (asked.Set value) →
     SetsTheSame tree c.target value (execution tree peer c)
 

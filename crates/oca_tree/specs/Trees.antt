@@ -1,23 +1,29 @@
 -- What holds of every tree.
-use Rattle.std.specs.Prelude.{ℕ, ◌↔◌, ◌≡◌, ◌≤◌, ◌<◌, true, List, [], ◌∷◌, ◌++◌, length, Option, Some, None, ◌≤ℤ◌}
-use Rattle.std.specs.Prelude.{IsTrue, Bool}
+use Rattle.std.specs.Prelude.{ℕ, ◌↔◌, ◌≡◌, ◌≤◌, ◌<◌, true, List, [], ◌∷◌, ◌++◌, length, Option, Some, None}
+use Rattle.std.specs.Prelude.{IsTrue, Bool, false}
 use Rattle.std.specs.List.{All}
+use Rattle.oca_model.specs.declared.reading.Reading.{Reading}
+use Rattle.oca_model.specs.declared.reading.Reading.TheVariants as readings
+use Rattle.oca_model.specs.Readings.{IsReading}
+use Rattle.oca_model.specs.Settings.{is_within}
 use Rattle.oca_tree.specs.declared.object.Object.{Object}
 use Rattle.oca_tree.specs.declared.object.Lock.{Lock}
-use Rattle.oca_tree.specs.declared.object.Range.{Range}
 use Rattle.oca_tree.specs.declared.object.Switch.{Switch}
 use Rattle.oca_tree.specs.declared.object.Value.{Value}
-use Rattle.oca_tree.specs.declared.object.Value.TheVariants.{Switch as AsSwitch, Number}
-use Rattle.oca_tree.specs.Kinds.{IsOfType}
+use Rattle.oca_tree.specs.declared.object.Value.TheVariants.{Switch as AsSwitch, Reads}
 use Rattle.oca_tree.specs.Places.{Place, places, place_at, is_block, depth, reaches, ChainReaches}
 
--- A number's setting lies in its range, and all three are of its type.
-pub record IsSoundRange (range : Range) : Type 0 where
-  pub setting : IsOfType range.kind range.setting
-  pub least : IsOfType range.kind range.least
-  pub greatest : IsOfType range.kind range.greatest
-  pub above : range.least ≤ℤ range.setting
-  pub below : range.setting ≤ℤ range.greatest
+-- whether it is the reading of a position
+abbrev pub is_position_reading : Reading → Bool
+is_position_reading (readings.Switch _) = true
+is_position_reading _ = false
+
+-- A reading that is held has its setting within its limits, all of one type. None is that of a position, which a switch
+-- has with its names.
+pub record IsSoundReading (r : Reading) : Type 0 where
+  pub typed : IsReading r
+  pub within : is_within r ≡ true
+  pub other : is_position_reading r ≡ false
 
 -- A switch has 1 to 16 positions, each with its name and enabled or not, and the current one is among them.
 pub record IsSoundSwitch (switch : Switch) : Type 0 where
@@ -26,7 +32,7 @@ pub record IsSoundSwitch (switch : Switch) : Type 0 where
   pub position : switch.position < length switch.names.items
 
 unfoldable pub IsSoundValue : Value → Type 0
-IsSoundValue (Number range) = IsSoundRange range
+IsSoundValue (Reads r) = IsSoundReading r
 IsSoundValue (AsSwitch switch) = IsSoundSwitch switch
 IsSoundValue _ = Unit {0}
 

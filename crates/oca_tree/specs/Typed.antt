@@ -1,51 +1,27 @@
 -- What an object reads as, what it answers and what a request makes of it, in the words of both ends (AES70-2).
 use Rattle.std.specs.Prelude.{ℕ, ◌-◌, Bool, false, List, [], length, map, slice_index_or, slice_set}
-use Rattle.std.specs.Prelude.{Option, Some, None, ℤ, nat_abs}
+use Rattle.std.specs.Prelude.{Option, Some, None}
 use Rattle.std.specs.Option.{option_map_or}
 use Rattle.oca_types.specs.declared.words.Peer.{Peer}
 use Rattle.oca_model.specs.declared.answer.Answer.{Answer}
 use Rattle.oca_model.specs.declared.answer.Answer.TheVariants as answers
 use Rattle.oca_model.specs.declared.member.Descendant.{Descendant}
 use Rattle.oca_model.specs.declared.member.Member.{Member}
-use Rattle.oca_model.specs.declared.reading.Ranged.{Ranged}
 use Rattle.oca_model.specs.declared.reading.Reading.{Reading}
 use Rattle.oca_model.specs.declared.reading.Reading.TheVariants as readings
 use Rattle.oca_model.specs.declared.request.Request.{Request}
 use Rattle.oca_model.specs.declared.request.Request.TheVariants as asked
 use Rattle.oca_model.specs.declared.value.Value.{Value}
 use Rattle.oca_model.specs.declared.value.Value.TheVariants as set
-use Rattle.oca_model.specs.ValueNumbers.{integer_in}
+use Rattle.oca_model.specs.Settings.{reading_set_to}
 use Rattle.oca_tree.specs.declared.object.LockKind.TheVariants.{Total, Readonly}
-use Rattle.oca_tree.specs.declared.object.NumberKind.{NumberKind}
-use Rattle.oca_tree.specs.declared.object.NumberKind.TheVariants.{Int8, Int16, Int32, Int64, Uint8, Uint16, Uint32}
-use Rattle.oca_tree.specs.declared.object.NumberKind.TheVariants.{Uint64}
 use Rattle.oca_tree.specs.declared.object.Object.{Object}
-use Rattle.oca_tree.specs.declared.object.Range.{Range}
 use Rattle.oca_tree.specs.declared.object.Switch.{Switch}
 use Rattle.oca_tree.specs.declared.object.Value.{Value as Held}
 use Rattle.oca_tree.specs.declared.object.Value.TheVariants as held
 use Rattle.oca_tree.specs.Objects.{class_of, members, descendants}
 
 -- ---- what it reads as
-
--- a setting and its limits, of a signed type
-abbrev pub signed_limits : Range → Ranged ℤ
-signed_limits range = record { setting = range.setting; least = range.least; greatest = range.greatest }
-
--- of an unsigned type
-abbrev pub unsigned_limits : Range → Ranged ℕ
-unsigned_limits range =
-    record { setting = nat_abs range.setting; least = nat_abs range.least; greatest = nat_abs range.greatest }
-
-abbrev pub number_reading : NumberKind → Range → Reading
-number_reading Int8 range = readings.Int8 (signed_limits range)
-number_reading Int16 range = readings.Int16 (signed_limits range)
-number_reading Int32 range = readings.Int32 (signed_limits range)
-number_reading Int64 range = readings.Int64 (signed_limits range)
-number_reading Uint8 range = readings.Uint8 (unsigned_limits range)
-number_reading Uint16 range = readings.Uint16 (unsigned_limits range)
-number_reading Uint32 range = readings.Uint32 (unsigned_limits range)
-number_reading Uint64 range = readings.Uint64 (unsigned_limits range)
 
 -- the current position, the first and the last
 abbrev pub position_reading : Switch → Reading
@@ -55,11 +31,8 @@ position_reading switch =
 -- WHAT A VALUE READS AS, with its limits; a block has nothing to read.
 unfoldable pub reading_held : Held → Option Reading
 reading_held held.Block = None
-reading_held (held.Mute state) = Some (readings.Mute state)
-reading_held (held.Polarity state) = Some (readings.Polarity state)
 reading_held (held.Switch switch) = Some (position_reading switch)
-reading_held (held.Boolean truth) = Some (readings.Boolean truth)
-reading_held (held.Number range) = Some (number_reading range.kind range)
+reading_held (held.Reads r) = Some r
 
 -- ---- what it answers
 
@@ -76,6 +49,16 @@ abbrev pub of_positions : Held → (Switch → Answer) → Answer
 of_positions (held.Switch switch) answer = answer switch
 of_positions _ answer = answers.Done
 
+-- what a request for positions is answered; any other is answered that it was done
+abbrev pub positions_answer : Held → Request → Answer
+positions_answer value (asked.GetPositionName n) =
+    of_positions value (λ switch. answers.Text (slice_index_or switch.names.items n []))
+positions_answer value asked.GetPositionNames = of_positions value (λ switch. answers.Names switch.names)
+positions_answer value (asked.GetPositionEnabled n) =
+    of_positions value (λ switch. answers.Truth (slice_index_or switch.enableds.items n false))
+positions_answer value asked.GetPositionEnableds = of_positions value (λ switch. answers.Flags switch.enableds)
+positions_answer value _ = answers.Done
+
 -- WHAT AN OBJECT ANSWERS to a request that is carried out; what sets or locks answers that it was done.
 unfoldable pub answer_given : List Object → Object → Request → Answer
 answer_given tree o asked.GetClassIdentification = answers.Class (class_of o.value)
@@ -88,29 +71,15 @@ answer_given tree o asked.GetMembers = answers.Members (record { items = map mem
 answer_given tree o asked.GetMembersRecursive =
     answers.Descendants (record { items = map descendant_of (descendants tree o.ono.0) })
 answer_given tree o asked.Get = option_map_or answers.Reading (reading_held o.value) answers.Done
-answer_given tree o (asked.GetPositionName n) =
-    of_positions o.value (λ switch. answers.Text (slice_index_or switch.names.items n []))
-answer_given tree o asked.GetPositionNames = of_positions o.value (λ switch. answers.Names switch.names)
-answer_given tree o (asked.GetPositionEnabled n) =
-    of_positions o.value (λ switch. answers.Truth (slice_index_or switch.enableds.items n false))
-answer_given tree o asked.GetPositionEnableds = of_positions o.value (λ switch. answers.Flags switch.enableds)
-answer_given tree o _ = answers.Done
+answer_given tree o request = positions_answer o.value request
 
 -- ---- what a request makes of it
 
--- the range with the setting that an integer actuator is set to
-abbrev pub set_number : Range → Option ℤ → Range
-set_number range None = range
-set_number range (Some setting) = record range { setting = setting }
-
 -- the value set to another one of its class; a value of another class sets nothing
-abbrev pub set_to : Held → Value → Held
-set_to (held.Mute _) (set.Mute state) = held.Mute state
-set_to (held.Polarity _) (set.Polarity state) = held.Polarity state
-set_to (held.Switch switch) (set.Switch position) = held.Switch (record switch { position = position })
-set_to (held.Boolean _) (set.Boolean truth) = held.Boolean truth
-set_to (held.Number range) value = held.Number (set_number range (integer_in value))
-set_to value _ = value
+abbrev pub held_set_to : Held → Value → Held
+held_set_to (held.Switch switch) (set.Switch position) = held.Switch (record switch { position = position })
+held_set_to (held.Reads r) value = held.Reads (reading_set_to r value)
+held_set_to value _ = value
 
 -- the value with the positions of a switch changed; no other value has positions
 abbrev pub with_positions : (Switch → Switch) → Held → Held
@@ -125,7 +94,7 @@ enabled_at n truth switch = record switch { enableds = record { items = slice_se
 
 -- the value with what was set
 abbrev pub value_changed_by : Held → Request → Held
-value_changed_by value (asked.Set new) = set_to value new
+value_changed_by value (asked.Set new) = held_set_to value new
 value_changed_by value (asked.SetPositionName n name) = with_positions (with_name n name) value
 value_changed_by value (asked.SetPositionNames names) = with_positions (λ switch. record switch { names = names }) value
 value_changed_by value (asked.SetPositionEnabled n truth) = with_positions (enabled_at n truth) value
@@ -142,19 +111,3 @@ changed_by o peer asked.Unlock = record o { lock = None }
 changed_by o peer (asked.SetEnabled truth) = record o { enabled = truth }
 changed_by o peer (asked.SetLabel label) = record o { label = label }
 changed_by o peer request = record o { value = value_changed_by o.value request }
-
--- a reading that was set to a value of its class: the limits are what they were
-abbrev pub reading_set_to : Reading → Value → Reading
-reading_set_to (readings.Mute _) (set.Mute state) = readings.Mute state
-reading_set_to (readings.Polarity _) (set.Polarity state) = readings.Polarity state
-reading_set_to (readings.Switch r) (set.Switch setting) = readings.Switch (record r { setting = setting })
-reading_set_to (readings.Boolean _) (set.Boolean truth) = readings.Boolean truth
-reading_set_to (readings.Int8 r) (set.Int8 setting) = readings.Int8 (record r { setting = setting })
-reading_set_to (readings.Int16 r) (set.Int16 setting) = readings.Int16 (record r { setting = setting })
-reading_set_to (readings.Int32 r) (set.Int32 setting) = readings.Int32 (record r { setting = setting })
-reading_set_to (readings.Int64 r) (set.Int64 setting) = readings.Int64 (record r { setting = setting })
-reading_set_to (readings.Uint8 r) (set.Uint8 setting) = readings.Uint8 (record r { setting = setting })
-reading_set_to (readings.Uint16 r) (set.Uint16 setting) = readings.Uint16 (record r { setting = setting })
-reading_set_to (readings.Uint32 r) (set.Uint32 setting) = readings.Uint32 (record r { setting = setting })
-reading_set_to (readings.Uint64 r) (set.Uint64 setting) = readings.Uint64 (record r { setting = setting })
-reading_set_to r _ = r

@@ -15,22 +15,23 @@ use Rattle.oca_model.specs.declared.value.Value.{Value}
 use Rattle.oca_model.specs.Answers.{answer_encoding, shape_of, shape_of_answer, IsAnswer}
 use Rattle.oca_model.specs.Lists.{IsText, Each}
 use Rattle.oca_model.specs.Readings.{value_without_limits}
+use Rattle.oca_model.specs.Settings.{reading_set_to}
 use Rattle.oca_model.specs.Requests.{request_in}
 use Rattle.oca_model.specs.Values.{class_of_value}
 use Rattle.oca_tree.specs.declared.object.Object.{Object}
 use Rattle.oca_tree.specs.declared.object.Value.{Value as Held}
 use Rattle.oca_tree.specs.Objects.{class_of, object_of}
 use Rattle.oca_tree.specs.Requests.{fits_positions, asks_out_of_range, asks_invalid}
-use Rattle.oca_tree.specs.Execution.{kind_at, carried_out, execution}
+use Rattle.oca_tree.specs.Execution.{kind_at, is_write, is_failing, carried_out, execution}
 use Rattle.oca_tree.specs.Written.{is_ok}
 use Rattle.oca_tree.specs.Trees.{IsSound}
 use Rattle.oca_tree.specs.Copies.{names_in}
-use Rattle.oca_tree.specs.Typed.{reading_held, answer_given, set_to, reading_set_to}
+use Rattle.oca_tree.specs.Typed.{reading_held, answer_given, held_set_to}
 
 -- ---- commands
 
--- WHAT A COMMAND DID whose status is OK: by this method it asked this of this object, which was put back as the request
--- makes it, and the answer is what the object answered.
+-- WHAT A COMMAND DID whose status is OK: by this method it asked this of this object, whose hardware did not refuse it;
+-- the object was put back as the request makes it, and the answer is what the object answered.
 pub record CommandDid (tree : List Object) (peer : Peer) (c : CommandFields) : Type 0 where
   pub object : Object
   pub method : Method
@@ -42,6 +43,7 @@ pub record CommandDid (tree : List Object) (peer : Peer) (c : CommandFields) : T
   pub within : asks_out_of_range object.value request ≡ false
   pub valid : asks_invalid object request ≡ false
   pub short : length (answer_encoding (answer_given tree object request)) ≤ most_parameter_bytes
+  pub works : is_failing (Some object) (Known method (access method)) ≡ false
   pub did : execution tree peer c ≡ carried_out tree peer object request
 
 abbrev pub CommandsAreTyped : Type 0
@@ -53,12 +55,18 @@ abbrev pub RefusedKeepsTree : Type 0
 RefusedKeepsTree = (tree : List Object) (peer : Peer) (c : CommandFields) →
     is_ok (execution tree peer c).status ≡ false → (execution tree peer c).tree ≡ tree
 
+-- A COMMAND THAT WRITES to an object whose hardware refuses is not answered OK, and leaves the tree as it was.
+abbrev pub FailingRefusesWrites : Type 0
+FailingRefusesWrites = (tree : List Object) (peer : Peer) (c : CommandFields) (o : Object) →
+    object_of tree c.target ≡ Some o → o.failing ≡ true → is_write (kind_at (Some o) c) ≡ true →
+    (is_ok (execution tree peer c).status ≡ false) × ((execution tree peer c).tree ≡ tree)
+
 -- ---- what was set is read
 
 -- What was set reads as the value, with the limits that it had.
 pub record SetsReading (held : Held) (value : Value) (reading : Reading) : Type 0 where
   pub before : reading_held held ≡ Some reading
-  pub after : reading_held (set_to held value) ≡ Some (reading_set_to reading value)
+  pub after : reading_held (held_set_to held value) ≡ Some (reading_set_to reading value)
   pub set : value_without_limits (reading_set_to reading value) ≡ value
 
 -- Each value of an object's class can be read once it was set.

@@ -3,18 +3,10 @@ use Rattle.std.specs.Prelude.{Bool, true, false, ◌&&◌, List}
 use Rattle.oca_types.specs.declared.words.Peer.{Peer}
 use Rattle.oca_types.specs.declared.status.Status.{Status}
 use Rattle.oca_types.specs.declared.status.Status.TheVariants as status
-use Rattle.oca_types.specs.declared.class.Access.TheVariants.{Write}
-use Rattle.oca_types.specs.declared.class.MethodKind.{MethodKind}
-use Rattle.oca_types.specs.declared.class.MethodKind.TheVariants.{Known}
 use Rattle.oca_types.specs.Peers.{CommandFields}
 use Rattle.oca_tree.specs.declared.object.Object.{Object}
 use Rattle.oca_tree.specs.Objects.{object_of}
-use Rattle.oca_tree.specs.Execution.{kind_at, execution}
-
--- the method writes; one that takes the lock or gives it back does not
-abbrev pub is_write : MethodKind → Bool
-is_write (Known method Write) = true
-is_write _ = false
+use Rattle.oca_tree.specs.Execution.{kind_at, is_write, execution}
 
 -- the method that a command calls of its object writes
 abbrev pub calls_a_write : List Object → CommandFields → Bool

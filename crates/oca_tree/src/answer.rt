@@ -1,23 +1,24 @@
 //! Writing the parameters of an answer.
 ghost use Rattle.std.specs.Prelude.{◌≡◌, ◌≤◌, ◌<◌, ◌+◌, ◌++◌, length, take, drop, slice_index_or, true, false, IfOk};
+ghost use Rattle.std.specs.Prelude.{IfSome};
 ghost use Rattle.std.specs.List.{flat_map, filter};
-ghost use Rattle.std.specs.Int.{w16};
+ghost use Rattle.std.specs.Int.{w8, w16};
 ghost use Rattle.oca_types.specs.Numbers.{unsigned_encoding};
 ghost use Rattle.oca_types.specs.Putting.{Puts};
-ghost use Rattle.oca_model.specs.Answers.{answer_encoding};
+ghost use Rattle.oca_model.specs.Answers.{answer_count, answer_encoding};
 ghost use Rattle.oca_model.specs.HeldRequests.{asked_by};
 ghost use Rattle.oca_model.specs.Lists.{list_encoding};
 ghost use Rattle.oca_model.specs.Readings.{reading_encoding};
 ghost use Rattle.oca_tree.specs.PrivateSteps.{is_listed, item_encoding, listed_answer, counted_as, PutsAnswer};
-ghost use Rattle.oca_tree.specs.PrivateSteps.{reading_answer, positions_answer};
+ghost use Rattle.oca_tree.specs.PrivateSteps.{reading_answer};
 ghost use Rattle.oca_tree.specs.Requests.{asks_out_of_range};
-ghost use Rattle.oca_tree.specs.Trees.{IsTree, IsSoundValue, IsSoundSwitch, IsSoundRange};
-ghost use Rattle.oca_tree.specs.Typed.{answer_given, number_reading, position_reading};
+ghost use Rattle.oca_tree.specs.Trees.{IsTree, IsSoundValue, IsSoundSwitch};
+ghost use Rattle.oca_tree.specs.Typed.{answer_given, position_reading, positions_answer};
 ghost use Rattle.oca_tree.specs.declared.object.Object.{Object as AnObject};
 
-use crate::object::{NumberKind, Object, Range, Switch, Value};
+use crate::object::{Object, Switch, Value};
 use crate::objects::Objects;
-use oca_model::{Asked, Ranged, Reading, put_flags, put_names};
+use oca_model::{Asked, Reading, put_flags, put_names};
 use oca_types::{
     MOST_PARAMETER_BYTES, Params, PutFault, Status, put_bool, put_class_identification, put_text,
     put_u8, put_u16, put_u32,
@@ -174,83 +175,42 @@ fn counted(count: u8, put: Result<(), PutFault>) -> Result<u8, Status>
     }
 }
 
-/// What a number reads as.
-fn reading_of(range: &Range) -> Reading
-    requires { IsSoundRange range.now }
-    ensures { result ≡ number_reading range.now.kind range.now }
-{
-    match range.kind {
-        NumberKind::Int8 => Reading::Int8(Ranged {
-            setting: range.setting as i8,
-            least: range.least as i8,
-            greatest: range.greatest as i8,
-        }),
-        NumberKind::Int16 => Reading::Int16(Ranged {
-            setting: range.setting as i16,
-            least: range.least as i16,
-            greatest: range.greatest as i16,
-        }),
-        NumberKind::Int32 => Reading::Int32(Ranged {
-            setting: range.setting as i32,
-            least: range.least as i32,
-            greatest: range.greatest as i32,
-        }),
-        NumberKind::Int64 => Reading::Int64(Ranged {
-            setting: range.setting as i64,
-            least: range.least as i64,
-            greatest: range.greatest as i64,
-        }),
-        NumberKind::Uint8 => Reading::Uint8(Ranged {
-            setting: range.setting as u8,
-            least: range.least as u8,
-            greatest: range.greatest as u8,
-        }),
-        NumberKind::Uint16 => Reading::Uint16(Ranged {
-            setting: range.setting as u16,
-            least: range.least as u16,
-            greatest: range.greatest as u16,
-        }),
-        NumberKind::Uint32 => Reading::Uint32(Ranged {
-            setting: range.setting as u32,
-            least: range.least as u32,
-            greatest: range.greatest as u32,
-        }),
-        NumberKind::Uint64 => Reading::Uint64(Ranged {
-            setting: range.setting as u64,
-            least: range.least as u64,
-            greatest: range.greatest as u64,
-        }),
-    }
-}
-
 /// What a value reads as, with its limits; a block has nothing to read. It stands apart, so that a state is put in place.
 #[inline(never)]
-#[tactic(auto, unfolding(crate::specs::Trees::IsSoundValue, crate::specs::Typed::reading_held, oca_model::specs::Answers::answer_encoding, oca_model::specs::Readings::reading_encoding), using(crate::proofs::NumberKinds::three_of))]
+#[tactic(auto, unfolding(crate::specs::Trees::IsSoundValue, crate::specs::Typed::reading_held, oca_model::specs::Answers::answer_encoding))]
 fn put_any_reading(out: &mut Params, value: &Value) -> Result<u8, Status>
     requires { IsSoundValue value.now }
     ensures { PutsAnswer result out.old.items out.new.items (reading_answer value.now) }
 {
     match value {
         Value::Block => Ok(0),
-        Value::Mute(state) => counted(1, put_u8(out, *state as u8)),
-        Value::Polarity(state) => counted(1, put_u8(out, *state as u8)),
         Value::Switch(switch) => counted(3, put_position(out, switch)),
-        Value::Boolean(truth) => counted(1, put_bool(out, *truth)),
-        Value::Number(range) => counted(3, reading_of(range).put(out)),
+        Value::Reads(reading) => counted(reading.count(), reading.put(out)),
+    }
+}
+
+/// The number of a mute's or a polarity's state, which is then all that is answered.
+#[tactic(auto, unfolding(crate::specs::Typed::reading_held, oca_model::specs::Answers::answer_encoding, oca_model::specs::Readings::reading_encoding))]
+fn state_number(value: &Value) -> Option<u8>
+    ensures { IfSome result (λ number. (answer_encoding (reading_answer value.now) ≡ unsigned_encoding w8 number)
+        × (answer_count (reading_answer value.now) ≡ 1)) }
+{
+    match value {
+        Value::Reads(Reading::Mute(mute)) => Some(*mute as u8),
+        Value::Reads(Reading::Polarity(polarity)) => Some(*polarity as u8),
+        _ => None,
     }
 }
 
 /// What a value reads as: at once where it is a state.
 #[inline(always)]
-#[tactic(auto, unfolding(crate::specs::Trees::IsSoundValue, crate::specs::Typed::reading_held, oca_model::specs::Answers::answer_encoding, oca_model::specs::Readings::reading_encoding), using(crate::proofs::NumberKinds::three_of))]
 fn put_reading(out: &mut Params, value: &Value) -> Result<u8, Status>
     requires { IsSoundValue value.now }
     ensures { PutsAnswer result out.old.items out.new.items (reading_answer value.now) }
 {
-    match value {
-        Value::Mute(mute) => counted(1, put_u8(out, *mute as u8)),
-        Value::Polarity(polarity) => counted(1, put_u8(out, *polarity as u8)),
-        _ => put_any_reading(out, value),
+    match state_number(value) {
+        Some(number) => counted(1, put_u8(out, number)),
+        None => put_any_reading(out, value),
     }
 }
 

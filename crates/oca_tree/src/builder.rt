@@ -1,25 +1,26 @@
 //! Building a tree, object by object.
 ghost use Rattle.std.specs.Prelude.{◌≡◌, ◌≤◌, ◌<◌, [], ◌∷◌, length, map, replicate, true, false, Some, None, IfOk};
-ghost use Rattle.std.specs.Prelude.{IfErr, OnOk, MatchOption};
+ghost use Rattle.std.specs.Prelude.{IfErr, OnOk};
 ghost use Rattle.std.specs.List.{list_any};
 ghost use Rattle.oca_tree.specs.Building.{Adds, value_of, switch, has_bad_name, is_long, root};
 ghost use Rattle.oca_tree.specs.Objects.{object_of};
 ghost use Rattle.oca_tree.specs.Room.{room_size};
 ghost use Rattle.oca_tree.specs.Starts.{AddsWith, BeginsWith};
 ghost use Rattle.oca_tree.specs.Places.{place_of};
-ghost use Rattle.oca_tree.specs.Trees.{IsTree, IsSound, IsSoundValue};
-ghost use Rattle.oca_tree.specs.PrivateSteps.{Makes, MakesValue, is_integer_kind, IsTypedRange};
-ghost use Rattle.oca_tree.specs.declared.object.Value.TheVariants.{Number};
+ghost use Rattle.oca_model.specs.Readings.{IsReading};
+ghost use Rattle.oca_tree.specs.Trees.{IsTree, IsSound, IsSoundValue, is_position_reading};
+ghost use Rattle.oca_tree.specs.PrivateSteps.{Makes, MakesValue, holds_reading, HoldsReading};
+ghost use Rattle.oca_tree.specs.declared.object.Value.TheVariants.{Reads};
 ghost use Rattle.oca_tree.specs.declared.builder.AddFault.TheVariants.{NoMemory};
 
-use crate::object::{NumberKind, Object, Range, Switch, Value};
+use crate::object::{Object, Switch, Value};
 use crate::objects::Objects;
 use crate::place::{block_depth, contains};
 use crate::room::Room;
 use crate::start::{Start, StartFault, restore};
 use crate::tree::Tree;
 use arrayvec::ArrayVec;
-use oca_model::{MuteState, PolarityState};
+use oca_model::{MuteState, PolarityState, Ranged, Reading};
 use oca_types::{Ono, Text};
 use std::alloc::Global;
 use std::error::Error;
@@ -253,111 +254,83 @@ fn switch_of(names: &[&str], position: u16) -> Option<Value>
     }))
 }
 
-/// The setting of an integer actuator with its limits.
+/// A setting with its limits.
+fn ranged<N: Copy>(setting: N, least: N, greatest: N) -> Ranged<N>
+    ensures { result ≡ record { setting = setting; least = least; greatest = greatest } }
+{
+    Ranged {
+        setting,
+        least,
+        greatest,
+    }
+}
+
+/// What an object of a kind reads as that is no block and no switch.
 #[tactic(auto, unfolding(crate::specs::Building::value_of))]
-fn range_of(kind: &Kind<'_>) -> Range
-    requires { is_integer_kind kind.now ≡ true }
-    ensures value { value_of kind.now ≡ Number result }
-    ensures typed { IsTypedRange result }
+fn reading_of(kind: &Kind<'_>) -> Reading
+    requires { holds_reading kind.now ≡ true }
+    ensures { HoldsReading kind.now result }
 {
     match kind {
+        Kind::Mute(state) => Reading::Mute(*state),
+        Kind::Polarity(state) => Reading::Polarity(*state),
+        Kind::Boolean(truth) => Reading::Boolean(*truth),
         Kind::Int8 {
             setting,
             least,
             greatest,
-        } => Range {
-            kind: NumberKind::Int8,
-            setting: i128::from(*setting),
-            least: i128::from(*least),
-            greatest: i128::from(*greatest),
-        },
+        } => Reading::Int8(ranged(*setting, *least, *greatest)),
         Kind::Int16 {
             setting,
             least,
             greatest,
-        } => Range {
-            kind: NumberKind::Int16,
-            setting: i128::from(*setting),
-            least: i128::from(*least),
-            greatest: i128::from(*greatest),
-        },
+        } => Reading::Int16(ranged(*setting, *least, *greatest)),
         Kind::Int32 {
             setting,
             least,
             greatest,
-        } => Range {
-            kind: NumberKind::Int32,
-            setting: i128::from(*setting),
-            least: i128::from(*least),
-            greatest: i128::from(*greatest),
-        },
+        } => Reading::Int32(ranged(*setting, *least, *greatest)),
         Kind::Int64 {
             setting,
             least,
             greatest,
-        } => Range {
-            kind: NumberKind::Int64,
-            setting: i128::from(*setting),
-            least: i128::from(*least),
-            greatest: i128::from(*greatest),
-        },
+        } => Reading::Int64(ranged(*setting, *least, *greatest)),
         Kind::Uint8 {
             setting,
             least,
             greatest,
-        } => Range {
-            kind: NumberKind::Uint8,
-            setting: i128::from(*setting),
-            least: i128::from(*least),
-            greatest: i128::from(*greatest),
-        },
+        } => Reading::Uint8(ranged(*setting, *least, *greatest)),
         Kind::Uint16 {
             setting,
             least,
             greatest,
-        } => Range {
-            kind: NumberKind::Uint16,
-            setting: i128::from(*setting),
-            least: i128::from(*least),
-            greatest: i128::from(*greatest),
-        },
+        } => Reading::Uint16(ranged(*setting, *least, *greatest)),
         Kind::Uint32 {
             setting,
             least,
             greatest,
-        } => Range {
-            kind: NumberKind::Uint32,
-            setting: i128::from(*setting),
-            least: i128::from(*least),
-            greatest: i128::from(*greatest),
-        },
+        } => Reading::Uint32(ranged(*setting, *least, *greatest)),
         Kind::Uint64 {
             setting,
             least,
             greatest,
-        } => Range {
-            kind: NumberKind::Uint64,
-            setting: i128::from(*setting),
-            least: i128::from(*least),
-            greatest: i128::from(*greatest),
-        },
+        } => Reading::Uint64(ranged(*setting, *least, *greatest)),
         _ => unreachable!(),
     }
 }
 
-/// A number, where it is within its limits.
+/// What reads so, where it is within its limits.
 #[tactic(auto, unfolding(crate::specs::Building::is_bad_value, crate::specs::Trees::IsSoundValue))]
-fn number_of(range: Range) -> Option<Value>
-    requires { IsTypedRange range }
-    ensures { MakesValue result (Number range) }
+fn value_reading(reading: Reading) -> Option<Value>
+    requires typed { IsReading reading }
+    requires other { is_position_reading reading ≡ false }
+    ensures { MakesValue result (Reads reading) }
 {
-    if range.greatest < range.least
-        || range.setting < range.least
-        || range.greatest < range.setting
-    {
-        return None;
+    if reading.is_within() {
+        Some(Value::Reads(reading))
+    } else {
+        None
     }
-    Some(Value::Number(range))
 }
 
 /// The value of a kind, where it is in range.
@@ -368,11 +341,8 @@ fn value_of(kind: &Kind<'_>) -> Option<Value>
 {
     match kind {
         Kind::Block => Some(Value::Block),
-        Kind::Mute(state) => Some(Value::Mute(*state)),
-        Kind::Polarity(state) => Some(Value::Polarity(*state)),
         Kind::Switch { names, position } => switch_of(names, *position),
-        Kind::Boolean(truth) => Some(Value::Boolean(*truth)),
-        _ => number_of(range_of(kind)),
+        _ => value_reading(reading_of(kind)),
     }
 }
 
@@ -423,6 +393,7 @@ fn object_for(
         enabled: true,
         value,
         lock: None,
+        failing: false,
     })
 }
 
@@ -442,6 +413,7 @@ fn root_object() -> Object
         enabled: true,
         value: Value::Block,
         lock: None,
+        failing: false,
     }
 }
 
@@ -477,8 +449,8 @@ impl Model for TreeBuilder {
 }
 
 impl TreeBuilder {
-    /// A builder that holds the root alone, with room for 128 objects: as [`with_room`](TreeBuilder::with_room) of
-    /// the default.
+    /// A builder that holds the root alone, a lockable block of the number 100 with the role `root`, and has room for
+    /// 128 objects. It takes the memory for them. Refusal: `NoMemory`, if memory was refused.
     pub fn new(alloc: Global) -> Result<TreeBuilder, AddFault>
         ensures ok { IfOk result (λ builder. builder ≡ record { room = 128; list = root ∷ [] }) }
         ensures err { IfErr result (λ e. e ≡ NoMemory) }
@@ -486,8 +458,8 @@ impl TreeBuilder {
         TreeBuilder::with_room(alloc, Room::default())
     }
 
-    /// A builder that holds the root alone: a block of the number 100 with the role `root`, lockable. It takes the
-    /// memory for as many objects as there is to be room for. Refusal: `NoMemory`, where that was refused.
+    /// A builder that holds the root alone, a lockable block of the number 100 with the role `root`, and has room for
+    /// so many objects, the root counted. It takes the memory for them. Refusal: `NoMemory`, if memory was refused.
     pub fn with_room(alloc: Global, room: Room) -> Result<TreeBuilder, AddFault>
         ensures ok { IfOk result (λ builder. builder ≡ record { room = room_size room; list = root ∷ [] }) }
         ensures err { IfErr result (λ e. e ≡ NoMemory) }
@@ -495,8 +467,9 @@ impl TreeBuilder {
         TreeBuilder::holding(alloc, room, root_object())
     }
 
-    /// As [`with_room`](TreeBuilder::with_room), with what was stored of the root. Refusals: `BadLabel` and `BadFlags`,
-    /// and then `Add(NoMemory)`.
+    /// A builder as [`with_room`](TreeBuilder::with_room) makes it, with what was stored of the root. Refusals, the
+    /// first that applies: `BadLabel` if the label has more than 64 bytes, `BadFlags` if there are any flags of
+    /// positions, `Add(NoMemory)` if memory was refused.
     pub fn with_root(
         alloc: Global,
         room: Room,
@@ -523,9 +496,13 @@ impl TreeBuilder {
         Ok(TreeBuilder { objects })
     }
 
-    /// Adds an object at the end: enabled, unlocked and with an empty label. It is refused by the first
-    /// variant of `AddFault` that applies, and is then unchanged. It asks for no memory, since
-    /// `with_room` took it: `NoMemory` does not come.
+    /// Adds an object after all others: enabled, unlocked and with an empty label. It takes no memory.
+    ///
+    /// Refusals, the first of [`AddFault`] that applies; the builder is then unchanged. `Full` if there is no room for
+    /// another object, `Reserved` if the number is below 4096, `Taken` if another object has the number. `NoSuchBlock`
+    /// if the container is no block of the tree, `TooDeep` at depth 9 (the root is at depth 1). `BadText` if the role
+    /// is empty, or the role or a position's name has more than 64 bytes. `BadRange` if the setting is outside its
+    /// limits, or a switch has no or more than 16 positions. `NoMemory` does not come.
     pub fn add(&mut self, container: Ono, ono: Ono, spec: &Spec<'_>) -> Result<(), AddFault>
         ensures { Adds result self.old self.new container.0 ono.0 spec.now }
     {
@@ -534,9 +511,12 @@ impl TreeBuilder {
         Ok(())
     }
 
-    /// Adds an object as [`add`](TreeBuilder::add) does, with what was stored of it: its label, whether it is enabled,
-    /// and which of its positions are. It is refused as there, by `StartFault::Add`, and where nothing refuses it
-    /// there, by the first of `BadLabel` and `BadFlags` that applies; it is then unchanged. It asks for no memory.
+    /// Adds an object after all others, with what was stored of it: its label, whether it is enabled, and which of its
+    /// positions are. It is unlocked. It takes no memory.
+    ///
+    /// Refusals, the first that applies; the builder is then unchanged: `Add` with the reason for which
+    /// [`add`](TreeBuilder::add) refuses the object. `BadLabel` if the label has more than 64 bytes. `BadFlags` if the
+    /// flags are not as many as the positions, of which only a switch has any.
     pub fn add_with(
         &mut self,
         container: Ono,
@@ -552,7 +532,7 @@ impl TreeBuilder {
         Ok(())
     }
 
-    /// The tree of the objects that were added.
+    /// The tree of the objects that were added, in order of adding and with the root first. All are unlocked.
     pub fn finish(self) -> Tree
         ensures { result ≡ self.list }
     {

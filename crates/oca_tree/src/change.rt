@@ -1,49 +1,54 @@
 //! What a request changes in its object.
 ghost use Rattle.std.specs.Prelude.{◌≡◌, ◌≤◌, ◌+◌, false};
 ghost use Rattle.oca_model.specs.HeldRequests.{asked_by};
+ghost use Rattle.oca_model.specs.Settings.{reading_set_to};
+ghost use Rattle.oca_model.specs.declared.request.Request.TheVariants as asked;
 ghost use Rattle.oca_tree.specs.Locks.{lock_of_one};
 ghost use Rattle.oca_tree.specs.Requests.{asks_out_of_range};
+ghost use Rattle.oca_tree.specs.Settings.{front};
 ghost use Rattle.oca_tree.specs.Trees.{IsSoundValue};
-ghost use Rattle.oca_tree.specs.Typed.{changed_by, set_to, value_changed_by};
+ghost use Rattle.oca_tree.specs.Typed.{changed_by, held_set_to, value_changed_by};
 
 use crate::marks::Marks;
 use crate::object::{LockKind, Object, Value};
-use crate::request::integer_of;
-use oca_model::{Asked, Value as Setting};
-use oca_types::Peer;
+use oca_model::{Asked, Reading, Value as Setting};
+use oca_types::{Peer, Text};
+
+/// Sets what reads so to another value of its class; a value of another class sets nothing. It stands apart, so that a
+/// state is set in place.
+#[inline(never)]
+fn set_any_reading(reading: &mut Reading, setting: Setting)
+    ensures { reading.new ≡ reading_set_to reading.old setting }
+{
+    if let Some(new) = reading.with_value(setting) {
+        *reading = new;
+    }
+}
 
 /// Sets the value to another one of its class; a value of another class sets nothing.
 #[inline(always)]
+#[tactic(auto, unfolding(oca_model::specs::Settings::with_value))]
 fn set_value(value: &mut Value, setting: Setting)
-    ensures { value.new ≡ set_to value.old setting }
+    ensures { value.new ≡ held_set_to value.old setting }
 {
     match value {
-        Value::Mute(state) => {
-            if let Setting::Mute(new) = setting {
-                *state = new;
-            }
-        }
-        Value::Polarity(state) => {
-            if let Setting::Polarity(new) = setting {
-                *state = new;
-            }
-        }
+        Value::Block => {}
         Value::Switch(switch) => {
             if let Setting::Switch(position) = setting {
                 switch.position = position;
             }
         }
-        Value::Boolean(truth) => {
-            if let Setting::Boolean(new) = setting {
-                *truth = new;
+        Value::Reads(Reading::Mute(state)) => {
+            if let Setting::Mute(new) = setting {
+                *state = new;
             }
         }
-        Value::Number(range) => {
-            if let Some(new) = integer_of(setting) {
-                range.setting = new;
+        Value::Reads(Reading::Polarity(state)) => {
+            if let Setting::Polarity(new) = setting {
+                *state = new;
             }
         }
-        Value::Block => {}
+        Value::Reads(reading) => set_any_reading(reading, setting),
     }
 }
 
@@ -114,4 +119,20 @@ pub(crate) fn change(object: &mut Object, marks: &mut Marks, peer: Peer, request
         Asked::SetLabel(label) => object.label = label.text(),
         other => change_value(&mut object.value, other),
     }
+}
+
+/// Says whether the object's hardware refuses to be changed.
+pub(crate) fn fail(object: &mut Object, failing: bool)
+    ensures { object.new ≡ record object.old { failing = failing } }
+{
+    object.failing = failing;
+}
+
+/// Gives the object a label.
+#[tactic(auto, unfolding(crate::specs::Typed::changed_by))]
+pub(crate) fn relabel(object: &mut Object, label: Text)
+    ensures object { object.new ≡ changed_by object.old front (asked.SetLabel label) }
+    ensures lock { lock_of_one object.new ≡ lock_of_one object.old }
+{
+    object.label = label;
 }

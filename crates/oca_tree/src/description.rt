@@ -2,7 +2,7 @@
 ghost use Rattle.std.specs.Prelude.{◌≡◌};
 ghost use Rattle.std.specs.Option.{option_copied, option_map};
 ghost use Rattle.oca_tree.specs.Copies.{stored_in, stored_of, stored_at, flags_in, names_in, names_of_ono, lockable_at};
-ghost use Rattle.oca_tree.specs.Readers.{class_of_ono};
+ghost use Rattle.oca_tree.specs.Readers.{class_of_ono, failing_at};
 
 use crate::object::{Object, Value};
 use crate::objects::Objects;
@@ -78,6 +78,16 @@ pub(crate) fn lockable_in(objects: &Objects, ono: Ono) -> Option<bool>
 {
     match objects.find(ono) {
         Some(object) => Some(object.lockable),
+        None => None,
+    }
+}
+
+/// Whether the hardware of the object with this number refuses to be changed.
+pub(crate) fn failing_in(objects: &Objects, ono: Ono) -> Option<bool>
+    ensures { result ≡ failing_at objects.now.list ono.0 }
+{
+    match objects.find(ono) {
+        Some(object) => Some(object.failing),
         None => None,
     }
 }

@@ -1,14 +1,16 @@
 //! Executing a command: whether it is refused, what it answers and what it changes.
-ghost use Rattle.std.specs.Prelude.{◌≡◌, [], slice_index_or, Some, OnOk};
+ghost use Rattle.std.specs.Prelude.{◌≡◌, [], slice_index_or, length, Some, OnOk, IsTrue};
 ghost use Rattle.std.specs.List.{position};
 ghost use Rattle.oca_types.specs.Peers.{fields_of};
 ghost use Rattle.oca_tree.specs.Objects.{has_number};
 ghost use Rattle.oca_tree.specs.Locks.{lock_count};
 ghost use Rattle.oca_tree.specs.Trees.{IsTree, IsSound};
 ghost use Rattle.oca_tree.specs.PrivateSteps.{MayCall, IsMethodFor, IsRequestFor, Executes, status_of_fault};
+ghost use Rattle.oca_tree.specs.PrivateSteps.{setting_in, sets_value, MaySet, IsSettingFor};
 ghost use Rattle.oca_types.specs.declared.class.MethodKind.TheVariants.{Known};
 ghost use Rattle.oca_types.specs.Methods.{access};
-ghost use Rattle.oca_tree.specs.Written.{is_write, calls_a_write};
+ghost use Rattle.oca_tree.specs.Execution.{is_write, is_failing};
+ghost use Rattle.oca_tree.specs.Written.{calls_a_write};
 ghost use Rattle.oca_tree.specs.declared.object.Object.{Object as AnObject};
 
 use crate::answer::put_answer;
@@ -16,11 +18,10 @@ use crate::marks::Marks;
 use crate::object::Object;
 use crate::objects::Objects;
 use crate::place::index_from;
-use crate::request::{plain, refusal};
-use oca_model::{Asked, ValueFault};
+use crate::request::{cannot_be, plain, refusal};
+use oca_model::{Asked, Value, ValueFault};
 use oca_types::{
-    Access, Command, MOST_PARAMETER_BYTES, Method, MethodKind, Params, Peer, Status, access_of,
-    method_of,
+    Access, Class, Command, Method, MethodKind, Params, Peer, Status, access_of, method_of,
 };
 
 /// The method that a command calls, or why the peer cannot call it.
@@ -68,6 +69,20 @@ fn check_request<'a>(
     }
 }
 
+/// Whether a method writes.
+fn is_write(method: Method) -> bool
+    ensures { result ≡ is_write (Known method (access method)) }
+{
+    matches!(access_of(method), Access::Write)
+}
+
+/// Whether the object's hardware refuses what the method writes.
+fn is_failing(object: &Object, method: Method) -> bool
+    ensures { result ≡ is_failing (Some object.now) (Known method (access method)) }
+{
+    object.failing && is_write(method)
+}
+
 /// Carries out any method of the object at this index, which the peer may call. It stands apart, so that
 /// `Tree::execute` is short enough to be inlined.
 #[inline(never)]
@@ -93,16 +108,85 @@ fn carry_out_at(
     let object = objects.object_at(at);
     let request = check_request(object, command, method)?;
     let count = put_answer(out, objects, object, at, &request)?;
-    prove!(out.len() <= MOST_PARAMETER_BYTES);
+    // The proof needs that it is within its room; a `prove!` of it would be tested.
+    let _length = out.len();
+    if is_failing(object, method) {
+        return Err(Status::ProcessingFailed);
+    }
     objects.change_at(at, marks, peer, request);
     Ok(count)
 }
 
-/// Whether a method writes.
-fn is_write(method: Method) -> bool
-    ensures { result ≡ is_write (Known method (access method)) }
+/// What an object of the class is set to by a set method with these parameters.
+fn setting_in(class: Class, count: u8, params: &[u8]) -> Result<Value, ValueFault>
+    ensures { result ≡ setting_in class count params.now }
 {
-    matches!(access_of(method), Access::Write)
+    if count != 1 {
+        return Err(ValueFault::Malformed);
+    }
+    Value::read(class, params)
+}
+
+/// What a command sets an object to, whose set method it calls, or why it is refused.
+fn check_setting(object: &Object, command: &Command<'_>) -> Result<Value, Status>
+    requires { IsSound object.now }
+    ensures { (peer : Peer) → MaySet object.now peer (fields_of command.now) →
+        IsSettingFor result object.now peer (fields_of command.now) }
+{
+    match setting_in(object.class(), command.count, command.params) {
+        Ok(value) => {
+            if cannot_be(&object.value, value) {
+                Err(Status::ParameterOutOfRange)
+            } else {
+                Ok(value)
+            }
+        }
+        Err(fault) => Err(status_of_fault(fault)),
+    }
+}
+
+/// Carries out the set method of the object at this index, which the peer may call: it answers nothing. It needs no
+/// room for any other request.
+#[inline(never)]
+fn set_at(
+    objects: &mut Objects,
+    at: usize,
+    marks: &mut Marks,
+    peer: Peer,
+    command: &Command<'_>,
+) -> Result<u8, Status>
+    requires place { position (has_number command.now.target.0) objects.old.list ≡ Some at }
+    requires method { (d : AnObject) → MaySet (slice_index_or objects.old.list at d) peer (fields_of command.now) }
+    requires tree { IsTree objects.old.list }
+    requires count { marks.old.locks ≡ lock_count objects.old.list }
+    ensures done { Executes result objects.old.list objects.new.list [] peer (fields_of command.now) }
+    ensures tree { IsTree objects.new.list }
+    ensures count { marks.new.locks ≡ lock_count objects.new.list }
+{
+    let object = objects.object_at(at);
+    let value = check_setting(object, command)?;
+    if object.failing {
+        return Err(Status::ProcessingFailed);
+    }
+    objects.change_at(at, marks, peer, Asked::Set(value));
+    Ok(0)
+}
+
+/// Whether a method sets a value: the set method of some class.
+fn sets_value(method: Method) -> bool
+    ensures { result ≡ sets_value method }
+{
+    matches!(
+        method,
+        Method::SetState | Method::SetPosition | Method::SetSetting
+    )
+}
+
+/// Whether a command has no parameters.
+fn is_bare(command: &Command<'_>) -> bool
+    ensures { IsTrue result → (command.now.count ≡ 0) × (length command.now.params.now ≡ 0) }
+{
+    command.params.len() + usize::from(command.count) == 0
 }
 
 /// Carries out a command, if it is not refused, and puts the answer into empty parameters. `marks` count the locks that
@@ -129,15 +213,18 @@ pub(crate) fn carry_out(
     };
     let object = objects.object_at(at);
     let method = method_for(object, peer, command)?;
-    if command.count == 0
-        && command.params.is_empty()
+    if is_bare(command)
         && let Some(request) = plain(method)
     {
         let answered = put_answer(out, objects, object, at, &request);
-        prove!(out.len() <= MOST_PARAMETER_BYTES);
+        // As in `carry_out_at`.
+        let _length = out.len();
         *writes = false;
         return answered;
     }
     *writes = is_write(method);
+    if sets_value(method) {
+        return set_at(objects, at, marks, peer, command);
+    }
     carry_out_at(objects, at, method, marks, peer, command, out)
 }

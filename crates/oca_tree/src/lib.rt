@@ -11,6 +11,7 @@ mod builder;
 mod change;
 mod description;
 mod execute;
+mod front;
 mod infos;
 mod laws;
 mod lengths;
@@ -27,6 +28,7 @@ mod tree;
 
 pub use bench_tree::{bench, bench_with_channels};
 pub use builder::{AddFault, Kind, Spec, TreeBuilder};
+pub use front::FrontFault;
 pub use infos::ObjectInfos;
 pub use laws::{
     law_of_copies, law_of_descendants, law_of_set_requests, law_of_settings, law_of_starts,

@@ -1,13 +1,12 @@
 //! An object of the tree: its place, its value and its lock.
 ghost use Rattle.std.specs.Prelude.{◌≡◌, ◌≤◌, ◌+◌, Some, None};
-ghost use Rattle.oca_tree.specs.Kinds.{number_class};
 ghost use Rattle.oca_tree.specs.Objects.{class_of};
 ghost use Rattle.oca_tree.specs.Locks.{lock_refuses, without_lock_of, lock_of_one};
 ghost use Rattle.oca_tree.specs.Places.{is_block_value};
 
 use crate::marks::Marks;
 use arrayvec::ArrayVec;
-use oca_model::{MuteState, PolarityState};
+use oca_model::Reading;
 use oca_types::{Access, Class, Ono, Peer, Text};
 
 /// The positions of an OcaSwitch, 1 to 16, each with a name and enabled or not, and the current one.
@@ -18,37 +17,13 @@ pub struct Switch {
     pub position: u16,
 }
 
-/// The integer types of AES70-3, of which each has a class of actuators.
-#[derive(Clone, Copy, PartialEq, Eq)]
-pub enum NumberKind {
-    Int8,
-    Int16,
-    Int32,
-    Int64,
-    Uint8,
-    Uint16,
-    Uint32,
-    Uint64,
-}
-
-/// The setting of an integer actuator and its limits, all of one type.
-#[derive(Clone, Copy, PartialEq, Eq)]
-pub struct Range {
-    pub kind: NumberKind,
-    pub setting: i128,
-    pub least: i128,
-    pub greatest: i128,
-}
-
 /// What an object is and how it is set.
 #[derive(Drop)]
 pub enum Value {
     Block,
-    Mute(MuteState),
-    Polarity(PolarityState),
     Switch(Switch),
-    Boolean(bool),
-    Number(Range),
+    /// What it reads as, of any other class: its value with its limits.
+    Reads(Reading),
 }
 
 /// What a lock keeps other peers from: all access, or all but reading (AES70-2, OcaRoot).
@@ -80,22 +55,8 @@ pub struct Object {
     pub enabled: bool,
     pub value: Value,
     pub lock: Option<Lock>,
-}
-
-/// The class of actuators of an integer type.
-fn number_class(kind: NumberKind) -> Class
-    ensures { result ≡ number_class kind }
-{
-    match kind {
-        NumberKind::Int8 => Class::Int8,
-        NumberKind::Int16 => Class::Int16,
-        NumberKind::Int32 => Class::Int32,
-        NumberKind::Int64 => Class::Int64,
-        NumberKind::Uint8 => Class::Uint8,
-        NumberKind::Uint16 => Class::Uint16,
-        NumberKind::Uint32 => Class::Uint32,
-        NumberKind::Uint64 => Class::Uint64,
-    }
+    /// Whether its hardware refuses to be changed, as the device's maker said last.
+    pub failing: bool,
 }
 
 impl Value {
@@ -116,11 +77,8 @@ impl Value {
     {
         match self {
             Value::Block => Class::Block,
-            Value::Mute(_) => Class::Mute,
-            Value::Polarity(_) => Class::Polarity,
             Value::Switch(_) => Class::Switch,
-            Value::Boolean(_) => Class::Boolean,
-            Value::Number(range) => number_class(range.kind),
+            Value::Reads(reading) => reading.class(),
         }
     }
 }

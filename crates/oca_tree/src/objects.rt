@@ -6,7 +6,9 @@ ghost use Rattle.indexmap.specs.IndexMap.{values, spare, index_map_len};
 ghost use Rattle.oca_tree.specs.Objects.{has_number, object_of};
 ghost use Rattle.oca_tree.specs.Locks.{released, lock_count};
 ghost use Rattle.oca_model.specs.HeldRequests.{asked_by};
+ghost use Rattle.oca_model.specs.declared.request.Request.TheVariants as asked;
 ghost use Rattle.oca_tree.specs.Requests.{asks_out_of_range};
+ghost use Rattle.oca_tree.specs.Settings.{front};
 ghost use Rattle.oca_tree.specs.Typed.{changed_by};
 ghost use Rattle.oca_tree.specs.Places.{places};
 ghost use Rattle.oca_tree.specs.Trees.{IsTree};
@@ -14,13 +16,13 @@ ghost use Rattle.oca_tree.specs.PrivateObjects.{IsKeyed, IsMap, containers};
 ghost use Rattle.oca_tree.specs.PrivateSteps.{listed_bytes};
 ghost use Rattle.oca_tree.specs.declared.object.Object.{Object as Item};
 
-use crate::change::change;
+use crate::change::{change, fail, relabel};
 use crate::lengths::{Lengths, add_last, push_none};
 use crate::marks::Marks;
 use crate::object::Object;
 use indexmap::IndexMap;
 use oca_model::Asked;
-use oca_types::{Ono, Peer};
+use oca_types::{Ono, Peer, Text};
 use std::alloc::{AllocError, Global};
 use std::marker::Model;
 
@@ -170,6 +172,28 @@ impl Objects {
         ensures count { marks.new.locks ≡ lock_count self.new.list }
     {
         change(&mut self.map[at], marks, peer, request);
+    }
+
+    /// Gives the object at this index a label.
+    pub(crate) fn relabel_at(&mut self, at: usize, label: Text)
+        requires { at < length self.old.list }
+        ensures objects { (d : Item) →
+            self.new.list
+            ≡ slice_set self.old.list at (changed_by (slice_index_or self.old.list at d) front (asked.SetLabel label)) }
+        ensures count { lock_count self.new.list ≡ lock_count self.old.list }
+    {
+        relabel(&mut self.map[at], label);
+    }
+
+    /// Says whether the hardware of the object at this index refuses to be changed.
+    pub(crate) fn fail_at(&mut self, at: usize, failing: bool)
+        requires { at < length self.old.list }
+        ensures objects { (d : Item) →
+            self.new.list
+            ≡ slice_set self.old.list at (record (slice_index_or self.old.list at d) { failing = failing }) }
+        ensures count { lock_count self.new.list ≡ lock_count self.old.list }
+    {
+        fail(&mut self.map[at], failing);
     }
 
     /// Takes every lock of the peer off, and counts them no longer.

@@ -2,13 +2,13 @@
 ghost use Rattle.std.specs.Prelude.{◌≡◌, ◌≤◌, length};
 ghost use Rattle.std.specs.Option.{option_map};
 ghost use Rattle.oca_model.specs.HeldRequests.{asked_by};
-ghost use Rattle.oca_model.specs.ValueNumbers.{integer_in};
+ghost use Rattle.oca_model.specs.Settings.{is_beyond};
 ghost use Rattle.oca_tree.specs.Requests.{asks_invalid, asks_out_of_range, cannot_be, fits_positions, lacks_position};
 ghost use Rattle.oca_tree.specs.PrivateSteps.{plain_request, refusal_of};
 ghost use Rattle.oca_tree.specs.Trees.{IsSound, IsSoundValue};
 
-use crate::object::{Object, Range, Switch, Value};
-use oca_model::{Asked, Value as Setting};
+use crate::object::{Object, Switch, Value};
+use oca_model::{Asked, Reading, Value as Setting};
 use oca_types::{Method, Status};
 
 /// What a method asks that only reads and has no parameters; nothing for any other.
@@ -74,35 +74,19 @@ fn can_be_current(switch: &Switch, position: u16) -> bool
     at < switch.names.len() && switch.enableds[at]
 }
 
-/// The setting of an integer actuator.
-pub(crate) fn integer_of(value: Setting) -> Option<i128>
-    ensures { result ≡ integer_in value }
+/// Whether the setting is one of the reading's class that its limits do not allow.
+#[inline(never)]
+fn is_beyond(reading: Reading, setting: Setting) -> bool
+    ensures { result ≡ is_beyond reading setting }
 {
-    match value {
-        Setting::Int8(setting) => Some(i128::from(setting)),
-        Setting::Int16(setting) => Some(i128::from(setting)),
-        Setting::Int32(setting) => Some(i128::from(setting)),
-        Setting::Int64(setting) => Some(i128::from(setting)),
-        Setting::Uint8(setting) => Some(i128::from(setting)),
-        Setting::Uint16(setting) => Some(i128::from(setting)),
-        Setting::Uint32(setting) => Some(i128::from(setting)),
-        Setting::Uint64(setting) => Some(i128::from(setting)),
-        _ => None,
-    }
-}
-
-/// Whether the setting is outside its range.
-fn is_beyond(range: &Range, setting: Option<i128>) -> bool
-    ensures { result ≡ Rattle.oca_tree.specs.Requests.is_beyond range.now setting }
-{
-    match setting {
-        Some(setting) => setting < range.least || range.greatest < setting,
+    match reading.with_value(setting) {
+        Some(new) => !new.is_within(),
         None => false,
     }
 }
 
 /// Whether an object that holds this value cannot be set to the other one.
-#[tactic(auto, unfolding(crate::specs::Trees::IsSoundValue))]
+#[tactic(auto, unfolding(crate::specs::Trees::IsSoundValue, oca_model::specs::Settings::with_value, oca_model::specs::Settings::is_within))]
 pub(crate) fn cannot_be(value: &Value, setting: Setting) -> bool
     requires { IsSoundValue value.now }
     ensures { result ≡ cannot_be value.now setting }
@@ -112,8 +96,12 @@ pub(crate) fn cannot_be(value: &Value, setting: Setting) -> bool
             Setting::Switch(position) => !can_be_current(switch, position),
             _ => false,
         },
-        Value::Number(range) => is_beyond(range, integer_of(setting)),
-        _ => false,
+        Value::Reads(reading) => match (reading, setting) {
+            (Reading::Mute(_), Setting::Mute(_)) => false,
+            (Reading::Polarity(_), Setting::Polarity(_)) => false,
+            _ => is_beyond(*reading, setting),
+        },
+        Value::Block => false,
     }
 }
 

@@ -1,9 +1,10 @@
-//! Whether objects are the same but for their locks.
+//! Whether objects are the same but for their locks and for whose hardware refuses.
 ghost use Rattle.std.specs.Prelude.{◌≡◌, IsTrue};
 ghost use Rattle.oca_tree.specs.Copies.{unlocked, all_unlocked};
 
 use crate::object::{Object, Switch, Value};
 use arrayvec::ArrayVec;
+use oca_model::Reading;
 use oca_types::Text;
 
 /// Whether two texts are the same.
@@ -86,22 +87,40 @@ fn same_switch(a: &Switch, b: &Switch) -> bool
         && same_names(&a.names, &b.names)
 }
 
+/// Whether two readings are the same.
+fn same_reading(a: Reading, b: Reading) -> bool
+    ensures { IsTrue result → a ≡ b }
+{
+    match (a, b) {
+        (Reading::Mute(state), Reading::Mute(other)) => state == other,
+        (Reading::Polarity(state), Reading::Polarity(other)) => state == other,
+        (Reading::Switch(ranged), Reading::Switch(other)) => ranged == other,
+        (Reading::Boolean(truth), Reading::Boolean(other)) => truth == other,
+        (Reading::Int8(ranged), Reading::Int8(other)) => ranged == other,
+        (Reading::Int16(ranged), Reading::Int16(other)) => ranged == other,
+        (Reading::Int32(ranged), Reading::Int32(other)) => ranged == other,
+        (Reading::Int64(ranged), Reading::Int64(other)) => ranged == other,
+        (Reading::Uint8(ranged), Reading::Uint8(other)) => ranged == other,
+        (Reading::Uint16(ranged), Reading::Uint16(other)) => ranged == other,
+        (Reading::Uint32(ranged), Reading::Uint32(other)) => ranged == other,
+        (Reading::Uint64(ranged), Reading::Uint64(other)) => ranged == other,
+        _ => false,
+    }
+}
+
 /// Whether two values are the same.
 fn same_value(a: &Value, b: &Value) -> bool
     ensures { IsTrue result → (a.now ≡ b.now) }
 {
     match (a, b) {
         (Value::Block, Value::Block) => true,
-        (Value::Mute(state), Value::Mute(other)) => *state == *other,
-        (Value::Polarity(state), Value::Polarity(other)) => *state == *other,
         (Value::Switch(switch), Value::Switch(other)) => same_switch(switch, other),
-        (Value::Boolean(truth), Value::Boolean(other)) => *truth == *other,
-        (Value::Number(range), Value::Number(other)) => *range == *other,
+        (Value::Reads(reading), Value::Reads(other)) => same_reading(*reading, *other),
         _ => false,
     }
 }
 
-/// Whether two objects are the same but for their locks.
+/// Whether two objects are the same but for their locks and for whether their hardware refuses.
 fn same_object(a: &Object, b: &Object) -> bool
     ensures { IsTrue result → (unlocked a.now ≡ unlocked b.now) }
 {
@@ -114,7 +133,7 @@ fn same_object(a: &Object, b: &Object) -> bool
         && same_value(&a.value, &b.value)
 }
 
-/// Whether objects are the same but for their locks, in order.
+/// Whether objects are the same but for their locks and for whose hardware refuses, in order.
 pub(crate) fn same_objects(a: &[Object], b: &[Object]) -> bool
     ensures { IsTrue result → (all_unlocked a.now ≡ all_unlocked b.now) }
 {

@@ -1,4 +1,4 @@
-//! Setting an object at the device's own front: as the set method of its class, and refused by no lock.
+//! Setting an object at the local front panel: as the set method of its class, and refused by no lock.
 ghost use Rattle.std.specs.Prelude.{◌≡◌, OnErr};
 ghost use Rattle.std.specs.Result.{result_err};
 ghost use Rattle.oca_tree.specs.Locks.{lock_count};
@@ -11,7 +11,7 @@ use crate::objects::Objects;
 use crate::place::index_from;
 use crate::request::cannot_be;
 use oca_model::{Asked, Value};
-use oca_types::{Class, Ono, Peer};
+use oca_types::{Ono, Peer};
 use std::error::Error;
 use std::fmt;
 
@@ -57,27 +57,17 @@ const _: () = prove!(SetFault::OtherKind as u8 == 3);
 
 const _: () = prove!(SetFault::OutOfRange as u8 == 4);
 
-/// The peer in whose name the front asks: what is set is the same for each peer.
-const FRONT: Peer = Peer { ip: 0, port: 0 };
+/// The peer in whose name the local front panel asks: what is set is the same for each peer.
+pub(crate) const FRONT: Peer = Peer { ip: 0, port: 0 };
 
-/// Whether the value is one of the class.
-#[tactic(auto, unfolding(crate::specs::Settings::is_of_its_class))]
-fn is_of_its_class(class: Class, value: Value) -> bool
-    ensures { result ≡ is_of_its_class class value }
+/// Whether the value is one of the class of what is held.
+fn is_of_its_class(held: &Held, value: Value) -> bool
+    ensures { result ≡ is_of_its_class held.now value }
 {
-    match value {
-        Value::Mute(_) => matches!(class, Class::Mute),
-        Value::Polarity(_) => matches!(class, Class::Polarity),
-        Value::Switch(_) => matches!(class, Class::Switch),
-        Value::Boolean(_) => matches!(class, Class::Boolean),
-        Value::Int8(_) => matches!(class, Class::Int8),
-        Value::Int16(_) => matches!(class, Class::Int16),
-        Value::Int32(_) => matches!(class, Class::Int32),
-        Value::Int64(_) => matches!(class, Class::Int64),
-        Value::Uint8(_) => matches!(class, Class::Uint8),
-        Value::Uint16(_) => matches!(class, Class::Uint16),
-        Value::Uint32(_) => matches!(class, Class::Uint32),
-        Value::Uint64(_) => matches!(class, Class::Uint64),
+    match held {
+        Held::Block => false,
+        Held::Switch(_) => matches!(value, Value::Switch(_)),
+        Held::Reads(reading) => reading.with_value(value).is_some(),
     }
 }
 
@@ -89,7 +79,7 @@ fn check_setting(held: &Held, value: Value) -> Result<(), SetFault>
     if held.is_block() {
         return Err(SetFault::NoSetting);
     }
-    if !is_of_its_class(held.class(), value) {
+    if !is_of_its_class(held, value) {
         return Err(SetFault::OtherKind);
     }
     if cannot_be(held, value) {

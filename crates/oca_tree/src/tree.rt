@@ -1,5 +1,5 @@
 //! The tree: executing commands, taking locks off, and reading its objects.
-ghost use Rattle.std.specs.Prelude.{◌≡◌, [], length, OnErr, map, slice_get, IsTrue};
+ghost use Rattle.std.specs.Prelude.{◌≡◌, [], length, OnErr, map, slice_get, IsTrue, Some};
 ghost use Rattle.std.specs.Option.{option_and_then, option_map};
 ghost use Rattle.oca_types.specs.Peers.{fields_of};
 ghost use Rattle.std.specs.Result.{result_err};
@@ -8,12 +8,16 @@ ghost use Rattle.oca_tree.specs.Trees.{IsTree};
 ghost use Rattle.oca_tree.specs.Execution.{execution};
 ghost use Rattle.oca_tree.specs.Written.{wrote};
 ghost use Rattle.oca_tree.specs.Settings.{after_set, set_fault};
-ghost use Rattle.oca_tree.specs.Readers.{info_of, info_at, infos_left, class_of_ono, lock_at, value_setting};
-ghost use Rattle.oca_tree.specs.Readers.{setting_at, info_of_ono};
+ghost use Rattle.oca_tree.specs.LocalChanges.{front_fault, after_change, ToLabel, ToEnabled, ToUnlocked, ToFailing};
+ghost use Rattle.oca_model.specs.declared.request.Request.TheVariants as asked;
+ghost use Rattle.oca_tree.specs.Readers.{info_of, info_at, infos_left, class_of_ono, lock_at, failing_at};
+ghost use Rattle.oca_tree.specs.Readers.{reading_setting, value_setting, setting_at, info_of_ono};
+ghost use Rattle.oca_tree.specs.declared.tree.Setting.TheVariants.{Number};
 ghost use Rattle.oca_tree.specs.Copies.{stored_in, stored_at, names_of_ono, lockable_at, all_unlocked};
 
-use crate::description::{class_in, lockable_in, position_names_in, start_in};
+use crate::description::{class_in, failing_in, lockable_in, position_names_in, start_in};
 use crate::execute::carry_out;
+use crate::front::{FrontFault, set_enabled, set_failing, set_label, unlock};
 use crate::infos::ObjectInfos;
 use crate::marks::Marks;
 use crate::object::{Lock, Object, Value as Held};
@@ -21,7 +25,7 @@ use crate::objects::Objects;
 use crate::same::same_objects;
 use crate::setting::{SetFault, set};
 use crate::start::Start;
-use oca_model::Value;
+use oca_model::{Reading, Value};
 use oca_types::{Class, Command, Ono, Params, Peer, Status, Text};
 use std::marker::Model;
 
@@ -104,9 +108,9 @@ impl Tree {
         }
     }
 
-    /// Executes a command of the peer (AES70-2; the order of the statuses is the profile's). `out` is
-    /// emptied first; then it holds the answer's parameters, and none where the status is not OK. A
-    /// refusal changes no object.
+    /// Executes a command of the peer (AES70-2; the order of the statuses is the profile's). Returns the status,
+    /// ParamCount, and whether the command wrote to its object. `out` then holds the answer's parameters, and nothing
+    /// else. With another status than OK no object is changed, `out` is empty, and the count is 0.
     #[inline(always)]
     pub fn execute(&mut self, peer: Peer, command: &Command<'_>, out: &mut Params) -> Done
         ensures tree { self.new ≡ (execution self.old peer (fields_of command.now)).tree }
@@ -141,8 +145,10 @@ impl Tree {
         }
     }
 
-    /// Sets the object with this number at the device's own front: as the set method of its class sets it at a peer
-    /// that no lock refuses. A refusal changes no object.
+    /// Sets the object with this number at the local front panel, as the set method of its class does for a peer that
+    /// neither a lock nor the object's hardware refuses. Refusals, the first of [`SetFault`] that applies: `NoObject`
+    /// if no object has the number, `NoSetting` of a block, `OtherKind` of another class's value. `OutOfRange` of a
+    /// position that is not there or disabled, and of a number outside its limits. A refusal changes no object.
     pub fn set(&mut self, ono: Ono, value: Value) -> Result<(), SetFault>
         ensures tree { self.new ≡ after_set self.old ono.0 value }
         ensures refused { OnErr result (self.new ≡ self.old) }
@@ -151,7 +157,51 @@ impl Tree {
         set(&mut self.objects, &mut self.marks, ono, value)
     }
 
-    /// Takes every lock of the peer off. Where no lock is held it looks at no object.
+    /// Gives the object with this number a label of at most 64 bytes at the local front panel, as SetLabel of OcaWorker
+    /// does for a peer that neither a lock nor the object's hardware refuses (AES70-2). Refusals, the first that
+    /// applies: `NoObject` if no object has the number, `BadLabel` of a longer label. A refusal changes no object.
+    pub fn set_label(&mut self, ono: Ono, label: &str) -> Result<(), FrontFault>
+        ensures tree { self.new ≡ after_change self.old ono.0 (ToLabel label.now) }
+        ensures refused { OnErr result (self.new ≡ self.old) }
+        ensures fault { result_err result ≡ front_fault self.old ono.0 (asked.SetLabel label.now) }
+    {
+        set_label(&mut self.objects, &mut self.marks, ono, label)
+    }
+
+    /// Enables or disables the object with this number at the local front panel, as SetEnabled of OcaWorker does for a
+    /// peer that neither a lock nor the object's hardware refuses (AES70-2). Refusal: `NoObject` if no object has the
+    /// number; then no object is changed.
+    pub fn set_enabled(&mut self, ono: Ono, enabled: bool) -> Result<(), FrontFault>
+        ensures tree { self.new ≡ after_change self.old ono.0 (ToEnabled enabled) }
+        ensures refused { OnErr result (self.new ≡ self.old) }
+        ensures fault { result_err result ≡ front_fault self.old ono.0 (asked.SetEnabled enabled) }
+    {
+        set_enabled(&mut self.objects, &mut self.marks, ono, enabled)
+    }
+
+    /// Releases the lock of the object with this number at the local front panel, whichever peer holds it. Refusals:
+    /// `NoObject` if no object has the number, `NotLocked` if the object is not locked. A refusal changes no object.
+    pub fn unlock(&mut self, ono: Ono) -> Result<(), FrontFault>
+        ensures tree { self.new ≡ after_change self.old ono.0 ToUnlocked }
+        ensures refused { OnErr result (self.new ≡ self.old) }
+        ensures fault { result_err result ≡ front_fault self.old ono.0 asked.Unlock }
+    {
+        unlock(&mut self.objects, &mut self.marks, ono)
+    }
+
+    /// Says at the local front panel whether the hardware of the object with this number refuses to be changed. While
+    /// it does, each command that is executed, whose method writes to the object and that no other status refuses is
+    /// answered `ProcessingFailed`, and changes nothing. Refusal: `NoObject` if no object has the number; then nothing
+    /// is changed.
+    pub fn set_failing(&mut self, ono: Ono, failing: bool) -> Result<(), FrontFault>
+        ensures tree { self.new ≡ after_change self.old ono.0 (ToFailing failing) }
+        ensures refused { OnErr result (self.new ≡ self.old) }
+        ensures fault { result_err result ≡ front_fault self.old ono.0 (asked.SetEnabled failing) }
+    {
+        set_failing(&mut self.objects, &mut self.marks, ono, failing)
+    }
+
+    /// Releases every lock of the peer; without any, nothing is changed. If no object is locked it looks at none.
     pub fn release(&mut self, peer: Peer)
         ensures { self.new ≡ released self.old peer }
     {
@@ -170,7 +220,8 @@ impl Tree {
         self.objects.len()
     }
 
-    /// The object at this index, counted from 0 at the root in order of adding; nothing behind the last.
+    /// What the object at this index is; indices count from 0 at the root, in order of adding. `None` if there are no
+    /// more objects.
     pub fn object_at(&self, index: usize) -> Option<ObjectInfo>
         ensures { result ≡ info_at self.now index }
     {
@@ -180,7 +231,7 @@ impl Tree {
         }
     }
 
-    /// The object with this number; nothing where it is not there.
+    /// What the object with this number is: its number, class, container and role. `None` if no object has the number.
     pub fn object_of(&self, ono: Ono) -> Option<ObjectInfo>
         ensures { result ≡ info_of_ono self.now ono.0 }
     {
@@ -190,22 +241,24 @@ impl Tree {
         }
     }
 
-    /// What the objects are, in order of adding: those that [`object_at`](Tree::object_at) gives for 0, 1 and so on.
+    /// What the objects are, one after another in order of adding: those that [`object_at`](Tree::object_at) gives for
+    /// 0, 1 and so on.
     pub fn objects(&self) -> ObjectInfos<'_>
         ensures { infos_left result ≡ map info_of self.now }
     {
         ObjectInfos::new(self.objects.as_slice())
     }
 
-    /// The lock of the object with this number, where it is there and locked.
+    /// The lock of the object with this number: its kind and its holder. `None` if the object is not locked, or no
+    /// object has the number.
     pub fn lock_of(&self, ono: Ono) -> Option<Lock>
         ensures { result ≡ lock_at self.now ono.0 }
     {
         lock_in(&self.objects, ono)
     }
 
-    /// The lock of the object at this index, counted from 0 at the root in order of adding, where it is there
-    /// and locked.
+    /// The lock of the object at this index: its kind and its holder. Indices count from 0 at the root, in order of
+    /// adding. `None` if the object is not locked, or there are no more objects.
     pub fn lock_at(&self, index: usize) -> Option<Lock>
         ensures { result ≡ option_and_then (λ o. o.lock) (slice_get self.now index) }
     {
@@ -215,53 +268,63 @@ impl Tree {
         object.lock
     }
 
-    /// How many objects are locked. It looks at none.
+    /// Whether the hardware of the object with this number refuses to be changed, as [`set_failing`](Tree::set_failing)
+    /// said last; `false` if that call said nothing yet. `None` if no object has the number.
+    pub fn is_failing(&self, ono: Ono) -> Option<bool>
+        ensures { result ≡ failing_at self.now ono.0 }
+    {
+        failing_in(&self.objects, ono)
+    }
+
+    /// How many objects are locked: 0 to 4,096. It looks at no object.
     pub fn lock_count(&self) -> usize
         ensures { result ≡ lock_count self.now }
     {
         self.marks.locks
     }
 
-    /// The class of the object with this number, which is that of the values that [`set`](Tree::set) sets it to;
-    /// nothing where it is not there.
+    /// The class of the object with this number: [`set`](Tree::set) takes values of this class. `None` if no object has
+    /// the number.
     pub fn class_of(&self, ono: Ono) -> Option<Class>
         ensures { result ≡ class_of_ono self.now ono.0 }
     {
         class_in(&self.objects, ono)
     }
 
-    /// How the object with this number is set; nothing for a block and where it is not there.
+    /// How the object with this number is set; an integer has its limits with it. `None` for a block, and if no object
+    /// has the number.
     pub fn setting_of(&self, ono: Ono) -> Option<Setting>
         ensures { result ≡ setting_at self.now ono.0 }
     {
         setting_in(&self.objects, ono)
     }
 
-    /// What [`TreeBuilder::add_with`](crate::TreeBuilder::add_with) and
-    /// [`with_root`](crate::TreeBuilder::with_root) restore of the object with this number: its label, whether it is
-    /// enabled, and of a switch which of its positions are; nothing where it is not there.
+    /// What [`TreeBuilder::add_with`](crate::TreeBuilder::add_with) and [`with_root`](crate::TreeBuilder::with_root)
+    /// restore of the object with this number: its label, whether it is enabled, and of a switch which of its positions
+    /// are. `None` if no object has the number.
     pub fn start_of(&self, ono: Ono) -> Option<Start<'_>>
         ensures { option_map stored_in result ≡ stored_at self.now ono.0 }
     {
         start_in(&self.objects, ono)
     }
 
-    /// The names of the positions of the switch with this number, in order: 1 to 16, each of at most 64 bytes; none
-    /// where it is not there or is no switch.
+    /// The names of the positions of the switch with this number, in order: 1 to 16, each of at most 64 bytes. Empty if
+    /// no object has the number, or the object is no switch.
     pub fn position_names_of(&self, ono: Ono) -> &[Text]
         ensures { result.now ≡ names_of_ono self.now ono.0 }
     {
         position_names_in(&self.objects, ono)
     }
 
-    /// Whether the object with this number can be locked; nothing where it is not there.
+    /// Whether the object with this number can be locked. `None` if no object has the number.
     pub fn is_lockable(&self, ono: Ono) -> Option<bool>
         ensures { result ≡ lockable_at self.now ono.0 }
     {
         lockable_in(&self.objects, ono)
     }
 
-    /// Whether the objects are those of another tree, in the same order and set the same; their locks are left aside.
+    /// Whether the objects are those of another tree, in the same order and with the same values, labels, flags and
+    /// roles; only their locks, and whose hardware refuses, may differ. (`true` is proved to mean this.)
     pub fn is_but_for_locks(&self, other: &Tree) -> bool
         ensures { IsTrue result → (all_unlocked self.now ≡ all_unlocked other.now) }
     {
@@ -291,6 +354,38 @@ fn lock_in(objects: &Objects, ono: Ono) -> Option<Lock>
     }
 }
 
+/// The setting of an integer with its limits.
+fn number(setting: i128, least: i128, greatest: i128) -> Option<Setting>
+    ensures { result ≡ Some (Number setting least greatest) }
+{
+    Some(Setting::Number {
+        setting,
+        least,
+        greatest,
+    })
+}
+
+/// How what reads so is set.
+#[tactic(auto, unfolding(crate::specs::Readers::reading_setting))]
+fn reading_setting(reading: Reading) -> Option<Setting>
+    ensures { result ≡ reading_setting reading }
+{
+    match reading {
+        Reading::Mute(state) => Some(Setting::State(state as u8)),
+        Reading::Polarity(state) => Some(Setting::State(state as u8)),
+        Reading::Switch(_) => None,
+        Reading::Boolean(truth) => Some(Setting::Truth(truth)),
+        Reading::Int8(r) => number(r.setting.into(), r.least.into(), r.greatest.into()),
+        Reading::Int16(r) => number(r.setting.into(), r.least.into(), r.greatest.into()),
+        Reading::Int32(r) => number(r.setting.into(), r.least.into(), r.greatest.into()),
+        Reading::Int64(r) => number(r.setting.into(), r.least.into(), r.greatest.into()),
+        Reading::Uint8(r) => number(r.setting.into(), r.least.into(), r.greatest.into()),
+        Reading::Uint16(r) => number(r.setting.into(), r.least.into(), r.greatest.into()),
+        Reading::Uint32(r) => number(r.setting.into(), r.least.into(), r.greatest.into()),
+        Reading::Uint64(r) => number(r.setting.into(), r.least.into(), r.greatest.into()),
+    }
+}
+
 /// How a value is set.
 #[tactic(auto, unfolding(crate::specs::Readers::value_setting))]
 fn value_setting(value: &Held) -> Option<Setting>
@@ -298,15 +393,8 @@ fn value_setting(value: &Held) -> Option<Setting>
 {
     match value {
         Held::Block => None,
-        Held::Mute(state) => Some(Setting::State(*state as u8)),
-        Held::Polarity(state) => Some(Setting::State(*state as u8)),
         Held::Switch(switch) => Some(Setting::Position(switch.position)),
-        Held::Boolean(truth) => Some(Setting::Truth(*truth)),
-        Held::Number(range) => Some(Setting::Number {
-            setting: range.setting,
-            least: range.least,
-            greatest: range.greatest,
-        }),
+        Held::Reads(reading) => reading_setting(*reading),
     }
 }
 

@@ -52,7 +52,7 @@ fn split(bytes: &[u8], n: usize) -> Result<(&[u8], &[u8]), ReadFault>
 }
 
 impl<'a> Cursor<'a> {
-    /// At the front of these bytes.
+    /// A cursor that stands before the first of these bytes.
     pub fn new(bytes: &'a [u8]) -> Cursor<'a>
         ensures { bytes_left result ≡ bytes.now }
     {
@@ -71,8 +71,9 @@ impl<'a> Cursor<'a> {
         Ok(front)
     }
 
-    /// A value of one length: an integer of 8 to 64 bits or a Boolean (AES70-3). Refusal: `Short`, and the cursor is
-    /// unchanged.
+    /// Takes a value of one length, an integer of 8 to 64 bits or a Boolean (AES70-3): the cursor then stands after it.
+    /// A Boolean is false if its byte is 0, and true of any other byte. Refusal: `Short` if fewer bytes are left than
+    /// the value has, and the cursor is unchanged.
     pub fn take<F: Field>(&mut self) -> Result<F, ReadFault>
         ensures found { IfOk result (λ v. Takes F.codec.IsEncoding v (bytes_left self.old) (bytes_left self.new)) }
         ensures only { TakesEach F.codec.IsEncoding (bytes_left self.old) result (bytes_left self.new) }
@@ -84,7 +85,8 @@ impl<'a> Cursor<'a> {
         Ok(F::from_front(front))
     }
 
-    /// A Uint8 (AES70-3). Refusal: `Short`, and the cursor is unchanged.
+    /// Takes a Uint8 (AES70-3): the cursor then stands after it. Refusal: `Short` if fewer than 1 byte is left, and the
+    /// cursor is unchanged.
     pub fn take_u8(&mut self) -> Result<u8, ReadFault>
         ensures found { IfOk result (λ v. Takes (IsUnsignedEncoding w8) v (bytes_left self.old) (bytes_left self.new)) }
         ensures only { TakesEach (IsUnsignedEncoding w8) (bytes_left self.old) result (bytes_left self.new) }
@@ -95,7 +97,8 @@ impl<'a> Cursor<'a> {
         self.take::<u8>()
     }
 
-    /// A Uint16 (AES70-3). Refusal: `Short`, and the cursor is unchanged.
+    /// Takes a Uint16 (AES70-3): the cursor then stands after it. Refusal: `Short` if fewer than 2 bytes are left, and the
+    /// cursor is unchanged.
     pub fn take_u16(&mut self) -> Result<u16, ReadFault>
         ensures found { IfOk result
             (λ v. Takes (IsUnsignedEncoding w16) v (bytes_left self.old) (bytes_left self.new)) }
@@ -107,7 +110,8 @@ impl<'a> Cursor<'a> {
         self.take::<u16>()
     }
 
-    /// A Uint32 (AES70-3). Refusal: `Short`, and the cursor is unchanged.
+    /// Takes a Uint32 (AES70-3): the cursor then stands after it. Refusal: `Short` if fewer than 4 bytes are left, and the
+    /// cursor is unchanged.
     pub fn take_u32(&mut self) -> Result<u32, ReadFault>
         ensures found { IfOk result
             (λ v. Takes (IsUnsignedEncoding w32) v (bytes_left self.old) (bytes_left self.new)) }
@@ -119,7 +123,8 @@ impl<'a> Cursor<'a> {
         self.take::<u32>()
     }
 
-    /// A Uint64 (AES70-3). Refusal: `Short`, and the cursor is unchanged.
+    /// Takes a Uint64 (AES70-3): the cursor then stands after it. Refusal: `Short` if fewer than 8 bytes are left, and the
+    /// cursor is unchanged.
     pub fn take_u64(&mut self) -> Result<u64, ReadFault>
         ensures found { IfOk result
             (λ v. Takes (IsUnsignedEncoding w64) v (bytes_left self.old) (bytes_left self.new)) }
@@ -131,7 +136,8 @@ impl<'a> Cursor<'a> {
         self.take::<u64>()
     }
 
-    /// An Int8 (AES70-3). Refusal: `Short`, and the cursor is unchanged.
+    /// Takes an Int8 (AES70-3): the cursor then stands after it. Refusal: `Short` if fewer than 1 byte is left, and the
+    /// cursor is unchanged.
     pub fn take_i8(&mut self) -> Result<i8, ReadFault>
         ensures found { IfOk result (λ v. Takes (IsSignedEncoding w8) v (bytes_left self.old) (bytes_left self.new)) }
         ensures only { TakesEach (IsSignedEncoding w8) (bytes_left self.old) result (bytes_left self.new) }
@@ -142,7 +148,8 @@ impl<'a> Cursor<'a> {
         self.take::<i8>()
     }
 
-    /// An Int16 (AES70-3). Refusal: `Short`, and the cursor is unchanged.
+    /// Takes an Int16 (AES70-3): the cursor then stands after it. Refusal: `Short` if fewer than 2 bytes are left, and the
+    /// cursor is unchanged.
     pub fn take_i16(&mut self) -> Result<i16, ReadFault>
         ensures found { IfOk result (λ v. Takes (IsSignedEncoding w16) v (bytes_left self.old) (bytes_left self.new)) }
         ensures only { TakesEach (IsSignedEncoding w16) (bytes_left self.old) result (bytes_left self.new) }
@@ -153,7 +160,8 @@ impl<'a> Cursor<'a> {
         self.take::<i16>()
     }
 
-    /// An Int32 (AES70-3). Refusal: `Short`, and the cursor is unchanged.
+    /// Takes an Int32 (AES70-3): the cursor then stands after it. Refusal: `Short` if fewer than 4 bytes are left, and the
+    /// cursor is unchanged.
     pub fn take_i32(&mut self) -> Result<i32, ReadFault>
         ensures found { IfOk result (λ v. Takes (IsSignedEncoding w32) v (bytes_left self.old) (bytes_left self.new)) }
         ensures only { TakesEach (IsSignedEncoding w32) (bytes_left self.old) result (bytes_left self.new) }
@@ -164,7 +172,8 @@ impl<'a> Cursor<'a> {
         self.take::<i32>()
     }
 
-    /// An Int64 (AES70-3). Refusal: `Short`, and the cursor is unchanged.
+    /// Takes an Int64 (AES70-3): the cursor then stands after it. Refusal: `Short` if fewer than 8 bytes are left, and the
+    /// cursor is unchanged.
     pub fn take_i64(&mut self) -> Result<i64, ReadFault>
         ensures found { IfOk result (λ v. Takes (IsSignedEncoding w64) v (bytes_left self.old) (bytes_left self.new)) }
         ensures only { TakesEach (IsSignedEncoding w64) (bytes_left self.old) result (bytes_left self.new) }
@@ -175,8 +184,8 @@ impl<'a> Cursor<'a> {
         self.take::<i64>()
     }
 
-    /// An OcaBoolean (AES70-3): 0 is false and any other byte is true (*profile*). Refusal: `Short`, and the cursor is
-    /// unchanged.
+    /// Takes an OcaBoolean (AES70-3), false if its byte is 0 and true of any other byte (*profile*): the cursor then
+    /// stands after it. Refusal: `Short` if no byte is left, and the cursor is unchanged.
     pub fn take_bool(&mut self) -> Result<bool, ReadFault>
         ensures found { IfOk result (λ v. Takes IsBoolEncoding v (bytes_left self.old) (bytes_left self.new)) }
         ensures only { TakesEach IsBoolEncoding (bytes_left self.old) result (bytes_left self.new) }
@@ -187,9 +196,10 @@ impl<'a> Cursor<'a> {
         self.take::<bool>()
     }
 
-    /// An OcaString of at most 64 bytes: a Uint16 with the number of its Unicode scalar values, then its
-    /// UTF-8 (AES70-3; past ASCII the count is the profile's). Refusals, each of which leaves the cursor
-    /// unchanged: `Short`, `NotUtf8`, `TooLong`.
+    /// Takes an OcaString of at most 64 bytes: a Uint16 with the number of its Unicode scalar values, then its UTF-8
+    /// (AES70-3; past ASCII the count is the profile's). The cursor then stands after it. Refusals, each of which
+    /// leaves the cursor unchanged: `Short` if the bytes end before the text does. `NotUtf8` if what stands there is
+    /// not so many characters of UTF-8. `TooLong` if the text has more than 64 bytes.
     pub fn take_text(&mut self) -> Result<Text, ReadFault>
         ensures found { IfOk result (λ text. Takes IsTextEncoding text (bytes_left self.old) (bytes_left self.new)) }
         ensures only { (text front rest : List ℕ) → IsTextEncoding text front → bytes_left self.old ≡ front ++ rest →
@@ -210,7 +220,7 @@ impl<'a> Cursor<'a> {
         Ok(text)
     }
 
-    /// Succeeds exactly where nothing is left. Refusal: `Trailing`. The cursor is unchanged (*profile*).
+    /// Ok if no byte is left. Refusal: `Trailing` if bytes are left (*profile*). The cursor is unchanged.
     pub fn finish(&self) -> Result<(), ReadFault>
         ensures variant { IsOk result ↔ (bytes_left self.now ≡ []) }
         ensures err { IfErr result (λ e. e ≡ Trailing) }

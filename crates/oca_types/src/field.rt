@@ -22,12 +22,13 @@ pub trait Field: Copy {
     /// How many bytes an encoding has.
     const SIZE: usize;
 
-    /// The value that these bytes encode.
+    /// The value that these bytes encode (AES70-3), of which there must be exactly `SIZE` (a premise).
     fn from_front(front: &[u8]) -> Self
         requires { length front.now ≡ SIZE }
         ensures { result ≡ codec.value_in front.now };
 
-    /// Appends the value (AES70-3). Refusal: `Full`, and the parameters are unchanged.
+    /// Appends the value to the parameters (AES70-3). Refusal: `Full` if the parameters would have more than 1,452
+    /// bytes in all; then the parameters are unchanged.
     fn put(self, params: &mut Params) -> Result<(), PutFault>
         ensures full { IsErr result ↔ (most_parameter_bytes < length params.old.items + SIZE) }
         ensures puts { Puts result params.old.items params.new.items (codec.encoding self) }

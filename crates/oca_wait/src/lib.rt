@@ -26,7 +26,8 @@ pub struct Ready {
 
 /// Waits at most so many milliseconds until one of the descriptors has something, and tells which. A file and the null
 /// device always have. Where there is neither, it waits that long. A signal may end the wait early; then neither has.
-/// The system's error where it can't wait, as where a program may have no descriptors open.
+/// The system's error where it can't wait, as where a program may have no descriptors open. More than 2,147,483,647 ms
+/// (some 24 days) counts as so many.
 pub fn wait_for(input: Option<RawFd>, beside: Option<RawFd>, milliseconds: u64) -> io::Result<Ready>
     ensures input { IfOk result (λ ready. input ≡ None → ready.input ≡ false) }
     ensures beside { IfOk result (λ ready. beside ≡ None → ready.beside ≡ false) }
@@ -43,12 +44,13 @@ pub fn wait_for(input: Option<RawFd>, beside: Option<RawFd>, milliseconds: u64) 
     })
 }
 
-/// Whether this descriptor is a terminal.
+/// Whether this descriptor is a terminal. `false` also where it is not open.
 pub fn is_terminal(descriptor: RawFd) -> bool {
     libc::isatty(descriptor) == 1
 }
 
-/// Whether the program is in the foreground of this terminal. In the background a read of it stops the program.
+/// Whether the program is in the foreground of this terminal. In the background a read of it stops the program. `false`
+/// also where the descriptor is no terminal.
 pub fn is_in_foreground(terminal: RawFd) -> bool {
     libc::tcgetpgrp(terminal) == libc::getpgrp()
 }

@@ -1,13 +1,13 @@
 // The link: what the program said last, when it was, and what that is worth now.
 const NOTHING_SINCE = "18446744073709551615";
-const SLOW_AFTER = 1000, OLD_AFTER = 2000, FETCH_MS = 2000, ALL_MS = 20000, LIFE_MS = 5000, SETTLE_MS = 300;
+const SLOW_AFTER = 1000, OLD_AFTER = 2000, FETCH_MS = 2000, ALL_MS = 20000, LIFE_MS = 5000, SETTLE_MS = 300, SURE_MS = 2000, UNTOLD_MS = 1000;
 const STATES = {
   live: ["●", "LIVE"], slow: ["▲", "SLOW"], read: ["◌", "READING"], silent: ["✕", "DEVICE SILENT"], lost: ["✕", "DEVICE LOST"],
   stale: ["■", "NO PROGRAM"], shut: ["■", "NOT LET IN"],
 };
 const program = {
   run: null, epoch: null, since: NOTHING_SINCE, ahead: 0, heardAt: null, waitsSince: now(), heardClock: "", device: "", name: "", found: 0, told: 0,
-  news: null, opensAt: 0, readOnly: false, shut: false, state: "read",
+  news: null, opensAt: 0, unsure: 0, readOnly: false, shut: false, state: "read",
 };
 let rows = new Map();
 
@@ -81,7 +81,7 @@ function drawLink() {
 function drawName(sign, word) {
   const name = clean(program.name) || program.device || "OCA panel", address = program.device && program.device !== name ? program.device : "";
   put($("device"), name);
-  put($("about"), (address ? address + " · " : "") + strips.length + " strips, " + rows.size + " objects");
+  put($("about"), (address ? address + " · " : "") + strips.length + " strips, " + rows.size + " objects" + (program.unsure ? " · " + program.unsure + " not yet confirmed" : ""));
   const title = sign + " " + name + (address ? " · " + address : "") + word;
   if (document.title !== title) document.title = title;
 }
@@ -96,7 +96,7 @@ async function get(path, most = FETCH_MS) {
 
 // Results come in any order: those from the earliest on that is awaited.
 const toldFrom = () => awaited.size ? Math.min(...awaited.keys()) : program.told;
-const valuesPath = () => "/values?since=" + program.since + (program.run === null ? "" : "&run=" + program.run) + "&told=" + toldFrom() + "&shown=" + shownRanges();
+const valuesPath = ranges => "/values?since=" + program.since + (program.run === null ? "" : "&run=" + program.run) + "&told=" + toldFrom() + "&shown=" + ranges.map(([first, count]) => first + "-" + count).join();
 
 // Another run of the program: its tickets, its changes and perhaps its device are others. Nothing of the old one stays.
 function beginRun(values) {
@@ -114,7 +114,7 @@ function takeLink(values) {
   $("watch").hidden = !program.readOnly;
 }
 
-// The objects are read, or were read anew: once the walk is over, the strips of the one before go, and those of this one come.
+// The objects are read, or were read again: once the walk is over, the strips of the one before go, and those of this one come.
 async function takeTree(values) {
   program.since = NOTHING_SINCE;
   program.reads = true;
@@ -140,6 +140,29 @@ function learn(objects) {
   $("main").removeAttribute("aria-busy");
 }
 
+// Since when each reading that was asked for is confirmed: the device had it behind that moment. One that the program does not tell as old
+// is at most a second old.
+function noteAges(old, ranges, askedAt) {
+  const ages = new Map(old.map(({ ono, age }) => [ono, age]));
+  for (const [first, count] of ranges) {
+    for (const row of places.slice(first, first + count)) row.sureAt = Math.max(row.sureAt, askedAt - (ages.get(row.ono) ?? UNTOLD_MS));
+  }
+  drawAges();
+}
+
+const isSure = row => row.value === null || now() - row.sureAt <= SURE_MS;
+
+// Marks what is no longer confirmed, and takes the mark off again.
+function drawAges() {
+  program.unsure = 0;
+  for (const strip of inView) {
+    for (const row of strip.rows) {
+      if (row.view && row.unsure === isSure(row)) show(row);
+      program.unsure += row.unsure;
+    }
+  }
+}
+
 function stateChanged(row, key) {
   row.key = key;
   sumsAreOld = true;
@@ -148,7 +171,7 @@ function stateChanged(row, key) {
   else notes.delete(row.ono);
 }
 
-async function take(values) {
+async function take(values, ranges, askedAt) {
   if (values.run === undefined) throw new Error("another version");
   if (values.run !== program.run) beginRun(values);
   takeLink(values);
@@ -157,6 +180,7 @@ async function take(values) {
     program.since = values.change;
     program.reads = false;
     learn(values.objects);
+    noteAges(values.old, ranges, askedAt);
   }
   hearResults(values.told);
 }
@@ -172,7 +196,8 @@ async function poll() {
   asking = true;
   again = false;
   try {
-    await take(await get(valuesPath(), program.since === "0" ? ALL_MS : FETCH_MS));
+    const ranges = shownRanges(), askedAt = now();
+    await take(await get(valuesPath(ranges), program.since === "0" ? ALL_MS : FETCH_MS), ranges, askedAt);
   } catch (fault) {
     if (fault instanceof TypeError && !/fetch|network/i.test(fault.message)) console.error(fault);
   }

@@ -1,5 +1,5 @@
 // What is said of an object, what this page did, and how its last changes are taken back.
-const MOST_UNDO = 20, MOST_LINES = 200;
+const MOST_UNDO = 20, MOST_LINES = 200, UNSURE = "not yet confirmed";
 const notes = new Map();   // by ONo: what is said of it, until its state changes; that an order was lost stays until a person acts
 let changes = [];
 
@@ -22,10 +22,10 @@ function forgetHints() {
 function wordsOf(row) {
   const said = notes.get(row.ono);
   if (said) return said.words + (said.how === "lost" && said.read ? " (read since: " + shown(row, row.value) + ")" : "");
-  if (row.lock === "other") return "locked by another controller";
+  if (row.lock === "other") return "locked by another controller" + (row.unsure ? "; value " + UNSURE : "");
   if (!row.enabled) return "not enabled";
   if (row.trouble) return (row.kind === "block" ? "its members can't be listed: " : "not read: ") + clean(row.trouble);
-  return row.kind === "unknown" ? "a class that is not known here" : "";
+  return row.kind === "unknown" ? "a class that is not known here" : row.unsure ? UNSURE : "";
 }
 
 // The message line of a strip: the same words of several objects once.
@@ -37,7 +37,7 @@ function drawMessage(strip) {
     const words = wordsOf(row), said = notes.get(row.ono);
     if (!words) continue;
     byWords.set(words, [...byWords.get(words) || [], row === strip.block ? "block" : nameOf(row)]);
-    onlyHints = onlyHints && !!said && said.how === "hint";
+    onlyHints = onlyHints && (said ? said.how === "hint" : words === UNSURE);
   }
   const line = [...byWords].map(([words, names]) => (names.length > 1 && names.length >= strip.rows.length ? "" : names.join(", ") + ": ") + words).join("; ");
   put(strip.message, line);
@@ -52,13 +52,15 @@ function log(what, came, isBad) {
   if (list.children.length > MOST_LINES) list.lastElementChild.remove();
 }
 
+const changeOf = one => one.kind === "set" ? "" : one.kind === "label" ? "name “" + clean(one.word) + "”" : one.kind;
+
 // Each order's end stands in the log: by itself, or in the line of the change of many that it belongs to.
 function tellEnd(one, how, words) {
   const row = rows.get(one.ono), ms = Math.round(now() - one.at);
   if (one.gang) return tellGang(one, how, words);
   if (how === "displaced" || how === "done" && row && (row.held || isOut(row, controlOf(one)))) return;
   if (how === "refused" || how === "unsent") changes = changes.filter(change => change.gang || change.list[0].ono !== one.ono || change.list[0].to !== one.word);
-  const value = one.kind === "set" && row ? shown(row, firstOf(one)) + " → " + shown(row, one.word) + unitName(row) : one.kind;
+  const value = one.kind === "set" && row ? shown(row, firstOf(one)) + " → " + shown(row, one.word) + unitName(row) : changeOf(one);
   log(one.name + ": " + value, words || "done, " + ms + " ms", how !== "done");
   drawUndo();
 }

@@ -65,6 +65,7 @@ function begin() {
   document.onkeydown = findByKey;
   document.onvisibilitychange = wakeUp;
   setInterval(() => {
+    drawAges();
     drawLink();
     drawSums();
     giveUpUnheard();

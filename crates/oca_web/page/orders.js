@@ -31,7 +31,7 @@ function can(row) {
   return !why;
 }
 
-// Takes an order of a person: `word` is the value. One of many waits for the others, and goes with them.
+// Takes an order of a person: `word` is the value, or the label. One of many waits for the others, and goes with them.
 function order(row, kind, word, gang) {
   const desk = deskOf(row.ono), one = { ono: row.ono, run: program.run, name: fullName(row), kind, word, gang: gang || null, at: now(), from: row.value, over: false };
   const displaced = desk.waits.filter(other => controlOf(other) === controlOf(one));
@@ -82,7 +82,7 @@ function sendReady() {
 
 function bodyOf(batch) {
   const before = Math.floor(Math.min(...batch.map(lastMoment)) + program.ahead);
-  const orders = batch.map(one => one.kind === "set" ? { ono: one.ono, set: one.word } : { ono: one.ono, [one.kind]: true });
+  const orders = batch.map(one => one.kind === "set" ? { ono: one.ono, set: one.word } : one.kind === "label" ? { ono: one.ono, label: one.word } : { ono: one.ono, [one.kind]: true });
   return JSON.stringify({ run: program.run, before: Math.max(0, before), orders });
 }
 
@@ -172,7 +172,7 @@ async function oneIsWrong(batch, answer) {
     return endAll(batch, "not sent: one of these orders can't be");
   }
   if (!batch[at]) return endAll(batch, "not sent: one of these orders can't be");
-  end(batch[at], "unsent", answer.status === 404 ? "not sent: no such object" : "not sent: no such value");
+  end(batch[at], "unsent", answer.status === 404 ? "not sent: no such object" : batch[at].kind === "label" ? "not sent: a name has at most 64 bytes, no control characters" : "not sent: no such value");
   putBack(batch.filter((_, place) => place !== at));
 }
 

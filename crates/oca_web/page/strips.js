@@ -3,7 +3,7 @@ const RANK = { mute: 1, switch: 2, boolean: 3, polarity: 4 };
 const rowsOf = strip => strip.block ? [strip.block, ...strip.rows] : strip.rows;
 const isChosen = strip => !!strip.on;
 
-// Draws an object anew: its control, its strip's head, and what is said of it.
+// Draws an object again: its control, its strip's head, and what is said of it.
 function show(row) {
   if (row.group) drawGroup(row.group);
   const strip = row.strip;
@@ -16,6 +16,8 @@ function show(row) {
 function drawControl(row, strip) {
   row.view.draw();
   const name = nameOf(row), looks = row.cell.classList;
+  row.unsure = !isSure(row);
+  looks.toggle("unsure", row.unsure);
   looks.toggle("other", row.lock === "other");
   looks.toggle("busy", isOut(row, "set"));
   aria(row.cell, "busy", isOut(row, "set"));
@@ -23,7 +25,7 @@ function drawControl(row, strip) {
   row.caption.hidden = name === row.kind && !isLevel(row);
   for (const part of [row.view.main, row.view.second]) {
     if (!part) continue;
-    aria(part, "label", name + (row.kind === "switch" ? " " + shown(row, row.value) : "") + ", " + strip.title + (row.lock === "other" ? ", locked by another controller" : ""));
+    aria(part, "label", name + (row.kind === "switch" ? " " + shown(row, row.value) : "") + ", " + strip.title + (row.lock === "other" ? ", locked by another controller" : "") + (row.unsure ? ", " + UNSURE : ""));
     aria(part, "disabled", !row.enabled || row.value === null);
   }
 }
@@ -40,7 +42,7 @@ function drawHead(strip) {
   if (isNew) for (const row of strip.rows) if (row.view) drawControl(row, strip);
   put(strip.name, strip.title);
   strip.select.title = strip.title;
-  put(strip.role, strip.block && clean(strip.block.label) ? clean(strip.block.role) : "");
+  put(strip.role, strip.block && isOut(strip.block, "label") ? "another name: not yet" : strip.block && clean(strip.block.label) ? clean(strip.block.role) : "");
   aria(strip.select, "pressed", isChosen(strip));
   aria(strip.select, "label", "Select " + strip.title);
   strip.element.toggleAttribute("data-on", isChosen(strip));
@@ -54,7 +56,7 @@ function drawMenu(strip) {
     strip.menu.className = "menu " + word;
     strip.menu.replaceChildren(isOut ? "…" : icon(word === "free" ? "free" : "held"));
   }
-  aria(strip.menu, "label", "Locks of " + strip.title + ": " + locks + (isOut ? "; an order is out" : ""));
+  aria(strip.menu, "label", "Locks and names of " + strip.title + ", locked: " + locks + (isOut ? "; an order is out" : ""));
 }
 
 const isLockOut = row => isOut(row, "lock");
@@ -95,7 +97,7 @@ function fill(strip) {
   strip.message.role = "status";
   strip.message.onclick = () => rowsOf(strip).forEach(row => unnote(row.ono));
   layOut(strip);
-  let menu = program.readOnly || !rowsOf(strip).some(row => row.lockable) ? null : newMenu(strip);
+  let menu = program.readOnly ? null : newMenu(strip);
   for (const row of [...strip.rows].sort((a, b) => (RANK[a.kind] || 5) - (RANK[b.kind] || 5))) {
     if (menu && isLevel(row) && !strip.wide) {
       strip.element.append(menu);
@@ -136,23 +138,27 @@ function empty(strip) {
   for (const row of strip.rows) row.cell = row.view = row.caption = null;
 }
 
-// One menu a strip: its locks.
+// One menu a strip: its locks and its names.
 const LOCK_WORDS = { free: "not locked", own: "locked by this panel", other: "locked by another controller; the device does not say which" };
 
 function stripMenu(strip) {
   const lockable = rowsOf(strip).filter(row => row.lockable), own = lockable.filter(row => row.lock === "own"), rest = lockable.filter(row => row.lock !== "own");
   const orderAll = (list, kind) => list.forEach(row => can(row) && order(row, kind));
-  askFirst("Locks: " + strip.title, "A lock keeps other controllers out until it is taken off or this panel ends. The block's lock is not that of its controls.", (options, answer) => {
-    for (const row of lockable) options.append(menuLine(strip, row));
+  askFirst("Locks and names: " + strip.title, "A lock keeps other controllers out until it is taken off or this panel ends. The block's lock is not that of its controls.", (options, answer) => {
+    for (const row of rowsOf(strip)) options.append(menuLine(strip, row));
     if (own.length) answer("Unlock all", "", () => orderAll(own, "unlock"));
     if (rest.length) answer("Lock all", "go", () => orderAll(rest, "lock"));
   });
 }
 
 function menuLine(strip, row) {
-  const line = make("div", "row"), name = row === strip.block ? "the block" : nameOf(row), text = make("span", "", name);
-  text.append(make("small", "", LOCK_WORDS[row.lock] + (isLockOut(row) ? "; an order is out" : "")));
-  line.append(text, lockButton(row, name));
+  const line = make("div", "row"), text = make("span", "", row === strip.block ? "the block" : nameOf(row)), rename = make("button", "", "Rename");
+  if (row.lockable) text.append(make("small", "", LOCK_WORDS[row.lock] + (isLockOut(row) ? "; an order is out" : "")));
+  line.append(text);
+  if (row.lockable) line.append(lockButton(row, text.firstChild.data));
+  rename.ariaLabel = "Rename " + text.firstChild.data;
+  rename.onclick = () => askName(row);
+  line.append(rename);
   return line;
 }
 
@@ -164,6 +170,20 @@ function lockButton(row, name) {
     if (can(row)) order(row, kind);
   };
   return button;
+}
+
+// Asks for an object's name, which is a label in the device.
+function askName(row) {
+  askFirst("Rename " + nameOf(row), "The name is kept by the device, and all controllers see it. Its role stays: " + clean(row.role) + ".", (options, answer) => {
+    const input = make("input");
+    input.maxLength = 64;
+    input.value = row.label;
+    input.ariaLabel = "Name";
+    const go = answer("Rename", "go", () => input.value !== row.label && can(row) && order(row, "label", input.value));
+    input.onkeydown = event => event.key === "Enter" && go.click();
+    options.append(input);
+    setTimeout(() => input.focus(), 0);
+  });
 }
 
 const chosenStrips = () => strips.filter(isChosen);

@@ -1,6 +1,6 @@
 // The tree: a group for a block that holds blocks, a strip for each other one; what is found, filtered and summed up.
 const MOST_RANGES = 8, OPEN_BELOW = 400, MOST_JUMPS = 100;
-let strips = [], groups = [], root = { strips: [], groups: [] }, sumsAreOld = false;
+let strips = [], groups = [], places = [], root = { strips: [], groups: [] }, sumsAreOld = false;
 let near = null, seen = null;
 const inView = new Set();
 const wasOpen = new Map();      // by ONo of a group's block: whether a person opened or closed it
@@ -9,7 +9,7 @@ const narrow = matchMedia("(max-width:600px)");
 function newRow(object, place, units) {
   return {
     ono: object.ono, kind: object.class, role: object.role, names: object.names, lockable: object.lockable, place, label: "", flags: [], value: null, limits: null,
-    lock: "free", enabled: true, trouble: null, key: "", want: null, held: null, strip: null, group: null, cell: null, view: null, caption: null,
+    lock: "free", enabled: true, trouble: null, key: "", want: null, held: null, strip: null, group: null, cell: null, view: null, caption: null, sureAt: -1e9, unsure: false,
     long: object.class.endsWith("64"), unit: /int/.test(object.class) ? unitOf(units, object) : null,
   };
 }
@@ -21,6 +21,7 @@ function clearStrips() {
   rows = new Map();
   strips = [];
   groups = [];
+  places = [];
   inView.clear();
   const main = make("main");
   main.id = "main";
@@ -38,6 +39,7 @@ function build(tree) {
   tree.objects.forEach((object, place) => {
     const row = newRow(object, place, tree.units || []);
     rows.set(object.ono, row);
+    places.push(row);
     if (place) kids.set(object.in, [...kids.get(object.in) || [], row]);
   });
   if (top) addMembers(rows.get(top.ono), root, main, kids);
@@ -121,12 +123,13 @@ function watchStrips() {
   }
 }
 
-// The places that are seen, as at most eight ranges: the nearest ones are joined. The root is always one of them.
+// The places that are seen, as at most eight ranges, each its first place and how many: the nearest ones are joined. The root is always one
+// of them.
 function shownRanges() {
-  const places = new Set([0]);
-  for (const strip of inView) for (const row of rowsOf(strip)) places.add(row.place);
+  const all = new Set([0]);
+  for (const strip of inView) for (const row of rowsOf(strip)) all.add(row.place);
   const ranges = [];
-  for (const place of [...places].sort((a, b) => a - b)) {
+  for (const place of [...all].sort((a, b) => a - b)) {
     const last = ranges.at(-1);
     if (last && place <= last[1] + 1) last[1] = place;
     else ranges.push([place, place]);
@@ -136,7 +139,7 @@ function shownRanges() {
     for (let n = 2; n < ranges.length; n++) if (ranges[n][0] - ranges[n - 1][1] < ranges[at][0] - ranges[at - 1][1]) at = n;
     ranges.splice(at - 1, 2, [ranges[at - 1][0], ranges[at][1]]);
   }
-  return ranges.map(([first, last]) => first + "-" + (last - first + 1)).join(",");
+  return ranges.map(([first, last]) => [first, last - first + 1]);
 }
 
 function listJumps() {

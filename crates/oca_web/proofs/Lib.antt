@@ -5,3 +5,5 @@ pub mod ResultLemmas
 pub mod WalkLemmas
 pub mod ManyLemmas
 pub mod TicketLemmas
+pub mod AgeLemmas
+pub mod ListingLemmas

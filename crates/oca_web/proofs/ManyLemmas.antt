@@ -1,10 +1,9 @@
 -- Orders of one body stand one behind another.
-use Rattle.std.proofs.Common.{◌≡◌, List, [], ◌∷◌, ◌++◌, length, refl, sym, ◌∙◌, append_assoc, append-nil}
-use Rattle.serde_json.specs.Data.{Data, Items, item}
+use Rattle.std.proofs.Common.{◌≡◌, List, [], ◌∷◌, length, sym, ◌∙◌, append_assoc, append-nil}
 use Rattle.serde_json.specs.declared.value.Value.{Value}
 use Rattle.serde_json.specs.View.{items_view, view}
 use Rattle.oca_web.specs.declared.order.Wanted.{Wanted}
-use Rattle.oca_web.specs.Bodies.{AreWanted, IsWanted, PutsOne, PutsWanted}
+use Rattle.oca_web.specs.Bodies.{AreWanted, PutsOne, PutsWanted}
 
 pub wanted_first : (values : List Value) (first : Value) (rest : List Value) (old between new : List Wanted) → values ≡ first ∷ rest
     → PutsOne (view first) old between → PutsWanted (items_view rest) between new → PutsWanted (items_view values) old new

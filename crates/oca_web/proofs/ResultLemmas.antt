@@ -1,6 +1,6 @@
--- How an order fared is written by one token after another.
+-- How an order ended is written by one token after another.
 use Rattle.std.proofs.Common.{◌≡◌, ℕ, List, [], ◌∷◌, ◌++◌, length, codes, decimal, refl, sym}
-use Rattle.json.specs.Token.{Token, begin_array, begin_object, end_array, end_object, key, number, string}
+use Rattle.json.specs.Token.{Token, begin_array, begin_object, end_array, end_object, key, number}
 use Rattle.json.specs.Print.{print}
 use Rattle.oca_web.specs.declared.order.OrderResult.{OrderResult}
 use Rattle.oca_web.specs.Results.{WritesFrom, WritesResults, WritesResult, EndsWithResults, WritesTrouble, WritesValues, EndsTree, EndsWithRun, run_tokens, with_names}

@@ -1,10 +1,11 @@
 -- Walks that go on, and others that begin.
-use Rattle.std.proofs.Common.{◌≡◌, ◌≤◌, ℕ, inl, inr, ◌∙◌, arith}
+use Rattle.std.proofs.Common.{◌≡◌, ◌≤◌, ℕ, inl, inr, refl, ◌∙◌, arith, Result, Ok, Err}
+use Rattle.oca_types.specs.declared.words.NoMemory.{NoMemory}
 use Rattle.oca_panel.specs.Panels.{PanelState}
 use Rattle.oca_web.specs.declared.inventory.Inventory.{Inventory}
 use Rattle.oca_web.specs.declared.view.Reach.{Reach}
 use Rattle.oca_web.specs.Orders.{OrdersState, SubmitsOrders, with_passed}
-use Rattle.oca_web.specs.Views.{RenewsLost, RestsBehind, SubmitsAll, next_with}
+use Rattle.oca_web.specs.Views.{AsksQuestions, Continues, ContinuesAll, RenewsLost, RestsBehind, SubmitsAndAsks, next_with}
 use Rattle.oca_web.specs.Walking.{KeepsWalk, OtherWalk, BeginsAnew, StaysOver}
 
 pub keeps_stays : (a b : Inventory) → KeepsWalk a b → StaysOver a b
@@ -33,9 +34,46 @@ pub keeps_begins : (a b c : Inventory) → KeepsWalk a b → BeginsAnew b c → 
 keeps_begins a b c k (inl o) = inl (record { epoch = omega (arith, k.epoch, o.epoch); walked = o.walked })
 keeps_begins a b c k (inr o) = inr (record { epoch = o.epoch ∙ k.epoch; walked = o.walked ∙ k.walked })
 
-pub submits_behind : (reach : Reach) (first next ahead now a b k : ℕ) (o s u t : OrdersState) (p q r : PanelState) → RenewsLost reach next o p s q → u ≡ with_passed now s
-    → SubmitsOrders ahead u q t r → a ≡ first → b ≡ next → RestsBehind a b ahead t r → k ≡ next_with a b t → SubmitsAll reach first next ahead now o p k t r
-submits_behind reach first next ahead now a b k o s u t p q r l e h f n rests above =
-    record { is_lost = l.is_lost; between = s; renewed = q; loses = l.loses; same = l.same; renews = l.renews; submits = rw e at h; rests = rw (f, n) at rests; above = rw (f, n) at above }
+pub submits_and_asks : (first next ahead now k last a b : ℕ) (o u t : OrdersState) (p q r : PanelState) → u ≡ with_passed now o → SubmitsOrders ahead u p t q
+    → a ≡ first → b ≡ next → RestsBehind a b ahead t q → k ≡ next_with a b t → AsksQuestions k q last r → SubmitsAndAsks first next ahead now o p last t r
+submits_and_asks first next ahead now k last a b o u t p q r e h f n rests above asks =
+    (q, rw e at h, rw (f, n) at rests, rw (above, f, n) at asks)
 
-pub ruleset walk_rules = (begins_stays, keeps_stays, stays_on, submits_behind)
+pub goes_on : (reach : Reach) (first next ahead now last a b c d : ℕ) (o s t : OrdersState) (p q r : PanelState) → RenewsLost reach next o p s q
+    → a ≡ first → b ≡ next → c ≡ ahead → d ≡ now → SubmitsAndAsks a b c d s q last t r → ContinuesAll reach first next ahead now o p last t r
+goes_on reach first next ahead now last a b c d o s t p q r l e f g h x =
+    let y : SubmitsAndAsks first next ahead now s q last t r = rw (e, f, g, h) at x in (
+      next_with first next t,
+      y.0,
+      record {
+        is_lost = l.is_lost;
+        between = s;
+        renewed = q;
+        loses = l.loses;
+        same = l.same;
+        renews = l.renews;
+        submits = y.1;
+        rests = y.2;
+        above = refl;
+      },
+      y.3,
+    )
+
+pub continues : (reach : Reach) (first next ahead now last : ℕ) (result : Result Unit NoMemory) (o t : OrdersState) (p r : PanelState)
+    → ContinuesAll reach first next ahead now o p last t r → Continues reach first next ahead now result o p last t r
+continues reach first next ahead now last (Ok u) o t p r h = h
+continues reach first next ahead now last (Err e) o t p r h = inr (inr h)
+
+pub stops_behind : (reach : Reach) (first next ahead now last : ℕ) (e : NoMemory) (o t : OrdersState) (p r : PanelState)
+    → RenewsLost reach next o p t r → Continues reach first next ahead now (Err e) o p last t r
+stops_behind reach first next ahead now last e o t p r h = inr (inl h)
+
+pub stops_at_once : (reach : Reach) (first next ahead now last : ℕ) (e : NoMemory) (o t : OrdersState) (p r : PanelState)
+    → t ≡ o → r ≡ p → Continues reach first next ahead now (Err e) o p last t r
+stops_at_once reach first next ahead now last e o t p r same stays = inl (same, stays)
+
+pub begins_on : (a b c : Inventory) → BeginsAnew a b → KeepsWalk b c → BeginsAnew a c
+begins_on a b c (inl o) k = inl (record { epoch = k.epoch ∙ o.epoch; walked = k.walked ∙ o.walked })
+begins_on a b c (inr o) k = inr (record { epoch = k.epoch ∙ o.epoch; walked = k.walked ∙ o.walked })
+
+pub ruleset walk_rules = (begins_stays, keeps_stays, stays_on, submits_and_asks, goes_on, continues, stops_behind, stops_at_once, begins_on)

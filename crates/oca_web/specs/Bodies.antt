@@ -8,6 +8,8 @@ use Rattle.oca_types.specs.declared.class.Class.{Class}
 use Rattle.oca_types.specs.declared.words.Ono.{Ono}
 use Rattle.oca_model.specs.declared.value.Value.{Value}
 use Rattle.oca_model.specs.Words.{IsRead}
+use Rattle.oca_web.specs.Labels.{is_label, label_bytes}
+use Rattle.oca_web.specs.declared.label.Label.{Label}
 use Rattle.oca_web.specs.declared.order.Action.{Action}
 use Rattle.oca_web.specs.declared.order.Action.TheVariants as actions
 use Rattle.oca_web.specs.declared.order.Wanted.{Wanted}
@@ -42,6 +44,7 @@ abbrev pub IsValueIn : Option (List ℕ) → Action → Type 0
 IsValueIn word (actions.Set value) = (text : List ℕ) × (word ≡ Some text) × IsForWord text value
 IsValueIn word actions.Lock = Unit {0}
 IsValueIn word actions.Unlock = Unit {0}
+IsValueIn word (actions.Rename label) = ⊥
 
 -- the object and the value are those that it says
 pub record IsOrderOf (d : Data) (ono : Ono) (action : Action) : Type 0 where
@@ -58,11 +61,17 @@ pub record IsOrderIn (run : ℕ) (body : List ℕ) (ono : Ono) (action : Action)
 
 -- ---- many orders in one body
 
+-- the label is the text that is given, which may be one
+abbrev pub IsLabelFrom : Option (List ℕ) → Label → Type 0
+IsLabelFrom None label = ⊥
+IsLabelFrom (Some text) label = (label_bytes label ≡ text) × (is_label text ≡ true)
+
 -- the action that one of many says
 abbrev pub IsActionIn : Data → Action → Type 0
 IsActionIn d (actions.Set value) = (word : List ℕ) × (option_and_then as_str (get (codes "set") d) ≡ Some word) × IsForWord word value
 IsActionIn d actions.Lock = option_and_then as_bool (get (codes "lock") d) ≡ Some true
 IsActionIn d actions.Unlock = option_and_then as_bool (get (codes "unlock") d) ≡ Some true
+IsActionIn d (actions.Rename label) = IsLabelFrom (option_and_then as_str (get (codes "label") d)) label
 
 -- one of many, of the object that it names
 pub record IsWanted (d : Data) (w : Wanted) : Type 0 where
@@ -100,6 +109,14 @@ abbrev pub IsSetTo : List ℕ → Action → Type 0
 IsSetTo word (actions.Set value) = IsForWord word value
 IsSetTo word actions.Lock = ⊥
 IsSetTo word actions.Unlock = ⊥
+IsSetTo word (actions.Rename label) = ⊥
+
+-- the label that a text gives
+abbrev pub IsRenaming : List ℕ → Action → Type 0
+IsRenaming text (actions.Set value) = ⊥
+IsRenaming text actions.Lock = ⊥
+IsRenaming text actions.Unlock = ⊥
+IsRenaming text (actions.Rename label) = IsLabelFrom (Some text) label
 
 -- one order stands behind those before it
 abbrev pub PutsOne : Data → List Wanted → List Wanted → Type 0

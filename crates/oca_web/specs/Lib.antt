@@ -2,6 +2,8 @@ pub mod Admission
 pub mod Asking
 pub mod Objects
 pub mod Shows
+pub mod Labels
+pub mod Listing
 pub mod Polling
 pub mod Readings
 pub mod Orders

@@ -18,6 +18,7 @@ use Rattle.oca_panel.specs.Panels.{PanelState, SettlesIn}
 use Rattle.oca_panel.specs.Outcomes.{done_answered}
 use Rattle.oca_panel.specs.Beginnings.{BeginsAsking}
 use Rattle.oca_panel.specs.Renewals.{IsFoundLost}
+use Rattle.oca_web.specs.Labels.{IsTextOf}
 use Rattle.oca_web.specs.declared.order.Action.{Action}
 use Rattle.oca_web.specs.declared.order.Action.TheVariants as actions
 use Rattle.oca_web.specs.declared.order.NotDone.{NotDone}
@@ -27,7 +28,7 @@ use Rattle.oca_web.specs.declared.order.Wanted.{Wanted}
 use Rattle.oca_web.specs.declared.order.Sent.{Sent}
 use Rattle.oca_web.specs.declared.order.OrderResult.{OrderResult}
 
--- The orders that wait, the first that came first; those in flight under their handles; how the last ones fared, by
+-- The orders that wait, the first that came first; those in flight under their handles; how the last ones ended, by
 -- their tickets; and the ticket of the last order.
 pub record OrdersState : Type 0 where
   pub waiting : List Order
@@ -50,11 +51,13 @@ abbrev pub class_asked : Action → Class
 class_asked (actions.Set value) = class_of_value value
 class_asked actions.Lock = class.Block
 class_asked actions.Unlock = class.Block
+class_asked (actions.Rename label) = class.Block
 
-abbrev pub request_asked : Action → Request
-request_asked (actions.Set value) = requests.Set value
-request_asked actions.Lock = requests.LockTotal
-request_asked actions.Unlock = requests.Unlock
+abbrev pub AsksOrdered : Action → Request → Type 0
+AsksOrdered (actions.Set value) request = request ≡ requests.Set value
+AsksOrdered actions.Lock request = request ≡ requests.LockTotal
+AsksOrdered actions.Unlock request = request ≡ requests.Unlock
+AsksOrdered (actions.Rename label) request = (text : List ℕ) × (request ≡ requests.SetLabel text) × IsTextOf label text
 
 -- ---- an order comes
 
@@ -115,7 +118,9 @@ pub record SubmitsOrder (ahead : ℕ) (old : OrdersState) (before : PanelState) 
     pub now : ℕ
     pub present : IsPresent now before.end_state
     pub in_time : ahead + now ≤ order.last
-    pub asks : BeginsAsking order.ono.0 (class_asked order.action) (request_asked order.action) (Ok handle) before after
+    pub request : Request
+    pub is_for : AsksOrdered order.action request
+    pub asks : BeginsAsking order.ono.0 (class_asked order.action) request (Ok handle) before after
 
 -- an order is next, and its last moment has passed at a moment of the end's; or the link refuses its command for this
 -- reason, which changes nothing
@@ -130,7 +135,9 @@ pub record IsNotTaken (s : OrdersState) (p : PanelState) : Type 0 where
   pub order : Order
   pub ready : ready_of s.waiting s.in_flight ≡ Some order
   pub reason : Trouble
-  pub asks : BeginsAsking order.ono.0 (class_asked order.action) (request_asked order.action) (Err reason) p p
+  pub request : Request
+  pub is_for : AsksOrdered order.action request
+  pub asks : BeginsAsking order.ono.0 (class_asked order.action) request (Err reason) p p
 
 -- WHY NO ORDER IS SUBMITTED: none is next, it is too late for the one that is, or the link does not take its command.
 abbrev pub IsHeldBack : ℕ → OrdersState → PanelState → Type 0
@@ -156,7 +163,7 @@ placed None t results = results ++ t ∷ []
 abbrev pub by_ticket : OrderResult → List OrderResult → List OrderResult
 by_ticket t results = placed (position (λ r. nat_lt t.ticket r.ticket) results) t results
 
--- what is kept of how orders fared, with one more: at most 512
+-- what is kept of how orders ended, with one more: at most 512
 abbrev pub with_result : List OrderResult → OrderResult → List OrderResult
 with_result results t = by_ticket t (if length results == 512 then drop 1 results else results)
 
@@ -165,7 +172,7 @@ abbrev pub not_done : Result Unit Trouble → Result Unit NotDone
 not_done (Ok u) = Ok u
 not_done (Err e) = Err (why.Trouble e)
 
--- how an order fared
+-- how an order ended
 abbrev pub result_of : Order → Result Unit NotDone → OrderResult
 result_of order done = record { ticket = order.ticket; ono = order.ono; done = done }
 

@@ -43,14 +43,14 @@ WritesResults ticket (one ∷ all) old new = (between : List Token) × WritesFro
 abbrev pub run_tokens : ℕ → List Token
 run_tokens run = key (codes "run") ∷ string (decimal run) ∷ []
 
--- THE ANSWER TO /values ends with the number of the run, and how the last orders fared from this ticket on.
+-- THE ANSWER TO /values ends with the number of the run, and how the last orders ended from this ticket on.
 pub record WritesValues (run ticket : ℕ) (all : List OrderResult) (tokens : List Token) : Type 0 where
   pub before : List Token
   pub between : List Token
   pub orders : WritesResults ticket all (before ++ run_tokens run ++ key (codes "told") ∷ [] ++ begin_array ∷ []) between
   pub end : tokens ≡ between ++ end_array ∷ [] ++ end_object ∷ []
 
--- THE TEXT ENDS SO: what its last tokens print, which end with the run, and how the last orders fared
+-- THE TEXT ENDS SO: what its last tokens print, which end with the run, and how the last orders ended
 pub record EndsWithResults (run ticket : ℕ) (all : List OrderResult) (text : List ℕ) : Type 0 where
   pub front : List ℕ
   pub tokens : List Token

@@ -1,5 +1,5 @@
 -- What an object shows behind an answer (*profile*).
-use Rattle.std.specs.Prelude.{ℕ, ◌==◌, ◌||◌, Bool, true, false, List, codes, Option, Some, None}
+use Rattle.std.specs.Prelude.{◌≡◌, ◌⊎◌, ℕ, ◌-◌, ◌==◌, ◌||◌, Bool, true, false, List, codes, Option, Some, None}
 use Rattle.oca_types.specs.declared.class.Class.{Class}
 use Rattle.oca_types.specs.declared.class.Class.TheVariants as class
 use Rattle.oca_model.specs.declared.reading.Reading.{Reading}
@@ -8,6 +8,7 @@ use Rattle.oca_panel.specs.declared.trouble.Trouble.TheVariants as trouble
 use Rattle.oca_web.specs.declared.object.Lock.{Lock}
 use Rattle.oca_web.specs.declared.object.Lock.TheVariants as locks
 use Rattle.oca_web.specs.declared.object.Shown.{Shown}
+use Rattle.oca_web.specs.declared.order.Order.{Order}
 
 -- WHOSE LOCK IS ON AN OBJECT THAT ANSWERED: a different controller's would have kept the answer back, so it is this
 -- panel's own where it was, and else none.
@@ -16,9 +17,24 @@ lock_behind locks.Own = locks.Own
 lock_behind locks.Free = locks.Free
 lock_behind locks.Other = locks.Free
 
--- an object that was read
-abbrev pub shown_read : Shown → Reading → Shown
-shown_read s reading = record s { reading = Some reading; trouble = None; lock = lock_behind s.lock }
+-- an object that was read, by a question that was submitted at this moment: the device had this reading behind it
+abbrev pub shown_read : Shown → Reading → (moment : ℕ) → Shown
+shown_read s reading moment =
+    record s { reading = Some reading; confirmed = moment; trouble = None; lock = lock_behind s.lock }
+
+-- THE READING STAYS as it was, and so does its moment: nothing confirmed it.
+pub record KeepsReading (old new : Shown) : Type 0 where
+  pub reading : new.reading ≡ old.reading
+  pub confirmed : new.confirmed ≡ old.confirmed
+
+-- THE MOMENT BEHIND WHICH AN ORDER WAS CARRIED OUT, where it was: its last one is at most 5,000 ms behind the moment at
+-- which its request was read, and it was submitted behind that.
+abbrev pub carried_out_behind : Order → ℕ
+carried_out_behind order = order.last - 5000
+
+-- what an object shows behind an order: the reading stays, or it is the one that was ordered, as of that moment
+abbrev pub ShowsOrder : Order → Shown → Shown → Type 0
+ShowsOrder order old new = KeepsReading old new ⊎ (new.confirmed ≡ carried_out_behind order)
 
 -- a block whose members were listed
 abbrev pub shown_listed : Shown → Shown

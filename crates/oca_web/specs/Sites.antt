@@ -24,12 +24,14 @@ abbrev pub IsSetting : Action → Type 0
 IsSetting (actions.Set value) = Unit {0}
 IsSetting actions.Lock = ⊥
 IsSetting actions.Unlock = ⊥
+IsSetting (actions.Rename label) = ⊥
 
--- the action that a path asks for
+-- the action that a path asks for; a label is given by one of many alone
 abbrev pub IsActionFor : List ℕ → Action → Type 0
 IsActionFor path (actions.Set value) = path ≡ codes "/set"
 IsActionFor path actions.Lock = path ≡ codes "/lock"
 IsActionFor path actions.Unlock = path ≡ codes "/unlock"
+IsActionFor path (actions.Rename label) = ⊥
 
 -- THE LAST MOMENT AT WHICH AN ORDER MAY BE SUBMITTED: 5,000 ms behind the moment at which its request was read, and not
 -- behind the one that the request gives. Where it gives none, and may have waited while the program stood still, it has

@@ -96,8 +96,22 @@ pub record SubmitsAll (reach : Reach) (first next ahead now : ℕ) (old : Orders
   pub above : further ≡ next_with first next new
 
 -- What followed of it only asked questions. The view's next handle is the last of these numbers.
+abbrev pub ContinuesAll : Reach → (first next ahead now : ℕ) → OrdersState → PanelState → ℕ → OrdersState → PanelState → Type 0
+ContinuesAll reach first next ahead now old before last new after = (further : ℕ) × (submitted : PanelState)
+    × SubmitsAll reach first next ahead now old before further new submitted × AsksQuestions further submitted last after
+
+-- WHERE MEMORY IS REFUSED it went on until then: not at all, or a lost link was renewed, or all of it.
+abbrev pub StopsShort : Reach → (first next ahead now : ℕ) → OrdersState → PanelState → ℕ → OrdersState → PanelState → Type 0
+StopsShort reach first next ahead now old before last new after = ((new ≡ old) × (after ≡ before))
+    ⊎ (RenewsLost reach next old before new after ⊎ ContinuesAll reach first next ahead now old before last new after)
+
 abbrev pub Continues : Reach → (first next ahead now : ℕ) → Result Unit NoMemory → OrdersState → PanelState → ℕ → OrdersState
     → PanelState → Type 0
-Continues reach first next ahead now (Ok u) old before last new after = (further : ℕ) × (submitted : PanelState)
-    × SubmitsAll reach first next ahead now old before further new submitted × AsksQuestions further submitted last after
-Continues reach first next ahead now (Err e) old before last new after = Unit {0}
+Continues reach first next ahead now (Ok u) old before last new after = ContinuesAll reach first next ahead now old before last new after
+Continues reach first next ahead now (Err e) old before last new after = StopsShort reach first next ahead now old before last new after
+
+-- the part of it behind the renewal
+abbrev pub SubmitsAndAsks : (first next ahead now : ℕ) → OrdersState → PanelState → ℕ → OrdersState → PanelState → Type 0
+SubmitsAndAsks first next ahead now old before last new after = (submitted : PanelState)
+    × SubmitsOrders ahead (with_passed now old) before new submitted × RestsBehind first next ahead new submitted
+    × AsksQuestions (next_with first next new) submitted last after

@@ -7,6 +7,7 @@ ghost use Rattle.json.specs.Token.{key, number, string};
 ghost use Rattle.oca_panel.specs.TroubleWords.{trouble_words};
 ghost use Rattle.oca_web.specs.Results.{WritesFrom, WritesResults, WritesResult, EndsTree, EndsWithResults, EndsWithRun, WritesTrouble};
 ghost use Rattle.oca_web.specs.Results.{WritesValues, run_tokens};
+ghost use Rattle.oca_web.specs.Readings.{age_of, age_tokens, ages_of, is_old};
 ghost use Rattle.oca_web.specs.Sites.{EndsWithTickets, tickets_after, tickets_tokens};
 
 use crate::admission::Terms;
@@ -221,7 +222,9 @@ fn put_tree(alloc: Global, out: &mut Writer, view: &View, terms: &Terms) -> Resu
     out.end_object()
 }
 
-/// The objects, in the order in which they were found: a block stands before its members.
+/// The answer to `/tree`: a JSON text with the walk, the device, the units of values, all objects and this run. The
+/// objects stand in the order in which they were found: a block stands before its members. `AllocError` if memory was
+/// refused.
 #[tactic(auto, using(crate::proofs::ResultLemmas::tree_text))]
 pub fn tree_json(alloc: Global, view: &View, terms: &Terms) -> Result<Vec<u8>, AllocError>
     ensures { IfOk result (λ v. EndsWithRun terms.now.run v.items) }
@@ -288,7 +291,7 @@ fn put_done(alloc: Global, out: &mut Writer, done: Result<(), NotDone>) -> Resul
     }
 }
 
-/// How an order fared.
+/// How an order ended.
 #[tactic(auto, using(crate::proofs::ResultLemmas::result_whole))]
 fn put_result(alloc: Global, out: &mut Writer, one: OrderResult) -> Result<(), AllocError>
     ensures { OnOk result (WritesResult one out.old.tokens out.new.tokens) }
@@ -301,7 +304,7 @@ fn put_result(alloc: Global, out: &mut Writer, one: OrderResult) -> Result<(), A
     out.end_object()
 }
 
-/// How an order fared, where its ticket is this one or a greater one.
+/// How an order ended, where its ticket is this one or a greater one.
 fn put_from(
     alloc: Global,
     out: &mut Writer,
@@ -316,7 +319,7 @@ fn put_from(
     put_result(alloc, out, one)
 }
 
-/// How orders fared, from this ticket on.
+/// How orders ended, from this ticket on.
 #[tactic(auto, using(crate::proofs::ResultLemmas::results_first, crate::proofs::ResultLemmas::results_none))]
 fn put_orders(
     alloc: Global,
@@ -360,21 +363,111 @@ fn put_link(out: &mut Writer, view: &View) -> Result<(), AllocError> {
     out.end_object()
 }
 
+/// The most ranges of places that a page shows.
+pub const MOST_RANGES: usize = 8;
+
+/// The most objects of a range whose readings are told as old.
+const MOST_IN_RANGE: usize = 512;
+
+/// A reading that was confirmed longer ago, in milliseconds, is told as old.
+const OLD_MS: u64 = 1000;
+
+/// A range of places.
+#[derive(Clone, Copy, Default)]
+pub struct Range {
+    /// The first place.
+    pub first: usize,
+    /// How many.
+    pub count: usize,
+}
+
+/// Whether the reading of an object is old at this moment.
+fn is_old(now: u64, object: &Object) -> bool
+    ensures { result ≡ is_old now object.now }
+{
+    object.shown.reading.is_some() && OLD_MS < now.saturating_sub(object.shown.confirmed)
+}
+
+/// How old the reading of an object is, where it is old.
+#[tactic(auto, using(crate::proofs::AgeLemmas::age_whole))]
+fn put_age(out: &mut Writer, now: u64, object: &Object) -> Result<(), AllocError>
+    ensures { OnOk result (out.new.tokens ≡ out.old.tokens ++ age_of now object.now) }
+{
+    if !is_old(now, object) {
+        return Ok(());
+    }
+    put_old(out, now, object)
+}
+
+/// The number of an object, and how many milliseconds ago its reading was confirmed.
+#[tactic(auto, using(crate::proofs::AgeLemmas::old_whole))]
+fn put_old(out: &mut Writer, now: u64, object: &Object) -> Result<(), AllocError>
+    ensures { OnOk result (out.new.tokens ≡ out.old.tokens ++ age_tokens now object.now) }
+{
+    out.begin_object()?;
+    put_number(out, "ono", u64::from(object.ono.0))?;
+    put_number(out, "age", now.saturating_sub(object.shown.confirmed))?;
+    out.end_object()
+}
+
+/// The old readings of these objects.
+#[tactic(auto, using(crate::proofs::AgeLemmas::age_rules))]
+fn put_ages(out: &mut Writer, now: u64, objects: &[Object]) -> Result<(), AllocError>
+    ensures { OnOk result (out.new.tokens ≡ out.old.tokens ++ ages_of now objects.now) }
+{
+    match objects.split_first() {
+        Some((first, rest)) => {
+            put_age(out, now, first)?;
+            put_ages(out, now, rest)
+        }
+        None => Ok(()),
+    }
+}
+
+/// The objects of a range.
+fn objects_in(objects: &[Object], range: Range) -> &[Object] {
+    let first = range.first.min(objects.len());
+    let count = range.count.min(MOST_IN_RANGE).min(objects.len() - first);
+    &objects[first..first + count]
+}
+
+/// The old readings of what a page shows.
+fn put_all_ages(
+    out: &mut Writer,
+    now: u64,
+    objects: &[Object],
+    ranges: &[Range],
+) -> Result<(), AllocError> {
+    out.key("old")?;
+    out.begin_array()?;
+    for range in ranges {
+        put_ages(out, now, objects_in(objects, *range))?;
+    }
+    out.end_array()
+}
+
 /// What an answer to /values is about, beside the view.
 #[derive(Clone, Copy)]
-pub struct Told {
+pub struct Told<'a> {
+    /// What the page shows.
+    pub ranges: &'a [Range],
     /// The number of this run of the program.
     pub run: u64,
     /// Whether no order is taken.
     pub read_only: bool,
     /// The number of the change behind which objects are told.
     pub since: u64,
-    /// The ticket from which on it is told how orders fared.
+    /// The ticket from which on it is told how orders ended.
     pub ticket: u64,
 }
 
 /// What changed, by a clock that reads so, and how the link is.
-fn put_update(alloc: Global, out: &mut Writer, view: &View, told: Told) -> Result<(), AllocError> {
+fn put_update(
+    alloc: Global,
+    out: &mut Writer,
+    view: &View,
+    told: &Told<'_>,
+) -> Result<(), AllocError> {
     let objects = view.inventory().objects();
     put_walk(out, view.inventory())?;
     put_device(alloc, out, view)?;
@@ -383,13 +476,19 @@ fn put_update(alloc: Global, out: &mut Writer, view: &View, told: Told) -> Resul
     put_number(out, "now", view.news().now)?;
     put_number(out, "change", objects.changes())?;
     put_changes(alloc, out, objects.as_slice(), told.since)?;
+    put_all_ages(out, view.news().now, objects.as_slice(), told.ranges)?;
     put_link(out, view)
 }
 
-/// The objects that changed, how the link is, and how the last orders fared.
+/// The objects that changed, how the link is, and how the last orders ended.
 #[tactic(auto, using(crate::proofs::ResultLemmas::values_whole))]
-fn put_values(alloc: Global, out: &mut Writer, view: &View, told: Told) -> Result<(), AllocError>
-    ensures { OnOk result (WritesValues told.run told.ticket view.now.orders.results out.new.tokens) }
+fn put_values(
+    alloc: Global,
+    out: &mut Writer,
+    view: &View,
+    told: &Told<'_>,
+) -> Result<(), AllocError>
+    ensures { OnOk result (WritesValues told.now.run told.now.ticket view.now.orders.results out.new.tokens) }
 {
     out.begin_object()?;
     put_update(alloc, out, view, told)?;
@@ -401,10 +500,11 @@ fn put_values(alloc: Global, out: &mut Writer, view: &View, told: Told) -> Resul
     out.end_object()
 }
 
-/// The objects that changed, how the link is, and how the last orders fared.
+/// The answer to `/values`: a JSON text with the objects that changed after the change that the page knows, how the
+/// link is, and how the last orders ended. `AllocError` if memory was refused.
 #[tactic(auto, using(crate::proofs::ResultLemmas::results_text))]
-pub fn values_json(alloc: Global, view: &View, told: Told) -> Result<Vec<u8>, AllocError>
-    ensures { IfOk result (λ v. EndsWithResults told.run told.ticket view.now.orders.results v.items) }
+pub fn values_json(alloc: Global, view: &View, told: &Told<'_>) -> Result<Vec<u8>, AllocError>
+    ensures { IfOk result (λ v. EndsWithResults told.now.run told.now.ticket view.now.orders.results v.items) }
 {
     let mut out = Writer::new(Vec::new(alloc));
     match put_values(alloc, &mut out, view, told) {
@@ -428,7 +528,8 @@ fn put_tickets(out: &mut Writer, ticket: u64, wanted: &[Wanted]) -> Result<(), A
     }
 }
 
-/// The tickets of many orders, the first of them this one.
+/// The answer to `/orders`: a JSON text with a ticket for each of these orders, from `first` on. All of them must lie
+/// below 2^64 (a premise). `AllocError` if memory was refused.
 #[tactic(auto, using(crate::proofs::TicketLemmas::tickets_text))]
 pub fn tickets_json(alloc: Global, first: u64, wanted: &[Wanted]) -> Result<Vec<u8>, AllocError>
     requires { first + length wanted.now ≤ 18446744073709551615 }

@@ -27,7 +27,7 @@ pub enum Ask {
 }
 
 impl Ask {
-    /// What is asked, which only reads.
+    /// The request that asks this; it only reads.
     pub fn request(self) -> Request
         ensures { result ≡ request_of_ask self }
     {
@@ -43,7 +43,7 @@ impl Ask {
         }
     }
 
-    /// The method by which it is asked.
+    /// The method by which this is asked.
     pub fn method(self) -> Method
         ensures { result ≡ method_of_ask self }
     {
@@ -60,8 +60,8 @@ impl Ask {
     }
 }
 
-/// The class by whose methods an object is asked: its own, or, where that is not known here, as a block, whose methods
-/// of OcaRoot are those of all classes.
+/// The class by whose methods an object is asked: its own class. For `None`, a class that is not of this profile, it is
+/// OcaBlock: the methods of OcaRoot are those of all classes.
 pub fn class_for(class: Option<Class>) -> Class
     ensures { result ≡ class_for class }
 {
@@ -89,6 +89,8 @@ pub struct Asked {
     pub handle: Handle,
     /// The question.
     pub question: Question,
+    /// When it was submitted, in milliseconds.
+    pub moment: u64,
 }
 
 impl Default for Asked {
@@ -101,6 +103,7 @@ impl Default for Asked {
                 ask: Ask::Role,
                 epoch: 0,
             },
+            moment: 0,
         }
     }
 }

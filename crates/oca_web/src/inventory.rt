@@ -1,15 +1,18 @@
 //! What is known of a device, and what is asked of it.
-ghost use Rattle.std.specs.Prelude.{◌≡◌};
-ghost use Rattle.oca_web.specs.Shows.{lock_behind, shown_listed, shown_read, tells_of_another_device};
+ghost use Rattle.std.specs.Prelude.{◌≡◌, true};
+ghost use Rattle.std.specs.Bool.{Decides};
+ghost use Rattle.std.specs.List.{filter, list_all};
+ghost use Rattle.oca_web.specs.Listing.{is_elsewhere, is_found, is_found_in, is_here, is_in, listed_as, listed_in};
+ghost use Rattle.oca_web.specs.Shows.{ShowsOrder, lock_behind, shown_listed, shown_read, tells_of_another_device};
 
 use crate::ask::{Ask, Asked, Question, class_for};
 use crate::object::{Lock, Object, Shown, reading_with};
 use crate::objects::Objects;
-use crate::order::{Action, Order};
+use crate::order::{Action, ORDER_MS, Order};
 use crate::orders::lower;
 use crate::poll::Poll;
 use arrayvec::ArrayVec;
-use oca_model::{Answer, Members, Reading};
+use oca_model::{Answer, Member, Members, Reading};
 use oca_panel::{Place, Trouble, Walk};
 use oca_types::{Class, Handle, NoMemory, Ono};
 use std::alloc::Global;
@@ -37,10 +40,15 @@ pub struct Inventory {
 
 impl Inventory {
     ghost use Rattle.std.specs.Prelude.{◌≡◌, ◌≢◌, true, false, length};
-    ghost use Rattle.oca_web.specs.Readings.{AsksAgain};
+    ghost use Rattle.std.specs.Bool.{Decides};
+    ghost use Rattle.oca_web.specs.Listing.{Compares, ComparesAt, ListsSame};
+    ghost use Rattle.oca_web.specs.Readings.{AsksAgain, ConfirmsBy, IsOfMoment, KeepsAsked, KeepsMoment};
+    ghost use Rattle.oca_web.specs.declared.ask.Ask.TheVariants as asks;
+    ghost use Rattle.std.specs.Prelude.{slice_get};
     ghost use Rattle.oca_web.specs.Walking.{BeginsAnew, KeepsWalk};
 
-    /// A device of which nothing is known: the walk is to begin at the root.
+    /// An inventory of a device of which nothing is known: the walk begins at the root. `now` is the present moment, in
+    /// milliseconds. Nothing is asked. Refusal: `NoMemory`, if memory was refused.
     pub fn new(alloc: Global, now: u64) -> Result<Inventory, NoMemory> {
         let mut inventory = Inventory {
             alloc,
@@ -57,8 +65,9 @@ impl Inventory {
         Ok(inventory)
     }
 
-    /// Forgets the objects, and begins another walk. Questions in flight stay so, since their answers are to be taken;
-    /// they are not learned. Refusal: `NoMemory`, also where no number is left for a walk.
+    /// Forgets the objects, and begins another walk. Questions in flight stay in flight, but their answers are not
+    /// learned. Refusal: `NoMemory`, if memory was refused, and the objects are then forgotten all the same. `NoMemory`
+    /// also after the walk 2^64 - 1: then nothing is changed.
     pub fn begin_anew(&mut self) -> Result<(), NoMemory>
         ensures { BeginsAnew self.old self.new }
     {
@@ -108,29 +117,30 @@ impl Inventory {
         }
     }
 
-    /// The objects.
+    /// The objects that were found so far, in the order in which they were found.
     pub fn objects(&self) -> &Objects {
         &self.objects
     }
 
-    /// The number of the walk, from 1.
+    /// The number of the present walk, from 1 on.
     pub fn epoch(&self) -> u64 {
         self.epoch
     }
 
-    /// Whether the walk is over.
+    /// Whether the walk is over: all that was to be asked of it was asked and answered.
     pub fn is_walked(&self) -> bool
         ensures { result ≡ self.now.walked }
     {
         self.walked
     }
 
-    /// Whether what was found does not fit what the device answers by now, so that another walk is to begin.
+    /// Whether an answer showed that the device has other objects than were found, so that another walk must begin.
+    /// `false` again after [`begin_anew`](Inventory::begin_anew).
     pub fn is_stale(&self) -> bool {
         self.is_stale
     }
 
-    /// How many questions are in flight.
+    /// How many questions are in flight: 0 to 32.
     pub fn in_flight(&self) -> usize
         ensures { result ≡ length self.now.asked.items }
     {
@@ -175,7 +185,9 @@ impl Inventory {
     }
 
     /// The question in flight at this place.
-    pub(crate) fn asked_at(&self, at: usize) -> Option<Asked> {
+    pub(crate) fn asked_at(&self, at: usize) -> Option<Asked>
+        ensures { result ≡ slice_get self.now.asked.items at }
+    {
         self.asked.as_slice().get(at).copied()
     }
 
@@ -189,16 +201,21 @@ impl Inventory {
 
     /// The question in flight at this place was answered.
     pub(crate) fn settle(&mut self, at: usize)
-        ensures { KeepsWalk self.old self.new }
+        ensures { self.new ≡ record self.old { asked = self.new.asked } }
     {
         let _ = self.asked.pop_at(at);
     }
 
-    /// A question is in flight under this handle.
-    pub(crate) fn note_asked(&mut self, handle: Handle, question: Question)
-        ensures { KeepsWalk self.old self.new }
+    /// A question is in flight under this handle, which was submitted at this moment or later.
+    pub(crate) fn note_asked(&mut self, handle: Handle, question: Question, moment: u64)
+        ensures walk { KeepsWalk self.old self.new }
+        ensures kept { KeepsAsked handle question moment self.old.asked.items self.new.asked.items }
     {
-        let _ = self.asked.try_push(Asked { handle, question });
+        let _ = self.asked.try_push(Asked {
+            handle,
+            question,
+            moment,
+        });
     }
 
     /// No question is in flight: the link is another one.
@@ -240,7 +257,10 @@ impl Inventory {
         self.read_again(now)
     }
 
-    /// What is read again now: of an object whose pause is over, where a page is open, and else nothing.
+    /// The question that is to be asked now (`now` is in milliseconds), so that what is known of an object stays new.
+    /// Its object counts as read again at `now`. An object is due 5,000 ms after it was read again last; one that a
+    /// page shows, after 100 ms, and a block that a page shows, after 1,000 ms. `None` if no page is open, or nothing
+    /// is due in this round.
     pub fn read_again(&mut self, now: u64) -> Option<Question>
         ensures reads { AsksAgain now result self.old self.new }
         ensures walk { KeepsWalk self.old self.new }
@@ -261,34 +281,43 @@ impl Inventory {
         }
     }
 
-    /// Learns what the answer to a question says. One of an earlier walk says nothing.
+    /// Learns the answer to a question that was submitted at `moment`, in milliseconds, or later. The answer to a
+    /// question of an earlier walk changes nothing. Refusal: `NoMemory`, if memory was refused: what is known may then
+    /// lack something.
+    #[tactic(auto, using(crate::proofs::AgeLemmas::moment_rules))]
     pub fn learn(
         &mut self,
         question: Question,
+        moment: u64,
         answer: Result<Answer, Trouble>,
     ) -> Result<(), NoMemory>
         ensures walk { KeepsWalk self.old self.new }
         ensures earlier { question.epoch ≢ self.old.epoch → self.new ≡ self.old }
+        ensures moment { question.ask ≡ asks.Value → ConfirmsBy question.place moment self.old self.new }
     {
         if question.epoch != self.epoch {
             return Ok(());
         }
-        match answer {
-            Ok(Answer::Members(members)) => self.learn_members(question.place, &members),
-            Ok(answer) => {
-                self.learn_fact(question.place, question.ask, answer);
+        match (question.ask, answer) {
+            (Ask::Members, Ok(Answer::Members(members))) => {
+                self.learn_members(question.place, &members)
+            }
+            (ask, Ok(answer)) => {
+                self.learn_fact(question.place, ask, moment, answer);
                 Ok(())
             }
-            Err(trouble) => {
-                self.learn_trouble(question.place, question.ask, trouble);
+            (ask, Err(trouble)) => {
+                self.learn_trouble(question.place, ask, trouble);
                 Ok(())
             }
         }
     }
 
     /// Learns what an answer says of an object.
-    fn learn_fact(&mut self, place: usize, ask: Ask, answer: Answer)
-        ensures { KeepsWalk self.old self.new }
+    #[tactic(auto, using(crate::proofs::AgeLemmas::moment_rules))]
+    fn learn_fact(&mut self, place: usize, ask: Ask, moment: u64, answer: Answer)
+        ensures walk { KeepsWalk self.old self.new }
+        ensures moment { ask ≡ asks.Value → ConfirmsBy place moment self.old self.new }
     {
         match (ask, answer) {
             (Ask::Role, Answer::Text(role)) => self.objects.put_role(place, role),
@@ -297,7 +326,7 @@ impl Inventory {
             (Ask::Names, Answer::Names(names)) => self.objects.put_names(place, names),
             (Ask::Flags, Answer::Flags(flags)) => self.objects.put_flags(place, flags),
             (Ask::Enabled, Answer::Truth(enabled)) => self.show_enabled(place, enabled),
-            (Ask::Value, Answer::Reading(reading)) => self.show_reading(place, reading),
+            (Ask::Value, Answer::Reading(reading)) => self.show_reading(place, reading, moment),
             _ => {}
         }
     }
@@ -311,19 +340,21 @@ impl Inventory {
         }
     }
 
-    /// An object was read: no different controller locks it.
-    fn show_reading(&mut self, place: usize, reading: Reading)
-        ensures { KeepsWalk self.old self.new }
+    /// An object was read by a question that was submitted at this moment or later: no different controller locks it.
+    fn show_reading(&mut self, place: usize, reading: Reading, moment: u64)
+        ensures walk { KeepsWalk self.old self.new }
+        ensures moment { IsOfMoment place moment self.new }
     {
         if let Some(shown) = self.objects.shown(place) {
-            self.objects.show(place, shown_read(shown, reading));
+            self.objects.show(place, shown_read(shown, reading, moment));
         }
     }
 
     /// Learns why something was not answered: an object that a different controller locks, a block whose members can't
     /// be listed, or a device whose objects are others by now.
     fn learn_trouble(&mut self, place: usize, ask: Ask, trouble: Trouble)
-        ensures { KeepsWalk self.old self.new }
+        ensures walk { KeepsWalk self.old self.new }
+        ensures moment { KeepsMoment place self.old self.new }
     {
         if self.walked && is_of_another_device(trouble) {
             self.is_stale = true;
@@ -341,17 +372,17 @@ impl Inventory {
         }
     }
 
-    /// Learns the members of a block: in a walk they are visited, else they are those that are known.
+    /// Learns the members of a block: in a walk they are visited, else they are compared with what was found.
     fn learn_members(&mut self, place: usize, members: &Members) -> Result<(), NoMemory>
-        ensures { KeepsWalk self.old self.new }
+        ensures walk { KeepsWalk self.old self.new }
+        ensures compares { self.old.walked ≡ true → ComparesAt place members.now.items self.old self.new }
     {
         let Some(object) = self.objects.as_slice().get(place) else {
             return Ok(());
         };
         let container = object.ono;
         if self.walked {
-            self.is_stale = self.is_stale || !self.lists(container, members);
-            self.show_listed(place);
+            self.compare_members(place, container, members);
             return Ok(());
         }
         self.walk
@@ -362,38 +393,42 @@ impl Inventory {
         Ok(())
     }
 
+    /// A block was listed behind a walk: where it lists something else than what was found in it, another walk is to begin.
+    #[tactic(auto, using(crate::proofs::ListingLemmas::compare_rules))]
+    fn compare_members(&mut self, place: usize, block: Ono, members: &Members)
+        ensures walk { KeepsWalk self.old self.new }
+        ensures compares { Compares block.0 members.now.items self.old self.new }
+    {
+        if !self.lists(block, members) {
+            self.is_stale = true;
+        }
+        self.show_listed(place);
+    }
+
     /// The members of a block were listed: there is no trouble, and no different controller locks it.
     fn show_listed(&mut self, place: usize)
-        ensures { KeepsWalk self.old self.new }
+        ensures walk { KeepsWalk self.old self.new }
+        ensures stale { self.new.is_stale ≡ self.old.is_stale }
     {
         if let Some(shown) = self.objects.shown(place) {
             self.objects.show(place, shown_listed(shown));
         }
     }
 
-    /// Whether these are the members of a block that are known, with their classes, but for those that stand in another one
-    /// too.
-    fn lists(&self, container: Ono, members: &Members) -> bool {
-        let mut known = self
-            .objects
-            .as_slice()
-            .iter()
-            .filter(|object| object.container.0 == container.0);
-        for member in members.as_slice() {
-            match known.next() {
-                Some(object) => {
-                    if object.ono.0 != member.ono.0 || object.class != member.class {
-                        return false;
-                    }
-                }
-                None => return self.objects.place_of(member.ono).is_some(),
-            }
-        }
-        known.next().is_none()
+    /// Whether a block lists what was found in it: its members, but for those that were found in other blocks alone, are
+    /// the objects that were found in this one, in their order, with their classes.
+    #[tactic(auto, using(crate::proofs::ListingLemmas::all_here))]
+    fn lists(&self, block: Ono, members: &Members) -> bool
+        ensures { Decides result (ListsSame block.0 self.now.objects.list members.now.items) }
+    {
+        let objects = self.objects.as_slice();
+        lists_left(objects, objects, block, members.as_slice())
     }
 
-    /// Learns how an order fared: whose lock is on its object, and what it is set to, which is asked anew. What was
-    /// asked before is not learned, since its answer may be older than the order.
+    /// Learns how an order ended: whose lock is on its object, and what the object is set to. The object's value, if it
+    /// has one, or its label after an order for that, is asked again. An answer to the same question that is still in
+    /// flight is not learned, since it may be older than the order. An order for an object that is not known changes
+    /// nothing. Refusal: `NoMemory`, if memory was refused: the object may then not be asked again.
     pub fn learn_order(&mut self, order: Order, done: Result<(), Trouble>) -> Result<(), NoMemory>
         ensures { KeepsWalk self.old self.new }
     {
@@ -403,37 +438,94 @@ impl Inventory {
         let Some(shown) = self.objects.shown(place) else {
             return Ok(());
         };
-        let lock = lock_after(order.action, done, shown.lock);
-        let reading = reading_after(order.action, done, shown.reading);
-        self.objects.show(
-            place,
-            Shown {
-                lock,
-                reading,
-                ..shown
-            },
-        );
-        forget_values(self.asked.as_mut_slice(), place);
-        self.ask_first(place)
+        self.objects.show(place, shown_ordered(shown, order, done));
+        let ask = asked_behind(order.action);
+        forget(self.asked.as_mut_slice(), place, ask);
+        self.ask_first(place, ask)
     }
 
-    /// The value of an object is asked before all that waits.
-    fn ask_first(&mut self, place: usize) -> Result<(), NoMemory>
+    /// The label of an object, or its value, where it has one, is asked before all that waits.
+    fn ask_first(&mut self, place: usize, ask: Ask) -> Result<(), NoMemory>
         ensures { KeepsWalk self.old self.new }
     {
         let Some(object) = self.objects.as_slice().get(place) else {
             return Ok(());
         };
-        if matches!(object.class, None | Some(Class::Block)) {
+        if ask == Ask::Value && matches!(object.class, None | Some(Class::Block)) {
             return Ok(());
         }
-        let question = Question {
-            place,
-            ask: Ask::Value,
-            epoch: self.epoch,
-        };
-        self.ask_again(question)
+        let epoch = self.epoch;
+        self.ask_again(Question { place, ask, epoch })
     }
+}
+
+/// Whether a member that was listed is this object: it has its number and its class.
+fn is_member(object: &Object, member: &Member) -> bool
+    ensures { Decides result (listed_as object.now ≡ member.now) }
+{
+    object.ono.0 == member.ono.0 && object.class == member.class
+}
+
+/// Whether an object was found in this block.
+fn is_in(object: &Object, block: Ono) -> bool
+    ensures { result ≡ is_in block.0 object.now }
+{
+    object.container.0 == block.0
+}
+
+/// Whether an object with this number was found.
+fn is_found(objects: &[Object], ono: Ono) -> bool
+    ensures { result ≡ is_found ono.0 objects.now }
+{
+    objects.iter().any(|object| object.ono.0 == ono.0)
+}
+
+/// Whether an object with this number was found in this block.
+fn is_found_in(objects: &[Object], block: Ono, ono: Ono) -> bool
+    ensures { result ≡ is_found_in block.0 ono.0 objects.now }
+{
+    objects.iter().any(|object| object.container.0 == block.0 && object.ono.0 == ono.0)
+}
+
+/// Whether an object with this number was found, but not in this block.
+fn is_elsewhere(objects: &[Object], block: Ono, ono: Ono) -> bool
+    ensures { result ≡ is_elsewhere block.0 objects.now ono.0 }
+{
+    is_found(objects, ono) && !is_found_in(objects, block, ono)
+}
+
+/// Whether all of these members were found, but not in this block.
+fn are_elsewhere(objects: &[Object], block: Ono, members: &[Member]) -> bool
+    ensures { result ≡ list_all (λ m. is_elsewhere block.0 objects.now m.ono.0) members.now }
+{
+    members
+        .iter()
+        .all(|member| is_elsewhere(objects, block, member.ono))
+}
+
+/// Whether these members, but for those that were found in other blocks alone, are those of the objects left that were
+/// found in this one.
+#[tactic(auto, using(crate::proofs::ListingLemmas::listing_rules))]
+fn lists_left(objects: &[Object], left: &[Object], block: Ono, members: &[Member]) -> bool
+    requires { list_all (is_here block.0 objects.now) (listed_in block.0 left.now) ≡ true }
+    ensures { Decides result (listed_in block.0 left.now ≡ filter (is_here block.0 objects.now) members.now) }
+{
+    let Some((object, behind)) = left.split_first() else {
+        return are_elsewhere(objects, block, members);
+    };
+    if !is_in(object, block) {
+        return lists_left(objects, behind, block, members);
+    }
+    let Some((member, others)) = members.split_first() else {
+        return false;
+    };
+    if is_member(object, member) {
+        return lists_left(objects, behind, block, others);
+    }
+    if is_elsewhere(objects, block, member.ono) {
+        return lists_left(objects, left, block, others);
+    }
+    false
 }
 
 /// The numbers of members.
@@ -486,7 +578,7 @@ fn is_of_another_device(trouble: Trouble) -> bool
     )
 }
 
-/// Whose lock is on an object behind an order that fared so.
+/// Whose lock is on an object behind an order that ended so.
 fn lock_after(action: Action, done: Result<(), Trouble>, before: Lock) -> Lock {
     match (action, done) {
         (Action::Lock, Ok(())) => Lock::Own,
@@ -496,22 +588,35 @@ fn lock_after(action: Action, done: Result<(), Trouble>, before: Lock) -> Lock {
     }
 }
 
-/// What an object is set to behind an order that fared so: where it was carried out, what was ordered.
-fn reading_after(
-    action: Action,
-    done: Result<(), Trouble>,
-    before: Option<Reading>,
-) -> Option<Reading> {
-    match (action, done, before) {
-        (Action::Set(value), Ok(()), Some(reading)) => Some(reading_with(reading, value)),
-        _ => before,
+/// What an object shows behind an order that ended so: where it was carried out, what was ordered, as of the moment behind
+/// which that was.
+fn shown_ordered(shown: Shown, order: Order, done: Result<(), Trouble>) -> Shown
+    ensures { ShowsOrder order shown result }
+{
+    let lock = lock_after(order.action, done, shown.lock);
+    match (order.action, done, shown.reading) {
+        (Action::Set(value), Ok(()), Some(reading)) => Shown {
+            reading: Some(reading_with(reading, value)),
+            confirmed: order.last.saturating_sub(ORDER_MS),
+            lock,
+            ..shown
+        },
+        _ => Shown { lock, ..shown },
     }
 }
 
-/// The answers to questions in flight for the value of the object at this place are not learned: they are of no walk.
-fn forget_values(asked: &mut [Asked], place: usize) {
+/// What is asked again of an object behind an order: what the order changes.
+fn asked_behind(action: Action) -> Ask {
+    match action {
+        Action::Rename(_) => Ask::Label,
+        Action::Set(_) | Action::Lock | Action::Unlock => Ask::Value,
+    }
+}
+
+/// The answers to such questions in flight about the object at this place are not learned: they are of no walk.
+fn forget(asked: &mut [Asked], place: usize, ask: Ask) {
     for one in asked.iter_mut() {
-        if one.question.place == place && one.question.ask == Ask::Value {
+        if one.question.place == place && one.question.ask == ask {
             one.question.epoch = 0;
         }
     }
@@ -527,12 +632,14 @@ fn lock_behind(lock: Lock) -> Lock
     }
 }
 
-/// What an object shows once it was read: this reading, no trouble, and no lock of a different controller.
-fn shown_read(shown: Shown, reading: Reading) -> Shown
-    ensures { result ≡ shown_read shown reading }
+/// What an object shows once it was read, by a question that was submitted at this moment or later: this reading, no
+/// trouble, and no lock of a different controller.
+fn shown_read(shown: Shown, reading: Reading, moment: u64) -> Shown
+    ensures { result ≡ shown_read shown reading moment }
 {
     Shown {
         reading: Some(reading),
+        confirmed: moment,
         trouble: None,
         lock: lock_behind(shown.lock),
         ..shown

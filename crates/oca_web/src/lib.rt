@@ -12,6 +12,7 @@ mod answers;
 mod ask;
 mod asking;
 mod inventory;
+mod label;
 mod many;
 mod object;
 mod objects;
@@ -26,6 +27,7 @@ mod view;
 
 pub use admission::{Key, Name, Terms};
 pub use inventory::Inventory;
+pub use label::Label;
 pub use object::{Lock, Object, Shown, is_class_name};
 pub use objects::Objects;
 pub use order::{Action, MOST_RESULTS, MOST_WAITING, NotDone, Order, OrderResult, Sent, Wanted};

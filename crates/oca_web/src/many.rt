@@ -2,8 +2,9 @@
 ghost use Rattle.std.specs.Prelude.{◌≡◌, ◌≢◌, ◌++◌, ◌∷◌, [], IfErr, IfOk, OnOk};
 ghost use Rattle.serde_json.specs.View.{items_view, view};
 ghost use Rattle.oca_web.specs.Bodies.{AreOrdersIn, AreOrdersOf, AreWanted, IsActionIn, IsSetTo};
-ghost use Rattle.oca_web.specs.Bodies.{IsWanted, NamesThis, PutsOne, PutsWanted};
+ghost use Rattle.oca_web.specs.Bodies.{IsRenaming, IsWanted, NamesThis, PutsOne, PutsWanted};
 
+use crate::label::Label;
 use crate::order::{Action, Wanted};
 use crate::site::{last_in, ono_in};
 use crate::view::{NoOrder, View};
@@ -32,7 +33,13 @@ fn whole(status: StatusCode) -> Refusal
     Refusal { status, at: None }
 }
 
-/// The orders that a body says, and the last moment at which they may be submitted. The body names this run of the program.
+/// Reads the orders of a body in JSON, 1 to 64 of them, and the last moment at which they may be submitted, in
+/// milliseconds; `None` if the body gives no moment. Nothing is ordered.
+///
+/// A refusal has the status to answer with, and the index of the order that is the reason, if one is. The status is 400
+/// if the body is not JSON of this form, or names no run of the program. It is 409 if the body names another run than
+/// `run`. It is 404 if an order's object is not known. It is 422 if an order's word is no value of its object, or its
+/// label is too long or has a control character. It is 503 if memory was refused for the orders.
 pub fn orders_in(
     alloc: Global,
     known: &View,
@@ -163,7 +170,7 @@ fn wanted_in(known: &View, order: &Value) -> Result<Wanted, StatusCode>
     }
 }
 
-/// What an order of a body says: the value to which its object is set, or that it is locked or unlocked.
+/// What an order of a body says: the value to which its object is set, its label, or that it is locked or unlocked.
 fn action_in(known: &View, ono: Ono, order: &Value) -> Result<Action, StatusCode>
     ensures ok { IfOk result (λ action. IsActionIn (view order.now) action) }
     ensures refused { IfErr result (λ status. status ≢ 202) }
@@ -171,7 +178,21 @@ fn action_in(known: &View, ono: Ono, order: &Value) -> Result<Action, StatusCode
     if let Some(word) = order.get("set").and_then(Value::as_str) {
         return setting_of(known, ono, word);
     }
+    if let Some(text) = order.get("label").and_then(Value::as_str) {
+        return naming_of(text);
+    }
     locking_in(order)
+}
+
+/// The label that an object is given by this text.
+fn naming_of(text: &str) -> Result<Action, StatusCode>
+    ensures ok { IfOk result (IsRenaming text.now) }
+    ensures refused { IfErr result (λ status. status ≢ 202) }
+{
+    match Label::new(text) {
+        Some(label) => Ok(Action::Rename(label)),
+        None => Err(StatusCode::UNPROCESSABLE_ENTITY),
+    }
 }
 
 /// What an object is set to by this word.

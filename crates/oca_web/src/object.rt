@@ -19,7 +19,7 @@ pub enum Lock {
 }
 
 impl Lock {
-    /// Its name.
+    /// The lock's name, as the page is told it: `free`, `own` or `other`.
     pub fn name(self) -> &'static str {
         match self {
             Lock::Free => "free",
@@ -34,6 +34,8 @@ impl Lock {
 pub struct Shown {
     /// What it is set to, with its limits; none before it was read.
     pub reading: Option<Reading>,
+    /// A moment behind which the device had this reading, in milliseconds; 0 before it was read.
+    pub confirmed: u64,
     /// Why it could not be read, or a block's members be listed.
     pub trouble: Option<Trouble>,
     /// Whose lock is on it.
@@ -43,14 +45,23 @@ pub struct Shown {
 }
 
 impl Shown {
-    /// That of an object of which nothing was read yet.
+    /// What is shown of an object of which nothing was read yet: no reading, no trouble, no lock, and enabled.
     pub fn unread() -> Shown {
         Shown {
             reading: None,
+            confirmed: 0,
             trouble: None,
             lock: Lock::Free,
             enabled: true,
         }
+    }
+
+    /// Whether another one is shown otherwise: the moment of its reading is not shown as such.
+    pub(crate) fn differs(&self, other: &Shown) -> bool {
+        self.reading != other.reading
+            || self.trouble != other.trouble
+            || self.lock != other.lock
+            || self.enabled != other.enabled
     }
 }
 
@@ -84,7 +95,8 @@ pub struct Object {
 }
 
 impl Object {
-    /// An object of which only its number, its container and its class are known.
+    /// An object of which only its number, its container and its class are known. `None` is a class that is not of this
+    /// profile.
     pub fn new(ono: Ono, container: Ono, class: Option<Class>) -> Object {
         Object {
             ono,
@@ -103,7 +115,7 @@ impl Object {
     }
 }
 
-/// The least and the greatest of a reading, where it has them.
+/// The least and the greatest value of a reading. `None` for a mute, a polarity and a Boolean, which have no limits.
 pub fn limits_of(reading: Reading) -> Option<(Value, Value)> {
     match reading {
         Reading::Mute(_) | Reading::Polarity(_) | Reading::Boolean(_) => None,
@@ -119,8 +131,8 @@ pub fn limits_of(reading: Reading) -> Option<(Value, Value)> {
     }
 }
 
-/// What a reading says once the object is set to this value: the value, with the same limits. A value of another class
-/// changes nothing.
+/// The reading of an object after it is set to this value: the value, with the same limits. If the value is of another
+/// class, the reading stays as it was.
 pub fn reading_with(reading: Reading, value: Value) -> Reading
     ensures { (value_without_limits result ≡ value) ⊎ (result ≡ reading) }
 {
@@ -141,12 +153,13 @@ pub fn reading_with(reading: Reading, value: Value) -> Reading
     }
 }
 
-/// The word for what a reading says.
+/// The word for the value of a reading: 1 to 20 bytes, such as `muted`, `on` or `-60`.
 pub fn word_in(reading: Reading) -> Text {
     word_of(reading.value())
 }
 
-/// The name of a class.
+/// The name of a class, as the page is told it, such as `mute`. `unknown` for `None`, a class that is not of this
+/// profile.
 pub fn class_name(class: Option<Class>) -> &'static str
     ensures { result.now ≡ name_of_class class }
 {
@@ -168,7 +181,7 @@ pub fn class_name(class: Option<Class>) -> &'static str
     }
 }
 
-/// Whether this is the name of a class of this profile, as the page is told it.
+/// Whether this is the name of a class of this profile, as [`class_name`] gives it; `unknown` is none.
 pub fn is_class_name(name: &str) -> bool {
     matches!(
         name,

@@ -29,9 +29,11 @@ impl Model for Objects {
 impl Objects {
     ghost use Rattle.std.specs.Prelude.{◌≡◌, [], IfOk};
     ghost use Rattle.oca_net.specs.Ends.{one_more};
-    ghost use Rattle.oca_web.specs.Objects.{AddsObject, AsksAt, Changes};
+    ghost use Rattle.oca_web.specs.Objects.{AddsObject, AsksAt, Changes, ShowsAt};
+    ghost use Rattle.std.specs.Prelude.{slice_get};
+    ghost use Rattle.std.specs.Option.{option_map};
 
-    /// None, and no change.
+    /// A list without objects, and without a change. It takes no memory yet.
     pub fn new(alloc: Global) -> Objects
         ensures { result ≡ record { list = []; changes = 0 } }
     {
@@ -41,7 +43,7 @@ impl Objects {
         }
     }
 
-    /// Forgets the objects, which is a change.
+    /// Removes all objects, which counts as one change.
     pub fn clear(&mut self)
         ensures { self.new ≡ record { list = []; changes = one_more self.old.changes } }
     {
@@ -49,21 +51,22 @@ impl Objects {
         self.changes = self.changes.saturating_add(1);
     }
 
-    /// The objects.
+    /// The objects, in the order in which they were found.
     pub fn as_slice(&self) -> &[Object]
         ensures { result.now ≡ self.now.list }
     {
         self.list.as_slice()
     }
 
-    /// The number of the last change.
+    /// The number of the last change; 0 before the first. Each change counts one up, to 2^64 - 1 at most.
     pub fn changes(&self) -> u64
         ensures { result ≡ self.now.changes }
     {
         self.changes
     }
 
-    /// Adds an object behind all others, which is a change. Refusal: `NoMemory`.
+    /// Adds an object at the end, which counts as a change. Refusal: `NoMemory`, if memory was refused: then the object
+    /// is not added, but the change is counted.
     pub fn add(&mut self, mut object: Object) -> Result<(), NoMemory>
         ensures ok { IfOk result (λ u. AddsObject self.old self.new) }
     {
@@ -75,7 +78,8 @@ impl Objects {
         }
     }
 
-    /// The object at this place has this role.
+    /// Gives the object at this place its role. It counts as a change. `place` is counted from 0; a place after the
+    /// last object changes nothing.
     pub fn put_role(&mut self, place: usize, role: Text)
         ensures { Changes place self.old self.new }
     {
@@ -87,7 +91,8 @@ impl Objects {
         self.list[place].changed = self.changes;
     }
 
-    /// The object at this place has this label.
+    /// Gives the object at this place its label. It counts as a change, unless it is the same as before. `place` is
+    /// counted from 0; a place after the last object changes nothing.
     pub fn put_label(&mut self, place: usize, label: Text)
         ensures { Changes place self.old self.new }
     {
@@ -99,7 +104,8 @@ impl Objects {
         self.list[place].changed = self.changes;
     }
 
-    /// The object at this place can be locked, or not.
+    /// Notes whether the object at this place can be locked. It counts as a change. `place` is counted from 0; a place
+    /// after the last object changes nothing.
     pub fn put_lockable(&mut self, place: usize, lockable: bool)
         ensures { Changes place self.old self.new }
     {
@@ -111,7 +117,8 @@ impl Objects {
         self.list[place].changed = self.changes;
     }
 
-    /// The positions of the switch at this place have these names.
+    /// Gives the positions of the switch at this place their names. It counts as a change. `place` is counted from 0; a
+    /// place after the last object changes nothing.
     pub fn put_names(&mut self, place: usize, names: Names)
         ensures { Changes place self.old self.new }
     {
@@ -123,7 +130,8 @@ impl Objects {
         self.list[place].changed = self.changes;
     }
 
-    /// These positions of the switch at this place are enabled.
+    /// Notes which positions of the switch at this place are enabled. It counts as a change, unless it is the same as
+    /// before. `place` is counted from 0; a place after the last object changes nothing.
     pub fn put_flags(&mut self, place: usize, flags: Flags)
         ensures { Changes place self.old self.new }
     {
@@ -135,19 +143,26 @@ impl Objects {
         self.list[place].changed = self.changes;
     }
 
-    /// What changes of the object at this place; nothing where none stands there.
-    pub fn shown(&self, place: usize) -> Option<Shown> {
+    /// What is shown of the object at this place, which is counted from 0. `None` after the last object.
+    pub fn shown(&self, place: usize) -> Option<Shown>
+        ensures { result ≡ option_map (λ o. o.shown) (slice_get self.now.list place) }
+    {
         match self.list.as_slice().get(place) {
             Some(object) => Some(object.shown),
             None => None,
         }
     }
 
-    /// The object at this place shows this from now on.
+    /// Replaces what is shown of the object at this place. It counts as a change, unless it is the same as before but
+    /// for the moment of its reading. `place` is counted from 0; a place after the last object changes nothing.
     pub fn show(&mut self, place: usize, shown: Shown)
-        ensures { Changes place self.old self.new }
+        ensures { ShowsAt place shown self.old self.new }
     {
-        if place >= self.list.len() || self.list[place].shown == shown {
+        if place >= self.list.len() {
+            return;
+        }
+        if !self.list[place].shown.differs(&shown) {
+            self.list[place].shown.confirmed = shown.confirmed;
             return;
         }
         self.changes = self.changes.saturating_add(1);
@@ -166,7 +181,7 @@ impl Objects {
         self.list[place].readings = self.list[place].readings.wrapping_add(1);
     }
 
-    /// Where the object with this number stands.
+    /// The place of the first object with this number, counted from 0. `None` if no object has it.
     pub fn place_of(&self, ono: Ono) -> Option<usize> {
         self.list
             .as_slice()
@@ -175,7 +190,8 @@ impl Objects {
     }
 }
 
-/// Where the objects stand that changed after the change with this number, in their order. Refusal: `NoMemory`.
+/// The places of the objects that changed after the change with the number `since`, in order, counted from 0. Refusal:
+/// `NoMemory`, if memory was refused.
 pub fn places_since(alloc: Global, objects: &[Object], since: u64) -> Result<Vec<usize>, NoMemory>
     ensures { IfOk result (λ v. v.items ≡ places_since since 0 objects.now) }
 {

@@ -1,7 +1,8 @@
-//! An order: what a page wants done with an object, and how it fared.
+//! An order: what a page wants done with an object, and how it ended.
 ghost use Rattle.std.specs.Prelude.{◌≡◌};
-ghost use Rattle.oca_web.specs.Orders.{class_asked, request_asked};
+ghost use Rattle.oca_web.specs.Orders.{AsksOrdered, class_asked};
 
+use crate::label::Label;
 use oca_model::{Request, Value};
 use oca_panel::Trouble;
 use oca_types::{Class, Handle, Ono};
@@ -12,8 +13,11 @@ pub const MOST_WAITING: usize = 256;
 /// The most orders that are in flight: as many as a span has handles.
 pub const MOST_IN_FLIGHT: usize = 32;
 
-/// The most orders of which it is kept how they fared.
+/// The most orders of which it is kept how they ended.
 pub const MOST_RESULTS: usize = 512;
+
+/// An order may be submitted for so many milliseconds behind the moment at which its request was read.
+pub const ORDER_MS: u64 = 5000;
 
 /// What a page wants done with an object.
 #[derive(Clone, Copy, PartialEq, Eq)]
@@ -24,27 +28,30 @@ pub enum Action {
     Lock,
     /// That this panel's lock is taken off.
     Unlock,
+    /// That it has this label.
+    Rename(Label),
 }
 
 impl Action {
-    /// The class by whose methods it is asked.
+    /// The class by whose methods this is asked: that of the value, or OcaBlock for a lock and a label.
     pub fn class(self) -> Class
         ensures { result ≡ class_asked self }
     {
         match self {
             Action::Set(value) => value.class(),
-            Action::Lock | Action::Unlock => Class::Block,
+            Action::Lock | Action::Unlock | Action::Rename(_) => Class::Block,
         }
     }
 
-    /// What is asked.
+    /// The request that asks for this.
     pub fn request(self) -> Request
-        ensures { result ≡ request_asked self }
+        ensures { AsksOrdered self result }
     {
         match self {
             Action::Set(value) => Request::Set(value),
             Action::Lock => Request::LockTotal,
             Action::Unlock => Request::Unlock,
+            Action::Rename(label) => Request::SetLabel(label.text()),
         }
     }
 }
@@ -111,7 +118,7 @@ pub enum NotDone {
     TooLate,
 }
 
-/// How an order fared.
+/// How an order ended.
 #[derive(Clone, Copy, PartialEq, Eq)]
 pub struct OrderResult {
     /// The number by which the page knows it.

@@ -1,4 +1,4 @@
-//! The orders of the pages: those that wait, those in flight, and how the last ones fared.
+//! The orders of the pages: those that wait, those in flight, and how the last ones ended.
 ghost use Rattle.std.specs.Prelude.{◌≡◌, ◌<◌, length, nat_lt, IfSome};
 ghost use Rattle.std.specs.List.{position};
 ghost use Rattle.oca_web.specs.Orders.{above_all, by_ticket, not_done};
@@ -12,7 +12,7 @@ use oca_panel::Trouble;
 use oca_types::{Handle, Ono};
 use std::marker::Model;
 
-/// The orders of the pages: those that wait, those in flight, and how the last ones fared. It takes no memory.
+/// The orders of the pages: those that wait, those in flight, and how the last ones ended. It takes no memory.
 #[derive(Drop)]
 pub struct Orders {
     waiting: ArrayVec<Order, MOST_WAITING>,
@@ -41,7 +41,7 @@ impl Orders {
     ghost use Rattle.oca_web.specs.Orders.{result_of, has_waiting, not_done, with_all, with_lost, with_order, with_passed, with_result};
     ghost use Rattle.oca_web.specs.Orders.{with_unsent, without_waiting};
 
-    /// No orders.
+    /// No orders, and no ticket used.
     pub fn new() -> Orders
         ensures { result ≡ no_orders }
     {
@@ -53,15 +53,16 @@ impl Orders {
         }
     }
 
-    /// The ticket of the next order.
+    /// The ticket that the next order gets, from 1 on.
     pub fn next_ticket(&self) -> u64
         ensures { result ≡ one_more self.now.tickets }
     {
         self.tickets.saturating_add(1)
     }
 
-    /// Adds an order behind all others, which must not be submitted after this moment, and returns its ticket. `None`
-    /// where 256 wait, which changes nothing.
+    /// Adds an order after all others and returns its ticket. `last` is the moment, in milliseconds, after which it
+    /// must not be submitted. `None` if 256 orders wait already, or no ticket is left below 2^64: then nothing is
+    /// changed.
     pub fn add(&mut self, ono: Ono, action: Action, last: u64) -> Option<u64>
         ensures { AddsTicket ono action last self.old result self.new }
     {
@@ -79,7 +80,7 @@ impl Orders {
         Some(ticket)
     }
 
-    /// Whether there is room for so many orders more, and a ticket for each.
+    /// Whether so many more orders can be added: at most 256 would then wait, and each gets a ticket, below 2^64 - 1.
     pub fn has_room(&self, count: usize) -> bool
         ensures { result ≡ has_room_for count self.now }
     {
@@ -87,9 +88,9 @@ impl Orders {
             && (count as u64) < u64::MAX - self.tickets
     }
 
-    /// Adds many orders behind all others, in their order, which must not be submitted after this moment, and returns the
-    /// ticket of the first; the others have those that follow. `None` where 256 would wait before the last of them, or no
-    /// ticket would be left for it: this changes nothing.
+    /// Adds many orders after all others, in their order, and returns the ticket of the first; the others have the
+    /// tickets after it. `last` is the moment, in milliseconds, after which they must not be submitted. `None` if there
+    /// is no room for all of them ([`has_room`](Orders::has_room)): then nothing is changed.
     pub fn add_all(&mut self, wanted: &[Wanted], last: u64) -> Option<u64>
         ensures { AddsAll wanted.now last self.old result self.new }
     {
@@ -140,7 +141,8 @@ impl Orders {
             .any(|sent| sent.order.ono.0 == ono.0)
     }
 
-    /// The order that is submitted next: the first that waits, unless one of its object is in flight, or 32 are.
+    /// The order that is submitted next: the first that waits. `None` if no order waits, an order for the same object
+    /// is in flight, or 32 orders are in flight.
     pub fn ready(&self) -> Option<Order>
         ensures { result ≡ ready_of self.now.waiting self.now.in_flight }
     {
@@ -174,21 +176,21 @@ impl Orders {
         self.in_flight.as_slice().get(at).copied()
     }
 
-    /// How many orders are in flight.
+    /// How many orders are in flight: 0 to 32.
     pub fn in_flight(&self) -> usize
         ensures { result ≡ length self.now.in_flight }
     {
         self.in_flight.len()
     }
 
-    /// Whether an order waits.
+    /// Whether at least one order waits to be submitted.
     pub fn waits(&self) -> bool
         ensures { result ≡ has_waiting self.now }
     {
         !self.waiting.is_empty()
     }
 
-    /// Keeps how an order fared, by its ticket, and forgets the lowest of 512.
+    /// Keeps how an order ended, by its ticket, and forgets the lowest of 512.
     fn note_result(&mut self, order: Order, done: Result<(), NotDone>)
         ensures { self.new ≡ record self.old { results = with_result self.old.results (result_of order done) } }
     {
@@ -279,7 +281,8 @@ impl Orders {
         self.drop_late(now);
     }
 
-    /// How the last orders fared, by their tickets, at most 512.
+    /// How the last orders ended, in the order of their tickets: at most 512. Of more, the lowest tickets are
+    /// forgotten.
     pub fn results(&self) -> &[OrderResult]
         ensures { result.now ≡ self.now.results }
     {

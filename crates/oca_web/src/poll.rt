@@ -14,10 +14,14 @@ const ROUND_MS: u64 = 25;
 /// An object that a page shows is read again after so many milliseconds, at the earliest.
 const SHOWN_MS: u64 = 100;
 
+/// A block that a page shows is asked again after so many milliseconds, at the earliest: its members change seldom.
+const LISTED_MS: u64 = 1000;
+
 /// An object that no page shows is read again after so many milliseconds, at the earliest.
 const HIDDEN_MS: u64 = 5000;
 
-/// A round that took longer has as many objects that no page shows as one of this length, in milliseconds.
+/// A round that took longer has as many objects that no page shows as a quarter of one of this length, in milliseconds: what
+/// is shown goes before them.
 const LONGEST_ROUND_MS: u64 = 1000;
 
 /// A page counts as open for so many milliseconds after it asked for values.
@@ -25,6 +29,9 @@ const OPEN_MS: u64 = 2500;
 
 /// What changes seldom is read in three of so many readings.
 const SELDOM: u32 = 32;
+
+/// What changes seldom of a block is read in two of so many readings.
+const SELDOM_OF_BLOCK: u32 = 4;
 
 /// The most objects that a page can say it shows.
 const MOST_VISIBLE: usize = 512;
@@ -97,7 +104,8 @@ impl Poll {
     ghost use Rattle.std.specs.Option.{option_map};
     ghost use Rattle.oca_web.specs.Polling.{OpensPage, ReadsAgain, has_open_page, page_asked, pause_of, shows};
 
-    /// No round, and no page.
+    /// A poll without a round and without a page. `now` is the present moment, in milliseconds: the first round begins
+    /// 25 ms later at the earliest.
     pub fn new(now: u64) -> Poll {
         Poll {
             pages: ArrayVec::new(),
@@ -109,7 +117,9 @@ impl Poll {
         }
     }
 
-    /// A page asked for values at this moment, which shows so many objects from this one on.
+    /// Notes that a page asked for values at the moment `now`, in milliseconds, and shows `visible` objects (at most
+    /// 512) from the place `first` on. It counts as open for 2,500 ms. At most 128 pages are kept: of more, the one
+    /// that asked longest ago is replaced.
     pub fn open(&mut self, now: u64, first: usize, visible: usize)
         ensures { OpensPage now (page_asked now first visible) self.old.pages.items self.new.pages.items }
     {
@@ -122,7 +132,7 @@ impl Poll {
         keep_page(&mut self.pages, page, place);
     }
 
-    /// Whether a page is open.
+    /// Whether a page is open at the moment `now`, in milliseconds: it asked for values less than 2,500 ms before.
     pub fn is_open(&self, now: u64) -> bool
         ensures { result ≡ has_open_page now self.now.pages.items }
     {
@@ -139,13 +149,14 @@ impl Poll {
             .any(|page| page.shows(now, place))
     }
 
-    /// The round is over.
+    /// Ends the present round. The next one begins 25 ms after this one's beginning at the earliest.
     pub fn end_round(&mut self) {
         self.at = self.end;
     }
 
-    /// When the next round begins, where a page is open and the last one is over: one that is not goes on when an answer
-    /// comes.
+    /// The moment, in milliseconds, from which the next round may begin; it may already be past. `now` is the present
+    /// moment, in milliseconds. `None` if no page is open at `now`, or a round is not over: that round goes on when an
+    /// answer comes.
     pub fn next_moment(&self, now: u64) -> Option<u64> {
         if self.is_open(now) && self.at >= self.end {
             Some(self.begun.saturating_add(ROUND_MS))
@@ -172,14 +183,16 @@ impl Poll {
         if self.at < self.end || !self.is_open(now) || now < self.begun.saturating_add(ROUND_MS) {
             return;
         }
-        let passed = now.saturating_sub(self.begun).min(LONGEST_ROUND_MS);
+        let passed = now.saturating_sub(self.begun);
         self.begun = now;
         self.at = 0;
         self.front = self.visible(now);
         self.end = self.front.saturating_add(hidden_in(passed, objects));
     }
 
-    /// What is read next: where an object stands, and what is asked of it. Nothing where the round is over.
+    /// What is to be read next: the place of an object, counted from 0, and what is asked of it. `now` is the present
+    /// moment, in milliseconds. It begins a round if one is due. `None` if no page is open, the round is over, or it is
+    /// not yet time for the next one.
     pub fn next(&mut self, now: u64, objects: &[Object]) -> Option<(usize, Ask)>
         ensures reads { ReadsAgain now result objects.now self.old.pages.items }
         ensures pages { self.new.pages ≡ self.old.pages }
@@ -240,7 +253,7 @@ impl Poll {
         ensures { ReadsAgain now (option_map (λ ask. record { 0 = place; 1 = ask }) result) objects.now self.now.pages.items }
     {
         let object = objects.get(place)?;
-        if !self.is_due(now, place, object) {
+        if !self.is_due(now, place, object) || is_listed(now, object) {
             return None;
         }
         ask_of(object)
@@ -271,8 +284,18 @@ impl Poll {
 /// How many of so many objects, of which each is looked at once in the pause of what no page shows, are looked at in a
 /// round behind one that took so many milliseconds.
 fn hidden_in(passed: u64, objects: usize) -> usize {
-    let share = (objects as u64).saturating_mul(passed) / HIDDEN_MS;
+    let time = if passed < LONGEST_ROUND_MS {
+        passed
+    } else {
+        LONGEST_ROUND_MS / 4
+    };
+    let share = (objects as u64).saturating_mul(time) / HIDDEN_MS;
     share.saturating_add(1) as usize
+}
+
+/// Whether an object is a block that was asked just now.
+fn is_listed(now: u64, object: &Object) -> bool {
+    object.class == Some(Class::Block) && now.saturating_sub(object.asked) < LISTED_MS
 }
 
 /// Where the first page is kept that shows the same.
@@ -338,15 +361,27 @@ fn oldest(pages: &[Page]) -> usize
 
 /// What is read of an object, where its class is known.
 fn ask_of(object: &Object) -> Option<Ask> {
-    let class = object.class?;
-    match object.readings % SELDOM {
-        8 => Some(Ask::Enabled),
-        16 => Some(Ask::Label),
-        24 if class == Class::Switch => Some(Ask::Flags),
-        _ => Some(if class == Class::Block {
-            Ask::Members
-        } else {
-            Ask::Value
-        }),
+    match object.class? {
+        Class::Block => Some(ask_of_block(object.readings)),
+        class => Some(ask_of_value(class, object.readings)),
+    }
+}
+
+/// What is read of a block that was read so often.
+fn ask_of_block(readings: u32) -> Ask {
+    match readings % SELDOM_OF_BLOCK {
+        1 => Ask::Label,
+        3 => Ask::Enabled,
+        _ => Ask::Members,
+    }
+}
+
+/// What is read of an object of this class that was read so often.
+fn ask_of_value(class: Class, readings: u32) -> Ask {
+    match readings % SELDOM {
+        8 => Ask::Enabled,
+        16 => Ask::Label,
+        24 if class == Class::Switch => Ask::Flags,
+        _ => Ask::Value,
     }
 }

@@ -5,11 +5,12 @@ ghost use Rattle.oca_web.specs.Bodies.{last_in, names_run, ono_in, run_in};
 ghost use Rattle.oca_web.specs.Sites.{last_moment_for};
 
 use crate::admission::{Key, Terms, field, has_host, has_page, lets_in, opens};
-use crate::answers::{Told, tickets_json, tree_json, values_json};
+use crate::answers::{MOST_RANGES, Range, Told, tickets_json, tree_json, values_json};
 use crate::many::{Refusal, orders_in};
-use crate::order::{Action, Wanted};
+use crate::order::{Action, ORDER_MS, Wanted};
 use crate::page::{PAGE, POLICY};
 use crate::view::{NoOrder, View};
+use arrayvec::ArrayVec;
 use bytes::{BufMut, Bytes};
 use http::{HeaderName, HeaderValue, Request, StatusCode, header};
 use http_server::{Response, Service};
@@ -17,12 +18,6 @@ use itoa::Buffer;
 use oca_types::Ono;
 use serde_json::Value;
 use std::alloc::{AllocError, Global};
-
-/// An order may be submitted for so many milliseconds behind the moment at which its request was read.
-const ORDER_MS: u64 = 5000;
-
-/// The most ranges of places that a page shows.
-const MOST_SHOWN: u32 = 8;
 
 /// What a request without the token is told.
 const WHERE_TO_GO: &str = "open the address that ocapanel printed\n";
@@ -50,7 +45,7 @@ impl Site {
     ghost use Rattle.oca_web.specs.Sites.{AnswersOrFails, IsActionFor, IsSetting, IsTurnedAway, KeepsOrders, PostsMany, PostsOne};
     ghost use Rattle.oca_web.specs.Sites.{PostsOrder, TakesOrder, TakesOrders};
 
-    /// The service over a view, on these terms.
+    /// The service over a view, on these terms. No request was answered so far.
     pub fn new(alloc: Global, view: View, terms: Terms) -> Site
         ensures view { result.view ≡ view }
         ensures terms { result.terms ≡ terms }
@@ -65,13 +60,13 @@ impl Site {
         }
     }
 
-    /// The view.
+    /// The view, to be changed.
     pub fn view(&mut self) -> &mut View {
         &mut self.view
     }
 
-    /// Whether the requests from now on may have waited while the program stood still: orders that give no last moment
-    /// are then told as not sent.
+    /// Sets whether the requests from now on may have waited while the program was suspended. If so, orders that give
+    /// no last moment are told as not sent.
     pub fn doubt(&mut self, doubts: bool)
         ensures doubts { self.new.doubts ≡ doubts }
         ensures view { self.new.view ≡ self.old.view }
@@ -80,12 +75,12 @@ impl Site {
         self.doubts = doubts;
     }
 
-    /// How many requests were answered.
+    /// How many requests were answered since the service was made.
     pub fn calls(&self) -> u64 {
         self.calls
     }
 
-    /// How many requests were let in.
+    /// How many requests were let in since the service was made.
     pub fn admitted(&self) -> u64 {
         self.admitted
     }
@@ -223,9 +218,11 @@ impl Site {
         ensures terms { self.new.terms ≡ self.old.terms }
         ensures status { response.new.status ≡ response.old.status }
     {
-        self.open(query);
+        let ranges = ranges_in(query);
+        self.open(ranges.as_slice());
         let is_other = self.is_of_another_run(query);
         let told = Told {
+            ranges: ranges.as_slice(),
             run: self.terms.run,
             read_only: self.terms.read_only,
             since: if is_other {
@@ -239,7 +236,7 @@ impl Site {
                 number_in(query, "told")
             },
         };
-        let text = values_json(self.alloc, &self.view, told)?;
+        let text = values_json(self.alloc, &self.view, &told)?;
         put_json(text.as_slice(), response)
     }
 
@@ -252,46 +249,14 @@ impl Site {
         }
     }
 
-    /// A page is open that shows what its query says.
-    fn open(&mut self, query: Option<&str>)
+    /// A page is open that shows these ranges of places.
+    fn open(&mut self, ranges: &[Range])
         ensures orders { self.new.view.orders ≡ self.old.view.orders }
         ensures terms { self.new.terms ≡ self.old.terms }
     {
-        match text_in(query, "shown") {
-            Some(ranges) => self.open_ranges(ranges, MOST_SHOWN),
-            None => {
-                let first = number_in(query, "first").min(65_535) as usize;
-                let count = number_in(query, "count").min(65_535) as usize;
-                self.view.open(first, count);
-            }
+        for range in ranges {
+            self.view.open(range.first, range.count);
         }
-    }
-
-    /// A page is open that shows these ranges of places, as `0-12,40-8`: the first place and how many. At most so many of
-    /// them are looked at.
-    fn open_ranges(&mut self, ranges: &str, most: u32)
-        ensures orders { self.new.view.orders ≡ self.old.view.orders }
-        ensures terms { self.new.terms ≡ self.old.terms }
-    {
-        if most == 0 {
-            return;
-        }
-        match ranges.split_once(',') {
-            Some((range, rest)) => {
-                self.open_range(range);
-                self.open_ranges(rest, most - 1);
-            }
-            None => self.open_range(ranges),
-        }
-    }
-
-    /// A page is open that shows this range of places.
-    fn open_range(&mut self, range: &str)
-        ensures orders { self.new.view.orders ≡ self.old.view.orders }
-        ensures terms { self.new.terms ≡ self.old.terms }
-    {
-        let (first, count) = range_in(range);
-        self.view.open(first, count);
     }
 
     /// Answers a request that orders something.
@@ -546,7 +511,7 @@ pub(crate) fn last_in(wanted: &Value) -> Result<Option<u64>, StatusCode>
 }
 
 /// The last moment at which an order may be submitted whose request is read at this moment and gives this one. `doubts`
-/// says that the request may have waited while the program stood still.
+/// says that the request may have waited while the program was suspended.
 fn last_moment(now: u64, given: Option<u64>, doubts: bool) -> u64
     ensures { result ≡ last_moment_for now given doubts }
 {
@@ -579,11 +544,36 @@ fn number_in(query: Option<&str>, name: &str) -> u64 {
     }
 }
 
+/// The ranges of places that a page shows, by its query: at most eight, as `0-12,40-8`, or one by its first place and how
+/// many.
+fn ranges_in(query: Option<&str>) -> ArrayVec<Range, MOST_RANGES> {
+    let mut ranges = ArrayVec::new();
+    match text_in(query, "shown") {
+        Some(shown) => put_ranges(shown, &mut ranges),
+        None => {
+            let first = number_in(query, "first").min(65_535) as usize;
+            let count = number_in(query, "count").min(65_535) as usize;
+            let _ = ranges.try_push(Range { first, count });
+        }
+    }
+    ranges
+}
+
+/// Puts the ranges of a text behind those before them, as far as there is room.
+fn put_ranges(shown: &str, ranges: &mut ArrayVec<Range, MOST_RANGES>) {
+    for range in shown.split(',') {
+        let _ = ranges.try_push(range_in(range));
+    }
+}
+
 /// The first place and how many, as `40-8`; no place where it is no such range.
-fn range_in(range: &str) -> (usize, usize) {
+fn range_in(range: &str) -> Range {
     match range.split_once('-') {
-        Some((first, count)) => (place_in(first), place_in(count)),
-        None => (0, 0),
+        Some((first, count)) => Range {
+            first: place_in(first),
+            count: place_in(count),
+        },
+        None => Range { first: 0, count: 0 },
     }
 }
 

@@ -7,9 +7,9 @@ use arrayvec::ArrayVec;
 use oca_net::End;
 use oca_panel::{Panel, Trouble, done_in};
 
-/// Submits the order that is next, where one is, its last moment has not passed, and the link takes its command. The
-/// program's clock, by which the orders have their last moments, is so many milliseconds ahead of the end's. Returns
-/// whether it did.
+/// Submits the order that is next, and returns whether it did. The program's clock, by which the orders have their last
+/// moments, is `ahead` milliseconds ahead of the end's. `false` if no order is ready, its last moment has passed, or
+/// the link refuses its command: then nothing is changed or sent.
 pub fn submit_first<E: End>(orders: &mut Orders, panel: &mut Panel<E>, ahead: u64) -> bool
     ensures { SubmitsFirst ahead result orders.old panel.old orders.new panel.new }
 {
@@ -29,8 +29,10 @@ pub fn submit_first<E: End>(orders: &mut Orders, panel: &mut Panel<E>, ahead: u6
     }
 }
 
-/// Submits the orders that wait, as far as the link takes them, in the order in which they came, each once and in time.
-/// None is left then that could be submitted, or 32 are in flight.
+/// Submits the orders that wait, in the order in which they came, each once, until 32 are in flight, the link takes
+/// none (it is lost or late, its span is full, or its handles are used up), or the last moment of the next order has
+/// passed. What then waits stays, and is tried first at the next call. The program's clock, by which the orders have
+/// their last moments, is `ahead` milliseconds ahead of the end's.
 #[tactic(auto, using(crate::proofs::StepLemmas::submit_rules))]
 pub fn submit_orders<E: End>(orders: &mut Orders, panel: &mut Panel<E>, ahead: u64)
     ensures submits { SubmitsOrders ahead orders.old panel.old orders.new panel.new }
@@ -43,7 +45,9 @@ pub fn submit_orders<E: End>(orders: &mut Orders, panel: &mut Panel<E>, ahead: u
     }
 }
 
-/// Looks whether the order in flight at this place was answered, or the link is lost, and notes that under its ticket.
+/// Takes the outcome of the order in flight at the place `at`, counted from 0, if its command was answered or the link
+/// is lost, and notes it under the order's ticket. Returns the order and its outcome; it is in flight no longer. It
+/// does not wait. `None` if neither is so, or no order stands there: then nothing is changed.
 pub fn settle_at<E: End>(
     orders: &mut Orders,
     panel: &mut Panel<E>,
@@ -77,8 +81,8 @@ impl Default for Settled {
     }
 }
 
-/// Looks at each order in flight, and notes which were answered, or are lost with the link. Returns
-/// them.
+/// Takes the outcome of each order in flight whose command was answered, or of all if the link is lost, and notes it
+/// under the order's ticket. Returns them, at most 32; the others stay in flight. It does not wait.
 #[tactic(auto, using(crate::proofs::StepLemmas::one_settled))]
 pub fn settle_orders<E: End>(orders: &mut Orders, panel: &mut Panel<E>) -> ArrayVec<Settled, 32>
     ensures { SettlesOrders orders.old panel.old orders.new panel.new }
@@ -96,7 +100,8 @@ pub fn settle_orders<E: End>(orders: &mut Orders, panel: &mut Panel<E>) -> Array
     all
 }
 
-/// Notes that all orders are lost, where the link is lost or late. Returns whether it is.
+/// If the link is lost or late, notes that those in flight are lost, which may have been carried out, and that those
+/// that wait were never sent. Returns whether it is; else nothing is changed.
 pub fn lose_orders<E: End>(orders: &mut Orders, panel: &Panel<E>) -> bool
     ensures { LosesOrders result panel.now orders.old orders.new }
 {

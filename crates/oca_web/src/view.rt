@@ -22,7 +22,7 @@ const LONGEST_STANDSTILL_MS: u64 = 2000;
 pub struct Reach {
     /// The device's address.
     pub device: Peer,
-    /// How far above the lowest untaken command the next handle may lie.
+    /// How far above the lowest command in flight the next handle may lie.
     pub span: Span,
 }
 
@@ -69,15 +69,18 @@ pub struct View {
 }
 
 impl View {
-    ghost use Rattle.std.specs.Prelude.{◌≡◌, ◌-◌, ◌==◌, ◌&&◌, IfOk, length};
+    ghost use Rattle.std.specs.Prelude.{◌≡◌, ◌-◌, ◌==◌, ◌&&◌, IfOk, IfSome, length, slice_get};
     ghost use Rattle.oca_net.specs.Ends.{one_more};
     ghost use Rattle.oca_web.specs.Orders.{AddsAll, AddsTicket, SettlesOrders, SubmitsOrders, has_orders, has_room_for, no_orders};
     ghost use Rattle.oca_web.specs.Bodies.{IsForWord};
-    ghost use Rattle.oca_web.specs.Views.{AsksQuestions, Continues, RenewsLost, RestsBehind, TakesAnswers, TurnsAndSettles};
+    ghost use Rattle.oca_web.specs.Readings.{ConfirmsAsked, KeepsQuestion};
+    ghost use Rattle.oca_web.specs.Views.{AsksQuestions, Continues, RenewsLost, RestsBehind, SubmitsAndAsks, TakesAnswers, TurnsAndSettles};
     ghost use Rattle.oca_web.specs.Views.{half_spent, moment_noted, next_with, orders_after, stood_still};
     ghost use Rattle.oca_web.specs.Walking.{BeginsAnew, KeepsWalk, StaysOver};
 
-    /// A view of a device of which nothing is known, over a panel whose first handle this is.
+    /// A view of the device at this address, of which nothing is known, over a panel with this span and this first
+    /// handle. `now` is the end's present moment, in milliseconds. Nothing is sent. Refusal: `NoMemory`, if memory was
+    /// refused.
     pub fn new(
         alloc: Global,
         device: Peer,
@@ -113,26 +116,27 @@ impl View {
         })
     }
 
-    /// The orders.
+    /// The orders of the pages: those that wait, those in flight, and how the last ones ended.
     pub fn orders(&self) -> &Orders
         ensures { result.now ≡ self.now.orders }
     {
         &self.orders
     }
 
-    /// What is known of the device.
+    /// The inventory: what is known of the device, and what is asked of it.
     pub fn inventory(&self) -> &Inventory {
         &self.inventory
     }
 
-    /// Where the device is, and how many of its commands are in flight at most.
+    /// The device's address, and the span of its links (how far above the lowest handle in flight the next one may
+    /// lie).
     pub fn reach(&self) -> Reach
         ensures { result ≡ self.now.reach }
     {
         self.reach
     }
 
-    /// How the link is.
+    /// How the link to the device is, with moments in milliseconds.
     pub fn news(&self) -> LinkNews
         ensures { result ≡ self.now.news }
     {
@@ -146,21 +150,21 @@ impl View {
         self.news.now
     }
 
-    /// How many commands are in flight.
+    /// How many commands are in flight, of orders and of questions: 0 to 64.
     pub fn in_flight(&self) -> usize {
         self.orders
             .in_flight()
             .saturating_add(self.inventory.in_flight())
     }
 
-    /// Whether orders wait or are in flight.
+    /// Whether at least one order waits or is in flight.
     pub fn has_orders(&self) -> bool
         ensures { result ≡ has_orders self.now.orders }
     {
         self.orders.waits() || self.orders.in_flight() > 0
     }
 
-    /// How many commands were submitted.
+    /// How many commands were submitted since the view was made, over all ends.
     pub fn submitted(&self) -> u64 {
         self.submitted_before.saturating_add(self.submitted_here())
     }
@@ -170,7 +174,8 @@ impl View {
         u64::from(self.next_handle.saturating_sub(self.first_handle))
     }
 
-    /// Whether half of the handles above the first one of this end are used: nothing more is submitted over it.
+    /// Whether half of the handles above the first handle of this end are used. Then nothing more is submitted over
+    /// this end.
     pub fn is_spent(&self) -> bool
         ensures { result ≡ half_spent self.now.first_handle self.now.next_handle }
     {
@@ -178,8 +183,8 @@ impl View {
         2 * u64::from(used) >= u64::from(u32::MAX - self.first_handle)
     }
 
-    /// Whether the panel is to go on over another end, at another port: half of the handles are used, and nothing is in
-    /// flight any more. Then [`View::take_end`] is to be called.
+    /// Whether the panel must go on over another end, at another port: half of the handles are used, and nothing is in
+    /// flight. Then call [`View::take_end`].
     pub fn wants_end(&self) -> bool
         ensures { result ≡ (half_spent self.now.first_handle self.now.next_handle
             && (length self.now.orders.in_flight == 0) && (length self.now.inventory.asked.items == 0)) }
@@ -187,10 +192,12 @@ impl View {
         self.is_spent() && self.orders.in_flight() == 0 && self.inventory.in_flight() == 0
     }
 
-    /// The panel goes on over another end, whose present moment this is, with a new link whose first handle this is. The
-    /// end before it has this last moment, and sent so many datagrams; that is noted as by [`View::note`], and returned is
-    /// what that returns, so that the time until the change is counted as well. Where the program did not stand still,
-    /// the orders that wait stay; what is known of the device does in any case.
+    /// Notes that the panel goes on over another end, whose present moment is `moment`, with a new link whose first
+    /// handle is `first`. `last` is the last moment of the end before, and `sent` is how many datagrams that end sent.
+    /// Moments are in milliseconds.
+    ///
+    /// Returns whether the program was suspended for more than 2,000 ms before `last`, as [`View::note`] does. Then the
+    /// orders that wait are noted as not sent; otherwise they stay. What is known of the device stays.
     pub fn take_end(&mut self, first: Handle, moment: u64, last: u64, sent: u64) -> bool
         ensures now { self.new.news.now ≡ moment_noted self.old.ahead last self.old.news.now }
         ensures stood { result ≡ stood_still self.old.news.now self.new.news.now }
@@ -210,14 +217,14 @@ impl View {
         stood_still
     }
 
-    /// How many milliseconds the program's clock is ahead of that of the end.
+    /// How many milliseconds the program's clock is ahead of the clock of the end; 0 over the first end.
     pub fn ahead(&self) -> u64
         ensures { result ≡ self.now.ahead }
     {
         self.ahead
     }
 
-    /// A page asked for values at the present moment, which shows so many objects from this one on.
+    /// Notes that a page asked for values at the present moment, and shows `visible` objects from the place `first` on.
     pub fn open(&mut self, first: usize, visible: usize)
         ensures { self.new.orders ≡ self.old.orders }
     {
@@ -225,9 +232,12 @@ impl View {
         self.inventory.open(now, first, visible);
     }
 
-    /// The present moment of the end, and how many datagrams it sent until then. The program's clock, which never goes
-    /// back, reads that moment from now on. Returns whether the program stood still for more than 2,000 ms: then the
-    /// orders that wait were not sent, and what else came meanwhile is as old as nobody knows.
+    /// Notes the present moment of the end, in milliseconds, and how many datagrams the end sent until then. The
+    /// program's clock, which never goes back, then reads that moment.
+    ///
+    /// `true` if the program was suspended: more than 2,000 ms passed since the last note. Then the orders that wait
+    /// are noted as not sent, and the age of other requests that came meanwhile is not known. `false` otherwise: then
+    /// the orders stay.
     pub fn note(&mut self, moment: u64, sent: u64) -> bool
         ensures now { self.new.news.now ≡ moment_noted self.old.ahead moment self.old.news.now }
         ensures stood { result ≡ stood_still self.old.news.now self.new.news.now }
@@ -244,12 +254,13 @@ impl View {
         true
     }
 
-    /// Whether an object has this number.
+    /// Whether an object with this number is known.
     pub fn knows(&self, ono: Ono) -> bool {
         self.inventory.class_of(ono).is_some()
     }
 
-    /// The value of an object that a word names.
+    /// The value of an object for which this word stands. Refusals: `NoObject` if no object with this number is known.
+    /// `NoValue` if its class is unknown or has no value, or the word stands for no value of the class.
     pub fn value_named(&self, ono: Ono, word: &str) -> Result<Value, NoOrder>
         ensures { IfOk result (IsForWord word.now) }
     {
@@ -260,15 +271,16 @@ impl View {
         }
     }
 
-    /// The ticket of the next order.
+    /// The ticket that the next order gets, from 1 on.
     pub fn next_ticket(&self) -> u64
         ensures { result ≡ one_more self.now.orders.tickets }
     {
         self.orders.next_ticket()
     }
 
-    /// Takes an order behind all others, which must not be submitted after this moment, and returns its ticket. `None`
-    /// where 256 wait, which changes nothing.
+    /// Adds an order after all others and returns its ticket. `last` is the moment, in milliseconds, after which it
+    /// must not be submitted. `None` if 256 orders wait already, or no ticket is left below 2^64: then nothing is
+    /// changed.
     pub fn order(&mut self, ono: Ono, action: Action, last: u64) -> Option<u64>
         ensures orders { AddsTicket ono action last self.old.orders result self.new.orders }
         ensures rest { self.new ≡ record self.old { orders = self.new.orders } }
@@ -276,16 +288,16 @@ impl View {
         self.orders.add(ono, action, last)
     }
 
-    /// Whether there is room for so many orders more, and a ticket for each.
+    /// Whether so many more orders can be added: at most 256 would then wait, and each gets a ticket, below 2^64 - 1.
     pub fn has_room(&self, count: usize) -> bool
         ensures { result ≡ has_room_for count self.now.orders }
     {
         self.orders.has_room(count)
     }
 
-    /// Takes many orders behind all others, in their order, which must not be submitted after this moment, and returns the
-    /// ticket of the first; the others have those that follow. `None` where there is no room for all of them, which changes
-    /// nothing.
+    /// Adds many orders after all others, in their order, and returns the ticket of the first; the others have the
+    /// tickets after it. `last` is the moment, in milliseconds, after which they must not be submitted. `None` if there
+    /// is no room for all of them ([`has_room`](View::has_room)): then nothing is changed.
     pub fn order_all(&mut self, wanted: &[Wanted], last: u64) -> Option<u64>
         ensures orders { AddsAll wanted.now last self.old.orders result self.new.orders }
         ensures rest { self.new ≡ record self.old { orders = self.new.orders } }
@@ -293,7 +305,9 @@ impl View {
         self.orders.add_all(wanted, last)
     }
 
-    /// Takes one turn of the panel, which receives once and sends what is due, and takes the answers that came.
+    /// Takes one turn of the panel: receives once, at a socket for at most 50 ms, and sends what is due. Then it takes
+    /// the answers that came, and notes what they say. Refusal: `NoMemory`, if memory was refused: what is known may
+    /// then lack something.
     #[tactic(auto, using(crate::proofs::WalkLemmas::keeps_stays, crate::proofs::WalkLemmas::stays_on, crate::proofs::StepLemmas::answer_rules))]
     pub fn take_turn<E: End>(&mut self, panel: &mut Panel<E>) -> Result<(), NoMemory>
         ensures orders { TurnsAndSettles self.old.orders panel.old self.new.orders panel.new }
@@ -307,20 +321,56 @@ impl View {
         Ok(())
     }
 
-    /// Goes on: a link that is lost is renewed, and orders, in time and else not at all, and then questions are submitted
-    /// as far as there is room. Where half of the handles are used nothing is.
+    /// Does what is to be done after a turn. Another walk begins if what was found is stale. If the link is lost or
+    /// late, all orders are noted as lost, and a new link and a new walk begin. Then orders are submitted, each in time
+    /// or else not at all, and then questions, as far as there is room. Nothing is submitted once half of the handles
+    /// are used. Refusal: `NoMemory`, if memory was refused: what comes after that is left out, and what is known may
+    /// lack something.
     #[tactic(auto, using(crate::proofs::WalkLemmas::walk_rules))]
     pub fn go_on<E: End>(&mut self, panel: &mut Panel<E>) -> Result<(), NoMemory>
         ensures orders { Continues self.old.reach self.old.first_handle self.old.next_handle self.old.ahead
             self.old.news.now result self.old.orders panel.old self.new.next_handle self.new.orders panel.new }
         ensures walk { StaysOver self.old.inventory self.new.inventory }
     {
+        match self.begin_if_stale() {
+            Ok(()) => self.go_on_with(panel),
+            Err(refused) => Err(refused),
+        }
+    }
+
+    /// Begins another walk, where what was found does not fit what the device answers by now.
+    fn begin_if_stale(&mut self) -> Result<(), NoMemory>
+        ensures rest { self.new ≡ record self.old { inventory = self.new.inventory } }
+        ensures walk { BeginsAnew self.old.inventory self.new.inventory }
+    {
+        if self.inventory.is_stale() {
+            return self.inventory.begin_anew();
+        }
+        Ok(())
+    }
+
+    /// Goes on with the walk that is.
+    #[tactic(auto, using(crate::proofs::WalkLemmas::walk_rules))]
+    fn go_on_with<E: End>(&mut self, panel: &mut Panel<E>) -> Result<(), NoMemory>
+        ensures orders { Continues self.old.reach self.old.first_handle self.old.next_handle self.old.ahead
+            self.old.news.now result self.old.orders panel.old self.new.next_handle self.new.orders panel.new }
+        ensures walk { BeginsAnew self.old.inventory self.new.inventory }
+    {
+        match self.renew_lost(panel) {
+            Ok(()) => self.submit_and_ask(panel),
+            Err(refused) => Err(refused),
+        }
+    }
+
+    /// Submits orders, in time and else not at all, and then questions as far as there is room.
+    #[tactic(auto, using(crate::proofs::WalkLemmas::walk_rules))]
+    fn submit_and_ask<E: End>(&mut self, panel: &mut Panel<E>) -> Result<(), NoMemory>
+        ensures orders { SubmitsAndAsks self.old.first_handle self.old.next_handle self.old.ahead self.old.news.now
+            self.old.orders panel.old self.new.next_handle self.new.orders panel.new }
+        ensures walk { KeepsWalk self.old.inventory self.new.inventory }
+    {
         let now = self.news.now;
         let ahead = self.ahead;
-        if self.inventory.is_stale() {
-            self.inventory.begin_anew()?;
-        }
-        self.renew_lost(panel)?;
         self.orders.drop_late(now);
         self.submit_all(panel, ahead);
         self.ask_all(panel)
@@ -386,6 +436,8 @@ impl View {
         ensures orders { self.new.orders ≡ self.old.orders }
         ensures walk { KeepsWalk self.old.inventory self.new.inventory }
         ensures panel { TakesAnswers panel.old panel.new }
+        ensures moment { IfSome (slice_get self.old.inventory.asked.items at)
+            (λ asked. ConfirmsAsked asked self.old.inventory self.new.inventory) }
     {
         let Some(asked) = self.inventory.asked_at(at) else {
             return Ok(false);
@@ -396,7 +448,7 @@ impl View {
         let class = self.inventory.class_at(asked.question);
         let answer = answer_of(class, asked.question.ask.method(), &outcome);
         self.inventory.settle(at);
-        self.inventory.learn(asked.question, answer)?;
+        self.inventory.learn(asked.question, asked.moment, answer)?;
         Ok(true)
     }
 
@@ -408,6 +460,8 @@ impl View {
         ensures walk { BeginsAnew self.old.inventory self.new.inventory }
         ensures first { self.new.first_handle ≡ self.old.first_handle }
         ensures next { self.new.next_handle ≡ self.old.next_handle }
+        ensures ahead { self.new.ahead ≡ self.old.ahead }
+        ensures now { self.new.news.now ≡ self.old.news.now }
     {
         if !lose_orders(&mut self.orders, panel) {
             return Ok(());
@@ -447,6 +501,7 @@ impl View {
         ensures orders { self.new.orders ≡ self.old.orders }
         ensures walk { KeepsWalk self.old.inventory self.new.inventory }
         ensures panel { AsksQuestions self.old.next_handle panel.old self.new.next_handle panel.new }
+        ensures kept { KeepsQuestion question self.old.news.now self.old.inventory self.new.inventory }
     {
         let Some((ono, class)) = self.inventory.target_of(question.place) else {
             return true;
@@ -455,7 +510,7 @@ impl View {
         match ask_one(panel, ono, class, question.ask, may) {
             Some(handle) => {
                 self.next_handle = self.next_handle.max(handle.0.saturating_add(1));
-                self.inventory.note_asked(handle, question);
+                self.inventory.note_asked(handle, question, self.news.now);
                 true
             }
             None => false,
@@ -473,7 +528,9 @@ impl View {
             && leaves_half(lowest, self.next_handle, self.reach.span.get())
     }
 
-    /// The earliest moment at which there is something to do, but for what the link is due to send.
+    /// The moment, in milliseconds, at which there is something to be read again; it may already be past. What the link
+    /// is due to send is not counted. `None` if no page is open, or a walk or a round is not over: they go on when an
+    /// answer comes.
     pub fn next_moment(&self) -> Option<u64> {
         self.inventory.next_moment(self.news.now)
     }

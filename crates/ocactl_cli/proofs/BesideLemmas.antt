@@ -6,7 +6,9 @@ use Rattle.oca_types.specs.declared.words.Peer.{Peer}
 use Rattle.oca_net.specs.Deliveries.{Sent}
 use Rattle.oca_net.specs.Ends.{taken_after}
 use Rattle.oca_net.specs.EndStates.{EndState}
-use Rattle.ocactl_cli.specs.Beside.{AsksIfThere, CallsSoOften, NotCalled, CalledAgain, CallsDevice, TakesKeepAlives, keep_alive_for}
+use Rattle.oca_control.specs.Links.{LinkState}
+use Rattle.oca_panel.specs.Panels.{PanelState}
+use Rattle.ocactl_cli.specs.Beside.{IsSameBeside, AsksIfThere, CallsSoOften, NotCalled, CalledAgain, CallsDevice, TakesKeepAlives, keep_alive_for}
 
 -- nothing was sent
 pub not_asked : (device : Peer) (before after : EndState) → after ≡ before → AsksIfThere device before after
@@ -20,10 +22,6 @@ asked_once_more device n before between after few h one = record { rounds = n + 
 
 pub asked_often : (device : Peer) (before after : EndState) → CallsSoOften device 4 before after → AsksIfThere device before after
 asked_often device before after h = record { rounds = 4; most = omega arith; calls = h }
-
--- the end that it began with, by another name
-pub asked_from : (device : Peer) (d e f : EndState) → d ≡ e → AsksIfThere device d f → AsksIfThere device e f
-asked_from device d e f same h = subst (λ (x : EndState). AsksIfThere device x f) same h
 
 -- ---- by an end that tells
 
@@ -70,3 +68,14 @@ at-most device n before after few s = (s.taken.0, omega (arith, few, s.taken.1),
 
 pub takes_keep_alives : (device : Peer) (before after : EndState) → AsksIfThere device before after → TakesKeepAlives device before after
 takes_keep_alives device before after asks told = at-most device asks.rounds before after asks.most (so-far asks.calls told)
+
+-- ---- the panel beside which is sent
+
+-- all but the end is as it was, and then again
+pub same_again : (link : LinkState) (wait : ℕ) (unanswered : Bool) (q r : PanelState)
+    → q ≡ record { link = link; end_state = q.end_state; wait = wait; unanswered = unanswered } → IsSameBeside q r
+    → r ≡ record { link = link; end_state = r.end_state; wait = wait; unanswered = unanswered }
+same_again link wait unanswered q r one two = two ∙ ap (λ (x : PanelState). record x { end_state = r.end_state }) one
+
+pub still_waits : (p q : PanelState) (n : ℕ) → IsSameBeside p q → p.wait ≡ n → q.wait ≡ n
+still_waits p q n same e = ap (λ (x : PanelState). x.wait) same ∙ e

@@ -7,6 +7,4 @@ mod ObjectLemmas
 mod TreeLemmas
 mod HoldLemmas
 mod MatchLemmas
-mod SocketLemmas
 mod BesideLemmas
-mod RowLemmas

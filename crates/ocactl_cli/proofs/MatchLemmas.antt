@@ -1,46 +1,17 @@
 -- Words that are matched with the program's command line.
-use Rattle.std.proofs.Common.{◌≡◌, ℕ, Bool, true, false, List, [], ◌∷◌, Result, Ok, Err, refl, sym, ap, ◌∙◌, subst}
-use Rattle.std.specs.Prelude.{IfOk, ◌==◌, ◌&&◌, ◌||◌, if◌then◌else◌}
+use Rattle.std.proofs.Common.{◌≡◌, ℕ, Bool, true, false, List, [], ◌∷◌, refl, sym, ap}
+use Rattle.std.specs.Prelude.{◌==◌, ◌||◌, if◌then◌else◌}
 use Rattle.std.proofs.lemmas.Bool.{eqb-true}
-use Rattle.clap.specs.Faults.{fault_of, is_simple_and_free}
-use Rattle.clap.specs.Kinds.{FailsBy}
-use Rattle.clap.specs.Simple.{App, HasMatchesOf, Shape, is_simple}
-use Rattle.clap.specs.declared.builder.command.Command.{Command}
-use Rattle.clap.specs.declared.error.Error.{Error}
-use Rattle.clap.specs.declared.parser.matches.ArgMatches.{ArgMatches}
-use Rattle.oca_program.specs.Commands.{MatchingGives}
-use Rattle.ocactl_cli.specs.CommandLine.{TakesApp, bare_program, own_app, own_commands, with_shapes}
+use Rattle.clap.specs.Faults.{is_simple_and_free}
+use Rattle.ocactl_cli.specs.CommandLine.{own_app}
 use Rattle.ocactl_cli.specs.Matching.{BlanksLoseNothing, takes_blank, without_blank}
 
 -- ---- the command line
-
-pub whole : {E : Type 0} (r : Result Command E) (a : App) (rows : List Shape) → a ≡ bare_program → rows ≡ own_commands
-    → IfOk r (TakesApp (with_shapes a rows)) → IfOk r (TakesApp own_app)
-unfolding own_app
-whole r a rows bare same h =
-    subst (λ (ss : List Shape). IfOk r (TakesApp (with_shapes bare_program ss))) same
-    (subst (λ (z : App). IfOk r (TakesApp (with_shapes z rows))) bare h)
 
 -- all of clap's contract holds of it
 pub simple-own : is_simple_and_free own_app ≡ true
 unfolding own_app
 simple-own = refl
-
-and-left : (a b : Bool) → (a && b) ≡ true → a ≡ true
-and-left true b h = refl
-and-left false b h = h
-
--- ---- what clap says of matching
-
-pub matched-by : (a b : App) (words : List (List ℕ)) (r : Result ArgMatches Error) → b ≡ a → is_simple_and_free a ≡ true
-    → IfOk r (HasMatchesOf b words) → (is_simple_and_free b ≡ true → FailsBy (fault_of b words) r) → MatchingGives a words r
-matched-by a b words (Ok m) same simple matches fails =
-    let free : is_simple_and_free b ≡ true = ap is_simple_and_free same ∙ simple in
-    let found = matches (and-left (is_simple b) _ free) in
-    subst (λ (z : App). MatchingGives z words (Ok m)) same
-    (record { fits = fails free; options = found.0; command = found.1 })
-matched-by a b words (Err e) same simple matches fails =
-    subst (λ (z : App). MatchingGives z words (Err e)) same (fails (ap is_simple_and_free same ∙ simple))
 
 -- ---- blanks
 

@@ -7,7 +7,6 @@ use Rattle.oca_control.specs.declared.outcome.Outcome.{Outcome}
 use Rattle.oca_model.specs.declared.value.Value.{Value}
 use Rattle.oca_panel.specs.Panels.{PanelState, EndsIn}
 use Rattle.oca_panel.specs.Outcomes.{done_answered}
-use Rattle.oca_panel.specs.Objects.{SetsValue}
 use Rattle.ocactl_cli.specs.declared.object_line.ObjectLine.{ObjectLine}
 use Rattle.ocactl_cli.specs.Objects.{SetCommand, BeginsSet, SetsUpTo, NoneBegun, OneBegun, OneEnded, SetsInTurn, SetsOne, NoneSet, OneSet, assignment_in, reported_by}
 

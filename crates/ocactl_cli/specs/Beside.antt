@@ -7,6 +7,7 @@ use Rattle.oca_pdu.specs.Encoding.{pdu_encoding}
 use Rattle.oca_net.specs.declared.end.Heard.{Heard}
 use Rattle.oca_net.specs.Deliveries.{Sent}
 use Rattle.oca_net.specs.EndStates.{EndState, Receives}
+use Rattle.oca_panel.specs.Panels.{PanelState}
 use Rattle.oca_panel.specs.Probes.{SendsKeepAlive}
 
 -- A keep-alive of five seconds was sent to the device, and then was received once.
@@ -16,6 +17,10 @@ pub record CallsDevice (device : Peer) (before after : EndState) : Type 0 where
   pub bytes : List ℕ
   pub keeps : SendsKeepAlive device before between
   pub receives : Receives heard bytes between after
+
+-- all of a panel but the end that it is driven over is as it was
+abbrev pub IsSameBeside : PanelState → PanelState → Type 0
+IsSameBeside old new = new ≡ record old { end_state = new.end_state }
 
 -- That was done so often, one after another, and nothing else.
 pub data CallsSoOften (device : Peer) : (rounds : ℕ) (before after : EndState) → Type 0 where

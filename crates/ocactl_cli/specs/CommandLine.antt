@@ -1,90 +1,70 @@
--- What the program's command line takes, as `clap` reads it (*profile*).
-use Rattle.std.specs.Prelude.{◌≡◌, false, true, List, [], ◌∷◌, ◌++◌, codes, Some}
-use Rattle.clap.specs.Lexer.{usize_max}
-use Rattle.clap.specs.Walk.{Rule}
-use Rattle.clap.specs.Simple.{App, Shape, app_of, new_rule, new_shape, with_subcommand}
-use Rattle.clap.specs.declared.builder.action.ArgAction.TheVariants as action
-use Rattle.clap.specs.declared.builder.command.Command.{Command}
-use Rattle.clap.specs.declared.builder.command.Command.TheViews.{out-Command}
-use Rattle.oca_program.specs.Commands.{command_shape, flag_rule, option_rule, required_rule}
+-- What the program's command line takes (*profile*).
+use Rattle.std.specs.Prelude.{List, [], ◌∷◌, ◌++◌, codes}
+use Rattle.clap.specs.Simple.{App}
+use Rattle.oca_program.specs.Commands.{CommandRows, OptionFields, a_flag, needed, program_app, with_form}
+use Rattle.oca_program.specs.declared.form.Form.TheVariants.{AnyPeer, Bytes, Host, Number, Own, Text}
+use Rattle.oca_program.specs.declared.table.Kind.TheVariants as kind
 
 -- ---- options and words
 
 -- the words behind the options, one or more
-abbrev pub words_rule : Rule
-words_rule =
-    record (new_rule (codes "ONO")) {
-      action = Some action.Append;
-      range = Some (record { start_inclusive = 1; end_inclusive = usize_max });
-      value_names = 1;
-      required = true;
-    }
+abbrev pub words_row : OptionFields
+words_row = record { name = codes "ONO"; kind = kind.Words; form = Text }
 
 -- the flag that keeps locks: it takes no value
-abbrev pub hold_rule : Rule
-hold_rule = flag_rule (codes "hold")
+abbrev pub hold_row : OptionFields
+hold_row = a_flag (codes "hold")
+
+abbrev pub span_row : OptionFields
+span_row = with_form (codes "span") (Number 3 1 32)
+
+abbrev pub ahead_row : OptionFields
+ahead_row = with_form (codes "ahead") (Number 3 1 32)
+
+abbrev pub turns_row : OptionFields
+turns_row = with_form (codes "turns") (Number 10 0 4294967295)
+
+abbrev pub port_row : OptionFields
+port_row = with_form (codes "port") (Number 5 0 65535)
 
 -- ---- commands
 
-abbrev pub with_shapes : App → List Shape → App
-with_shapes a [] = a
-with_shapes a (shape ∷ shapes) = with_shapes (with_subcommand a shape) shapes
-
 -- the options by which a device is reached
-abbrev pub reach_rules : List Rule
-reach_rules =
-    required_rule (codes "device") ∷ option_rule (codes "span") ∷ option_rule (codes "first-handle")
-    ∷ option_rule (codes "ip") ∷ []
+abbrev pub reach_rows : List OptionFields
+reach_rows =
+    needed (codes "device") Host ∷ span_row ∷ with_form (codes "first-handle") (Number 10 0 4294967295)
+    ∷ with_form (codes "ip") Own ∷ []
 
-abbrev pub objects_rules : List Rule
-objects_rules = reach_rules ++ option_rule (codes "turns") ∷ option_rule (codes "port") ∷ []
+abbrev pub objects_rows : List OptionFields
+objects_rows = reach_rows ++ turns_row ∷ port_row ∷ []
 
-abbrev pub set_rules : List Rule
-set_rules = objects_rules ++ option_rule (codes "ahead") ∷ []
+abbrev pub set_rows : List OptionFields
+set_rows = objects_rows ++ ahead_row ∷ []
 
-abbrev pub replay_rules : List Rule
-replay_rules =
-    required_rule (codes "device") ∷ option_rule (codes "span") ∷ required_rule (codes "first-handle") ∷ []
+abbrev pub replay_rows : List OptionFields
+replay_rows =
+    needed (codes "device") AnyPeer ∷ span_row ∷ needed (codes "first-handle") (Number 10 0 4294967295) ∷ []
 
-abbrev pub send_rules : List Rule
-send_rules =
-    reach_rules ++ required_rule (codes "target") ∷ required_rule (codes "level") ∷ required_rule (codes "index")
-    ∷ required_rule (codes "count") ∷ option_rule (codes "params") ∷ option_rule (codes "turns")
-    ∷ option_rule (codes "port") ∷ []
+abbrev pub send_rows : List OptionFields
+send_rows =
+    reach_rows ++ needed (codes "target") (Number 10 0 4294967295) ∷ needed (codes "level") (Number 5 0 65535)
+    ∷ needed (codes "index") (Number 5 0 65535) ∷ needed (codes "count") (Number 3 0 255)
+    ∷ with_form (codes "params") Bytes ∷ turns_row ∷ port_row ∷ []
 
-abbrev pub run_rules : List Rule
-run_rules = reach_rules ++ option_rule (codes "ahead") ∷ option_rule (codes "port") ∷ []
+abbrev pub run_rows : List OptionFields
+run_rows = reach_rows ++ ahead_row ∷ port_row ∷ []
 
-abbrev pub own_commands : List Shape
+abbrev pub own_commands : List CommandRows
 own_commands =
-    command_shape (codes "tree") objects_rules
-    ∷ command_shape (codes "get") (objects_rules ++ words_rule ∷ [])
-    ∷ command_shape (codes "set") (set_rules ++ words_rule ∷ [])
-    ∷ command_shape (codes "lock") (objects_rules ++ hold_rule ∷ words_rule ∷ [])
-    ∷ command_shape (codes "unlock") (objects_rules ++ words_rule ∷ [])
-    ∷ command_shape (codes "replay") replay_rules
-    ∷ command_shape (codes "send") send_rules
-    ∷ command_shape (codes "run") run_rules ∷ []
-
--- the program without its commands, one of which must be given
-abbrev pub bare_program : App
-bare_program =
-    record {
-      top = record (new_shape (codes "ocactl")) { has_version = true; subcommand_required = true };
-      subs = [];
-    }
+    record { name = codes "tree"; options = objects_rows }
+    ∷ record { name = codes "get"; options = objects_rows ++ words_row ∷ [] }
+    ∷ record { name = codes "set"; options = set_rows ++ words_row ∷ [] }
+    ∷ record { name = codes "lock"; options = objects_rows ++ hold_row ∷ words_row ∷ [] }
+    ∷ record { name = codes "unlock"; options = objects_rows ++ words_row ∷ [] }
+    ∷ record { name = codes "replay"; options = replay_rows }
+    ∷ record { name = codes "send"; options = send_rows }
+    ∷ record { name = codes "run"; options = run_rows } ∷ []
 
 -- THE COMMAND LINE OF THE PROGRAM.
 unfoldable pub own_app : App
-own_app = with_shapes bare_program own_commands
-
--- ---- commands as clap has them
-
--- no argument of it counts for the commands below it
-abbrev pub IsOwn : Command → Type 0
-IsOwn command = (out-Command command).has_globals ≡ false
-
--- it takes just these
-pub record TakesApp (a : App) (command : Command) : Type 0 where
-  pub app : app_of command ≡ a
-  pub own : IsOwn command
+own_app = program_app (record { name = codes "ocactl"; options = [] }) own_commands

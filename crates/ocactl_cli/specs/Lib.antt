@@ -12,6 +12,5 @@ pub mod Asked
 pub mod Sockets
 pub mod Runs
 pub mod CommandLine
-pub mod PrivateCommandLine
 pub mod Matching
 pub mod PrivateSockets

@@ -20,9 +20,8 @@ use Rattle.ocactl_cli.specs.declared.objects.Search.{Search}
 use Rattle.ocactl_cli.specs.declared.setting.Assignment.{Assignment}
 use Rattle.ocactl_cli.specs.declared.object_line.ObjectLine.{ObjectLine}
 use Rattle.ocactl_cli.specs.declared.object_line.ObjectLine.TheVariants as shown
-use Rattle.oca_script.specs.declared.fault.ReadFailed.{ReadFailed}
 use Rattle.ocactl_cli.specs.Matching.{without_blank}
-use Rattle.ocactl_cli.specs.Objects.{InTurn, KeepsHeld, StopsUnlocking, ReadsOnce, ends_input, Locks, held_if, held_of}
+use Rattle.ocactl_cli.specs.Objects.{InTurn, KeepsHeld, StopsUnlocking, Locks, held_if, held_of}
 use Rattle.ocactl_cli.specs.Objects.{LocksBehind}
 use Rattle.ocactl_cli.specs.Objects.{FindsValue, FindsAll, OnlyFinds, GivesUp, SetCommand, SetsUpTo, SetsEach}
 use Rattle.ocactl_cli.specs.Objects.{done_line, reported_line, reported_lines, most_severe, max_severity}

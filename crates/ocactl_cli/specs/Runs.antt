@@ -1,10 +1,6 @@
 -- What a run of the program does, by its words (*profile*).
 use Rattle.std.specs.Prelude.{◌≡◌, ◌⊎◌, ◌*◌, min, ℕ, ℤ, Bool, true, false, if◌then◌else◌, List, [], map}
 use Rattle.std.specs.Prelude.{Option, None, Some, Result, Ok, Err, OnErr}
-use Rattle.clap.specs.Values.{kind_of}
-use Rattle.clap.specs.declared.error.Error.{Error}
-use Rattle.clap.specs.declared.error.kind.ErrorKind.{ErrorKind}
-use Rattle.clap.specs.declared.error.kind.ErrorKind.TheVariants as kinds
 use Rattle.clap.specs.declared.parser.matches.ArgMatches.{ArgMatches}
 use Rattle.oca_types.specs.Sizes.{span_size}
 use Rattle.oca_net.specs.EndStates.{EndState}
@@ -12,10 +8,9 @@ use Rattle.oca_control.specs.Links.{LinkState, new_link}
 use Rattle.oca_script.specs.declared.fault.ReplayFault.{ReplayFault}
 use Rattle.oca_script.specs.declared.fault.WriteFailed.{WriteFailed}
 use Rattle.oca_script.specs.Ends.{Input, Output}
-use Rattle.oca_script.specs.Printing.{WritesOut}
 use Rattle.oca_script.specs.Replaying.{NeverIdles, Outcome}
-use Rattle.oca_program.specs.Commands.{IsCommand}
-use Rattle.oca_program.specs.Faults.{PrintsFault, fault_status, run_fault, words_fault}
+use Rattle.oca_program.specs.Endings.{FailsWith, RunsOn, Stops, when_replayed}
+use Rattle.oca_program.specs.Faults.{run_fault}
 use Rattle.oca_program.specs.declared.fault.RunFault.{RunFault}
 use Rattle.oca_program.specs.declared.fault.RunFault.TheVariants as fault
 use Rattle.oca_panel.specs.Panels.{PanelState}
@@ -27,11 +22,11 @@ use Rattle.ocactl_cli.specs.Exchanges.{AsksOnce, SendsLines, SessionState}
 use Rattle.ocactl_cli.specs.Objects.{AsksAll, AsksPart, HoldsAll, StopsHolding, Gets, Locks, SetsAll, SetsNoneUnfound}
 use Rattle.ocactl_cli.specs.Objects.{is_locking}
 use Rattle.ocactl_cli.specs.PrivateObjects.{ono_number, pair_of}
-use Rattle.oca_program.specs.Commands.{MatchingGives}
 use Rattle.ocactl_cli.specs.CommandLine.{own_app}
 use Rattle.ocactl_cli.specs.Matching.{matched_words}
 use Rattle.oca_panel.specs.OwnPorts.{IsPortByClock}
-use Rattle.ocactl_cli.specs.Sockets.{IsReached, IsUnreached, end_at, link_for, port_or_any}
+use Rattle.oca_panel.specs.Watching.{WatchState}
+use Rattle.ocactl_cli.specs.Sockets.{IsReached, IsUnreached, end_at, link_begun, link_for, port_or_any}
 use Rattle.oca_panel.specs.declared.own_port.OwnPort.{OwnPort}
 use Rattle.oca_types.specs.declared.words.Peer.{Peer}
 use Rattle.oca_net.specs.Sockets.{IsBoundFrom}
@@ -43,25 +38,11 @@ use Rattle.ocactl_cli.specs.declared.tasks.Task.TheVariants as task
 use Rattle.ocactl_cli.specs.declared.words.Asked.{Asked}
 use Rattle.ocactl_cli.specs.declared.words.Asked.TheVariants as asked
 use Rattle.ocactl_cli.specs.declared.words.Linking.{Linking}
+use Rattle.ocactl_cli.specs.declared.reaching.LinkStart.{LinkStart}
 use Rattle.ocactl_cli.specs.declared.words.Reach.{Reach}
 use Rattle.ocactl_cli.specs.declared.words.Sending.{Sending}
 
 -- ---- how a run ends
-
--- with a status, or with this fault
-abbrev pub run_status : Result ℕ RunFault → ℕ
-run_status (Ok status) = status
-run_status (Err why) = fault_status why
-
--- by what was written last
-abbrev pub ended_by_write : Result Unit WriteFailed → Result ℕ RunFault
-ended_by_write (Ok done) = Ok 0
-ended_by_write (Err e) = Err fault.Write
-
--- by how the replay ended
-abbrev pub ended_by_replay : Result Unit ReplayFault → Result ℕ RunFault
-ended_by_replay (Ok done) = Ok 0
-ended_by_replay (Err e) = Err (run_fault e)
 
 -- by what was written of the one command that was sent, whose status is that of its outcome
 abbrev pub ended_by_send : Result ℕ WriteFailed → Result ℕ RunFault
@@ -73,21 +54,6 @@ abbrev pub ended_by_lines : Bool → Result Unit ReplayFault → Result ℕ RunF
 ended_by_lines unanswered (Ok done) = Ok (if unanswered then 3 else 0)
 ended_by_lines unanswered (Err e) = Err (run_fault e)
 
--- with this fault, and nothing was written
-pub record FailsUnwritten (why : RunFault) (ended : Result ℕ RunFault) (was is : Output) : Type 0 where
-  pub ends : ended ≡ Err why
-  pub writes : is ≡ was
-
--- nothing was read or written, and it failed with this fault
-abbrev pub FailsUntouched : RunFault → Result ℕ RunFault → Input → Input → Output → Output → Type 0
-FailsUntouched why ended had has was is = FailsUnwritten why ended was is × (has ≡ had)
-
--- the text was written, as far as the writes went
-pub record EndsWithText (text : List ℕ) (ended : Result ℕ RunFault) (was is : Output) : Type 0 where
-  pub written : Result Unit WriteFailed
-  pub ends : ended ≡ ended_by_write written
-  pub writes : WritesOut written was is text
-
 -- ---- replay
 
 -- THE SCRIPT on standard input was replayed on a new link, which is as the words say.
@@ -95,7 +61,7 @@ pub record ReplaysScript (linking : Linking) (ended : Result ℕ RunFault) (had 
     (was is : Output) : Type 0 where
   pub after : LinkState
   pub replayed : Result Unit ReplayFault
-  pub ends : ended ≡ ended_by_replay replayed
+  pub ends : ended ≡ when_replayed replayed
   pub outcome : Outcome asked_call CallsLink NeverIdles
       (new_link linking.device linking.first_handle 0 (span_size linking.span)) after was is had has replayed
 
@@ -129,7 +95,7 @@ pub record SendsBound (reach : Reach) (sending : Sending) (ended : Result ℕ Ru
 -- ONE COMMAND was sent, or the device was not reached.
 abbrev pub SendsAt : Reach → Sending → Result ℕ RunFault → Output → Output → Type 0
 SendsAt reach sending ended was is =
-    SendsBound reach sending ended was is ⊎ ((why : RunFault) × IsUnreached why × FailsUnwritten why ended was is)
+    SendsBound reach sending ended was is ⊎ ((why : RunFault) × IsUnreached why × FailsWith why ended was is)
 
 -- ---- commands of lines
 
@@ -161,16 +127,17 @@ pub record RunsFrom (device : Peer) (session : SessionState) (behind : EndState)
 -- over a new link to a device that is reached as the words say, up to as many at once as were given
 pub record RunsLines (reach : Reach) (ahead : ℕ) (ended : Result ℕ RunFault) (had has : Input)
     (was is : Output) : Type 0 where
-  pub link : LinkState
-  pub end_state : EndState
+  pub start : LinkStart
+  pub end_there : WatchState
   pub socket : ℤ
   pub behind : EndState
-  pub reaches : IsReached reach false link end_state
-  pub runs : RunsFrom reach.device (new_session link end_state ahead (Some socket)) behind ended had has was is
+  pub reaches : IsReached reach false start end_there
+  pub runs : RunsFrom reach.device (new_session (link_begun reach start) end_there.end_state ahead (Some socket)) behind
+      ended had has was is
 
 -- nothing was read or written, since the device was not reached
 abbrev pub Unreached : Result ℕ RunFault → Input → Input → Output → Output → Type 0
-Unreached ended had has was is = (why : RunFault) × IsUnreached why × FailsUntouched why ended had has was is
+Unreached ended had has was is = (why : RunFault) × IsUnreached why × Stops why ended had has was is
 
 -- THE COMMANDS of standard input were sent, or the device was not reached.
 abbrev pub RunsAt : Reach → ℕ → Result ℕ RunFault → Input → Input → Output → Output → Type 0
@@ -242,11 +209,12 @@ new_panel link end_state turns =
 -- were given. For locks the socket is at the program's own port, where none was given.
 pub record DoesOver (reach : Reach) (turns : ℕ) (what : Task) (ended : Result ℕ RunFault) (had has : Input)
     (was is : Output) : Type 0 where
-  pub link : LinkState
-  pub end_state : EndState
+  pub start : LinkStart
+  pub end_there : WatchState
   pub behind : EndState
-  pub reaches : IsReached reach (is_locking what) link end_state
-  pub does : DoesThenNotes what reach.device (new_panel link end_state turns) behind ended had has was is
+  pub reaches : IsReached reach (is_locking what) start end_there
+  pub does : DoesThenNotes what reach.device (new_panel (link_begun reach start) end_there.end_state turns) behind
+      ended had has was is
 
 -- THE TASK was done, or the device was not reached.
 abbrev pub DoesAt : Reach → ℕ → Task → Result ℕ RunFault → Input → Input → Output → Output → Type 0
@@ -271,53 +239,16 @@ pub record DoesAsAsked (name : List ℕ) (options : ArgMatches) (ended : Result 
 
 -- nothing was read or written, since the words ask for nothing, or there was no memory
 abbrev pub Refused : Result ℕ RunFault → Input → Input → Output → Output → Type 0
-Refused ended had has was is = (why : RunFault) × IsRefusal why × FailsUntouched why ended had has was is
+Refused ended had has was is = (why : RunFault) × IsRefusal why × Stops why ended had has was is
 
 abbrev pub DoesByOptions : List ℕ → ArgMatches → Result ℕ RunFault → Input → Input → Output → Output → Type 0
 DoesByOptions name options ended had has was is =
     DoesAsAsked name options ended had has was is ⊎ Refused ended had has was is
 
-abbrev pub DoesNamed : Option (List ℕ × ArgMatches) → Result ℕ RunFault → Input → Input → Output → Output → Type 0
-DoesNamed None ended had has was is = FailsUntouched fault.BadWords ended had has was is
-DoesNamed (Some (name, options)) ended had has was is = DoesByOptions name options ended had has was is
-
--- The command that matched words name was done, with its options.
-pub record DoesMatchedCommand (words : ArgMatches) (ended : Result ℕ RunFault) (had has : Input)
-    (was is : Output) : Type 0 where
-  pub command : Option (List ℕ × ArgMatches)
-  pub names : IsCommand words command
-  pub does : DoesNamed command ended had has was is
-
--- a text was asked for, and printed; or there was no memory for it
-abbrev pub PrintsHelp : Result ℕ RunFault → Output → Output → Type 0
-PrintsHelp ended was is =
-    ((text : List ℕ) × EndsWithText text ended was is) ⊎ FailsUnwritten fault.NoMemory ended was is
-
--- WORDS THAT WERE NOT MATCHED: where they ask for the text of `--help` or of `--version`, that is printed, and the
--- status is 0; else nothing is printed, and the run fails, since the words are bad or memory was refused.
-abbrev pub AnswersUnmatched : ErrorKind → Result ℕ RunFault → Output → Output → Type 0
-AnswersUnmatched kinds.DisplayHelp ended was is = PrintsHelp ended was is
-AnswersUnmatched kinds.DisplayVersion ended was is = PrintsHelp ended was is
-AnswersUnmatched kind ended was is = FailsUnwritten (words_fault kind) ended was is
-
--- By what matching the words gave. Where they do not match, nothing was read, and nothing printed where faults are.
-abbrev pub DoesByMatches : Result ArgMatches Error → Result ℕ RunFault → Input → Input → Output → Output → Output
-    → Output → Type 0
-DoesByMatches (Ok matches) ended had has was is before after = DoesMatchedCommand matches ended had has was is
-DoesByMatches (Err error) ended had has was is before after =
-    AnswersUnmatched (kind_of error) ended was is × (has ≡ had) × (after ≡ before)
-
--- These words were matched with the program's own command line, and what that gave decides what was done. The exit
--- status is that of how it ended. Printed last, where faults are, is why it failed.
-pub record RunsWords (words : List (List ℕ)) (status : ℕ) (had has : Input) (was is before after : Output)
-    : Type 0 where
-  pub matched : Result ArgMatches Error
-  pub ended : Result ℕ RunFault
-  pub between : Output
-  pub matches : MatchingGives own_app words matched
-  pub ends : status ≡ run_status ended
-  pub does : DoesByMatches matched ended had has was is before between
-  pub fault : PrintsFault ended between after
+-- These words were matched with the program's own command line, and what that gave decides what was done.
+abbrev pub RunsWords : List (List ℕ) → (status : ℕ) → (had has : Input) → (was is before after : Output) → Type 0
+RunsWords words status had has was is before after =
+    RunsOn own_app DoesByOptions words status had has was is before after
 
 -- THE PROGRAM'S RUN on these words. A negative number among those of `set` is matched behind a blank.
 abbrev pub RunsProgram : List (List ℕ) → (status : ℕ) → (had has : Input) → (was is before after : Output) → Type 0

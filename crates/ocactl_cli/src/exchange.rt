@@ -12,7 +12,8 @@ use oca_script::{Printer, Sink, WriteFailed};
 use oca_types::Request;
 use ocactl_replay::line::{Line, print_line};
 
-/// The exit status for a command: 0 where it was carried out, else that of why it was not.
+/// The exit status for a command: 0 if it was answered with OK, 4 with another status, 3 if no answer came or the link
+/// is lost or refuses it.
 pub fn outcome_status(outcome: &Outcome) -> u8
     ensures { result ≡ outcome_status outcome.now }
 {
@@ -22,7 +23,7 @@ pub fn outcome_status(outcome: &Outcome) -> u8
     }
 }
 
-/// Prints a command's outcome, as one line.
+/// Prints a command's outcome, as one line. `WriteFailed` if the write failed.
 pub fn print_outcome<W: Sink>(
     outcome: &Outcome,
     printer: &mut Printer<W>,
@@ -37,8 +38,10 @@ pub fn print_outcome<W: Sink>(
     }
 }
 
-/// Asks for one command over the end, waits for its answer at most so many turns, and writes its outcome. Returns the
-/// exit status.
+/// Asks for one command over the end, waits for its answer, at most so many turns of up to 50 ms each, writes its
+/// outcome and flushes the printer. Returns the exit status ([`outcome_status`]). A link that is lost or late, or that
+/// refuses the command, sends nothing. An unanswered command stays in flight. `WriteFailed` if the write failed: the
+/// command may have been carried out all the same.
 pub fn ask_once<E: End, W: Sink>(
     link: &mut Link,
     end: &mut E,

@@ -13,14 +13,16 @@ use clap::{ArgMatches, Error};
 use std::alloc::{AllocError, Global};
 use std::convert::AsStr;
 
-/// The words, the program's name first, matched with what the program takes.
+/// Matches the words of a command line, the program's name first, with the options and commands of the program. The
+/// words of `set` must come with their blanks ([`with_blanks`]). `Err` for words that do not match, for `--help` and
+/// `--version`, which print a text, and if memory was refused.
 pub fn matches_of<'a, S: AsStr>(alloc: Global, words: &'a [S]) -> Result<ArgMatches<'a>, Error>
     ensures { MatchingGives own_app (map S.text words.entry.now) result }
 {
     program(alloc)?.try_get_matches_from(words)
 }
 
-/// Whether the command is `set`.
+/// Whether the words, the program's name first, are those of the command `set`.
 pub fn is_set<S: AsStr>(words: &[S]) -> bool
     ensures { result ≡ is_for_set (map S.text words.now) }
 {
@@ -30,7 +32,8 @@ pub fn is_set<S: AsStr>(words: &[S]) -> bool
     }
 }
 
-/// The words, with a blank in front of each that begins as a negative number or with a blank.
+/// The words, with a blank in front of each that begins as a negative number or with a blank, so that none is taken for
+/// an option. `AllocError` if memory was refused.
 pub fn with_blanks<S: AsStr>(alloc: Global, words: &[S]) -> Result<Vec<String>, AllocError>
     ensures { IfOk result (λ texts. map string_bytes texts.items ≡ map blank_before (map S.text words.now)) }
 {
@@ -85,7 +88,7 @@ fn takes_blank(word: &str) -> bool
     }
 }
 
-/// The word of which this was matched.
+/// The word from which [`with_blanks`] made this word.
 pub fn without_blank(word: &str) -> &str
     ensures { result.now ≡ blank_taken word.now }
 {

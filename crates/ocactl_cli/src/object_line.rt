@@ -35,7 +35,8 @@ pub enum ObjectLine {
     Failed(Trouble),
 }
 
-/// Prints the line of an object, and flushes it. Returns the exit status for what the line shows.
+/// Prints the line of an object, and flushes it. Returns the exit status for what the line shows: 0 for a value or
+/// `ok`, else as [`status_of`]. `WriteFailed` if the write failed.
 pub fn report_object<W: Sink>(
     ono: Ono,
     line: &ObjectLine,
@@ -60,7 +61,7 @@ fn write_object<W: Sink>(
     printer.flush()
 }
 
-/// Holds the line of an object.
+/// Holds the line of an object in the printer, which must have room for it.
 pub fn put_object<W: Sink>(ono: Ono, line: &ObjectLine, printer: &mut Printer<W>)
     requires { length printer.old.held + 700 ≤ 8192 }
     ensures { printer.new ≡ output printer.old.contents (printer.old.held ++ line_of_object ono.0 line.now)
@@ -149,8 +150,8 @@ fn put_status<W: Sink>(status: u8, printer: &mut Printer<W>)
     }
 }
 
-/// Holds the line of an object in a tree: its number, the fields of its class's identifier, the number of its
-/// container, and its role as a text is printed.
+/// Holds the line of an object in a tree: its number, the fields of its class's identifier (at most 16), the number of
+/// its container, and its role (at most 64 bytes) as a text is printed. The printer must have room for 1,100 bytes.
 pub fn put_place<W: Sink>(
     ono: u32,
     fields: &[u16],
@@ -241,7 +242,7 @@ pub fn status_of(trouble: Trouble) -> u8
     }
 }
 
-/// The exit status for several objects, of two of theirs: 3 before 2 before 4 before 0.
+/// The more severe of the exit statuses of two objects: 3 before 2 before 4 before 0.
 pub fn max_severity(a: u8, b: u8) -> u8
     ensures { result ≡ max_severity a b }
 {

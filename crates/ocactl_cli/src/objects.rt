@@ -29,7 +29,9 @@ pub struct Pair {
     pub word: Text,
 }
 
-/// Reads the objects one after another, and prints the value of each. Returns the exit status.
+/// Reads the objects one after another, and prints the value of each. Returns the exit status: 0 if all were read, 4 if
+/// an object refused or has no value, 3 if no answer came; of several the most severe. `WriteFailed` if a write to the
+/// output failed: the objects whose lines come before were asked.
 pub fn get_all<E: End, W: Sink>(
     panel: &mut Panel<E>,
     onos: &[Ono],
@@ -89,9 +91,11 @@ fn position_of<E: End>(panel: &mut Panel<E>, ono: Ono, position: u16) -> ObjectL
     }
 }
 
-/// Sets the objects, so many at once, and prints the value of each, in the order of the pairs. Where the word of one is
-/// for no value of it, or its class can't be read, nothing is set, and this is printed of each such object. Returns the
-/// exit status.
+/// Sets the objects, at most `ahead` commands in flight at once, and prints the value of each, in the order of the
+/// pairs. If the word of a pair is for no value of its object, or the object's class can't be read, nothing is set, and
+/// this is printed of each such object. Returns the exit status: 0 if all were set, 4 if an object refused, 2 for a
+/// word that is for no value, 3 if no answer came; of several the most severe. Failures: `Write`, and then what is in
+/// flight may be carried out or not; `NoMemory`.
 pub fn set_all<E: End, W: Sink>(
     alloc: Global,
     panel: &mut Panel<E>,
@@ -210,8 +214,11 @@ fn report_missing<W: Sink>(
     })
 }
 
-/// Locks the objects one after another, or takes their locks off, and prints the outcome of each. Returns the exit
-/// status.
+/// Locks the objects one after another (`locks`), or takes their locks off, and prints the outcome of each. An object
+/// whose command would be submitted more than 15,000 ms after that of the object before is left out: `not sent`.
+/// Returns the exit status: 0 if all was done, 4 if an object refused, 3 if no answer came or an object was left out;
+/// of several the most severe. `WriteFailed` if a write to the output failed: the objects whose lines come before were
+/// asked.
 pub fn lock_all<E: End, W: Sink>(
     panel: &mut Panel<E>,
     onos: &[Ono],
@@ -235,8 +242,10 @@ pub fn lock_all<E: End, W: Sink>(
     Ok(status)
 }
 
-/// Locks an object, or takes its lock off, unless that comes late behind the one before it, and prints its outcome.
-/// Returns the exit status.
+/// Locks an object (`locks`), or takes its lock off, and prints its outcome, unless more than 15,000 ms have passed
+/// since the moment `since`: then it sends nothing, and prints that. `since` becomes the present moment if the command
+/// may be submitted. Returns the exit status: 0, 4 for a refusal, 3 if no answer came or nothing was sent.
+/// `WriteFailed` if the line was not written: the command was sent all the same.
 pub fn lock_one<E: End, W: Sink>(
     panel: &mut Panel<E>,
     ono: Ono,

@@ -1,4 +1,4 @@
-//! How a device is reached: the socket's port, and a link with its first handle.
+//! How a device is reached: the socket's port, and how a link to it begins.
 ghost use Rattle.std.specs.Prelude.{◌≡◌, ◌<◌, IfErr, IfOk};
 ghost use Rattle.oca_net.specs.Sockets.{IsBoundFrom, new_socket};
 ghost use Rattle.oca_panel.specs.declared.answering.Probed.TheVariants.{NotAnswering};
@@ -7,13 +7,12 @@ ghost use Rattle.ocactl_cli.specs.Sockets.{IsBoundByChoice, IsLinkedBehind, IsLi
 ghost use Rattle.ocactl_cli.specs.Sockets.{IsReached, IsSocketFor, IsUnreached, asks_first};
 
 use super::words::Reach;
-use oca_control::Link;
-use oca_net::UdpEnd;
+use oca_net::{End, UdpEnd};
 use oca_panel::{OwnPort, Probed, Watched, probe};
 use oca_program::socket::bind_towards;
 use oca_program::{Failure, note_other_port};
 use oca_script::{Printer, Sink};
-use oca_types::Peer;
+use oca_types::{Handle, Peer};
 use std::alloc::Global;
 use std::net::Net;
 use std::rt::Clock;
@@ -21,20 +20,29 @@ use std::rt::Clock;
 /// A socket that knows when the device was heard.
 type DeviceEnd<'a, C> = Watched<UdpEnd<'a, C>>;
 
-/// A link and the socket for a device: at the port that the words give, else at the program's own. Where that is in
+/// How a link begins: with the handle of its first command where the words give none, and at which moment. A link itself
+/// is some 94 kB: it is made where it stays.
+#[derive(Clone, Copy)]
+pub struct LinkStart {
+    pub first: Handle,
+    pub now: u64,
+}
+
+/// How the link to a device begins, and its socket: at the port that the words give, else at the program's own. Where that is in
 /// use, it is at one of the system's choice, unless no other port may be taken: then neither of the program's two may
 /// be in use, and the fault names it.
 ///
 /// At the program's own port the device is asked first whether it answers commands from there. Where it is heard and
 /// does not, the other of the two is taken, and a note says so.
+#[inline(never)]
 pub fn reached<'a, N: Net + Clock, F: Sink>(
     alloc: Global,
     system: &'a N,
     reach: Reach,
     own_alone: bool,
     faults: &mut Printer<F>,
-) -> Result<(Link, DeviceEnd<'a, N>), Failure>
-    ensures reached { IfOk result (λ r. IsReached reach own_alone r.0 r.1.end_state) }
+) -> Result<(LinkStart, DeviceEnd<'a, N>), Failure>
+    ensures reached { IfOk result (λ r. IsReached reach own_alone r.0 r.1) }
     ensures fault { IfErr result (λ failure. IsUnreached failure.fault) }
 {
     let own = OwnPort::now(system);
@@ -127,7 +135,7 @@ fn linked_over<'a, N: Net + Clock, F: Sink>(
     own: OwnPort,
     bound: Result<(UdpEnd<'a, N>, bool), Failure>,
     faults: &mut Printer<F>,
-) -> Result<(Link, DeviceEnd<'a, N>), Failure>
+) -> Result<(LinkStart, DeviceEnd<'a, N>), Failure>
     requires below { own.first_handle.0 < 2147483648 }
     requires new { IfOk bound (λ b. b.0 ≡ new_socket b.0.local) }
     ensures { IsLinkedIfBound reach own bound.entry result }
@@ -148,17 +156,27 @@ fn linked<'a, N: Net + Clock, F: Sink>(
     is_own: bool,
     end: UdpEnd<'a, N>,
     faults: &mut Printer<F>,
-) -> (Link, DeviceEnd<'a, N>)
+) -> (LinkStart, DeviceEnd<'a, N>)
     requires below { own.first_handle.0 < 2147483648 }
     requires new { end ≡ new_socket end.local }
-    ensures { IsLinkedOver (asks_first is_own reach.first_handle) reach own end.entry.local
-        result.0 result.1.end_state }
+    ensures { IsLinkedOver (asks_first is_own reach.first_handle) reach own end.entry.local result.0 result.1 }
 {
     let end = Watched::new(end, reach.device);
     if is_own && reach.first_handle.is_none() {
         return answering(alloc, system, reach, own, end, faults);
     }
-    (reach.link(own.first_handle.0, 0), end)
+    (at_once(own), end)
+}
+
+/// How a link begins over a socket that was not used.
+fn at_once(own: OwnPort) -> LinkStart
+    ensures first { result.first ≡ own.first_handle }
+    ensures now { result.now ≡ 0 }
+{
+    LinkStart {
+        first: own.first_handle,
+        now: 0,
+    }
 }
 
 /// A link over the program's own port where the device answers its commands, else over the other one.
@@ -169,13 +187,13 @@ fn answering<'a, N: Net + Clock, F: Sink>(
     own: OwnPort,
     mut end: DeviceEnd<'a, N>,
     faults: &mut Printer<F>,
-) -> (Link, DeviceEnd<'a, N>)
+) -> (LinkStart, DeviceEnd<'a, N>)
     requires { own.first_handle.0 < 2147483648 }
-    ensures { IsLinkedBehind reach own end.entry.end_state result.0 result.1.end_state }
+    ensures { IsLinkedBehind reach own end.entry.end_state result.0 result.1 }
 {
     match probe(&mut end, reach.device, own.first_handle) {
         Probed::NotAnswering => elsewhere(alloc, system, reach, own, end, faults),
-        Probed::Answering | Probed::NotHeard => further(reach, own, end),
+        Probed::Answering | Probed::NotHeard => further(own, end),
     }
 }
 
@@ -187,38 +205,33 @@ fn elsewhere<'a, N: Net + Clock, F: Sink>(
     own: OwnPort,
     mut end: DeviceEnd<'a, N>,
     faults: &mut Printer<F>,
-) -> (Link, DeviceEnd<'a, N>)
+) -> (LinkStart, DeviceEnd<'a, N>)
     requires { own.first_handle.0 < 2147483648 }
-    ensures { IsLinkedBy NotAnswering reach own end.entry.end_state result.0 result.1.end_state }
+    ensures { IsLinkedBy NotAnswering reach own end.entry result.0 result.1 }
 {
     let bound = bind_at(alloc, system, reach, own.other);
     match bound {
         Ok(other) => {
             note_other_port(alloc, reach.device, own.port, own.other, faults);
-            (
-                reach.link(own.first_handle.0, 0),
-                Watched::new(other, reach.device),
-            )
+            (at_once(own), Watched::new(other, reach.device))
         }
         Err(_) => {
             end.forget();
-            further(reach, own, end)
+            further(own, end)
         }
     }
 }
 
 /// A link over a socket by which a command was sent before.
-#[tactic(auto, using(crate::proofs::SocketLemmas::present_at))]
-fn further<'a, N: Net + Clock>(
-    reach: Reach,
-    own: OwnPort,
-    end: DeviceEnd<'a, N>,
-) -> (Link, DeviceEnd<'a, N>)
+fn further<'a, N: Net + Clock>(own: OwnPort, end: DeviceEnd<'a, N>) -> (LinkStart, DeviceEnd<'a, N>)
     requires { own.first_handle.0 < 2147483648 }
-    ensures { IsLinkedFurther reach own.first_handle.0 end.entry.end_state result.0 result.1.end_state }
+    ensures { IsLinkedFurther own.first_handle.0 end.entry result.0 result.1 }
 {
-    let now = end.end().now();
-    (reach.link(own.first_handle.0 + 1, now), end)
+    let start = LinkStart {
+        first: Handle(own.first_handle.0 + 1),
+        now: end.now(),
+    };
+    (start, end)
 }
 
 /// A socket at a port, and at the address of these words: where they give none, or 0.0.0.0, at the one from which the

@@ -1,17 +1,18 @@
 //! Why no answer came, as far as it is known.
 ghost use Rattle.std.specs.Prelude.{◌≡◌, false};
-ghost use Rattle.ocactl_cli.specs.Beside.{AsksIfThere};
+ghost use Rattle.ocactl_cli.specs.Beside.{AsksIfThere, IsSameBeside, TakesKeepAlives};
 ghost use Rattle.ocactl_cli.specs.Reasons.{reason_by, reason_unheard};
 
 use super::bound_end::BoundEnd;
 use super::probe::is_there_where;
 use super::words::Reach;
 use oca_net::{is_gone, is_refused};
-use oca_panel::Watched;
+use oca_panel::{Panel, Watched};
 use oca_program::print_note;
 use oca_script::{Printer, Sink};
 use oca_types::Peer;
 use std::alloc::{AllocError, Global};
+use std::io;
 use std::net::{Ipv4Addr, Net};
 
 /// What is known of a device that gave no answer.
@@ -54,35 +55,88 @@ fn unheard(is_there: bool, is_refused: bool) -> Reason
     }
 }
 
-/// Whether the device is asked now, where it may be: it was not heard, and the socket's address is there.
-fn is_asked(asks: bool, is_gone: bool, heard: Option<u64>) -> bool
-    ensures { asks ≡ false → result ≡ false }
-{
-    asks && !is_gone && heard.is_none()
-}
-
-/// Prints when the device was heard, where a command got no answer, or that the machine has lost the address from which
-/// the command left. A device that was not heard is asked once more whether it is there, and its host whether a program
-/// has its port.
-pub fn note_silence<N: Net, E: BoundEnd, F: Sink>(
+/// Prints what is known of why a command got no answer over a panel, where one got none: why a send failed, where one
+/// has, and when the device was heard, or that the machine has lost the address from which the command left. A device
+/// that was not heard is asked once more whether it is there, and its host whether a program has its port.
+#[tactic(auto, using(crate::proofs::BesideLemmas::not_asked, crate::proofs::BesideLemmas::takes_keep_alives))]
+pub fn note_no_answer<N: Net, E: BoundEnd, F: Sink>(
     alloc: Global,
     system: &N,
-    end: &mut Watched<E>,
+    panel: &mut Panel<Watched<E>>,
     reach: Reach,
-    asks: bool,
+    silent: bool,
     faults: &mut Printer<F>,
 )
-    ensures beside { AsksIfThere reach.device end.old.end_state end.new.end_state }
-    ensures unasked { asks ≡ false → end.new.end_state ≡ end.old.end_state }
+    ensures beside { AsksIfThere reach.device panel.old.end_state panel.new.end_state }
+    ensures told { TakesKeepAlives reach.device panel.old.end_state panel.new.end_state }
+    ensures same { IsSameBeside panel.old panel.new }
+    ensures answered { silent ≡ false → panel.new ≡ panel.old }
 {
-    let device = reach.device;
-    let own = end.end().local();
+    if silent {
+        note_failed_send(alloc, panel.end().end().last_failed_send(), faults);
+        note_silence(alloc, system, panel, reach.device, faults);
+    }
+}
+
+/// Prints when the device was heard; one that was not heard is asked first whether it is there.
+fn note_silence<N: Net, E: BoundEnd, F: Sink>(
+    alloc: Global,
+    system: &N,
+    panel: &mut Panel<Watched<E>>,
+    device: Peer,
+    faults: &mut Printer<F>,
+)
+    ensures beside { AsksIfThere device panel.old.end_state panel.new.end_state }
+    ensures same { IsSameBeside panel.old panel.new }
+{
+    let own = panel.end().end().local();
     let is_gone = is_gone(system, own.ip);
-    let heard = end.heard();
-    let asks_now = is_asked(asks, is_gone, heard);
-    let is_there = is_there_where(asks_now, end, device);
-    let is_refused = asks_now && !is_there && is_refused(system, own.ip, device);
-    let reason = why(is_gone, end.end().now(), heard, is_there, is_refused);
+    let heard = panel.end().heard();
+    let asks = !is_gone && heard.is_none();
+    let is_there = is_there_where(asks, panel, device);
+    let is_refused = asks && !is_there && is_refused(system, own.ip, device);
+    let now = panel.end().end().now();
+    let reason = why(is_gone, now, heard, is_there, is_refused);
+    print_reason(alloc, device, own, reason, faults);
+}
+
+/// Prints the same over an end without a panel, from which nothing more is sent: the device is not asked.
+pub fn note_unanswered<N: Net, E: BoundEnd, F: Sink>(
+    alloc: Global,
+    system: &N,
+    end: &Watched<E>,
+    device: Peer,
+    silent: bool,
+    faults: &mut Printer<F>,
+) {
+    if !silent {
+        return;
+    }
+    let own = end.end().local();
+    note_failed_send(alloc, end.end().last_failed_send(), faults);
+    let is_gone = is_gone(system, own.ip);
+    let reason = why(is_gone, end.end().now(), end.heard(), false, false);
+    print_reason(alloc, device, own, reason, faults);
+}
+
+/// Prints why a send failed, where one has and there is memory for the line.
+fn note_failed_send<F: Sink>(alloc: Global, reason: Option<io::Error>, faults: &mut Printer<F>) {
+    let Some(reason) = reason else {
+        return;
+    };
+    if let Ok(note) = format!(in alloc; "a send failed: {reason}") {
+        print_note(note.as_str(), faults);
+    }
+}
+
+/// Prints a reason, where there is memory for the line.
+fn print_reason<F: Sink>(
+    alloc: Global,
+    device: Peer,
+    own: Peer,
+    reason: Reason,
+    faults: &mut Printer<F>,
+) {
     if let Ok(text) = reason_text(alloc, device, own, reason) {
         print_note(text.as_str(), faults);
     }

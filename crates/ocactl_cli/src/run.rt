@@ -1,23 +1,21 @@
 //! A run of the program.
 ghost use Rattle.std.specs.Prelude.{◌≡◌, ℤ, IfErr, IfOk, Some, false, if◌then◌else◌, map};
-ghost use Rattle.ocactl_cli.specs.Beside.{AsksIfThere, TakesKeepAlives};
-ghost use Rattle.clap.specs.Words.{kind_of};
+ghost use Rattle.ocactl_cli.specs.Beside.{AsksIfThere};
+ghost use Rattle.oca_net.specs.EndStates.{EndState};
 ghost use Rattle.oca_types.specs.Sizes.{span_size};
 ghost use Rattle.oca_script.specs.Ends.{input};
-ghost use Rattle.oca_script.specs.Printing.{WritesOut};
-ghost use Rattle.oca_program.specs.Faults.{PrintsFault, fault_in, words_fault};
+ghost use Rattle.oca_program.specs.Endings.{DoesMatched, Obeys};
+ghost use Rattle.oca_program.specs.Faults.{fault_in};
 ghost use Rattle.oca_net.specs.Sockets.{IsBoundFrom, new_socket};
 ghost use Rattle.oca_panel.specs.Panels.{PanelState};
 ghost use Rattle.ocactl_cli.specs.Objects.{Gets, Locks};
 ghost use Rattle.ocactl_cli.specs.PrivateObjects.{ono_number, pair_of};
 ghost use Rattle.ocactl_cli.specs.Matching.{with_blank};
-ghost use Rattle.oca_program.specs.Faults.{asks_for_text};
-ghost use Rattle.ocactl_cli.specs.Runs.{run_status, RunsProgram, RunsWords, DoesByMatches, DoesMatchedCommand};
-ghost use Rattle.ocactl_cli.specs.Runs.{DoesByOptions, DoesRequest, AnswersUnmatched, PrintsHelp, EndsWithText};
+ghost use Rattle.ocactl_cli.specs.Runs.{RunsProgram, RunsWords, DoesByOptions, DoesRequest};
 ghost use Rattle.ocactl_cli.specs.Runs.{ReplaysScript, SendsAt, SendsOne, AsksOver, RunsAt, RunsFrom, DoesAt, DoesTask};
 ghost use Rattle.ocactl_cli.specs.Runs.{DoesThenNotes};
-ghost use Rattle.ocactl_cli.specs.Runs.{AsksEach, new_session, time_of_turns};
-ghost use Rattle.ocactl_cli.specs.Sockets.{IsUnreached, port_or_any};
+ghost use Rattle.ocactl_cli.specs.Runs.{AsksEach, new_panel, new_session, time_of_turns};
+ghost use Rattle.ocactl_cli.specs.Sockets.{IsUnreached, link_begun, port_or_any};
 
 use super::bound_end::BoundEnd;
 use super::commands::send_all;
@@ -25,41 +23,40 @@ use super::exchange::ask_once;
 use super::holding::hold;
 use super::matching::{is_set, matches_of, with_blanks};
 use super::objects::{get_all, lock_all, set_all};
-use super::reaching::reached;
-use super::reason::note_silence;
+use super::reaching::{LinkStart, reached};
+use super::reason::{note_no_answer, note_unanswered};
 use super::session::Session;
 use super::tasks::Task;
 use super::walk::walk;
 use super::words::{Asked, Linking, Reach, Sending, asked_for};
-use clap::error::ErrorKind;
 use clap::{ArgMatches, Error};
-use oca_control::Link;
 use oca_net::{End, UdpEnd};
 use oca_panel::{OwnPort, Panel, Watched};
-use oca_program::options::help_or_failure;
 use oca_program::socket::bind_towards;
-use oca_program::{Failure, RunFault, print_note, report};
+use oca_program::{Failure, RunFault, helped, print_note, status_of};
 use oca_script::{Printer, Sink, Source, WriteFailed};
 use oca_types::{Handle, Ono, Span};
 use ocactl_replay::replay::replay;
 use std::alloc::{AllocError, Global};
 use std::convert::AsStr;
-use std::io;
 use std::net::Net;
 use std::os::fd::AsRawFd;
 use std::rt::Clock;
 
-/// Runs the program on the words of its command line, its name first, and returns its exit status.
+/// Runs the program on the words of its command line, its name first, and returns its exit status: 0 if all was done,
+/// also for a help text or the version; 2 if the words or a line are invalid; 1 if something could not be done. The
+/// commands have these further statuses; of several, 3 comes before 2 and 2 before 4:
 ///
-/// `replay` runs a link over the script that the source has to give. `send` sends a command and prints its answer: 0
-/// for an answer with the status 0, 4 for another, 3 where the link is lost or no answer came. `run` sends the commands
-/// that the source has to give, and prints the answer of each, or why there is none, in the order of their lines: 3
-/// where one got none. `tree`, `get`, `set`, `lock` and `unlock` print a line for each object (`set`, where a value is
-/// missing, for those without one alone): 4 where one was refused, 3 where an answer did not come or the link took no
-/// command, and of `set` 2 where a word is for no value of its object; of several 3 before 2 before 4. Else 0 where all
-/// was done, 2 where the words or a line are bad, and 1 where something could not be done. A fault is printed on
-/// `faults` as one line, behind one that begins with `note: ` where more is known; such a line also says why a send
-/// failed where no answer came.
+/// - `replay` runs a link over the script that the source has to give. - `send` sends a command and prints its answer:
+/// 4 for an answer whose status is not OK, 3 if the link is lost or no answer came. - `run` sends the commands that the
+/// source has to give, and prints for each, in the order of their lines, its answer or why there is none: 3 if one got
+/// none. - `tree`, `get`, `set`, `lock` and `unlock` print a line for each object: 4 if one was refused, 3 if an answer
+/// did not come or the link took no command. If `set` finds no value for a word, or can't read a class, it sets nothing
+/// and prints the lines of these objects only: 2 for such a word. `lock --hold` reads the source until it ends, and
+/// then releases the locks.
+///
+/// A fault is printed on `faults` as one line, after a line that begins with `note: ` if more is known; such a line
+/// also says why a send failed if no answer came.
 pub fn run<N: Net + Clock, S: AsStr, R: Source, W: Sink, F: Sink>(
     alloc: Global,
     system: &N,
@@ -143,89 +140,14 @@ fn matched_run<N: Net + Clock, R: Source, W: Sink, F: Sink>(
     printer: &mut Printer<W>,
     faults: &mut Printer<F>,
 ) -> Result<u8, Failure>
-    ensures { DoesByMatches matched.now (fault_in result)
+    ensures { DoesMatched DoesByOptions matched.now (fault_in result)
         (input (R.remaining reader.old) (R.failed reader.old))
         (input (R.remaining reader.new) (R.failed reader.new)) printer.old printer.new faults.old faults.new }
 {
     match matched {
         Ok(matches) => do_matched(alloc, system, matches, reader, printer, faults),
-        Err(error) => answer_unmatched(alloc, error, printer),
+        Err(error) => helped(alloc, error, printer),
     }
-}
-
-/// The exit status of a run that ended so. Why it failed, where it did, is printed.
-fn status_of<F: Sink>(ended: Result<u8, Failure>, faults: &mut Printer<F>) -> u8
-    ensures status { result ≡ run_status (fault_in ended) }
-    ensures fault { PrintsFault (fault_in ended) faults.old faults.new }
-{
-    match ended {
-        Ok(status) => status,
-        Err(failure) => report(&failure, faults),
-    }
-}
-
-/// Prints the text of `--help` or `--version`, where the words ask for that.
-fn answer_unmatched<W: Sink>(
-    alloc: Global,
-    error: &Error,
-    printer: &mut Printer<W>,
-) -> Result<u8, Failure>
-    ensures { AnswersUnmatched (kind_of error.now) (fault_in result) printer.old printer.new }
-{
-    match error.kind() {
-        ErrorKind::DisplayHelp | ErrorKind::DisplayVersion => help(alloc, error, printer),
-        _ => Err(unmatched(alloc, error)),
-    }
-}
-
-/// Prints the text of an error that asks for one.
-fn help<W: Sink>(alloc: Global, error: &Error, printer: &mut Printer<W>) -> Result<u8, Failure>
-    ensures { PrintsHelp (fault_in result) printer.old printer.new }
-{
-    match error.to_string(alloc) {
-        Ok(text) => print_text(text.as_bytes(), printer),
-        Err(_) => Err(Failure::from(RunFault::NoMemory)),
-    }
-}
-
-/// Why a run fails whose words were not matched and ask for no text.
-fn unmatched(alloc: Global, error: &Error) -> Failure
-    requires { asks_for_text (kind_of error.now) ≡ false }
-    ensures { result.fault ≡ words_fault (kind_of error.now) }
-{
-    match help_or_failure(alloc, error) {
-        Ok(_) => Failure::from(fault_for(error.kind())),
-        Err(failure) => failure,
-    }
-}
-
-/// The fault of words that were not matched.
-fn fault_for(kind: ErrorKind) -> RunFault
-    requires { asks_for_text kind ≡ false }
-    ensures { result ≡ words_fault kind }
-{
-    match kind {
-        ErrorKind::OutOfMemory => RunFault::NoMemory,
-        _ => RunFault::BadWords,
-    }
-}
-
-/// Prints a text, and flushes it.
-fn print_text<W: Sink>(text: &[u8], printer: &mut Printer<W>) -> Result<u8, Failure>
-    ensures { EndsWithText text.now (fault_in result) printer.old printer.new }
-{
-    match print_all(text, printer) {
-        Ok(()) => Ok(0),
-        Err(failed) => Err(Failure::from(failed)),
-    }
-}
-
-/// The same, where only a write fails.
-fn print_all<W: Sink>(text: &[u8], printer: &mut Printer<W>) -> Result<(), WriteFailed>
-    ensures { WritesOut result printer.old printer.new text.now }
-{
-    printer.print(text)?;
-    printer.flush()
 }
 
 /// Does what the command asks for that the matched words name, and returns the exit status.
@@ -237,7 +159,7 @@ fn do_matched<N: Net + Clock, R: Source, W: Sink, F: Sink>(
     printer: &mut Printer<W>,
     faults: &mut Printer<F>,
 ) -> Result<u8, Failure>
-    ensures { DoesMatchedCommand words.now (fault_in result)
+    ensures { Obeys DoesByOptions words.now (fault_in result)
         (input (R.remaining reader.old) (R.failed reader.old))
         (input (R.remaining reader.new) (R.failed reader.new)) printer.old printer.new }
 {
@@ -291,6 +213,7 @@ fn do_request<N: Net + Clock, R: Source, W: Sink, F: Sink>(
 }
 
 /// Replays a script on a link.
+#[inline(never)]
 fn replayed<R: Source, W: Sink>(
     linking: Linking,
     reader: &mut R,
@@ -301,10 +224,7 @@ fn replayed<R: Source, W: Sink>(
         (input (R.remaining reader.new) (R.failed reader.new)) printer.old printer.new }
 {
     let mut link = linking.link();
-    match replay(&mut link, reader, printer) {
-        Ok(()) => Ok(0),
-        Err(fault) => Err(Failure::from(fault)),
-    }
+    oca_program::replayed(replay(&mut link, reader, printer))
 }
 
 /// The largest span that a device's window of 32 commands bears, which it has unless it is given another.
@@ -379,7 +299,7 @@ fn sent_over<N: Net + Clock, E: BoundEnd, W: Sink, F: Sink>(
     let own = OwnPort::now(system);
     match send_one(reach, own.first_handle, end, sending, printer) {
         Ok(status) => {
-            note_no_answer(alloc, system, end, reach, status == 3, false, faults);
+            note_unanswered(alloc, system, end, reach.device, status == 3, faults);
             Ok(status)
         }
         Err(failed) => Err(Failure::from(failed)),
@@ -402,64 +322,84 @@ fn ran<N: Net + Clock, R: Source, W: Sink, F: Sink>(
 {
     note_span(alloc, reach.span, faults);
     match reached(alloc, system, reach, false, faults) {
-        Ok((link, end)) => {
-            let session = session_over(link, end, ahead);
-            let (ended, _end) = ran_over(alloc, system, session, reach, reader, printer, faults);
-            ended
-        }
+        Ok((start, end)) => ran_from(
+            alloc, system, reach, start, end, ahead, reader, printer, faults,
+        ),
         Err(failure) => Err(failure),
     }
 }
 
-/// A session over a socket, for which is waited beside input.
+/// The same over a new link that begins so. The session lies in this function alone, and goes on as a reference: it is
+/// some 94 kB.
+#[inline(never)]
+fn ran_from<N: Net + Clock, R: Source, W: Sink, F: Sink>(
+    alloc: Global,
+    system: &N,
+    reach: Reach,
+    start: LinkStart,
+    end: Watched<UdpEnd<'_, N>>,
+    ahead: Span,
+    reader: &mut R,
+    printer: &mut Printer<W>,
+    faults: &mut Printer<F>,
+) -> Result<u8, Failure>
+    ensures { (socket : ℤ) × (behind : EndState) × RunsFrom reach.device
+        (new_session (link_begun reach start) end.entry.end_state (span_size ahead) (Some socket)) behind
+        (fault_in result) (input (R.remaining reader.old) (R.failed reader.old))
+        (input (R.remaining reader.new) (R.failed reader.new)) printer.old printer.new }
+{
+    let mut session = session_over(reach, start, end, ahead);
+    ran_over(alloc, system, &mut session, reach, reader, printer, faults)
+}
+
+/// A session over a socket, for which is waited beside input, with a new link that begins so.
 fn session_over<'a, N: Net + Clock>(
-    link: Link,
+    reach: Reach,
+    start: LinkStart,
     end: Watched<UdpEnd<'a, N>>,
     ahead: Span,
 ) -> Session<Watched<UdpEnd<'a, N>>>
-    ensures { (socket : ℤ) × (result ≡ new_session link end.entry.end_state (span_size ahead) (Some socket)) }
+    ensures { (socket : ℤ) ×
+        (result ≡ new_session (link_begun reach start) end.entry.end_state (span_size ahead) (Some socket)) }
 {
     let socket = Some(end.end().as_raw_fd());
-    Session::new(link, end, ahead, socket)
+    Session::new(reach.link(start.first.0, start.now), end, ahead, socket)
 }
 
-/// The same over a session. Returns the end, too.
+/// The same over a session.
 fn ran_over<N: Net, E: BoundEnd, R: Source, W: Sink, F: Sink>(
     alloc: Global,
     system: &N,
-    mut session: Session<Watched<E>>,
+    session: &mut Session<Watched<E>>,
     reach: Reach,
     reader: &mut R,
     printer: &mut Printer<W>,
     faults: &mut Printer<F>,
-) -> (Result<u8, Failure>, Watched<E>)
-    ensures { RunsFrom reach.device session result.1.end_state (fault_in result.0)
+) -> Result<u8, Failure>
+    ensures { RunsFrom reach.device session.old session.new.end_state (fault_in result)
         (input (R.remaining reader.old) (R.failed reader.old))
         (input (R.remaining reader.new) (R.failed reader.new)) printer.old printer.new }
 {
-    match send_all(&mut session, reader, printer) {
-        Ok(()) => concluded(alloc, system, session, reach, faults),
-        Err(stopped) => (Err(Failure::from(stopped)), session.into_end()),
+    match send_all(session, reader, printer) {
+        Ok(()) => Ok(concluded(alloc, system, session, reach, faults)),
+        Err(stopped) => Err(Failure::from(stopped)),
     }
 }
 
-/// The exit status of a session that is over, and its end; why it is silent, where it is, is printed.
-#[tactic(auto, using(crate::proofs::BesideLemmas::asked_from))]
+/// The exit status of a session that is over; why it is silent, where it is, is printed.
 fn concluded<N: Net, E: BoundEnd, F: Sink>(
     alloc: Global,
     system: &N,
-    session: Session<Watched<E>>,
+    session: &mut Session<Watched<E>>,
     reach: Reach,
     faults: &mut Printer<F>,
-) -> (Result<u8, Failure>, Watched<E>)
-    ensures status { fault_in result.0 ≡ Ok (if session.unanswered then 3 else 0) }
-    ensures beside { AsksIfThere reach.device session.end_state result.1.end_state }
+) -> u8
+    ensures status { result ≡ if session.old.unanswered then 3 else 0 }
+    ensures beside { AsksIfThere reach.device session.old.end_state session.new.end_state }
 {
     let status = session_status(session.unanswered());
-    let silent = session.is_lost();
-    let mut end = session.into_end();
-    note_no_answer(alloc, system, &mut end, reach, silent, true, faults);
-    (Ok(status), end)
+    session.note_silence(alloc, system, reach, faults);
+    status
 }
 
 /// The exit status of a session, by whether a command got no answer.
@@ -486,15 +426,44 @@ fn done<N: Net + Clock, R: Source, W: Sink, F: Sink>(
 {
     note_span(alloc, reach.span, faults);
     match reached(alloc, system, reach, task.locks(), faults) {
-        Ok((link, end)) => {
-            let panel = Panel::new(link, end, time_of(turns));
-            let (ended, _end) = done_over(
-                alloc, system, panel, reach, task, reader, printer, faults,
-            );
-            ended
-        }
+        Ok((start, end)) => done_from(
+            alloc, system, reach, start, end, turns, task, reader, printer, faults,
+        ),
         Err(failure) => Err(failure),
     }
+}
+
+/// The same over a new link that begins so. The panel lies in this function alone, and goes on as a reference: it is
+/// some 94 kB.
+#[inline(never)]
+fn done_from<N: Net + Clock, R: Source, W: Sink, F: Sink>(
+    alloc: Global,
+    system: &N,
+    reach: Reach,
+    start: LinkStart,
+    end: Watched<UdpEnd<'_, N>>,
+    turns: u32,
+    task: &Task,
+    reader: &mut R,
+    printer: &mut Printer<W>,
+    faults: &mut Printer<F>,
+) -> Result<u8, Failure>
+    ensures { (behind : EndState) × DoesThenNotes task.now reach.device
+        (new_panel (link_begun reach start) end.entry.end_state turns) behind (fault_in result)
+        (input (R.remaining reader.old) (R.failed reader.old))
+        (input (R.remaining reader.new) (R.failed reader.new)) printer.old printer.new }
+{
+    let mut panel = panel_over(reach, start, end, turns);
+    done_over(
+        alloc, system, &mut panel, reach, task, reader, printer, faults,
+    )
+}
+
+/// A panel over an end with a new link that begins so, whose commands wait for so many times 50 ms.
+fn panel_over<E: End>(reach: Reach, start: LinkStart, end: E, turns: u32) -> Panel<E>
+    ensures { result ≡ new_panel (link_begun reach start) (E.state end) turns }
+{
+    Panel::new(reach.link(start.first.0, start.now), end, time_of(turns))
 }
 
 /// The time of so many waits of 50 ms, in milliseconds.
@@ -504,26 +473,25 @@ fn time_of(turns: u32) -> u32
     turns.saturating_mul(50)
 }
 
-/// The same over a link. Returns the end, too.
+/// The same over a panel.
 fn done_over<N: Net, E: BoundEnd, R: Source, W: Sink, F: Sink>(
     alloc: Global,
     system: &N,
-    mut panel: Panel<Watched<E>>,
+    panel: &mut Panel<Watched<E>>,
     reach: Reach,
     task: &Task,
     reader: &mut R,
     printer: &mut Printer<W>,
     faults: &mut Printer<F>,
-) -> (Result<u8, Failure>, Watched<E>)
-    ensures { DoesThenNotes task.now reach.device panel result.1.end_state (fault_in result.0)
+) -> Result<u8, Failure>
+    ensures { DoesThenNotes task.now reach.device panel.old panel.new.end_state (fault_in result)
         (input (R.remaining reader.old) (R.failed reader.old))
         (input (R.remaining reader.new) (R.failed reader.new)) printer.old printer.new }
 {
-    let ended = do_task(alloc, &mut panel, task, reader, printer);
+    let ended = do_task(alloc, panel, task, reader, printer);
     let silent = panel.unanswered() && is_unanswered(&ended);
-    let mut end = panel.into_end();
-    note_no_answer(alloc, system, &mut end, reach, silent, true, faults);
-    (ended, end)
+    note_no_answer(alloc, system, panel, reach, silent, faults);
+    ended
 }
 
 /// Whether a task ended since an answer did not come.
@@ -587,6 +555,7 @@ fn lock_each<E: End, W: Sink>(
 }
 
 /// Sends a command over a new link with this first handle unless the words give one, and prints its outcome.
+#[inline(never)]
 fn send_one<E: End, W: Sink>(
     reach: Reach,
     first: Handle,
@@ -598,37 +567,4 @@ fn send_one<E: End, W: Sink>(
 {
     let mut link = reach.link(first.0, 0);
     ask_once(&mut link, end, sending.command(), sending.turns, printer)
-}
-
-/// Prints what is known of why a command got no answer, where one got none: why a send failed, where one has, and when
-/// the device was heard. `asks` is whether one that was not heard is asked once more whether it is there.
-#[tactic(auto, using(crate::proofs::BesideLemmas::not_asked, crate::proofs::BesideLemmas::takes_keep_alives))]
-fn note_no_answer<N: Net, E: BoundEnd, F: Sink>(
-    alloc: Global,
-    system: &N,
-    end: &mut Watched<E>,
-    reach: Reach,
-    silent: bool,
-    asks: bool,
-    faults: &mut Printer<F>,
-)
-    ensures beside { AsksIfThere reach.device end.old.end_state end.new.end_state }
-    ensures told { TakesKeepAlives reach.device end.old.end_state end.new.end_state }
-    ensures unasked { asks ≡ false → end.new.end_state ≡ end.old.end_state }
-    ensures answered { silent ≡ false → end.new.end_state ≡ end.old.end_state }
-{
-    if silent {
-        note_failed_send(alloc, end.end().last_failed_send(), faults);
-        note_silence(alloc, system, end, reach, asks, faults);
-    }
-}
-
-/// Prints why a send failed, where one has and there is memory for the line.
-fn note_failed_send<F: Sink>(alloc: Global, reason: Option<io::Error>, faults: &mut Printer<F>) {
-    let Some(reason) = reason else {
-        return;
-    };
-    if let Ok(note) = format!(in alloc; "a send failed: {reason}") {
-        print_note(note.as_str(), faults);
-    }
 }

@@ -5,13 +5,20 @@ ghost use Rattle.ocactl_cli.specs.Exchanges.{AwaitsFirst, IsFoundLostNow, IsWait
 ghost use Rattle.ocactl_cli.specs.Exchanges.{is_over, longest_at_hand, since};
 ghost use Rattle.ocactl_cli.specs.Exchanges.{time_beside, time_until};
 ghost use Rattle.ocactl_cli.specs.PrivateExchanges.{Submitted, TakesFirst};
+ghost use Rattle.ocactl_cli.specs.Beside.{AsksIfThere};
 
+use super::bound_end::BoundEnd;
 use super::in_time::present;
+use super::reason::note_no_answer;
+use super::words::Reach;
 use oca_control::{ControlFault, LONGEST_LIFE_MS, Link, Outcome};
 use oca_net::End;
-use oca_panel::{InFlight, Panel};
+use oca_panel::{InFlight, Panel, Watched};
+use oca_script::{Printer, Sink};
 use oca_types::{Handle, Request, Span};
+use std::alloc::Global;
 use std::marker::Model;
+use std::net::Net;
 use std::os::fd::RawFd;
 
 /// For how many milliseconds a command of a line waits for its answer: where not every receive fails, the link is lost
@@ -98,14 +105,14 @@ impl<E: End> Session<E> {
         }
     }
 
-    /// How many commands are in flight.
+    /// How many commands are in flight, 0 to 32.
     pub fn in_flight(&self) -> usize
         ensures { result ≡ length self.now.in_flight }
     {
         self.in_flight.len()
     }
 
-    /// How many may be in flight where one more is to follow.
+    /// How many commands may still be in flight when one more is submitted.
     pub fn left(&self) -> usize
         ensures value { result ≡ self.now.ahead - 1 }
         ensures most { result < 32 }
@@ -114,34 +121,18 @@ impl<E: End> Session<E> {
         self.ahead - 1
     }
 
-    /// The end.
+    /// The end over which the session sends.
     pub fn end(&self) -> &E
         ensures { E.state result.now ≡ self.now.end_state }
     {
         self.panel.end()
     }
 
-    /// Whether the link is lost, or late now.
+    /// Whether the link is lost, or late at the end's present moment.
     pub fn is_lost(&self) -> bool
         ensures { IsFoundLostNow self.now result }
     {
         self.panel.is_lost()
-    }
-
-    /// The end, where nothing more is to be asked.
-    pub fn into_end(self) -> E
-        ensures { E.state result ≡ self.end_state }
-    {
-        let Session {
-            panel,
-            in_flight: _,
-            ahead: _,
-            refused: _,
-            socket: _,
-            is_open: _,
-            at_hand: _,
-        } = self;
-        panel.into_end()
     }
 
     /// Whether a command got no answer so far.
@@ -151,7 +142,7 @@ impl<E: End> Session<E> {
         self.refused || self.panel.unanswered()
     }
 
-    /// Notes that a command got no answer.
+    /// Notes that a command got no answer ([`unanswered`](Session::unanswered)).
     pub fn refuse(&mut self)
         ensures { self.new ≡ record self.old { unanswered = true } }
     {
@@ -202,7 +193,7 @@ impl<E: End> Session<E> {
         self.in_flight.is_empty() && (!self.is_open || self.panel.link().is_lost())
     }
 
-    /// The end's descriptor.
+    /// The end's descriptor; `None` if it has none.
     pub fn socket(&self) -> Option<RawFd>
         ensures { result ≡ self.now.socket }
     {
@@ -224,7 +215,8 @@ impl<E: End> Session<E> {
         self.panel.turn_with_report().lost
     }
 
-    /// How the first command in flight came out, where that is known without a turn; it is in flight no longer then.
+    /// Takes the outcome of the first command in flight, if it is known without a turn: then that command is no longer
+    /// in flight. `None` if it is not known, or none is in flight: that changes nothing.
     pub fn take_first(&mut self) -> Option<Outcome>
         ensures { TakesFirst result self.old self.new }
     {
@@ -234,7 +226,9 @@ impl<E: End> Session<E> {
         Some(outcome)
     }
 
-    /// Waits for the first command in flight.
+    /// Waits for the outcome of the first command in flight, at most as long as the panel waits for a command. That
+    /// command is then no longer one of the session's. There must be one in flight. After `Unanswered` the link still
+    /// sends it; after `Lost` it does not.
     pub fn await_first(&mut self) -> Outcome
         requires { 0 < length self.old.in_flight }
         ensures { AwaitsFirst self.old self.new result }
@@ -243,6 +237,24 @@ impl<E: End> Session<E> {
             unreachable!()
         };
         outcome
+    }
+}
+
+impl<E: BoundEnd> Session<Watched<E>> {
+    /// Prints why no answer comes, where the link is lost or late now: what is known of that. A device that was not heard
+    /// is asked first whether it is there.
+    #[tactic(auto, using(crate::proofs::BesideLemmas::still_waits))]
+    pub fn note_silence<N: Net, F: Sink>(
+        &mut self,
+        alloc: Global,
+        system: &N,
+        reach: Reach,
+        faults: &mut Printer<F>,
+    )
+        ensures { AsksIfThere reach.device self.old.end_state self.new.end_state }
+    {
+        let silent = self.is_lost();
+        note_no_answer(alloc, system, &mut self.panel, reach, silent, faults);
     }
 }
 

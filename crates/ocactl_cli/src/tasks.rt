@@ -52,7 +52,8 @@ pub fn is_task(name: &str) -> bool
     name == "tree" || name == "get" || name == "set" || name == "lock" || name == "unlock"
 }
 
-/// How many times 50 ms a command waits for its answer: 200 unless given.
+/// How many times 50 ms a command waits for its answer: 200 unless the words give another number, 0 to 4,294,967,295.
+/// `None` if their value is no such number.
 pub fn turns_of(words: &ArgMatches<'_>) -> Option<u32>
     ensures { result ≡ given_turns words.now }
 {
@@ -62,7 +63,8 @@ pub fn turns_of(words: &ArgMatches<'_>) -> Option<u32>
     }
 }
 
-/// What the words of a command for objects ask for; what sets, so many at once. Refusals: `BadWords`, and `NoMemory`.
+/// What the words of a command for objects ask for; for `set`, with at most `ahead` commands in flight at once.
+/// Refusals: `BadWords` if a word has not its form, with a note that names it; `NoMemory`.
 pub fn task_of(
     alloc: Global,
     name: &str,

@@ -13,14 +13,15 @@ ghost use Rattle.ocactl_cli.specs.Words.{reach_fields, reach_in, ahead_in, handl
 ghost use Rattle.ocactl_cli.specs.Words.{sending_fields, sending_in, params_of as parsed_params};
 ghost use Rattle.ocactl_cli.specs.Words.{params_in as params_given};
 
+use super::command_line::options_of;
 pub use super::matching::{law_of_blanks, matches_of};
 use super::tasks::{Task, is_task, task_of, turns_of};
 use arrayvec::ArrayVec;
 use clap::ArgMatches;
 use oca_control::Link;
-use oca_program::form::bad_option;
+use oca_program::form::check;
 use oca_program::options::{host_in, number_if, number_in, number_or, own_or, peer_in, text_of};
-use oca_program::{Failure, Form, Rule};
+use oca_program::{Failure, RunFault};
 use oca_script::field::{hex_bytes, number};
 use oca_types::{
     Handle, LOOPBACK, MOST_COMMAND_PARAMETER_BYTES, MethodId, Ono, Peer, Request, Span,
@@ -39,7 +40,7 @@ pub struct Linking {
 }
 
 impl Linking {
-    /// A new link, made at moment 0.
+    /// A new link to the device, made at moment 0, with the first handle and the span that the words give.
     pub fn link(&self) -> Link
         ensures { result ≡ new_link self.now.device self.now.first_handle 0 (span_size self.now.span) }
     {
@@ -58,7 +59,8 @@ pub struct Reach {
 }
 
 impl Reach {
-    /// A new link, made at this moment, with this first handle unless the words give one.
+    /// A new link to the device, made at the moment `now` in milliseconds, with the first handle that the words give,
+    /// else `first_handle`.
     pub fn link(&self, first_handle: u32, now: u64) -> Link
         ensures { result ≡ new_link
             self.now.device (first_handle_for self.now.first_handle first_handle) now (span_size self.now.span) }
@@ -82,7 +84,7 @@ pub struct Sending {
 }
 
 impl Sending {
-    /// The command.
+    /// The command that the words ask to send.
     pub fn command(&self) -> Request<'_>
         ensures { request_of result ≡ record {
           target = self.now.target.0;
@@ -167,118 +169,6 @@ fn run_of(options: &ArgMatches<'_>) -> Option<(Reach, Span)>
     Some((reach, ahead))
 }
 
-/// The options of `replay`.
-const OF_REPLAY: [Rule; 3] = [
-    Rule {
-        name: "device",
-        form: Form::AnyPeer,
-    },
-    Rule {
-        name: "span",
-        form: Form::Number {
-            digits: 3,
-            least: 1,
-            largest: 32,
-        },
-    },
-    Rule {
-        name: "first-handle",
-        form: Form::Number {
-            digits: 10,
-            least: 0,
-            largest: 4_294_967_295,
-        },
-    },
-];
-
-/// The options of the other commands.
-const OF_OTHERS: [Rule; 12] = [
-    Rule {
-        name: "device",
-        form: Form::Host,
-    },
-    Rule {
-        name: "ip",
-        form: Form::Own,
-    },
-    Rule {
-        name: "port",
-        form: Form::Number {
-            digits: 5,
-            least: 0,
-            largest: 65_535,
-        },
-    },
-    Rule {
-        name: "first-handle",
-        form: Form::Number {
-            digits: 10,
-            least: 0,
-            largest: 4_294_967_295,
-        },
-    },
-    Rule {
-        name: "span",
-        form: Form::Number {
-            digits: 3,
-            least: 1,
-            largest: 32,
-        },
-    },
-    Rule {
-        name: "ahead",
-        form: Form::Number {
-            digits: 3,
-            least: 1,
-            largest: 32,
-        },
-    },
-    Rule {
-        name: "turns",
-        form: Form::Number {
-            digits: 10,
-            least: 0,
-            largest: 4_294_967_295,
-        },
-    },
-    Rule {
-        name: "target",
-        form: Form::Number {
-            digits: 10,
-            least: 0,
-            largest: 4_294_967_295,
-        },
-    },
-    Rule {
-        name: "level",
-        form: Form::Number {
-            digits: 5,
-            least: 0,
-            largest: 65_535,
-        },
-    },
-    Rule {
-        name: "index",
-        form: Form::Number {
-            digits: 5,
-            least: 0,
-            largest: 65_535,
-        },
-    },
-    Rule {
-        name: "count",
-        form: Form::Number {
-            digits: 3,
-            least: 0,
-            largest: 255,
-        },
-    },
-    Rule {
-        name: "params",
-        form: Form::Bytes,
-    },
-];
-
 /// The note where each option has its form.
 const ABOVE_THE_SPAN: &str = "--ahead is more than the span, which is 16 without --span";
 
@@ -286,12 +176,10 @@ const ABOVE_THE_SPAN: &str = "--ahead is more than the span, which is 16 without
 fn unread(alloc: Global, name: &str, words: &ArgMatches<'_>) -> Failure
     ensures { result.fault ≡ BadWords }
 {
-    let rules: &[Rule] = if name == "replay" {
-        &OF_REPLAY
-    } else {
-        &OF_OTHERS
-    };
-    bad_option(alloc, words, rules, ABOVE_THE_SPAN)
+    match check(alloc, words, options_of(name)) {
+        Ok(()) => Failure::told(alloc, RunFault::BadWords, ABOVE_THE_SPAN),
+        Err(failure) => failure,
+    }
 }
 
 /// What the options and the words of a command for objects say.

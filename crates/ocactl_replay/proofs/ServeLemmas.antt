@@ -12,7 +12,7 @@ use Rattle.oca_control.specs.Answers.{AnswerFields}
 use Rattle.oca_control.specs.Links.{LinkState, Request, submission, submitted, decision, due_answer, due_bytes, gone_on, taken}
 use Rattle.oca_control.specs.Untaken.{answer_under}
 use Rattle.oca_control.specs.Steps.{ReceivesDatagram}
-use Rattle.ocactl_replay.specs.Requests.{Submit, Due as GivesOut, Datagram, Take}
+use Rattle.ocactl_replay.specs.Requests.{Submit, Due as SendsDue, Datagram, Take}
 use Rattle.ocactl_replay.specs.Printing.{submission_text, due_text, reception_text, taken_text}
 use Rattle.ocactl_replay.specs.Replaying.{ServesCallAndPrints}
 
@@ -23,7 +23,7 @@ submit-served old new now request answer r was is e link prints =
 
 pub due-served : (old new : LinkState) (now : ℕ) (answer : Due) (bytes shown : List ℕ) (r : Result Unit WriteFailed) (was is : Output)
     → answer ≡ due_answer (decision now old) → bytes ≡ due_bytes (decision now old) → shown ≡ bytes → new ≡ gone_on now old → Prints r was is (due_text answer shown)
-    → ServesCallAndPrints old (GivesOut now) new r was is
+    → ServesCallAndPrints old (SendsDue now) new r was is
 due-served old new now answer bytes shown r was is e f s link prints =
     record {
       text = due_text answer shown;

@@ -29,7 +29,7 @@ pub enum Line<'a> {
     NoAnswer,
 }
 
-/// Prints a line.
+/// Prints a line. `WriteFailed` if a write failed.
 pub fn print_line<W: Sink>(printer: &mut Printer<W>, line: Line<'_>) -> Result<(), WriteFailed>
     requires { LineWithin line }
     ensures { Prints result printer.old printer.new (reply_line_text line.entry) }

@@ -213,7 +213,8 @@ fn timed<'a>(
     Err(LineFault::Form)
 }
 
-/// What the fields of the line ask for. Bytes are put into `room`.
+/// What the fields of a line ask for. Bytes are put at the front of `room`. Refusal: the fault of the first field, from
+/// the left, that has not its form ([`LineFault`]); what `room` then holds is not said.
 pub fn call_by<'a>(line: &[u8], room: &'a mut [u8; PARAMS_ROOM]) -> Result<Call<'a>, LineFault>
     requires { length line.now ≤ 4096 }
     ensures { call_asked result ≡ asked_call (fields line.now) }
@@ -225,7 +226,9 @@ pub fn call_by<'a>(line: &[u8], room: &'a mut [u8; PARAMS_ROOM]) -> Result<Call<
     timed(first, rest, room)
 }
 
-/// What the fields of the line of a command ask for. The bytes of its parameters are put into `room`.
+/// What the fields of the line of a command ask for. The bytes of its parameters are put at the front of `room`.
+/// Refusal: the fault of the first field, from the left, that has not its form ([`LineFault`]); what `room` then holds
+/// is not said.
 pub fn command_by<'a>(
     line: &[u8],
     room: &'a mut [u8; PARAMS_ROOM],

@@ -1,6 +1,5 @@
 pub mod StoringLemmas
 pub mod TotalLemmas
-pub mod CommandLineLemmas
 pub mod HeldLemmas
 pub mod ReadingLemmas
 pub mod TreeLemmas
@@ -8,4 +7,3 @@ pub mod RunLemmas
 pub mod TraceLemmas
 pub mod EffectLemmas
 pub mod KeepLemmas
-pub mod RowLemmas

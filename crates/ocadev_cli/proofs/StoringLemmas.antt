@@ -1,13 +1,11 @@
 -- The steps of a store, one after another, and what a store by them says.
-use Rattle.std.proofs.Common.{◌≡◌, Bool, true, false, List, [], ◌∷◌, ◌++◌, map, refl, sym, ap, ◌∙◌, append_assoc}
+use Rattle.std.proofs.Common.{◌≡◌, ℕ, Bool, true, false, List, [], ◌∷◌, ◌++◌, map, refl, sym, ap, ◌∙◌, append_assoc}
 use Rattle.std.specs.Prelude.{IsTrue}
-use Rattle.std.specs.List.{flat_map}
 use Rattle.std.proofs.lemmas.List.{map-append}
-use Rattle.std.proofs.lemmas.List.Concat.{flat_map-append}
 use Rattle.oca_tree.specs.declared.object.Object.{Object}
 use Rattle.oca_device.specs.Keeping.{Storing, Stores}
 use Rattle.ocadev_cli.specs.PrivateStoring.{DoneSo, Reaches}
-use Rattle.ocadev_cli.specs.Storing.{AreTried, DiskState, Replaces, StoreStep, StoresBy, SyncsFolder, SyncsNew, Tried, Tries, WritesNew, done_with, refused_with, said_at, steps_before, store_of}
+use Rattle.ocadev_cli.specs.Storing.{AreTried, DiskState, Replaces, StoreStep, StoresBy, SyncsFolder, SyncsNew, Tried, Tries, WritesNew, done_with, refused_with, row_behind, said_at, said_by, steps_before, store_of, written_behind}
 
 -- one more was tried, with the objects that were written
 tried-more : (step : StoreStep) (done : Bool) (front : List StoreStep) (tree : List Object) (a b c : DiskState) → DoneSo front tree a b → Tries step done b.tree b c → IsTrue a.tells
@@ -53,22 +51,34 @@ all_tried false tree a b c h k = then_refused SyncsFolder tree a b c h k
 
 -- ---- what the store says
 
-refused-says : (step : StoreStep) (tree : List Object) → flat_map said_at (map (done_with tree) (steps_before step) ++ refused_with tree step ∷ []) ≡ (record { tree = tree; stored = false }) ∷ []
-refused-says WritesNew tree = refl
-refused-says SyncsNew tree = refl
-refused-says Replaces tree = refl
-refused-says SyncsFolder tree = refl
+-- Steps that begin with a new file say the same, whatever was tried before them.
+behind-others : (done : Bool) (tree : List Object) (rest : List Tried) (n : ℕ) (written : List Object) (xs : List Tried) →
+    let first : Tried = record { step = WritesNew; tree = tree; done = done } in
+    said_by n written (xs ++ first ∷ rest) ≡ said_by n written xs ++ said_by 0 [] (first ∷ rest)
+behind-others true tree rest n written [] = refl
+behind-others false tree rest n written [] = refl
+behind-others done tree rest n written (x ∷ xs) =
+    let first : Tried = record { step = WritesNew; tree = tree; done = done } in
+    ap (λ (ys : List Storing). said_at n written x ++ ys) (behind-others done tree rest (row_behind n x) (written_behind written x) xs)
+    ∙ sym (append_assoc (said_at n written x) (said_by (row_behind n x) (written_behind written x) xs) (said_by 0 [] (first ∷ rest)))
 
-says : (stored : Bool) (tree : List Object) (tried : List Tried) → AreTried stored tree tried → flat_map said_at tried ≡ (record { tree = tree; stored = stored }) ∷ []
-says true tree tried is = ap (λ (xs : List Tried). flat_map said_at xs) is
-says false tree tried (step, is) = ap (λ (xs : List Tried). flat_map said_at xs) is ∙ refused-says step tree
+refused-says : (step : StoreStep) (tree : List Object) (xs : List Tried)
+    → said_by 0 [] (xs ++ (map (done_with tree) (steps_before step) ++ refused_with tree step ∷ [])) ≡ said_by 0 [] xs ++ (record { tree = tree; stored = false }) ∷ []
+refused-says WritesNew tree xs = behind-others false tree [] 0 [] xs
+refused-says SyncsNew tree xs = behind-others true tree (refused_with tree SyncsNew ∷ []) 0 [] xs
+refused-says Replaces tree xs = behind-others true tree (done_with tree SyncsNew ∷ refused_with tree Replaces ∷ []) 0 [] xs
+refused-says SyncsFolder tree xs = behind-others true tree (done_with tree SyncsNew ∷ done_with tree Replaces ∷ refused_with tree SyncsFolder ∷ []) 0 [] xs
+
+says : (stored : Bool) (tree : List Object) (xs tried : List Tried) → AreTried stored tree tried → said_by 0 [] (xs ++ tried) ≡ said_by 0 [] xs ++ (record { tree = tree; stored = stored }) ∷ []
+says true tree xs tried is =
+    ap (λ (ys : List Tried). said_by 0 [] (xs ++ ys)) is
+    ∙ behind-others true tree (done_with tree SyncsNew ∷ done_with tree Replaces ∷ done_with tree SyncsFolder ∷ []) 0 [] xs
+says false tree xs tried (step, is) = ap (λ (ys : List Tried). said_by 0 [] (xs ++ ys)) is ∙ refused-says step tree xs
 
 pub stored_says : (stored : Bool) (tree : List Object) (a b : DiskState) → StoresBy stored tree a b → Stores stored tree (store_of a) (store_of b)
 stored_says stored tree a b h = record {
   telling = h.telling;
   storings = λ told.
       let s = h.steps told in
-      ap (λ (xs : List Tried). flat_map said_at xs) s.2
-      ∙ flat_map-append said_at a.tried s.0
-      ∙ ap (λ (xs : List Storing). flat_map said_at a.tried ++ xs) (says stored tree s.0 s.1);
+      ap (λ (xs : List Tried). said_by 0 [] xs) s.2 ∙ says stored tree a.tried s.0 s.1;
 }

@@ -1,6 +1,5 @@
 pub mod Printing
 pub mod Words
-pub mod CommandLine
 pub mod Totals
 pub mod Makings
 pub mod Keeping

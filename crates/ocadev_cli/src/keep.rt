@@ -30,8 +30,8 @@ use std::{fs, io};
 /// The most bytes of the last line of a file in which a state is kept.
 const END_ROOM: usize = 40;
 
-/// Whether a file in which the state is kept is there. It is unless the system says that it is not: a file of which
-/// that can't be known is read, so that its fault is printed.
+/// Whether the file in which the state is kept is there; `false` if no file is named. It is `true` also if the system
+/// can't tell: then the file is read, so that its fault is printed.
 pub fn is_there<F: Files>(files: &F, keep: Option<&str>) -> bool {
     let Some(path) = keep else {
         return false;
@@ -42,8 +42,8 @@ pub fn is_there<F: Files>(files: &F, keep: Option<&str>) -> bool {
     }
 }
 
-/// The objects that a device starts with: those of the file in which its state is kept, where it is there, else those
-/// that the words ask for.
+/// Where the objects come from with which a device starts: from the file in which its state is kept, if one is named
+/// and is there, else from what the words ask for.
 pub fn starting<'a>(keep: Option<&'a str>, there: bool, asked: Objects<'a>) -> Objects<'a>
     ensures { object_source result ≡ starting_objects (option_copied keep.entry) there (object_source asked.entry) }
 {
@@ -53,9 +53,13 @@ pub fn starting<'a>(keep: Option<&'a str>, there: bool, asked: Objects<'a>) -> O
     }
 }
 
-/// The objects that a device starts with. Refusals: as of `objects`; and of a file in which a state is kept, where it was
-/// refused before, that, and `Read` where its last line does not say how many objects it has: it is cut off, or something
-/// else.
+/// The objects with which a device starts: those of the file in which its state is kept, if one is named and is there,
+/// else those that the words ask for. `refusal` is why the file can't be kept ([`claimed`]): if it is given, the file
+/// is not read, and `refusal` is returned.
+///
+/// Failures: `NoMemory` if memory was refused. Of a file `Read` if it can't be read, `TooMuch` if it has more than
+/// 16,777,216 bytes, and `Object` with its first line that has a fault. `Read` also if the last line of the file in
+/// which the state is kept does not say how many objects it has: the file is cut off, or something else.
 pub fn start_objects<F: Files>(
     alloc: Global,
     files: &F,
@@ -142,23 +146,25 @@ fn unreadable(alloc: Global, path: &str, reason: io::Error) -> Failure
     }
 }
 
-/// Takes the file in which the state is to be kept, where one is named, for this device alone, until what is returned is
-/// let go: a lock on the file FILE.lock beside it. Refusal: `Read` where FILE, FILE.new or FILE.lock is there and no plain
-/// file, as a folder, a FIFO or a symbolic link; where FILE.lock can't be made or locked; where another device has it; and
-/// where memory was refused.
+/// Takes the file in which the state is to be kept, if one is named, for this device alone: a lock on the file
+/// FILE.lock beside it, until the file returned is dropped. FILE.lock is made if it is not there.
+///
+/// Returns the lock, or the failure `Read` by which there is none. It comes if FILE, FILE.new or FILE.lock is there and
+/// no plain file, as a folder, a FIFO or a symbolic link. It comes if FILE.lock can't be made or locked, if another
+/// device has it, or if memory was refused. Neither is returned if no file is named.
 pub fn claimed<F: Files<File = File>>(
     alloc: Global,
     files: &F,
     keep: Option<&str>,
-) -> Result<Option<File>, Failure>
-    ensures { IfErr result (λ failure. failure.fault ≡ read_failed) }
+) -> (Option<File>, Option<Failure>)
+    ensures { IfSome result.1 (λ failure. failure.fault ≡ read_failed) }
 {
     match keep {
         Some(path) => match claim(alloc, files, path) {
-            Ok(lock) => Ok(Some(lock)),
-            Err(failure) => Err(failure),
+            Ok(lock) => (Some(lock), None),
+            Err(failure) => (None, Some(failure)),
         },
-        None => Ok(None),
+        None => (None, None),
     }
 }
 
@@ -275,7 +281,8 @@ pub struct Keeping<'a> {
 }
 
 impl<'a> Keeping<'a> {
-    /// In the file at this path, where one is named. Refusal: `NoMemory`.
+    /// The file at this path in which the state is kept, or none if none is named. It takes the memory for the answers
+    /// that will wait. Refusal: `NoMemory`, if memory was refused.
     pub fn new<F: Files>(
         alloc: Global,
         files: &F,
@@ -294,7 +301,7 @@ impl<'a> Keeping<'a> {
         }
     }
 
-    /// Whether it is kept.
+    /// Whether the state is kept in a file.
     pub fn keeps(&self) -> bool
         ensures { result ≡ is_some self.now.kept }
     {
@@ -331,7 +338,8 @@ impl<'d, 'p, 'f, D, F: Sink> Drop for FileStore<'d, 'p, 'f, D, F> {
 }
 
 impl<'d, 'p, 'f, D: Disk, F: Sink> FileStore<'d, 'p, 'f, D, F> {
-    /// The file at a path, on this disk.
+    /// A store in the file at this path, on this disk, of which no store has failed. `faults` gets what is printed
+    /// meanwhile.
     pub fn new(
         alloc: Global,
         path: &'p str,
@@ -444,8 +452,10 @@ impl<'d, 'p, 'f, D: Disk, F: Sink> Store for FileStore<'d, 'p, 'f, D, F> {
     }
 }
 
-/// Serves an end as `serve_kept` does, with a store in a file on a disk: an answer to a datagram that wrote leaves only
-/// once all steps were done by which the objects are written over the file.
+/// Serves an end for so many turns (`None`: for 2^64 - 1), or until it is closed, and keeps the objects in a file on a
+/// disk. Returns what was done. An answer to a datagram that wrote to an object waits until all steps were done by
+/// which the objects are written over the file. If a step fails, such answers are dropped, as if the network had lost
+/// them.
 pub fn serve_stored<E: End, D: Disk, F: Sink>(
     device: &mut Device,
     end: &mut E,

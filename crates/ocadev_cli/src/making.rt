@@ -26,7 +26,8 @@ use std::rt::Files;
 /// The most bytes of a file that lists objects.
 const LARGEST_TEXT: usize = 16_777_216;
 
-/// The device of a tree, before any event, and an outbox. Refusal: `NoMemory`.
+/// A device of these objects, before any event, with these sizes, and an empty outbox. It takes all the memory that
+/// they will need. Refusal: `NoMemory`, if memory was refused; the objects are then lost.
 pub fn made(alloc: Global, tree: Tree, sizes: Sizes) -> Result<(Device, Outbox), RunFault>
     ensures device { IfOk result (λ made. Represents (sizes_of sizes) made.0 tree []) }
     ensures outbox { IfOk result (λ made. made.1 ≡ []) }
@@ -50,8 +51,9 @@ fn with_outbox(alloc: Global, device: Device) -> Result<(Device, Outbox), RunFau
     }
 }
 
-/// The objects of a device. Refusals: `NoMemory`; of a file `Read` where it can't be read, `TooMuch` above 16,777,216
-/// bytes, and `Object` with its first line that has a fault.
+/// The objects of a device: those of the bench device, or those that a file lists. Failures: `NoMemory` if memory was
+/// refused. Of a file `Read` if it can't be read, `TooMuch` if it has more than 16,777,216 bytes, and `Object` with its
+/// first line that has a fault.
 pub fn objects<F: Files>(alloc: Global, files: &F, objects: Objects<'_>) -> Result<Tree, Failure>
     ensures { MakesObjects (object_source objects.entry) (fault_in result) }
 {
@@ -115,7 +117,9 @@ fn noted(alloc: Global, fault: RunFault, path: &str, reason: io::Error) -> Failu
     }
 }
 
-/// The objects that a source lists. Refusals: as of `objects`.
+/// The objects that a source lists, which is read to its end. Refusals: `Read` if a read failed, `TooMuch` if the
+/// source has more than 16,777,216 bytes, `NoMemory` if memory was refused, `Object` with the first line that has a
+/// fault.
 pub fn listed_in<R: Source>(alloc: Global, source: &mut R) -> Result<Tree, RunFault>
     ensures { ListsFrom result (input (R.remaining source.old) (R.failed source.old))
         (input (R.remaining source.new) (R.failed source.new)) }

@@ -1,22 +1,18 @@
 //! A run of the program.
-ghost use Rattle.std.specs.Prelude.{◌≡◌, ◌<◌, ◌≤◌, List, [], IsTrue, Ok as ok, map, IfErr, IfSome, false, is_some};
-ghost use Rattle.std.specs.Option.{option_copied};
-ghost use Rattle.clap.specs.Words.{kind_of};
-ghost use Rattle.oca_types.specs.Sizes.{DeviceSizes, sizes_of};
+ghost use Rattle.std.specs.Prelude.{◌≡◌, ◌<◌, ◌≤◌, List, [], IsTrue, Ok as ok, map, IfSome, false, is_some};
+ghost use Rattle.oca_types.specs.Sizes.{sizes_of};
 ghost use Rattle.oca_tree.specs.declared.object.Object.{Object};
 ghost use Rattle.oca_net.specs.EndStates.{EndState};
 ghost use Rattle.oca_net.specs.Sockets.{state_of_socket};
 ghost use Rattle.oca_device.specs.Devices.{Represents};
 ghost use Rattle.oca_script.specs.Ends.{input};
-ghost use Rattle.oca_script.specs.Printing.{WritesOut};
-ghost use Rattle.ocadev_cli.specs.Words.{task_asked, asked_fields, making_fields, serving_fields, object_source};
+ghost use Rattle.ocadev_cli.specs.Words.{keep_in, objects_in, sizes_in, turns_in};
 ghost use Rattle.oca_textree.specs.Written.{text_of};
-ghost use Rattle.oca_program.specs.Faults.{PrintsFault, fault_in};
-ghost use Rattle.oca_program.specs.declared.fault.RunFault.TheVariants.{Read as read_failed};
-ghost use Rattle.ocadev_cli.specs.Printing.{report_text, tree_text};
-ghost use Rattle.ocadev_cli.specs.Runs.{exit_status, RunsOn, Obeys, DoesAsked, Does, DoesMatched, DoesReplay};
-ghost use Rattle.ocadev_cli.specs.Runs.{DoesServe, DoesShow, Helps, PrintsText, ReplaysMade, ReplaysOn, ServesFrom};
-ghost use Rattle.ocadev_cli.specs.Runs.{ServesMade, ServesOrFails, turns_until};
+ghost use Rattle.oca_program.specs.Endings.{DoesMatched, Obeys};
+ghost use Rattle.oca_program.specs.Faults.{fault_in};
+ghost use Rattle.ocadev_cli.specs.Printing.{tree_text};
+ghost use Rattle.ocadev_cli.specs.Runs.{DoesCommand, DoesReplay, DoesServe, DoesShow, ReplaysMade, ReportsOf};
+ghost use Rattle.ocadev_cli.specs.Runs.{RunsDevice, ServesOrFails, turns_until};
 ghost use Rattle.ocadev_cli.specs.Totals.{KeepsServing, StoresOn, ServesOn, silent_store};
 ghost use Rattle.oca_device.specs.Keeping.{StoreState};
 
@@ -27,14 +23,15 @@ use super::report::{print_listening, print_report};
 use super::serving::{Tracing, serve_on, serve_traced, serve_turns};
 use super::show::{show, show_text};
 use super::trace::Watched;
-use super::words::{Asked, Making, Objects, Serving, asked_for, matches_of};
+use super::words::{
+    Asked, VERBOSE, asked_for, ip, keep, matches_of, objects_of, port, sizes, stats, turns,
+};
 use clap::{ArgMatches, Error};
 use oca_device::{Device, Outbox, Report};
 use oca_net::{CountsSleep, End, UdpEnd};
-use oca_program::options::help_or_failure;
 use oca_program::socket::{bind, note_failed_sends};
-use oca_program::{Failure, RunFault, print_note, report};
-use oca_script::{Printer, Sink, Source, WriteFailed};
+use oca_program::{Failure, RunFault, helped, print_note, replayed, status_of, written};
+use oca_script::{Printer, Sink, Source};
 use oca_tree::Tree;
 use oca_types::Sizes;
 use ocadev_replay::replay::replay;
@@ -52,9 +49,10 @@ const EVERY_ADDRESS: &str =
 /// Of how many bytes for datagrams that have not left a host that does not answer holds less than half.
 const ENOUGH_GRANTED: u32 = 500_000;
 
-/// Runs the program on the words of its command line, its name first, and returns its exit status: 0, 2 where the words
-/// or a line are bad, and 1 where something could not be done. A fault is printed on `faults` as one line, behind one
-/// that begins with `note: ` where more is known; and so is where the device listens.
+/// Runs the program on the words of its command line, its name first, and returns its exit status. It is 0 if all was
+/// done, 2 if the words or a line of the script are bad, and 1 if something else could not be done. A fault is printed
+/// on `faults` as one line, after a line that begins with `note: ` if more is known. Where the device listens is
+/// printed there too.
 pub fn run<N: Net + Clock + Files<File = File>, S: AsStr, R: Source, W: Sink, F: Sink>(
     alloc: Global,
     system: &N,
@@ -63,50 +61,30 @@ pub fn run<N: Net + Clock + Files<File = File>, S: AsStr, R: Source, W: Sink, F:
     printer: &mut Printer<W>,
     faults: &mut Printer<F>,
 ) -> u8
-    ensures { RunsOn (map S.text words.now) result (input (R.remaining reader.old) (R.failed reader.old))
+    ensures { RunsDevice (map S.text words.now) result (input (R.remaining reader.old) (R.failed reader.old))
         (input (R.remaining reader.new) (R.failed reader.new)) printer.old printer.new faults.old faults.new }
 {
     let matched = matches_of(alloc, words);
-    let ended = matched_done(alloc, system, matched, reader, printer, faults);
+    let ended = match_done(alloc, system, matched, reader, printer, faults);
     status_of(ended, faults)
 }
 
-/// The exit status of a run that ended so. Why it failed, where it did, is printed.
-fn status_of<F: Sink>(ended: Result<(), Failure>, faults: &mut Printer<F>) -> u8
-    ensures status { result ≡ exit_status (fault_in ended) }
-    ensures fault { PrintsFault (fault_in ended) faults.old faults.new }
-{
-    match ended {
-        Ok(()) => 0,
-        Err(failure) => report(&failure, faults),
-    }
-}
-
 /// Does what the words ask for, by how matching them ended.
-fn matched_done<N: Net + Clock + Files<File = File>, R: Source, W: Sink, F: Sink>(
+fn match_done<N: Net + Clock + Files<File = File>, R: Source, W: Sink, F: Sink>(
     alloc: Global,
     system: &N,
     matched: Result<ArgMatches<'_>, Error>,
     reader: &mut R,
     printer: &mut Printer<W>,
     faults: &mut Printer<F>,
-) -> Result<(), Failure>
-    ensures { DoesMatched matched.entry (fault_in result) (input (R.remaining reader.old) (R.failed reader.old))
-        (input (R.remaining reader.new) (R.failed reader.new)) printer.old printer.new faults.old faults.new }
+) -> Result<u8, Failure>
+    ensures { DoesMatched DoesCommand matched.entry (fault_in result)
+        (input (R.remaining reader.old) (R.failed reader.old)) (input (R.remaining reader.new) (R.failed reader.new))
+        printer.old printer.new faults.old faults.new }
 {
     match matched {
         Ok(matches) => obeyed(alloc, system, &matches, reader, printer, faults),
         Err(error) => helped(alloc, &error, printer),
-    }
-}
-
-/// Prints the text of `--help` or `--version`, where the words ask for that.
-fn helped<W: Sink>(alloc: Global, error: &Error, printer: &mut Printer<W>) -> Result<(), Failure>
-    ensures { Helps (kind_of error.now) (fault_in result) printer.old printer.new }
-{
-    match help_or_failure(alloc, error) {
-        Ok(text) => print_text(text.as_bytes(), printer),
-        Err(failure) => Err(failure),
     }
 }
 
@@ -118,8 +96,8 @@ fn obeyed<N: Net + Clock + Files<File = File>, R: Source, W: Sink, F: Sink>(
     reader: &mut R,
     printer: &mut Printer<W>,
     faults: &mut Printer<F>,
-) -> Result<(), Failure>
-    ensures { Obeys words.now (fault_in result) (input (R.remaining reader.old) (R.failed reader.old))
+) -> Result<u8, Failure>
+    ensures { Obeys DoesCommand words.now (fault_in result) (input (R.remaining reader.old) (R.failed reader.old))
         (input (R.remaining reader.new) (R.failed reader.new)) printer.old printer.new }
 {
     match words.subcommand() {
@@ -137,249 +115,124 @@ fn commanded<N: Net + Clock + Files<File = File>, R: Source, W: Sink, F: Sink>(
     reader: &mut R,
     printer: &mut Printer<W>,
     faults: &mut Printer<F>,
-) -> Result<(), Failure>
-    ensures { DoesAsked (task_asked name.now options.now) (fault_in result)
-        (input (R.remaining reader.old) (R.failed reader.old)) (input (R.remaining reader.new) (R.failed reader.new))
-        printer.old printer.new }
+) -> Result<u8, Failure>
+    ensures { DoesCommand name.now options.now (fault_in result) (input (R.remaining reader.old) (R.failed reader.old))
+        (input (R.remaining reader.new) (R.failed reader.new)) printer.old printer.new }
 {
     match asked_for(alloc, name, options) {
-        Ok(asked) => served(alloc, system, asked, reader, printer, faults),
+        Ok(Asked::Replay) => replays(alloc, system, options, reader, printer),
+        Ok(Asked::Serve) => serves(alloc, system, options, printer, faults),
+        Ok(Asked::Show) => shows(alloc, system, options, printer),
+        Ok(Asked::ShowText) => shows_text(alloc, system, options, printer),
         Err(failure) => Err(failure),
     }
 }
 
-/// Does what is asked for.
-fn served<N: Net + Clock + Files<File = File>, R: Source, W: Sink, F: Sink>(
+/// Replays a script on the device that the options ask for.
+fn replays<N: Files, R: Source, W: Sink>(
     alloc: Global,
     system: &N,
-    asked: Asked<'_>,
+    options: &ArgMatches<'_>,
     reader: &mut R,
     printer: &mut Printer<W>,
-    faults: &mut Printer<F>,
-) -> Result<(), Failure>
-    ensures { Does (asked_fields asked.entry) (fault_in result) (input (R.remaining reader.old) (R.failed reader.old))
+) -> Result<u8, Failure>
+    ensures { DoesReplay options.now (fault_in result) (input (R.remaining reader.old) (R.failed reader.old))
         (input (R.remaining reader.new) (R.failed reader.new)) printer.old printer.new }
 {
-    match asked {
-        Asked::Replay(making) => replayed(alloc, system, making, reader, printer),
-        Asked::Serve(serving) => serve_socket(alloc, system, serving, printer, faults),
-        Asked::Show(listed) => shown(alloc, system, listed, printer),
-        Asked::ShowText(listed) => shown_as_text(alloc, system, listed, printer),
-    }
-}
-
-/// Replays a script on a device that is made so.
-fn replayed<N: Files, R: Source, W: Sink>(
-    alloc: Global,
-    system: &N,
-    making: Making<'_>,
-    reader: &mut R,
-    printer: &mut Printer<W>,
-) -> Result<(), Failure>
-    ensures { DoesReplay (making_fields making.entry) (fault_in result)
-        (input (R.remaining reader.old) (R.failed reader.old)) (input (R.remaining reader.new) (R.failed reader.new))
-        printer.old printer.new }
-{
-    match objects(alloc, system, making.objects) {
-        Ok(tree) => replay_tree(alloc, tree, making.sizes, reader, printer),
+    match objects(alloc, system, objects_of(options)) {
+        Ok(tree) => replays_on(alloc, tree, sizes(options), reader, printer),
         Err(failure) => Err(failure),
     }
 }
 
 /// Replays a script on a device of these objects and sizes.
-fn replay_tree<R: Source, W: Sink>(
+fn replays_on<R: Source, W: Sink>(
     alloc: Global,
     tree: Tree,
     sizes: Sizes,
     reader: &mut R,
     printer: &mut Printer<W>,
-) -> Result<(), Failure>
+) -> Result<u8, Failure>
     ensures { ReplaysMade (sizes_of sizes) (ok tree) (fault_in result)
         (input (R.remaining reader.old) (R.failed reader.old)) (input (R.remaining reader.new) (R.failed reader.new))
         printer.old printer.new }
 {
     match made(alloc, tree, sizes) {
-        Ok(mut both) => replay_on(&mut both.0, &mut both.1, reader, printer),
+        Ok(mut both) => replayed(replay(&mut both.0, &mut both.1, reader, printer)),
         Err(fault) => Err(Failure::from(fault)),
     }
 }
 
-/// Replays a script on a device.
-fn replay_on<R: Source, W: Sink>(
-    device: &mut Device,
-    outbox: &mut Outbox,
-    reader: &mut R,
-    printer: &mut Printer<W>,
-) -> Result<(), Failure>
-    ensures { (sizes : DeviceSizes) (tree : List Object) → Represents sizes device.old tree []
-        → ReplaysOn sizes tree (fault_in result) (input (R.remaining reader.old) (R.failed reader.old))
-        (input (R.remaining reader.new) (R.failed reader.new)) printer.old printer.new }
-{
-    match replay(device, outbox, reader, printer) {
-        Ok(()) => Ok(()),
-        Err(fault) => Err(Failure::from(fault)),
-    }
-}
-
-/// Prints the objects of a device, a line each.
-fn shown<N: Files, W: Sink>(
+/// Prints the objects of the device that the options ask for, a line each.
+#[tactic(auto, using(oca_program::proofs::EndingLemmas::printing))]
+fn shows<N: Files, W: Sink>(
     alloc: Global,
     system: &N,
-    listed: Objects<'_>,
+    options: &ArgMatches<'_>,
     printer: &mut Printer<W>,
-) -> Result<(), Failure>
-    ensures { DoesShow tree_text (object_source listed.entry) (fault_in result) printer.old printer.new }
+) -> Result<u8, Failure>
+    ensures { DoesShow tree_text (objects_in options.now) (fault_in result) printer.old printer.new }
 {
-    match objects(alloc, system, listed) {
-        Ok(tree) => show_tree(&tree, printer),
+    match objects(alloc, system, objects_of(options)) {
+        Ok(tree) => written(show(&tree, printer)),
         Err(failure) => Err(failure),
     }
 }
 
-/// Prints objects.
-fn show_tree<W: Sink>(tree: &Tree, printer: &mut Printer<W>) -> Result<(), Failure>
-    ensures { PrintsText (tree_text tree.now) (fault_in result) printer.old printer.new }
-{
-    match show(tree, printer) {
-        Ok(()) => Ok(()),
-        Err(failed) => Err(Failure::from(failed)),
-    }
-}
-
-/// Prints the objects of a device as a text that `--tree` reads.
-fn shown_as_text<N: Files, W: Sink>(
+/// Prints the objects of the device that the options ask for as a text that `--tree` reads.
+#[tactic(auto, using(oca_program::proofs::EndingLemmas::printing))]
+fn shows_text<N: Files, W: Sink>(
     alloc: Global,
     system: &N,
-    listed: Objects<'_>,
+    options: &ArgMatches<'_>,
     printer: &mut Printer<W>,
-) -> Result<(), Failure>
-    ensures { DoesShow text_of (object_source listed.entry) (fault_in result) printer.old printer.new }
+) -> Result<u8, Failure>
+    ensures { DoesShow text_of (objects_in options.now) (fault_in result) printer.old printer.new }
 {
-    match objects(alloc, system, listed) {
-        Ok(tree) => text_tree(&tree, printer),
+    match objects(alloc, system, objects_of(options)) {
+        Ok(tree) => written(show_text(&tree, printer)),
         Err(failure) => Err(failure),
     }
 }
 
-/// Prints objects as a text.
-fn text_tree<W: Sink>(tree: &Tree, printer: &mut Printer<W>) -> Result<(), Failure>
-    ensures { PrintsText (text_of tree.now) (fault_in result) printer.old printer.new }
-{
-    match show_text(tree, printer) {
-        Ok(()) => Ok(()),
-        Err(failed) => Err(Failure::from(failed)),
-    }
-}
-
-/// Prints a text, and hands it on.
-fn print_text<W: Sink>(text: &[u8], printer: &mut Printer<W>) -> Result<(), Failure>
-    ensures { PrintsText text.now (fault_in result) printer.old printer.new }
-{
-    match print_all(text, printer) {
-        Ok(()) => Ok(()),
-        Err(failed) => Err(Failure::from(failed)),
-    }
-}
-
-/// The same, where only a write fails.
-fn print_all<W: Sink>(text: &[u8], printer: &mut Printer<W>) -> Result<(), WriteFailed>
-    ensures { WritesOut result printer.old printer.new text.now }
-{
-    printer.print(text)?;
-    printer.flush()
-}
-
-/// Serves a device at a socket, and prints what was done. Where it listens is printed on `faults` at first;
-/// that this can't be written is no fault.
-fn serve_socket<N: Net + Clock + Files<File = File>, W: Sink, F: Sink>(
+/// Serves the device that the options ask for at a socket, and prints what was done. Where it listens is printed on
+/// `faults` at first; that this can't be written is no fault. The claim to the file in which the state is kept ends with
+/// it.
+fn serves<N: Net + Clock + Files<File = File>, W: Sink, F: Sink>(
     alloc: Global,
     system: &N,
-    serving: Serving<'_>,
+    options: &ArgMatches<'_>,
     printer: &mut Printer<W>,
     faults: &mut Printer<F>,
-) -> Result<(), Failure>
-    ensures { DoesServe (serving_fields serving.entry) (fault_in result) printer.old printer.new }
+) -> Result<u8, Failure>
+    ensures { DoesServe options.now (fault_in result) printer.old printer.new }
 {
-    let claim = claimed(alloc, system, serving.keep);
-    let there = match &claim {
-        Ok(_) => is_there(system, serving.keep),
-        Err(_) => true,
-    };
-    serve_from(alloc, system, serving, there, claim, printer, faults)
-}
-
-/// Serves a device at a socket, where the file in which its state is kept is there or is not, and prints what was done. The
-/// claim to that file, which is refused or held, ends with it.
-fn serve_from<N: Net + Clock + Files<File = File>, W: Sink, F: Sink>(
-    alloc: Global,
-    system: &N,
-    serving: Serving<'_>,
-    there: bool,
-    claim: Result<Option<File>, Failure>,
-    printer: &mut Printer<W>,
-    faults: &mut Printer<F>,
-) -> Result<(), Failure>
-    requires { IfErr claim (λ failure. failure.fault ≡ read_failed) }
-    ensures { ServesFrom there (serving_fields serving.entry) (fault_in result) printer.old printer.new }
-{
-    match claim {
-        Ok(_lock) => serve_claimed(alloc, system, serving, there, None, printer, faults),
-        Err(failure) => serve_claimed(
-            alloc,
-            system,
-            serving,
-            there,
-            Some(failure),
-            printer,
-            faults,
-        ),
-    }
-}
-
-/// The same, with what refuses the file, where that is so.
-fn serve_claimed<N: Net + Clock + Files<File = File>, W: Sink, F: Sink>(
-    alloc: Global,
-    system: &N,
-    serving: Serving<'_>,
-    there: bool,
-    refusal: Option<Failure>,
-    printer: &mut Printer<W>,
-    faults: &mut Printer<F>,
-) -> Result<(), Failure>
-    requires { IfSome refusal (λ failure. failure.fault ≡ read_failed) }
-    ensures { ServesFrom there (serving_fields serving.entry) (fault_in result) printer.old printer.new }
-{
-    let asked = serving.making.objects;
-    match start_objects(alloc, system, serving.keep, there, asked, refusal) {
-        Ok(tree) => serve_tree(alloc, system, serving, tree, printer, faults),
+    let (_lock, refusal) = claimed(alloc, system, keep(options));
+    let there = refusal.is_some() || is_there(system, keep(options));
+    match start_objects(
+        alloc,
+        system,
+        keep(options),
+        there,
+        objects_of(options),
+        refusal,
+    ) {
+        Ok(tree) => reported(served_tree(alloc, system, options, tree, faults), printer),
         Err(failure) => Err(failure),
     }
 }
 
-/// Serves a device of these objects at a socket, and prints what was done.
-fn serve_tree<N: Net + Clock + Files<File = File>, W: Sink, F: Sink>(
-    alloc: Global,
-    system: &N,
-    serving: Serving<'_>,
-    tree: Tree,
+/// Prints the report of a device that was served.
+#[tactic(auto, using(oca_program::proofs::EndingLemmas::printing))]
+fn reported<W: Sink>(
+    served: Result<Report, Failure>,
     printer: &mut Printer<W>,
-    faults: &mut Printer<F>,
-) -> Result<(), Failure>
-    ensures { ServesMade (serving_fields serving.entry) (ok tree) (fault_in result) printer.old printer.new }
+) -> Result<u8, Failure>
+    ensures { ReportsOf (fault_in served) (fault_in result) printer.old printer.new }
 {
-    match served_tree(alloc, system, serving, tree, faults) {
-        Ok(report) => report_all(&report, printer),
+    match served {
+        Ok(report) => written(print_report(&report, printer)),
         Err(failure) => Err(failure),
-    }
-}
-
-/// Prints the report.
-fn report_all<W: Sink>(report: &Report, printer: &mut Printer<W>) -> Result<(), Failure>
-    ensures { PrintsText (report_text report.now) (fault_in result) printer.old printer.new }
-{
-    match print_report(report, printer) {
-        Ok(()) => Ok(()),
-        Err(failed) => Err(Failure::from(failed)),
     }
 }
 
@@ -387,14 +240,14 @@ fn report_all<W: Sink>(report: &Report, printer: &mut Printer<W>) -> Result<(), 
 fn served_tree<N: Net + Clock + Files<File = File>, F: Sink>(
     alloc: Global,
     system: &N,
-    serving: Serving<'_>,
+    options: &ArgMatches<'_>,
     tree: Tree,
     faults: &mut Printer<F>,
 ) -> Result<Report, Failure>
-    ensures { ServesOrFails (serving_fields serving.entry) tree (fault_in result) }
+    ensures { ServesOrFails options.now tree (fault_in result) }
 {
-    match made(alloc, tree, serving.making.sizes) {
-        Ok(mut both) => served_at(alloc, system, serving, &mut both.0, &mut both.1, faults),
+    match made(alloc, tree, sizes(options)) {
+        Ok(mut both) => served_at(alloc, system, options, &mut both.0, &mut both.1, faults),
         Err(fault) => Err(Failure::from(fault)),
     }
 }
@@ -403,21 +256,22 @@ fn served_tree<N: Net + Clock + Files<File = File>, F: Sink>(
 fn served_at<N: Net + Clock + Files<File = File>, F: Sink>(
     alloc: Global,
     system: &N,
-    serving: Serving<'_>,
+    options: &ArgMatches<'_>,
     device: &mut Device,
     outbox: &mut Outbox,
     faults: &mut Printer<F>,
 ) -> Result<Report, Failure>
-    ensures { (tree : List Object) → Represents (sizes_of serving.entry.making.sizes) device.old tree []
-        → ServesOrFails (serving_fields serving.entry) tree (fault_in result) }
+    ensures { (tree : List Object) → Represents (sizes_in options.now) device.old tree []
+        → ServesOrFails options.now tree (fault_in result) }
 {
-    match Keeping::new(alloc, system, serving.keep) {
+    match Keeping::new(alloc, system, keep(options)) {
         Ok(mut keeping) => {
+            let clock = CountsSleep(system);
             served_keeping(
                 alloc,
-                &CountsSleep(system),
+                &clock,
                 system,
-                serving,
+                options,
                 device,
                 outbox,
                 &mut keeping,
@@ -433,19 +287,19 @@ fn served_keeping<N: Net + Clock, L: Files, F: Sink>(
     alloc: Global,
     system: &N,
     files: &L,
-    serving: Serving<'_>,
+    options: &ArgMatches<'_>,
     device: &mut Device,
     outbox: &mut Outbox,
     keeping: &mut Keeping<'_>,
     faults: &mut Printer<F>,
 ) -> Result<Report, Failure>
-    requires kept { is_some keeping.old.kept ≡ is_some (option_copied serving.keep) }
+    requires kept { is_some keeping.old.kept ≡ is_some (keep_in options.now) }
     requires behind { IfSome keeping.old.kept (λ kept. kept.waiting.is_behind ≡ false) }
-    ensures { (tree : List Object) → Represents (sizes_of serving.entry.making.sizes) device.old tree []
-        → ServesOrFails (serving_fields serving.entry) tree (fault_in result) }
+    ensures { (tree : List Object) → Represents (sizes_in options.now) device.old tree []
+        → ServesOrFails options.now tree (fault_in result) }
 {
-    match bind(alloc, system, serving.ip, serving.port) {
-        Ok(end) => Ok(served_over(alloc, end, files, serving, device, outbox, keeping, faults)),
+    match bind(alloc, system, ip(options), port(options)) {
+        Ok(end) => Ok(served_over(alloc, end, files, options, device, outbox, keeping, faults)),
         Err(failure) => Err(failure),
     }
 }
@@ -455,7 +309,7 @@ fn served_over<N: Clock, L: Files, F: Sink>(
     alloc: Global,
     end: UdpEnd<'_, N>,
     files: &L,
-    serving: Serving<'_>,
+    options: &ArgMatches<'_>,
     device: &mut Device,
     outbox: &mut Outbox,
     keeping: &mut Keeping<'_>,
@@ -464,16 +318,16 @@ fn served_over<N: Clock, L: Files, F: Sink>(
     requires behind { IfSome keeping.old.kept (λ kept. kept.waiting.is_behind ≡ false) }
     ensures served { (after : EndState)
         × KeepsServing (is_some keeping.old.kept) device.old device.new (state_of_socket end.entry) after result }
-    ensures turns { result.turns ≡ turns_until serving.entry.turns }
+    ensures turns { result.turns ≡ turns_until (turns_in options.now) }
 {
     print_bound(alloc, &end, faults);
-    let tracing = Tracing::new(serving.verbose, serving.stats);
+    let tracing = Tracing::new(VERBOSE.is_set(options), stats(options));
     if let Some(kept) = &mut keeping.kept {
         kept_over(
             alloc,
             end,
             files,
-            serving.turns,
+            turns(options),
             tracing,
             device,
             outbox,
@@ -481,13 +335,13 @@ fn served_over<N: Clock, L: Files, F: Sink>(
             faults,
         )
     } else if tracing.prints() {
-        traced_over(alloc, end, serving.turns, tracing, device, outbox, faults)
+        traced_over(alloc, end, turns(options), tracing, device, outbox, faults)
     } else {
-        untraced_over(alloc, end, serving.turns, device, outbox, faults)
+        untraced_over(alloc, end, turns(options), device, outbox, faults)
     }
 }
 
-/// PrintsText where the device listens, and that this is every address where it is, and that the system grants little
+/// Prints where the device listens, and that this is every address where it is, and that the system grants little
 /// room for datagrams that have not left where it does.
 fn print_bound<N: Clock, F: Sink>(alloc: Global, end: &UdpEnd<'_, N>, faults: &mut Printer<F>) {
     let _ = print_listening(end.local(), faults);

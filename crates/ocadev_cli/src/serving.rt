@@ -19,7 +19,7 @@ use oca_script::{Printer, Sink, WriteFailed};
 /// How many rounds of 2^32 - 1 turns are 2^64 - 1 turns.
 const ROUNDS: u64 = 4_294_967_297;
 
-/// Serves an end for 2^64 - 1 turns, which no run comes to, or until it is closed.
+/// Serves an end for 2^64 - 1 turns, which no run comes to, or until it is closed. Returns what was done.
 pub fn serve_on<E: End>(device: &mut Device, end: &mut E, outbox: &mut Outbox) -> Report
     ensures served { ServesOn device.old device.new (E.state end.old) (E.state end.new) result }
     ensures turns { result.turns ≤ last_u64 }
@@ -37,7 +37,7 @@ pub fn serve_on<E: End>(device: &mut Device, end: &mut E, outbox: &mut Outbox) -
     report
 }
 
-/// Serves an end for so many turns, or until it is closed.
+/// Serves an end for so many turns, or until it is closed. Returns what was done.
 pub fn serve_turns<E: End>(
     device: &mut Device,
     end: &mut E,
@@ -53,8 +53,9 @@ pub fn serve_turns<E: End>(
     sum(none, round)
 }
 
-/// Serves an end for so many turns, or for 2^64 - 1 where no number is given, or until it is closed, and keeps the objects
-/// in a store: an answer to a datagram that wrote leaves only once the store holds the objects.
+/// Serves an end for so many turns (`None`: for 2^64 - 1), or until it is closed, and keeps the objects in a store.
+/// Returns what was done. An answer to a datagram that wrote to an object waits until the store holds the objects; if
+/// storing fails, it is dropped, as if the network had lost it.
 pub fn serve_kept<E: End, S: Store>(
     device: &mut Device,
     end: &mut E,
@@ -128,7 +129,8 @@ pub struct Tracing {
 }
 
 impl Tracing {
-    /// A line for each datagram, or none, and the report so far every so many seconds, where that is asked for.
+    /// What is printed while an end is served: a line for each datagram if `verbose`, and every `stats` seconds the
+    /// report so far (`None`: never).
     pub fn new(verbose: bool, stats: Option<u32>) -> Tracing
         ensures verbose { result.verbose ≡ verbose }
         ensures every { result.every ≡ stats_interval stats }
@@ -151,7 +153,7 @@ impl Tracing {
         }
     }
 
-    /// Whether anything is printed.
+    /// Whether anything is printed: a line for each datagram, or the report so far.
     pub fn prints(&self) -> bool
         ensures { result ≡ (self.now.verbose || not (self.now.every == 0)) }
     {
@@ -160,7 +162,7 @@ impl Tracing {
 }
 
 /// Serves an end for so many turns, or until it is closed, and prints a line for each datagram and the report so far,
-/// as far as they are asked for. That these can't be written is no fault.
+/// as `tracing` says. Returns what was done. A failed write of these lines is no fault.
 pub fn serve_traced<E: End, F: Sink>(
     device: &mut Device,
     end: &mut Watched<E>,
@@ -206,7 +208,9 @@ fn print_progress<E: End, F: Sink>(
     }
 }
 
-/// Prints the report so far, with how many sessions there are and how many locks are held.
+/// Prints the report so far as one line that begins with `note: `, and writes all that the printer holds. The line also
+/// has how many sessions there are and how many locks are held. `WriteFailed` if a write failed: then a first part of
+/// the text was written.
 pub fn print_progress_report<F: Sink>(
     report: &Report,
     device: &Device,
@@ -220,7 +224,7 @@ pub fn print_progress_report<F: Sink>(
     print_stats(report, sessions, locks, faults)
 }
 
-/// What both did, where a number that would pass 64 bits stays at its last value.
+/// The sum of two reports; a number that would pass 64 bits stays at its last value.
 pub fn sum(a: Report, b: Report) -> Report
     ensures { result ≡ capped (added a b) }
 {

@@ -13,8 +13,9 @@ use oca_types::class_fields;
 /// Room for the line of an object.
 const OBJECT_ROOM: usize = 600;
 
-/// Prints a line for each object, in order of adding, and hands it on: its ONo, its class identifier, the ONo of its
-/// container (0 for the root), and its role.
+/// Prints a line for each object, in order of adding: its ONo, its class identifier, the ONo of its container (0 for
+/// the root), and its role. Writes all that the printer holds. `WriteFailed` if a write failed: then a first part of
+/// the text was written.
 pub fn show<W: Sink>(tree: &Tree, printer: &mut Printer<W>) -> Result<(), WriteFailed>
     ensures { WritesOut result printer.old printer.new (tree_text tree.now) }
 {
@@ -22,7 +23,8 @@ pub fn show<W: Sink>(tree: &Tree, printer: &mut Printer<W>) -> Result<(), WriteF
     printer.flush()
 }
 
-/// Prints the objects as a text that `--tree` reads, and hands it on.
+/// Prints the objects as a text that `--tree` reads, and writes all that the printer holds. `WriteFailed` if a write
+/// failed: then a first part of the text was written.
 pub fn show_text<W: Sink>(tree: &Tree, printer: &mut Printer<W>) -> Result<(), WriteFailed>
     ensures { WritesOut result printer.old printer.new (text_of tree.now) }
 {

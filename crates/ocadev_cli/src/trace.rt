@@ -44,9 +44,9 @@ impl<E: Drop> Drop for Watched<E> {
 }
 
 impl<E: End> Watched<E> {
-    ghost use Rattle.std.specs.Prelude.{◌≡◌};
+    ghost use Rattle.std.specs.Prelude.{◌≡◌, []};
 
-    /// The end, of which nothing was heard.
+    /// An end that remembers what it heard last and what was sent since, and has heard nothing so far.
     pub fn new(end: E) -> Watched<E>
         ensures { result.end ≡ end }
     {
@@ -56,6 +56,19 @@ impl<E: End> Watched<E> {
             packet: Packet::new(),
             statuses: Packet::new(),
         }
+    }
+
+    /// Remembers what was heard: no response is sent behind it yet.
+    fn remember(&mut self, heard: Heard, packet: &Packet)
+        ensures end { self.new.end ≡ self.old.end }
+        ensures heard { self.new.heard ≡ heard }
+        ensures packet { self.new.packet.items ≡ packet.now.items }
+        ensures statuses { self.new.statuses.items ≡ [] }
+    {
+        self.heard = heard;
+        self.packet.clear();
+        self.statuses.clear();
+        let _ = self.packet.try_extend_from_slice(packet.as_slice());
     }
 }
 
@@ -77,10 +90,19 @@ impl<E: End> End for Watched<E> {
         ensures statuses { self.new.statuses.items ≡ [] }
     {
         let heard = self.end.receive(packet);
-        self.heard = heard;
-        self.packet.clear();
-        self.statuses.clear();
-        let _ = self.packet.try_extend_from_slice(packet.as_slice());
+        self.remember(heard, packet);
+        heard
+    }
+
+    /// As `receive`, until this moment of the end's at most.
+    fn receive_by(&mut self, packet: &mut Packet, moment: u64) -> Heard
+        ensures receives { Receives result packet.new.items (E.state self.old.end) (E.state self.new.end) }
+        ensures heard { self.new.heard ≡ result }
+        ensures packet { self.new.packet.items ≡ packet.new.items }
+        ensures statuses { self.new.statuses.items ≡ [] }
+    {
+        let heard = self.end.receive_by(packet, moment);
+        self.remember(heard, packet);
         heard
     }
 
@@ -103,8 +125,10 @@ impl<E: End> End for Watched<E> {
     }
 }
 
-/// Prints a line for the datagram of a turn, where one came: its sender, what became of it, the objects that it wrote
-/// to, how many answers could not be sent, and what its commands locked, unlocked and were refused.
+/// Prints a line for the datagram of a turn, and writes all that the printer holds. The line has the sender, what
+/// became of the datagram, the objects that it wrote to and how many answers could not be sent, and what its commands
+/// locked, unlocked and were refused. For a datagram of more than 1,472 bytes the line is `oversize`. Nothing is
+/// printed if no datagram came. `WriteFailed` if a write failed: then a first part of the text was written.
 pub fn print_turn<E: End, F: Sink>(
     watched: &Watched<E>,
     turn: &Report,
@@ -124,8 +148,9 @@ pub fn print_turn<E: End, F: Sink>(
     )
 }
 
-/// Prints a line for what was heard in a turn, where that is a datagram with these bytes, whose responses had these
-/// statuses.
+/// Prints the line of [`print_turn`] for what was heard in a turn. If that is a datagram, `bytes` are its bytes and
+/// `statuses` the statuses of its responses. Nothing is printed if no datagram came. `WriteFailed` if a write failed:
+/// then a first part of the text was written.
 pub fn print_heard<F: Sink>(
     heard: Heard,
     bytes: &[u8],
@@ -143,7 +168,7 @@ pub fn print_heard<F: Sink>(
     }
 }
 
-/// The statuses of the responses among the answers to a datagram, at most 1,472.
+/// The statuses of the responses among the answers to a datagram, in order, at most 1,472.
 pub fn statuses_of(answers: &Outbox) -> Packet
     ensures { KeepsStatuses (messages_of_packets answers.now) [] result.items }
 {

@@ -33,7 +33,7 @@ event_text w tree events (Datagram from bytes now) =
     verdict_text (verdict w tree events from bytes now) ++ flat_map packet_text
     (packets w tree events (Datagram from bytes now))
 event_text w tree events (Tick now) = codes "quiet\n"
-event_text w tree events (Local ono value) = []
+event_text w tree events (Local ono change) = []
 
 -- further events after events; the latest stands first in the result, as in each list of a device's events
 abbrev pub events_then : List Event → List Event → List Event

@@ -61,7 +61,7 @@ impl<'a> Language for DeviceScript<'a> {
         }
     }
 
-    /// Does nothing: no request is under way behind its line.
+    /// Does nothing: no request is in flight behind its line.
     fn before_read<R: Source, W: Sink>(
         _device: &mut Device,
         _reader: &mut R,

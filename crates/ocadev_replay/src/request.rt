@@ -132,7 +132,8 @@ fn fault_after_peer(rest: &[u8]) -> LineFault
     }
 }
 
-/// What the fields of the line ask for. The bytes of a datagram are put into `room`.
+/// What the fields of a line ask for. The bytes of a datagram are put at the front of `room`. Refusal: the fault of the
+/// first field, from the left, that has not its form ([`LineFault`]); what `room` then holds is not said.
 pub fn asked_by<'a>(
     line: &[u8],
     room: &'a mut [u8; DATAGRAM_ROOM],

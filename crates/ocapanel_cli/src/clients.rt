@@ -37,7 +37,7 @@ struct Client {
     moved: u64,
     /// Since when something is begun: a request that is not whole, or an answer that is not taken.
     begun: Option<u64>,
-    /// Whether what waits on it may have come while the program stood still.
+    /// Whether what waits on it may have come while the program was suspended.
     doubts: bool,
     /// Whether a request on it was let in so far.
     is_known: bool,
@@ -196,7 +196,7 @@ pub struct Clients {
 }
 
 impl Clients {
-    /// No connection. Their tokens are above this one.
+    /// No connections. The first one gets the token after `tokens`, and each later one the next.
     pub fn new(alloc: Global, tokens: usize) -> Clients {
         Clients {
             alloc,
@@ -206,9 +206,10 @@ impl Clients {
         }
     }
 
-    /// Lets a connection in, where there are fewer than 128, or another one gives way: the oldest of those on which no
-    /// request was let in so far, or else one that rests. Where none does it is closed, and also where the system or memory
-    /// refuses something. `doubts` says that it may have come while the program stood still.
+    /// Takes a connection in, at the moment `now`, in milliseconds. If there are 128, another one is closed for it: the
+    /// oldest on which no request was let in so far, or else the first that rests. If none gives way, or the system or
+    /// memory refuses something, the new connection is closed. `doubts` says that it may have come while the program
+    /// was suspended.
     pub fn add(
         &mut self,
         stream: TcpStream,
@@ -294,18 +295,26 @@ impl Clients {
         }
     }
 
-    /// Something can be read from or written to the connection of this token.
+    /// Notes that something can be read from or written to the connection with this token. A token that no connection
+    /// has changes nothing.
     pub fn note_ready(&mut self, token: Token) {
-        for place in 0..self.clients.len() {
-            if let Some(client) = self.clients.get_mut(place) {
-                if client.token == token {
-                    client.ready = true;
-                }
-            }
+        let found = self
+            .clients
+            .binary_search_by_key(&token.0, |client| client.token.0);
+        if let Ok(place) = found {
+            self.note_ready_at(place);
         }
     }
 
-    /// The program stood still: what waits on the connections may have come meanwhile. Each is looked at.
+    /// Something can be read from or written to the connection at this place.
+    fn note_ready_at(&mut self, place: usize) {
+        if let Some(client) = self.clients.get_mut(place) {
+            client.ready = true;
+        }
+    }
+
+    /// Notes that the program was suspended: what waits on the connections may have come meanwhile. Each connection
+    /// counts as ready.
     pub fn doubt(&mut self) {
         for place in 0..self.clients.len() {
             if let Some(client) = self.clients.get_mut(place) {
@@ -315,7 +324,8 @@ impl Clients {
         }
     }
 
-    /// Serves each connection that is ready, and closes those that ended or are late.
+    /// Serves each connection that is ready, and closes those that ended or are late at the moment `now`, in
+    /// milliseconds.
     pub fn serve(&mut self, site: &mut Site, now: u64) {
         self.more = false;
         let mut place = 0usize;
@@ -348,7 +358,7 @@ impl Clients {
         client.is_late(now)
     }
 
-    /// Whether a connection may have more to do.
+    /// Whether a connection may have more to do at once, so that the loop must not wait.
     pub fn has_more(&self) -> bool {
         self.more
     }

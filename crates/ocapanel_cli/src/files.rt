@@ -8,7 +8,9 @@ use std::rt::Files;
 /// The most bytes that are read of a file.
 const MOST_BYTES: usize = 65_536;
 
-/// The first 65,536 bytes of the file at a path.
+/// The bytes at the front of the file at a path: all if there are fewer than 65,536, else at least so many and at most
+/// 66,047. Failure: `Read` if the file can't be read or memory was refused, with the reason as its note if there is
+/// memory for the note.
 pub fn bytes_of<F: Files>(alloc: Global, files: &F, path: &str) -> Result<Vec<u8>, Failure> {
     match fs::open(files, path) {
         Ok(mut file) => match bytes_in(alloc, &mut file) {
@@ -42,7 +44,8 @@ fn unread(alloc: Global, path: &str, reason: io::Error) -> Failure {
     }
 }
 
-/// The file at this path has something at this line that is refused for this reason.
+/// The failure `BadWords` of a file, whose note names the path, the line (counted from 1) and the reason, if there is
+/// memory for the note.
 pub fn refused(alloc: Global, path: &str, line: usize, reason: &str) -> Failure {
     match format!(in alloc; "{path}: line {line}: {reason}") {
         Ok(note) => Failure::noted(RunFault::BadWords, note),

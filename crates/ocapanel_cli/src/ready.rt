@@ -32,7 +32,7 @@ impl<E: End + Drop> Drop for Ready<E> {
 impl<E: End> Ready<E> {
     ghost use Rattle.std.specs.Prelude.{◌≡◌};
 
-    /// The end, which sent nothing so far.
+    /// An end that never waits, over this end. No datagram was sent and nothing received so far.
     pub fn new(end: E) -> Ready<E>
         ensures { result ≡ E.state end }
     {
@@ -43,7 +43,7 @@ impl<E: End> Ready<E> {
         }
     }
 
-    /// The end.
+    /// The end inside, to look at.
     pub fn end(&self) -> &E
         ensures { E.state result.now ≡ self.now }
     {
@@ -55,7 +55,7 @@ impl<E: End> Ready<E> {
         self.sent
     }
 
-    /// Whether the last receive found nothing.
+    /// Whether the last receive brought no datagram; `false` before the first one.
     pub fn is_quiet(&self) -> bool {
         self.quiet
     }

@@ -1,7 +1,8 @@
 //! A run of the program.
 use crate::serving::serve;
 use crate::words::{Asked, asked_for};
-use oca_program::{Failure, report};
+use oca_program::ending::print_text;
+use oca_program::{Failure, status_of};
 use oca_script::{Printer, Sink};
 use std::alloc::Global;
 use std::convert::AsStr;
@@ -9,9 +10,9 @@ use std::net::Net;
 use std::random::RandomSource;
 use std::rt::{Clock, Files};
 
-/// Runs the program on the words of its command line, its name first, and returns its exit status: 0 for a help text, 2
-/// where the words are bad, 1 where something could not be done. A fault is printed on `faults` as one line, behind one
-/// that begins with `note: ` where more is known.
+/// Runs the program on the words of its command line, its name first, and returns its exit status. It is 0 after a help
+/// text, 2 if the words are bad, and 1 if something could not be done. A fault is printed on `faults` as one line,
+/// after a line that begins with `note: ` if more is known.
 pub fn run<R: Net + RandomSource + Files, N: Net + Clock, S: AsStr, W: Sink, F: Sink>(
     alloc: Global,
     rt: &R,
@@ -20,10 +21,8 @@ pub fn run<R: Net + RandomSource + Files, N: Net + Clock, S: AsStr, W: Sink, F: 
     printer: &mut Printer<W>,
     faults: &mut Printer<F>,
 ) -> u8 {
-    match served(alloc, rt, system, words, printer, faults) {
-        Ok(()) => 0,
-        Err(failure) => report(&failure, faults),
-    }
+    let ended = served(alloc, rt, system, words, printer, faults);
+    status_of(ended, faults)
 }
 
 /// Does what the words ask for.
@@ -34,16 +33,15 @@ fn served<R: Net + RandomSource + Files, N: Net + Clock, S: AsStr, W: Sink, F: S
     words: &[S],
     printer: &mut Printer<W>,
     faults: &mut Printer<F>,
-) -> Result<(), Failure> {
+) -> Result<u8, Failure> {
     match asked_for(alloc, words) {
-        Ok(Asked::Serve(serving, paths)) => serve(alloc, rt, system, serving, &paths, faults),
-        Ok(Asked::Help(text)) => print_help(text.as_str(), printer),
+        Ok(Asked::Serve(serving, paths)) => match serve(
+            alloc, rt, system, serving, &paths, faults,
+        ) {
+            Ok(()) => Ok(0),
+            Err(failure) => Err(failure),
+        },
+        Ok(Asked::Help(text)) => print_text(text.as_bytes(), printer),
         Err(failure) => Err(failure),
     }
-}
-
-/// Prints a help text.
-fn print_help<W: Sink>(text: &str, printer: &mut Printer<W>) -> Result<(), Failure> {
-    printer.print(text.as_bytes())?;
-    Ok(printer.flush()?)
 }

@@ -37,7 +37,10 @@ const ANSWER_MS: u64 = 4;
 /// The longest wait, in milliseconds: as often, connections on which nothing moves are looked at.
 const LONGEST_WAIT_MS: u64 = 1000;
 
-/// Serves until a call of the system fails, or memory is refused.
+/// Reads the files, binds the sockets, and then serves until a call of the system fails or memory is refused. It
+/// returns Ok only after 2^64 - 1 sockets for the device, which no run comes to. Failures: `Read` if a file can't be
+/// read. `BadWords` if a file has something that is refused. `Socket` if the system refused a socket, a wait or random
+/// numbers. `NoMemory` if memory was refused.
 pub fn serve<R: Net + RandomSource + Files, N: Net + Clock, F: Sink>(
     alloc: Global,
     rt: &R,
@@ -235,7 +238,7 @@ fn serve_others<'a, R: Net + RandomSource, N: Net + Clock, F: Sink>(
     Ok(())
 }
 
-/// Serves over another socket for the device, at a port of the system's choice: so the handles begin anew. Returns it
+/// Serves over another socket for the device, at a port of the system's choice: so the handles begin again. Returns it
 /// where another one is to be taken.
 fn serve_another<'a, R: Net + RandomSource, N: Net + Clock, F: Sink>(
     alloc: Global,
@@ -338,7 +341,7 @@ struct Rounds {
     /// The ticket of the last order that was taken, and until when the browsers wait for its answer.
     ticket: u64,
     held_until: u64,
-    /// Whether the program stood still, and connections that came meanwhile may still wait.
+    /// Whether the program was suspended, and connections that came meanwhile may still wait.
     doubts: bool,
 }
 
@@ -558,7 +561,7 @@ fn turn<E: End>(
     Ok(false)
 }
 
-/// Reads the clock. Where the program stood still, what waits for it is as old as nobody knows.
+/// Reads the clock. Where the program was suspended, what waits for it is as old as nobody knows.
 fn look_at_clock<E: End>(rounds: &mut Rounds, panel: &Panel<Ready<E>>, view: &mut View) {
     if view.note(panel.end().end().now(), panel.end().sent()) {
         rounds.doubts = true;
@@ -584,7 +587,7 @@ fn wait_for<E: End>(rounds: &Rounds, panel: &Panel<Ready<E>>, view: &View, now: 
 
 impl Rounds {
     /// Whether the browsers wait for the answer to an order that was taken just now: so that who asks right behind it
-    /// is shown how it fared.
+    /// is shown how it ended.
     fn holds(&self, view: &View, now: u64) -> bool {
         now < self.held_until && view.has_orders()
     }

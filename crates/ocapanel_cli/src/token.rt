@@ -9,7 +9,9 @@ use std::rt::Files;
 /// The most bytes of a token.
 const MOST_BYTES: usize = 128;
 
-/// The token: the first line of the file at a path, or where none is given one of 128 random bits, in hexadecimal.
+/// The panel's token: the first line of the file at a path, or, without a path, 128 random bits in hexadecimal.
+/// Failures: `Read` if the file can't be read. `BadWords` if its first line is not 1 to 128 letters, digits, `-` and
+/// `_`. `Socket` if the system gave no random numbers. `NoMemory` if memory was refused.
 pub fn token_of<R: RandomSource + Files>(
     alloc: Global,
     rt: &R,
@@ -82,7 +84,8 @@ fn made<R: RandomSource>(alloc: Global, rt: &R) -> Result<String, Failure> {
     }
 }
 
-/// A number of 64 bits of the system's random numbers.
+/// A number of 64 bits from the system's random numbers. Failure: `Socket` with the reason as its note if the system
+/// gave none; `NoMemory` if there was no memory for the note.
 pub fn random_number<R: RandomSource>(alloc: Global, rt: &R) -> Result<u64, Failure> {
     let mut bytes = [0u8; 8];
     match rt.fill_bytes(&mut bytes) {
@@ -94,8 +97,8 @@ pub fn random_number<R: RandomSource>(alloc: Global, rt: &R) -> Result<u64, Fail
     }
 }
 
-/// The token as browsers send it to a panel at this port: its cookie has the port in its name, since cookies of one
-/// host are those of all its ports.
+/// The token in the two forms in which browsers send it to a panel at this port: as a cookie and as a query. The
+/// cookie's name has the port in it, since all ports of a host share its cookies. `AllocError` if memory was refused.
 pub fn key_of(alloc: Global, token: &str, port: u16) -> Result<Key, AllocError> {
     Ok(Key {
         cookie: format!(in alloc; "ocapanel-{port}={token}")?,

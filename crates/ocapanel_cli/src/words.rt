@@ -6,12 +6,11 @@ ghost use Rattle.ocapanel_cli.specs.Words.{at_own_machine, device_in, is_said, l
 ghost use Rattle.ocapanel_cli.specs.Words.{local_port_in, names_token_in_vain, panel_fields, panel_in};
 ghost use Rattle.ocapanel_cli.specs.Words.{panel_span_in, panel_span_of as span_in_text};
 
-use clap::{ArgMatches, Command, Error};
-use oca_program::form::bad_option;
-use oca_program::options::{
-    help_or_failure, host_in, number_or, own_or, text_of, with_flag, with_option, with_required,
-};
-use oca_program::{Failure, Form, Rule, RunFault, VERSION};
+use clap::{ArgMatches, Error};
+use oca_program::form::check;
+use oca_program::options::{help_or_failure, host_in, number_or, own_or, text_of};
+use oca_program::table::program;
+use oca_program::{CommandRow, Failure, Form, Kind, OptionRow, RunFault};
 use oca_script::field::{number, peer};
 use oca_types::{LOOPBACK, Peer, Span};
 use std::alloc::{AllocError, Global};
@@ -30,7 +29,7 @@ pub struct Serving {
     pub device: Peer,
     /// Where browsers are listened to.
     pub listen: Peer,
-    /// How far above the lowest untaken command the next handle may lie.
+    /// How far above the lowest command in flight the next handle may lie.
     pub span: Span,
     /// The local address of the socket for the device; 0 is the one from which the system reaches the device.
     pub ip: u32,
@@ -69,162 +68,107 @@ const EXAMPLE: &str =
 
 Example: ocapanel --device 127.0.0.1:65000";
 
-/// An option with a value that need not be given: its name, what the value is called, and what it does.
-struct OptionRow {
-    name: &'static str,
-    value: &'static str,
-    help: &'static str,
-}
-
-/// The options with a value that need not be given.
-const OPTIONS: [OptionRow; 6] = [
+/// The options, in the order of `--help`.
+const OPTIONS: [OptionRow; 10] = [
+    OptionRow {
+        name: "device",
+        value: "A.B.C.D:PORT",
+        help: "The device's address and port",
+        kind: Kind::Required,
+        form: Form::Host,
+    },
     OptionRow {
         name: "listen",
         value: "A.B.C.D:PORT",
         help: "The address and port for browsers: one address of this machine, with --no-token one of 127.0.0.0/8; at \
             port 0 the system chooses one [default: 127.0.0.1:8080]",
+        kind: Kind::Optional,
+        form: Form::AnyPeer,
     },
     OptionRow {
         name: "token",
         value: "FILE",
         help: "The file whose first line is the token that browsers need: 1 to 128 letters, digits, '-' and '_' \
             [default: one is made at each start]",
+        kind: Kind::Optional,
+        form: Form::Text,
     },
     OptionRow {
         name: "units",
         value: "FILE",
         help: "The file with the units of values, for the page to show",
+        kind: Kind::Optional,
+        form: Form::Text,
     },
     OptionRow {
         name: "span",
         value: "S",
         help: "The span, 2 to 32: the handles of the commands in flight are within S consecutive numbers; half of it \
             is kept for orders from browsers [default: 16]",
-    },
-    OptionRow {
-        name: "ip",
-        value: "A.B.C.D",
-        help: "The local address of the socket for the device, from which each copy of a command leaves [default: \
-            0.0.0.0, the one from which the system reaches the device]",
-    },
-    OptionRow {
-        name: "port",
-        value: "PORT",
-        help: "The local port of the socket for the device [default: the system chooses one]",
-    },
-];
-
-/// What the flag `verbose` does.
-const VERBOSE: &str =
-    "Prints a line on standard error when the device is lost and when it is heard again";
-
-/// What the flag `no-token` does.
-const NO_TOKEN: &str = "Serves every program on this machine, with no token";
-
-/// What the flag `read-only` does.
-const READ_ONLY: &str = "Shows the objects, and takes no order";
-
-/// The whole program.
-fn command<'a>(alloc: Global) -> Result<Command<'a>, AllocError> {
-    match with_values(alloc) {
-        Ok(so_far) => with_flags(alloc, so_far),
-        Err(refused) => Err(refused),
-    }
-}
-
-/// With the flags.
-fn with_flags<'a>(alloc: Global, so_far: Command<'a>) -> Result<Command<'a>, AllocError> {
-    match with_flag(alloc, so_far, "no-token", NO_TOKEN) {
-        Ok(more) => with_last_flags(alloc, more),
-        Err(refused) => Err(refused),
-    }
-}
-
-/// With the last two flags.
-fn with_last_flags<'a>(alloc: Global, so_far: Command<'a>) -> Result<Command<'a>, AllocError> {
-    match with_flag(alloc, so_far, "read-only", READ_ONLY) {
-        Ok(more) => with_flag(alloc, more, "verbose", VERBOSE),
-        Err(refused) => Err(refused),
-    }
-}
-
-/// The program with the options that have a value.
-fn with_values<'a>(alloc: Global) -> Result<Command<'a>, AllocError> {
-    match with_device(alloc) {
-        Ok(so_far) => with_options(alloc, so_far, &OPTIONS),
-        Err(refused) => Err(refused),
-    }
-}
-
-/// The program with the option that must be given.
-fn with_device<'a>(alloc: Global) -> Result<Command<'a>, AllocError> {
-    let device = "The device's address and port";
-    with_required(alloc, named(alloc), "device", "A.B.C.D:PORT", device)
-}
-
-/// The program's name and what it is for.
-fn named<'a>(alloc: Global) -> Command<'a> {
-    Command::new(alloc, "ocapanel")
-        .about("A panel in the browser for an OCA (AES70) device over UDP")
-        .version(VERSION)
-        .after_help(EXAMPLE)
-}
-
-/// With these options.
-fn with_options<'a>(
-    alloc: Global,
-    command: Command<'a>,
-    rows: &[OptionRow],
-) -> Result<Command<'a>, AllocError> {
-    let mut so_far = command;
-    for row in rows {
-        match with_option(alloc, so_far, row.name, row.value, row.help) {
-            Ok(more) => so_far = more,
-            Err(refused) => return Err(refused),
-        }
-    }
-    Ok(so_far)
-}
-
-/// The words, matched with what the program takes.
-fn matches_of<'a, S: AsStr>(alloc: Global, words: &'a [S]) -> Result<ArgMatches<'a>, Error> {
-    match command(alloc) {
-        Ok(program) => program.try_get_matches_from(words),
-        Err(refused) => Err(Error::from(refused)),
-    }
-}
-
-/// The options with a form.
-const RULES: [Rule; 5] = [
-    Rule {
-        name: "device",
-        form: Form::Host,
-    },
-    Rule {
-        name: "listen",
-        form: Form::AnyPeer,
-    },
-    Rule {
-        name: "span",
+        kind: Kind::Optional,
         form: Form::Number {
             digits: 3,
             least: 2,
             largest: 32,
         },
     },
-    Rule {
+    OptionRow {
         name: "ip",
+        value: "A.B.C.D",
+        help: "The local address of the socket for the device, from which each copy of a command leaves [default: \
+            0.0.0.0, the one from which the system reaches the device]",
+        kind: Kind::Optional,
         form: Form::Own,
     },
-    Rule {
+    OptionRow {
         name: "port",
+        value: "PORT",
+        help: "The local port of the socket for the device [default: the system chooses one]",
+        kind: Kind::Optional,
         form: Form::Number {
             digits: 5,
             least: 0,
             largest: 65_535,
         },
     },
+    OptionRow {
+        name: "no-token",
+        value: "",
+        help: "Serves every program on this machine, with no token",
+        kind: Kind::Flag,
+        form: Form::Text,
+    },
+    OptionRow {
+        name: "read-only",
+        value: "",
+        help: "Shows the objects, and takes no order",
+        kind: Kind::Flag,
+        form: Form::Text,
+    },
+    OptionRow {
+        name: "verbose",
+        value: "",
+        help: "Prints a line on standard error when the device is lost and when it is heard again",
+        kind: Kind::Flag,
+        form: Form::Text,
+    },
 ];
+
+/// The program.
+const PROGRAM: CommandRow = CommandRow {
+    name: "ocapanel",
+    about: "A panel in the browser for an OCA (AES70) device over UDP",
+    example: EXAMPLE,
+    options: &OPTIONS,
+};
+
+/// The words, matched with what the program takes.
+fn matches_of<'a, S: AsStr>(alloc: Global, words: &'a [S]) -> Result<ArgMatches<'a>, Error> {
+    match program(alloc, &PROGRAM) {
+        Ok(program) => program.try_get_matches_from(words),
+        Err(refused) => Err(Error::from(refused)),
+    }
+}
 
 /// The note where each option has its form, but a token is given and none is asked for.
 const TWO_WAYS: &str = "--token and --no-token are both given";
@@ -249,17 +193,27 @@ fn elsewhere(words: &ArgMatches<'_>) -> &'static str {
     }
 }
 
-/// What the words ask for, the program's name first, or why they ask for nothing.
+/// What the words ask for, the program's name first: to serve, or the text of `--help` or `--version`. Failures:
+/// `BadWords` if the words are not of their form, with a note that says more, if there is memory for it. `NoMemory` if
+/// memory was refused.
 pub fn asked_for<S: AsStr>(alloc: Global, words: &[S]) -> Result<Asked, Failure> {
     match matches_of(alloc, words) {
         Ok(matches) => match serving_of(&matches) {
             Some(serving) => with_paths(alloc, serving, &matches),
-            None => Err(bad_option(alloc, &matches, &RULES, elsewhere(&matches))),
+            None => Err(unread(alloc, &matches)),
         },
         Err(error) => match help_or_failure(alloc, &error) {
             Ok(text) => Ok(Asked::Help(text)),
             Err(failure) => Err(failure),
         },
+    }
+}
+
+/// Why the options ask for nothing.
+fn unread(alloc: Global, words: &ArgMatches<'_>) -> Failure {
+    match check(alloc, words, &OPTIONS) {
+        Ok(()) => Failure::told(alloc, RunFault::BadWords, elsewhere(words)),
+        Err(failure) => failure,
     }
 }
 

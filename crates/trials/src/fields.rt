@@ -229,7 +229,7 @@ impl<'a> Fields<'a> {
     }
 
     /// A truth: 0 or 1.
-    fn truth(&mut self) -> bool {
+    pub fn truth(&mut self) -> bool {
         let digit = self.next();
         self.number_of(digit, 1, 1) == 1
     }

@@ -4,6 +4,7 @@
 //! for PEERS sessions and CHANNELS channel strips behind the bench's own objects. The lines after it are its events, in
 //! order: `N P HEX` is a datagram of the peer P at the moment N, `N quiet` a clock reading, and `set ONO CLASS VALUE` a
 //! change at the local front panel, CLASS being `mute`, `polarity`, `switch`, `boolean`, `int8` and so on to `uint64`.
+//! `label ONO HEX`, `enabled ONO 0` or `1`, `unlock ONO` and `failing ONO 0` or `1` are the other changes there.
 //! `again HEX` is a datagram that does not come to the device: it is only read, and written again. `then N P HEX`,
 //! `then N quiet` and `then failed` are entries of the script of an end in memory: a datagram, a receive without one,
 //! and a receive that fails. `serve K` lets the device serve that end, of which the send of the number K, from 0, fails,
@@ -20,9 +21,10 @@ use crate::fields::{Fields, LineFault, bytes_of};
 use crate::lines::{RunFault, Told};
 use oca_device::{Device, Outbox};
 use oca_net::Scripted;
-use oca_tree::{AddFault, Lock, LockKind, Setting, Tree, Value, bench_with_channels};
+use oca_tree::{AddFault, FrontFault, Lock, LockKind, Setting, Tree, Value, bench_with_channels};
 use oca_types::{NoMemory, Ono, Peer, Sizes};
 use std::alloc::Global;
+use std::str;
 
 /// The device of the present history, where one has begun, and what is to be printed of it.
 #[derive(Drop)]
@@ -48,8 +50,16 @@ enum Timed<'a> {
 enum Happens<'a> {
     /// Something at a moment.
     Timed(Timed<'a>),
-    /// An object is set at the front.
+    /// An object is set at the local front panel.
     Set(Ono, Value),
+    /// An object gets a label at the front, of these bytes.
+    Label(Ono, &'a [u8]),
+    /// An object is enabled or disabled at the front.
+    Enabled(Ono, bool),
+    /// The lock is taken off an object at the front.
+    Unlock(Ono),
+    /// The front says whether the hardware of an object refuses to be changed.
+    Failing(Ono, bool),
     /// A datagram is read and written again.
     Again(&'a [u8]),
     /// An entry of the script, or a receive that fails.
@@ -185,6 +195,10 @@ fn take(
             out.put("quiet\n");
         }
         Happens::Set(ono, value) => set(device, out, ono, value),
+        Happens::Label(ono, text) => label(alloc, device, out, ono, text),
+        Happens::Enabled(ono, enabled) => put_change(out, device.set_enabled(ono, enabled)),
+        Happens::Unlock(ono) => put_change(out, device.unlock(ono)),
+        Happens::Failing(ono, failing) => put_change(out, device.set_failing(ono, failing)),
         Happens::Again(text) => put_again(alloc, out, text),
         Happens::Then(entry) => add_entry(alloc, script, entry, out),
         Happens::Serve(failing) => serve_script(alloc, device, outbox, out, script, failing),
@@ -214,6 +228,21 @@ fn read_event<'a>(first: &[u8], fields: &mut Fields<'a>) -> Happens<'a> {
     if first == b"set".as_slice() {
         let (ono, value) = fields.local();
         return Happens::Set(ono, value);
+    }
+    if first == b"label".as_slice() {
+        let ono = Ono(fields.number());
+        return Happens::Label(ono, fields.hex());
+    }
+    if first == b"enabled".as_slice() {
+        let ono = Ono(fields.number());
+        return Happens::Enabled(ono, fields.truth());
+    }
+    if first == b"unlock".as_slice() {
+        return Happens::Unlock(Ono(fields.number()));
+    }
+    if first == b"failing".as_slice() {
+        let ono = Ono(fields.number());
+        return Happens::Failing(ono, fields.truth());
     }
     if first == b"again".as_slice() {
         return Happens::Again(fields.hex());
@@ -304,11 +333,30 @@ fn hear(
     put_written(out, device.written());
 }
 
-/// Sets an object at the front, and notes what came of it.
+/// Sets an object at the local front panel, and notes what came of it.
 fn set(device: &mut Device, out: &mut Told, ono: Ono, value: Value) {
     match device.set(ono, value) {
         Ok(()) => out.put("set\n"),
         Err(fault) => out.put_set_fault(fault),
+    }
+}
+
+/// Gives an object a label at the front, and notes what came of it.
+fn label(alloc: Global, device: &mut Device, out: &mut Told, ono: Ono, text: &[u8]) {
+    let Some(bytes) = bytes_of(alloc, text) else {
+        return out.refuse();
+    };
+    match str::from_utf8(bytes.as_slice()) {
+        Ok(label) => put_change(out, device.set_label(ono, label)),
+        Err(_) => out.refuse(),
+    }
+}
+
+/// Notes what came of a change at the front.
+fn put_change(out: &mut Told, changed: Result<(), FrontFault>) {
+    match changed {
+        Ok(()) => out.put("set\n"),
+        Err(fault) => out.put_front_fault(fault),
     }
 }
 

@@ -2,7 +2,7 @@
 use crate::fields::LineFault;
 use oca_device::Verdict;
 use oca_pdu::PduFault;
-use oca_tree::SetFault;
+use oca_tree::{FrontFault, SetFault};
 use oca_types::Peer;
 use std::alloc::Global;
 use std::fmt::Write;
@@ -130,8 +130,13 @@ impl Told {
         self.put_counted(" at ", u64::from(fault.at));
     }
 
-    /// The line of a change at a device's own front that was refused.
+    /// The line of a change at the local front panel that was refused.
     pub fn put_set_fault(&mut self, fault: SetFault) {
+        self.put_counted("refused ", fault as u64);
+    }
+
+    /// The line of a change of a label, of whether an object is enabled or of its lock that was refused.
+    pub fn put_front_fault(&mut self, fault: FrontFault) {
         self.put_counted("refused ", fault as u64);
     }
 

@@ -1,6 +1,6 @@
 //! Devices run alone, event by event. A script is a list of events with what must come of each. Expected bytes are
 //! those of AES70-3's layouts, written out or put together here, and never the device's own. Scripts of which datagrams
-//! and answers show all are rows of `tools/runs.py`.
+//! and answers show all are rows of `tools/rows/ocadev.toml`.
 mod benches;
 mod bounded;
 mod commands;

@@ -3,9 +3,9 @@ mod methods;
 
 use super::{Row, first_wrong, none_wrong};
 use oca_model::{
-    MuteState, PolarityState, Ranged, Reading, Value, ValueFault, ValueRequest, class_with,
-    get_request, read_class_fields, read_members, read_names, read_text, read_value, set_request,
-    status_name, value_from_word, word_of,
+    MuteState, PolarityState, Ranged, Reading, SettingFault, Value, ValueFault, ValueRequest,
+    class_with, get_request, read_class_fields, read_members, read_names, read_text, read_value,
+    set_request, status_name, value_from_word, word_of,
 };
 use oca_types::{Class, MethodId, Params};
 use std::alloc::Global;
@@ -91,6 +91,26 @@ impl Row for HasLimits {
             && self.1.count() == self.2
             && Reading::read(self.0, self.3) == Some(self.1)
             && read_value(self.0, self.3) == Some(self.1.value())
+            && self.1.class() == self.0
+            && self.1.is_within()
+            && self.1.set_to(self.1.value()) == Ok(self.1)
+    }
+}
+
+/// A reading that is set to a value, and why it cannot be set so.
+struct IsSetTo(Reading, Value, Option<SettingFault>);
+
+impl Row for IsSetTo {
+    /// Whether it is set so, and set back is as it was; or it is refused so.
+    fn agrees(&self, _alloc: Global) -> bool {
+        match self.0.set_to(self.1) {
+            Ok(set) => {
+                self.2.is_none()
+                    && set.value() == self.1
+                    && set.set_to(self.0.value()) == Ok(self.0)
+            }
+            Err(fault) => self.2 == Some(fault),
+        }
     }
 }
 
@@ -277,6 +297,26 @@ const READINGS: &[HasLimits] = &[
     ),
 ];
 
+/// An Int16 at 0, from -600 to 600.
+const TRIM: Reading = Reading::Int16(Ranged {
+    setting: 0,
+    least: -600,
+    greatest: 600,
+});
+
+/// A mute.
+const MUTED: Reading = Reading::Mute(MuteState::Muted);
+
+const SETTINGS: &[IsSetTo] = &[
+    IsSetTo(TRIM, Value::Int16(600), None),
+    IsSetTo(TRIM, Value::Int16(-600), None),
+    IsSetTo(TRIM, Value::Int16(601), Some(SettingFault::OutOfRange)),
+    IsSetTo(TRIM, Value::Int16(-601), Some(SettingFault::OutOfRange)),
+    IsSetTo(TRIM, Value::Int32(1), Some(SettingFault::OtherClass)),
+    IsSetTo(MUTED, Value::Mute(MuteState::Unmuted), None),
+    IsSetTo(MUTED, Value::Boolean(true), Some(SettingFault::OtherClass)),
+];
+
 const WORDS: &[Says] = &[
     Says("muted", Value::Mute(MuteState::Muted)),
     Says("unmuted", Value::Mute(MuteState::Unmuted)),
@@ -364,6 +404,7 @@ fn values_and_words(rt: HostRuntime) {
             first_wrong(alloc, VALUES),
             first_wrong(alloc, NO_VALUES),
             first_wrong(alloc, READINGS),
+            first_wrong(alloc, SETTINGS),
             first_wrong(alloc, WORDS),
             first_wrong(alloc, NO_WORDS),
         ],

@@ -5,6 +5,7 @@ use oca_panel::Panel;
 use oca_types::{Handle, Peer, Span};
 use std::alloc::Global;
 
+mod calls;
 mod floods;
 mod given_up;
 mod in_flight;
@@ -128,5 +129,10 @@ fn tables_of_rows(rt: HostRuntime) {
         ],
     );
     none_wrong(&rt, "floods", &[first_wrong(alloc, floods::ROWS)]);
+    none_wrong(
+        &rt,
+        "keep-alives beside the link",
+        &[first_wrong(alloc, calls::ROWS)],
+    );
     none_wrong(&rt, "walks", &[first_wrong(alloc, walks::WALKS)]);
 }

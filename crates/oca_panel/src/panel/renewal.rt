@@ -9,23 +9,24 @@ impl<E: End> Panel<E> {
     ghost use Rattle.oca_types.specs.Sizes.{span_size};
     ghost use Rattle.oca_panel.specs.Renewals.{IsFoundLost, IsRenewed, TurnsWith};
 
-    /// Goes on over the same end with a new link, made at the end's present moment, as [`Panel::open`] makes one: the
-    /// way to go on where the link is lost. Nothing more is sent of the commands of the old one, and their answers are
-    /// not taken; `first` is to lie above their handles.
+    /// Replaces the link by a new one over the same end, made at the end's present moment as [`Panel::open`] makes one.
+    /// Use it if the link is lost. Of the old link's commands nothing more is sent, and their answers are not taken.
+    /// `first` must lie above their handles.
     pub fn renew(&mut self, device: Peer, first: Handle, span: Span)
         ensures { IsRenewed device first.0 (span_size span) self.old self.new }
     {
         self.link = Link::new(device, first, self.end.now(), span);
     }
 
-    /// Takes one turn as [`Panel::turn`] does, and returns what was done.
+    /// Takes one turn as [`Panel::turn`] does: receives once, at a socket for at most 50 ms, and sends what is due.
+    /// Returns what was done. Its `turns` are 0 if the end is closed; `lost` says that the link was found lost or late.
     pub fn turn_with_report(&mut self) -> DriveReport
         ensures { TurnsWith result self.old self.new }
     {
         turn(&mut self.link, &mut self.end)
     }
 
-    /// The same as [`Panel::is_lost`].
+    /// Whether the link is lost, or is late at the end's present moment, as [`Panel::is_lost`] says.
     pub fn finds_lost(&self) -> bool
         ensures { IsFoundLost self.now result }
     {

@@ -1,5 +1,5 @@
 //! What the clauses leave open: commands that are sent over an end in memory, and readers and writers that give and
-//! take a little at a time or fail. Whole runs of the program are rows of `tools/ctl_runs.py`.
+//! take a little at a time or fail. Whole runs of the program are rows of `tools/rows/ocactl.toml`.
 use super::{first_place, first_wrong, none_wrong};
 use oca_types::Peer;
 

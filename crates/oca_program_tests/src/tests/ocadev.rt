@@ -1,5 +1,5 @@
 //! What the clauses leave open: replays between ends that cut what they give and take, or fail at each place, and what
-//! goes over sockets. Whole runs of the program are rows of `tools/runs.py`.
+//! goes over sockets. Whole runs of the program are rows of `tools/rows/ocadev.toml`.
 use super::{first_place, first_wrong, none_wrong};
 use oca_device::{Device, Outbox};
 use oca_tree::{Tree, bench};

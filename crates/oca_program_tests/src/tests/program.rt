@@ -121,6 +121,8 @@ const FORMS: &[IsOf] = &[
     IsOf(Form::Bytes, "00fF", true),
     IsOf(Form::Bytes, "", false),
     IsOf(Form::Bytes, "0", false),
+    IsOf(Form::Text, "", true),
+    IsOf(Form::Text, "a file", true),
 ];
 
 const LINES_AND_SOCKETS: &[Reported] = &[

@@ -1,5 +1,5 @@
 use Rattle.std.proofs.Common.{◌+◌, ℕ, ap, ◌∙◌, arith, subst}
-use Rattle.oca_control.specs.Driving.{GivesOut}
+use Rattle.oca_control.specs.Driving.{SendsDue}
 use Rattle.oca_control.proofs.Turns.{gives_start, gives_more, gives_last, gave_all, none_within, more_within, wider}
 use Rattle.oca_control.proofs.driving.give_all.Goals as goal
 
@@ -24,11 +24,11 @@ loop-call-preserved g c =
 
 pub returns-then-not-goes_on-clause-gives : goal.returns-then-not-goes_on-clause-gives
 returns-then-not-goes_on-clause-gives g c =
-    subst (λ (n : ℕ). GivesOut c.args.now n c.args.link.now c.give_one-goes_on.new.link (g.E.End.state c.args.end.now) (g.E.End.state c.give_one-goes_on.new.end) c.sum-report.result)
+    subst (λ (n : ℕ). SendsDue c.args.now n c.args.link.now c.give_one-goes_on.new.link (g.E.End.state c.args.end.now) (g.E.End.state c.give_one-goes_on.new.end) c.sum-report.result)
     (ap (λ n. n + 1) (c.from-most.ensures ∙ c.span.ensures.span))
     (gives_last _ c.sum-report.result c.sum-report.ensures c.loop-call.invariant.gives c.give_one-goes_on.ensures.gives c.if-not-goes_on.true c.loop-call-test.true)
 
 pub returns-clause-gives : goal.returns-clause-gives
 returns-clause-gives g c =
-    subst (λ (n : ℕ). GivesOut c.args.now n c.args.link.now c.loop-call.link (g.E.End.state c.args.end.now) (g.E.End.state c.loop-call.end) c.loop-call.report)
+    subst (λ (n : ℕ). SendsDue c.args.now n c.args.link.now c.loop-call.link (g.E.End.state c.args.end.now) (g.E.End.state c.loop-call.end) c.loop-call.report)
     (ap (λ n. n + 1) (c.from-most.ensures ∙ c.span.ensures.span)) (gave_all c.loop-call.invariant.gives c.loop-call-test.false)

@@ -10,14 +10,14 @@ no_turn r e one = let none = sym (ap (λ (x : DriveReport). x.turns) e) ∙ one 
 
 pub returns-in-Datagram-clause-turns : goal.returns-in-Datagram-clause-turns
 returns-in-Datagram-clause-turns g c =
-    datagram_turn c.give_in_time-given.result c.as_slice.result.now c.datagram.result c.count_of-answered.result c.as_slice.ensures.fits c.as_slice.ensures.value c.in-Datagram.ensures
-    c.datagram.ensures.receives c.count_of-answered.ensures.count c.give_in_time-given.ensures.gives
+    datagram_turn c.send_in_time-given.result c.as_slice.result.now c.datagram.result c.count_of-answered.result c.as_slice.ensures.fits c.as_slice.ensures.value c.in-Datagram.ensures
+    c.datagram.ensures.receives c.count_of-answered.ensures.count c.send_in_time-given.ensures.gives
 
 pub returns-in-Quiet-clause-turns : goal.returns-in-Quiet-clause-turns
-returns-in-Quiet-clause-turns g c = quiet_turn c.give_in_time.result c.in-Quiet.ensures c.give_in_time.ensures.gives
+returns-in-Quiet-clause-turns g c = quiet_turn c.send_in_time.result c.in-Quiet.ensures c.send_in_time.ensures.gives
 
 pub returns-in-Oversize-clause-turns : goal.returns-in-Oversize-clause-turns
-returns-in-Oversize-clause-turns g c = oversize_turn c.give_in_time-in-Oversize.result c.in-Oversize.ensures c.give_in_time-in-Oversize.ensures.gives
+returns-in-Oversize-clause-turns g c = oversize_turn c.send_in_time-in-Oversize.result c.in-Oversize.ensures c.send_in_time-in-Oversize.ensures.gives
 
 pub returns-in-Failed-clause-turns : goal.returns-in-Failed-clause-turns
 returns-in-Failed-clause-turns g c = failed_turn c.nothing.result c.args.link.now c.in-Failed.ensures c.nothing.ensures
@@ -26,13 +26,13 @@ pub returns-in-Closed-clause-turns : goal.returns-in-Closed-clause-turns
 returns-in-Closed-clause-turns g c = closed_turn _ c.args.link.now c.in-Closed.ensures.packet c.in-Closed.ensures c.nothing-in-Closed.ensures
 
 pub returns-in-Datagram-clause-left : goal.returns-in-Datagram-clause-left
-returns-in-Datagram-clause-left g c = λ _ _ going. c.give_in_time-given.ensures.left going
+returns-in-Datagram-clause-left g c = λ _ _ going. c.send_in_time-given.ensures.left going
 
 pub returns-in-Quiet-clause-left : goal.returns-in-Quiet-clause-left
-returns-in-Quiet-clause-left g c = λ _ _ going. c.give_in_time.ensures.left going
+returns-in-Quiet-clause-left g c = λ _ _ going. c.send_in_time.ensures.left going
 
 pub returns-in-Oversize-clause-left : goal.returns-in-Oversize-clause-left
-returns-in-Oversize-clause-left g c = λ _ _ going. c.give_in_time-in-Oversize.ensures.left going
+returns-in-Oversize-clause-left g c = λ _ _ going. c.send_in_time-in-Oversize.ensures.left going
 
 pub returns-in-Closed-clause-left : goal.returns-in-Closed-clause-left
 returns-in-Closed-clause-left g c = λ one _ _. absurd (no_turn _ c.nothing-in-Closed.ensures one)

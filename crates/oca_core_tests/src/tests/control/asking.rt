@@ -123,17 +123,17 @@ const THERE: &[Step] = &[
 
 const NOTHING: &[Step] = &[Asks(3, Fared::Unanswered), Taken(1)];
 
-// What is due is given out, and again after 250 ms.
+// What is due is sent, and again after 250 ms.
 const ALL: &[Step] = &[
     At(Submits(0, Ok(1))),
     At(Submits(0, Ok(2))),
-    GivesOut(0, 2, 0),
-    GivesOut(249, 0, 0),
-    GivesOut(250, 2, 0),
+    SendsDue(0, 2, 0),
+    SendsDue(249, 0, 0),
+    SendsDue(250, 2, 0),
     Taken(4),
 ];
 
-const KEEP_ALIVES: &[Step] = &[GivesOut(2_500, 0, 1)];
+const KEEP_ALIVES: &[Step] = &[SendsDue(2_500, 0, 1)];
 
 const ONE_TURN: &[Step] = &[
     At(Submits(0, Ok(1))),
@@ -216,7 +216,7 @@ const ASKED: &[OverEnd] = &[
     },
 ];
 
-/// Answers that are there, and what is given out.
+/// Answers that are there, and what is sent.
 const GIVEN: &[OverEnd] = &[
     OverEnd {
         name: "an_answer_that_is_there_takes_no_turn",
@@ -231,13 +231,13 @@ const GIVEN: &[OverEnd] = &[
         steps: NOTHING,
     },
     OverEnd {
-        name: "all_that_is_due_is_given_out",
+        name: "all_that_is_due_is_sent",
         span: 16,
         ending: CLOSED,
         steps: ALL,
     },
     OverEnd {
-        name: "a_keep_alive_is_given_out",
+        name: "a_keep_alive_is_sent",
         span: 16,
         ending: CLOSED,
         steps: KEEP_ALIVES,

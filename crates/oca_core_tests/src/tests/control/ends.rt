@@ -4,7 +4,7 @@ use super::{DEVICE, Gave, links};
 use crate::tests::Script;
 use crate::tests::ending::{Ending, end_of};
 use oca_control::{
-    ControlFault, DriveReport, Link, Outcome, ask, drive, give_in_time, give_out, wait_for,
+    ControlFault, DriveReport, Link, Outcome, ask, drive, send_due, send_in_time, wait_for,
     wait_until, wait_while,
 };
 use oca_net::MemoryEnd;
@@ -49,10 +49,10 @@ pub enum Step {
     WaitsUntil(u32, u64, Fared),
     /// The answer under a handle is waited for, for so many milliseconds.
     WaitsWhile(u32, u32, Fared),
-    /// So many commands and so many keep-alives are given out at a moment.
-    GivesOut(u64, u64, u64),
-    /// So many commands are given out in time at a moment; or none, since the link is late.
-    GivesInTime(u64, u64, bool),
+    /// So many commands and so many keep-alives are sent at a moment.
+    SendsDue(u64, u64, u64),
+    /// So many commands are sent in time at a moment; or none, since the link is late.
+    SendsInTime(u64, u64, bool),
     /// The link is driven for at most so many turns.
     Drives(u32, DriveReport),
     /// How many entries of its script the end delivered.
@@ -102,13 +102,13 @@ fn driven(link: &mut Link, end: &mut MemoryEnd, turns: u32) -> DriveReport {
 }
 
 /// Gives out what is due.
-fn given_out(link: &mut Link, end: &mut MemoryEnd, now: u64) -> DriveReport {
-    give_out(link, end, now)
+fn sends_due(link: &mut Link, end: &mut MemoryEnd, now: u64) -> DriveReport {
+    send_due(link, end, now)
 }
 
 /// Gives out what is due, in time.
-fn given_in_time(link: &mut Link, end: &mut MemoryEnd, now: u64) -> DriveReport {
-    give_in_time(link, end, now)
+fn sent_in_time(link: &mut Link, end: &mut MemoryEnd, now: u64) -> DriveReport {
+    send_in_time(link, end, now)
 }
 
 /// What was handed over, in no turn and without a failure.
@@ -143,8 +143,8 @@ fn agrees(link: &mut Link, end: &mut MemoryEnd, packet: &mut Packet, step: Step)
             want,
         ),
         WaitsWhile(handle, ms, want) => is_outcome(&waited_while(link, end, handle, ms), want),
-        GivesOut(now, sent, keep_alives) => given_out(link, end, now) == given(sent, keep_alives),
-        GivesInTime(now, sent, lost) => given_in_time(link, end, now)
+        SendsDue(now, sent, keep_alives) => sends_due(link, end, now) == given(sent, keep_alives),
+        SendsInTime(now, sent, lost) => sent_in_time(link, end, now)
             == DriveReport {
                 lost,
                 ..given(sent, 0)

@@ -15,7 +15,7 @@ const LAST: &[Step] = &[
     Submits(0, Err(ControlFault::HandlesSpent)),
 ];
 
-// The next handle stays below the lowest untaken one plus the span.
+// The next handle stays below the lowest one in flight plus the span.
 const SIXTEEN: &[Step] = &[
     SubmitsMany(1, 17),
     Submits(0, Err(ControlFault::SpanFull)),
@@ -36,7 +36,7 @@ const THIRTY_TWO: &[Step] = &[SubmitsMany(7, 39), Submits(0, Err(ControlFault::S
 /// The scripts.
 const SCRIPTS: &[OverLink] = &[
     OverLink {
-        name: "the_last_handle_is_given_out",
+        name: "the_last_handle_is_used",
         first: 4_294_967_294,
         span: 16,
         steps: LAST,

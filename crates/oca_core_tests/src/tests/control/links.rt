@@ -18,9 +18,9 @@ pub enum Step {
     /// From the first to below the second of the moments that are multiples of 250 ms, the command of the handle 1 is
     /// due, with the bytes that it had at first.
     Repeats(u64, u64),
-    /// The bytes that were given out last.
+    /// The bytes that were sent last.
     Gave(&'static [u8]),
-    /// How many bytes were given out last.
+    /// How many bytes were sent last.
     GaveLen(usize),
     /// A datagram comes from an address at a moment.
     Hears(Peer, &'static [u8], u64, Reception),

@@ -6,7 +6,7 @@ use crate::tests::play;
 use oca_control::{Due, Reception};
 use oca_types::Handle;
 
-// A keep-alive is due 2,500 ms after the last thing that was given out.
+// A keep-alive is due 2,500 ms after the last thing that was sent.
 const KEEP_ALIVE_NEXT: &[Step] = &[
     NextDue(Some(2_500)),
     Gives(2_499, Due::Nothing),
@@ -14,7 +14,7 @@ const KEEP_ALIVE_NEXT: &[Step] = &[
     NextDue(Some(5_500)),
 ];
 
-// A command is due at once, and 250 ms after it was given out, while it is unanswered.
+// A command is due at once, and 250 ms after it was sent, while it is unanswered.
 const COMMAND_NEXT: &[Step] = &[
     Submits(40, Ok(1)),
     NextDue(Some(40)),

@@ -1,10 +1,10 @@
-//! What is given out, and when.
+//! What is sent, and when.
 use super::links::Step::*;
 use super::links::{OverLink, Step};
 use super::{ANSWER, DEVICE, KEEP_ALIVE};
 use crate::tests::play;
 use oca_control::{
-    ControlFault, Due, Reception, law_of_answering, law_of_giving_out, law_of_histories,
+    ControlFault, Due, Reception, law_of_answering, law_of_histories, law_of_sending,
 };
 use oca_types::Handle;
 
@@ -12,7 +12,7 @@ use oca_types::Handle;
 fn laws() {
     law_of_histories();
     law_of_answering();
-    law_of_giving_out();
+    law_of_sending();
 }
 
 // Silence of 2,500 ms gives a keep-alive of 5 seconds.
@@ -23,7 +23,7 @@ const SILENCE: &[Step] = &[
     Gave(KEEP_ALIVE),
 ];
 
-// A command is given out 20 times, 250 ms apart. A lost link still hands answers on.
+// A command is sent 20 times, 250 ms apart. A lost link still hands answers on.
 const TWENTY: &[Step] = &[
     Submits(0, Ok(1)),
     Repeats(0, 1),

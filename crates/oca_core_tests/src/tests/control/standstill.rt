@@ -69,11 +69,11 @@ const ANSWERED: &[Step] = &[
 
 const GIVEN: &[Step] = &[
     Asks(0, Fared::Unanswered),
-    GivesInTime(249, 0, false),
-    GivesInTime(250, 1, false),
-    GivesInTime(15_000, 1, false),
-    GivesInTime(15_001, 0, true),
-    GivesInTime(300_000, 0, true),
+    SendsInTime(249, 0, false),
+    SendsInTime(250, 1, false),
+    SendsInTime(15_000, 1, false),
+    SendsInTime(15_001, 0, true),
+    SendsInTime(300_000, 0, true),
     Taken(3),
 ];
 
@@ -280,7 +280,7 @@ const SCRIPTS: &[OverEnd] = &[
         steps: ANSWERED,
     },
     OverEnd {
-        name: "nothing_is_given_out_too_late",
+        name: "nothing_is_sent_too_late",
         span: 16,
         ending: WAITING,
         steps: GIVEN,

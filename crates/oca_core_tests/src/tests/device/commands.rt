@@ -4,6 +4,7 @@ use super::play::Script;
 use super::*;
 use Part::*;
 use Step::*;
+use oca_tree::FrontFault;
 
 /// SetState of 4097 to Muted under handle 2.
 const MUTE: Part = Bytes(&[
@@ -26,6 +27,27 @@ const REPEATED: &[Step] = &[
     Answers(A, 0, GetState(4), EXECUTED, State(4, 2)),
     Sessions(1),
     Objects(8),
+];
+
+/// The response with status ProcessingFailed to the command under handle 1.
+const REFUSED: Part = Response(1, 10, 0, &[]);
+
+/// Hardware that refuses: a set changes nothing and is answered ProcessingFailed, and so is its repetition, also when the
+/// hardware refuses no longer; a reading and a lock are answered.
+const HARDWARE: &[Step] = &[
+    Failing(4097, Some(false)),
+    Fails(4097, true, Ok(())),
+    Failing(4097, Some(true)),
+    Failing(4098, Some(false)),
+    Answers(A, 0, SetState(1, 2), EXECUTED, REFUSED),
+    Answers(A, 0, GetState(2), EXECUTED, State(2, 1)),
+    Answers(A, 0, Lock(3), EXECUTED, Done(3)),
+    Fails(4097, false, Ok(())),
+    Answers(A, 0, SetState(1, 2), KEPT, REFUSED),
+    Answers(A, 0, SetState(4, 2), EXECUTED, Done(4)),
+    Answers(A, 0, GetState(5), EXECUTED, State(5, 2)),
+    Fails(9, true, Err(FrontFault::NoObject)),
+    Failing(9, None),
 ];
 
 /// A keep-alive of 1 second whose last byte is missing.
@@ -79,6 +101,11 @@ const SCRIPTS: &[Script] = &[
         name: "answers_and_repeats",
         setup: Setup::Window(32),
         steps: REPEATED,
+    },
+    Script {
+        name: "hardware_refuses_a_set",
+        setup: Setup::Window(32),
+        steps: HARDWARE,
     },
     Script {
         name: "ignores_malformed_datagrams",

@@ -3,6 +3,7 @@ use super::super::peer;
 use super::benches::{Played, Setup};
 use super::parts::{Part, bytes_of, is_of};
 use oca_device::{Device, Outbox, Verdict, law_by_events, law_of_groups};
+use oca_tree::FrontFault;
 use oca_types::Ono;
 use std::alloc::Global;
 
@@ -19,6 +20,10 @@ pub enum Step {
     EachAnswers(u16, u16, u64, Part, Verdict, Part),
     /// The clock is read at a moment.
     Tick(u64),
+    /// The front says whether the hardware of an object refuses to be changed.
+    Fails(u32, bool, Result<(), FrontFault>),
+    /// Whether the hardware of an object refuses to be changed.
+    Failing(u32, Option<bool>),
     /// The laws are called. They change nothing.
     Laws,
     /// There are so many sessions.
@@ -142,6 +147,7 @@ fn comes(device: &mut Device, outbox: &mut Outbox, step: Step) -> bool {
             device.tick(now);
             true
         }
+        Step::Fails(ono, failing, want) => device.set_failing(Ono(ono), failing) == want,
         other => stands(device, other) || is_sent(outbox, other),
     }
 }
@@ -153,6 +159,7 @@ fn stands(device: &Device, step: Step) -> bool {
         Step::Objects(count) => device.tree().len() == count,
         Step::Locked(locked) => device.tree().lock_of(Ono(4097)).is_some() == locked,
         Step::NextLapse(moment) => device.next_lapse() == moment,
+        Step::Failing(ono, failing) => device.is_failing(Ono(ono)) == failing,
         _ => false,
     }
 }

@@ -9,7 +9,7 @@ use oca_pair::{
     PairFault, law_answers, law_getting_through, law_never_old, law_of_what_is_said,
     law_once_in_time, law_round_trip,
 };
-use oca_promise::law_of_calls;
+use oca_promise::{law_of_calls, law_of_flights};
 
 /// The laws of commands, whose functions run nothing.
 fn laws() {
@@ -28,9 +28,10 @@ fn laws_of_saying() {
 /// The law of a panel's calls, likewise.
 fn laws_of_calls() {
     law_of_calls();
+    law_of_flights();
 }
 
-/// A command is given out twice, and the two datagrams overtake one another.
+/// A command is sent twice, and the two datagrams overtake one another.
 const GIVEN_OUT_TWICE: &[Row] = &[
     Unmutes(0, Seen::Submitted(1)),
     Due(0, Seen::Sent(0)),
@@ -118,9 +119,9 @@ const CASES: &[Case] = &[
         parts: &[GIVEN_OUT_TWICE],
         want: Ok(TWICE),
     },
-    // What is lost is given out again, and one copy that arrives and one response that comes back are enough.
+    // What is lost is sent again, and one copy that arrives and one response that comes back are enough.
     Case {
-        name: "what_is_lost_is_given_out_again",
+        name: "what_is_lost_is_sent_again",
         network: ONE_LINK,
         parts: &[WITH_LOSSES],
         want: Ok(Ran {

@@ -22,7 +22,7 @@ const OF_2: Network = Network {
     starts: &[(A_PORT, 1)],
 };
 
-/// Command 2 overtakes command 1, and command 3 is given out.
+/// Command 2 overtakes command 1, and command 3 is sent.
 const OVERTAKEN: &[Row] = &[
     Gets(0, Seen::Submitted(1)),
     Gets(0, Seen::Submitted(2)),
@@ -37,7 +37,7 @@ const OVERTAKEN: &[Row] = &[
     ToDevice(2, 11, EXECUTED),
 ];
 
-/// Command 16 overtakes 1 to 15, and 15 others are given out while its answer is not taken.
+/// Command 16 overtakes 1 to 15, and 15 others are sent while its answer is not taken.
 const SIXTEEN: &[Row] = &[
     All(Each::Gets(0), 1, 17),
     All(Each::Sends(0), 0, 16),

@@ -1,10 +1,12 @@
 //! Setting objects at the local front panel.
 use super::super::{Row, first_wrong, none_wrong};
 use super::script::Over::Bench;
-use super::script::Row::{Calls, Holds, Locked, Puts, Sends};
+use super::script::Row::{
+    Calls, Does, Enables, Failing, Fails, Holds, Labels, Locked, Puts, Reads, Sends, Unlocks,
+};
 use super::script::{At, Script, play};
 use super::words::*;
-use oca_tree::{Lock, LockKind, MuteState, PolarityState, SetFault, Setting, Value};
+use oca_tree::{FrontFault, Lock, LockKind, MuteState, PolarityState, SetFault, Setting, Value};
 use oca_types::{Class, Status};
 use std::alloc::Global;
 
@@ -143,6 +145,179 @@ const LOCKED: &[At] = &[At(
     ],
 )];
 
+/// The lock that A holds.
+const OF_A: Option<Lock> = Some(Lock {
+    kind: LockKind::Total,
+    holder: A,
+});
+
+/// The answer to a peer that a lock keeps out.
+const KEPT_OUT: (Status, u8, &[u8]) = (Status::Locked, 0, &[]);
+
+/// What sets a state, a label, or locks, answers nothing more.
+const IS_DONE: (Status, u8, &[u8]) = (Status::Ok, 0, &[]);
+
+// A label and whether it is enabled, of a block and of an object that A has locked; and then the lock.
+const CHANGES: &[At] = &[
+    At(
+        4096,
+        &[
+            Labels("Bühne", Ok(())),
+            Reads(GET_LABEL, 1, &[0, 5, 66, 195, 188, 104, 110, 101]),
+            Enables(false, Ok(())),
+            Reads(GET_ENABLED, 1, &[0]),
+        ],
+    ),
+    At(
+        4097,
+        &[
+            Calls(A, LOCK_TOTAL, (0, &[]), IS_DONE),
+            Labels("a", Ok(())),
+            Enables(false, Ok(())),
+            Locked(OF_A),
+            Reads(GET_LABEL, 1, &[0, 1, 97]),
+            Reads(GET_ENABLED, 1, &[0]),
+            Enables(true, Ok(())),
+            Reads(GET_ENABLED, 1, &[1]),
+            Labels("", Ok(())),
+            Reads(GET_LABEL, 1, &[0, 0]),
+            Calls(B, SET_STATE, (1, &[2]), KEPT_OUT),
+            Unlocks(Ok(())),
+            Locked(None),
+            Calls(B, SET_STATE, (1, &[2]), IS_DONE),
+            Holds(UNMUTED),
+            Unlocks(Err(FrontFault::NotLocked)),
+            Calls(B, LOCK_TOTAL, (0, &[]), IS_DONE),
+            Calls(A, UNLOCK, (0, &[]), KEPT_OUT),
+        ],
+    ),
+];
+
+/// The status of what the hardware refuses.
+const REFUSED: Status = Status::ProcessingFailed;
+
+/// A number of 16 bits that is in the range of the trim.
+const SEVEN: &[u8] = &[0, 7];
+
+/// A number of 16 bits that is above the range of the trim.
+const ABOVE: &[u8] = &[2, 89];
+
+/// The trim, set by the front while its hardware refuses peers.
+const TRIM_OF_9: Option<Setting> = Some(Setting::Number {
+    setting: 9,
+    least: -600,
+    greatest: 600,
+});
+
+// Hardware that refuses: each write of a peer, behind all other refusals, and neither what reads or locks nor the front.
+const HARDWARE: &[At] = &[
+    At(
+        4100,
+        &[
+            Failing(Some(false)),
+            Fails(true, Ok(())),
+            Failing(Some(true)),
+            Sends(SET_SETTING, 1, SEVEN, REFUSED),
+            Holds(TRIM_OF_0),
+            Sends(SET_LABEL, 1, &[0, 1, 97], REFUSED),
+            Reads(GET_LABEL, 1, &[0, 0]),
+            Sends(SET_ENABLED, 1, &[0], REFUSED),
+            Reads(GET_ENABLED, 1, &[1]),
+            Does((5, 9), Status::BadMethod),
+            Does((2, 3), Status::NotImplemented),
+            Sends(SET_SETTING, 0, SEVEN, Status::ParameterError),
+            Sends(SET_SETTING, 1, ABOVE, Status::ParameterOutOfRange),
+            Does(UNLOCK, Status::InvalidRequest),
+            Calls(A, LOCK_TOTAL, (0, &[]), IS_DONE),
+            Calls(B, SET_SETTING, (1, SEVEN), KEPT_OUT),
+            Sends(SET_SETTING, 1, SEVEN, REFUSED),
+            Does(UNLOCK, Status::Ok),
+            Puts(Value::Int16(9), Ok(())),
+            Holds(TRIM_OF_9),
+            Labels("a", Ok(())),
+            Enables(false, Ok(())),
+            Reads(GET_LABEL, 1, &[0, 1, 97]),
+            Reads(GET_ENABLED, 1, &[0]),
+            Failing(Some(true)),
+        ],
+    ),
+    At(
+        4097,
+        &[
+            Failing(Some(false)),
+            Calls(B, SET_STATE, (1, &[2]), IS_DONE),
+            Fails(true, Ok(())),
+            Sends(SET_STATE, 1, &[3], Status::ParameterOutOfRange),
+            Sends(SET_STATE, 1, &[1], REFUSED),
+            Holds(UNMUTED),
+        ],
+    ),
+    At(
+        4099,
+        &[
+            Fails(true, Ok(())),
+            Sends(SET_POSITION, 1, &[0, 1], REFUSED),
+            Sends(SET_POSITION, 1, &[0, 3], Status::ParameterOutOfRange),
+            Sends(SET_POSITION_NAME, 2, &[0, 1, 0, 1, 97], REFUSED),
+            Sends(
+                SET_POSITION_NAMES,
+                1,
+                &[0, 3, 0, 1, 97, 0, 0, 0, 0],
+                REFUSED,
+            ),
+            Sends(SET_POSITION_ENABLED, 2, &[0, 2, 0], REFUSED),
+            Sends(SET_POSITION_ENABLEDS, 1, &[0, 3, 1, 0, 1], REFUSED),
+            Calls(
+                A,
+                GET_POSITION_NAME,
+                (1, &[0, 1]),
+                (Status::Ok, 1, &[0, 3, 77, 105, 99]),
+            ),
+            Reads(GET_POSITION_ENABLEDS, 1, &[0, 3, 1, 1, 1]),
+            Holds(FIRST),
+            Fails(false, Ok(())),
+            Sends(SET_POSITION, 1, &[0, 1], Status::Ok),
+        ],
+    ),
+    At(
+        4100,
+        &[
+            Fails(false, Ok(())),
+            Failing(Some(false)),
+            Sends(SET_SETTING, 1, SEVEN, Status::Ok),
+        ],
+    ),
+    At(9, &[Fails(true, Err(FrontFault::NoObject)), Failing(None)]),
+];
+
+/// A text of 64 bytes.
+const OF_64: &str = "0123456789012345678901234567890123456789012345678901234567890123";
+
+/// A text of 65 bytes.
+const OF_65: &str = "01234567890123456789012345678901234567890123456789012345678901234";
+
+// Each fault of these changes, in the order in which they are looked for: nothing changes.
+const CHANGES_REFUSED: &[At] = &[
+    At(
+        9,
+        &[
+            Labels(OF_65, Err(FrontFault::NoObject)),
+            Enables(true, Err(FrontFault::NoObject)),
+            Unlocks(Err(FrontFault::NoObject)),
+        ],
+    ),
+    At(
+        100,
+        &[
+            Labels(OF_64, Ok(())),
+            Labels("a", Ok(())),
+            Labels(OF_65, Err(FrontFault::BadLabel)),
+            Reads(GET_LABEL, 1, &[0, 1, 97]),
+            Unlocks(Err(FrontFault::NotLocked)),
+        ],
+    ),
+];
+
 /// The scripts.
 const SCRIPTS: &[Script] = &[
     Script {
@@ -164,6 +339,21 @@ const SCRIPTS: &[Script] = &[
         name: "no_lock_binds_the_front",
         over: Bench,
         parts: LOCKED,
+    },
+    Script {
+        name: "the_front_labels_enables_and_unlocks",
+        over: Bench,
+        parts: CHANGES,
+    },
+    Script {
+        name: "the_front_is_refused_a_label_and_a_lock",
+        over: Bench,
+        parts: CHANGES_REFUSED,
+    },
+    Script {
+        name: "hardware_refuses_what_peers_write",
+        over: Bench,
+        parts: HARDWARE,
     },
 ];
 

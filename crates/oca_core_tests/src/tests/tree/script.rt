@@ -2,8 +2,8 @@
 use super::super::fail;
 use super::words::{A, BLOCK, Called};
 use oca_tree::{
-    AddFault, Lock, Room, SetFault, Setting, Spec, Start, StartFault, Tree, TreeBuilder, Value,
-    bench, bench_with_channels,
+    AddFault, FrontFault, Lock, Room, SetFault, Setting, Spec, Start, StartFault, Tree,
+    TreeBuilder, Value, bench, bench_with_channels,
 };
 use oca_types::{Class, Command, Handle, MethodId, Ono, Params, Peer, Status, class_fields};
 use std::alloc::Global;
@@ -24,6 +24,16 @@ pub enum Row {
     Measures(Called, Status, u8, usize),
     /// The object is set at the front.
     Puts(Value, Result<(), SetFault>),
+    /// The object gets a label at the front.
+    Labels(&'static str, Result<(), FrontFault>),
+    /// The object is enabled or disabled at the front.
+    Enables(bool, Result<(), FrontFault>),
+    /// The lock is taken off the object at the front.
+    Unlocks(Result<(), FrontFault>),
+    /// The front says whether the object's hardware refuses to be changed.
+    Fails(bool, Result<(), FrontFault>),
+    /// Whether the object's hardware refuses to be changed.
+    Failing(Option<bool>),
     /// How the object is set.
     Holds(Option<Setting>),
     /// The lock of the object.
@@ -183,6 +193,10 @@ fn comes(tree: &mut Tree, ono: u32, row: Row) -> bool {
             measures(tree, ono, method, (status, count, size))
         }
         Puts(value, want) => tree.set(Ono(ono), value) == want,
+        Labels(label, want) => tree.set_label(Ono(ono), label) == want,
+        Enables(enabled, want) => tree.set_enabled(Ono(ono), enabled) == want,
+        Unlocks(want) => tree.unlock(Ono(ono)) == want,
+        Fails(failing, want) => tree.set_failing(Ono(ono), failing) == want,
         Releases(peer) => {
             tree.release(peer);
             true
@@ -196,6 +210,7 @@ fn stands(tree: &Tree, ono: u32, row: Row) -> bool {
     match row {
         Holds(want) => tree.setting_of(Ono(ono)) == want,
         Locked(want) => tree.lock_of(Ono(ono)) == want,
+        Failing(want) => tree.is_failing(Ono(ono)) == want,
         Len(count) => tree.len() == count,
         Shows(place, class, fields, container, role) => {
             shows(tree, place, ono, (class, fields), container, role)

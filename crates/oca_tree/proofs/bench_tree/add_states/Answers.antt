@@ -1,33 +1,34 @@
 -- Nothing refuses the desk, nor what has no number in it: what each addition finds is computed.
 use Rattle.std.proofs.Common.{◌≡◌, refl, false, arith}
 use Rattle.std.specs.Prelude.{nat_le}
+use Rattle.oca_model.specs.Settings.{is_within}
 use Rattle.oca_tree.specs.Building.{value_of, add_fault, is_bad_value}
 use Rattle.oca_tree.specs.Places.{chain_within}
 use Rattle.oca_tree.proofs.bench_tree.add_states.Goals as goal
 
 pub add-requires : goal.add-requires
-unfolding value_of add_fault is_bad_value chain_within
+unfolding value_of add_fault is_bad_value is_within chain_within
 add-requires c =
     let room = c.requires.room in
     let full : nat_le c.args.builder.now.room 1 ≡ false = grind (arith, room) in
     rw (c.requires.first, full) refl
 
 pub add-requires-2 : goal.add-requires-2
-unfolding value_of add_fault is_bad_value chain_within
+unfolding value_of add_fault is_bad_value is_within chain_within
 add-requires-2 c =
     let room = c.requires.room in
     let full : nat_le c.args.builder.now.room 2 ≡ false = grind (arith, room) in
     rw (c.in_ok-add.ensures.ok, c.requires.first, full) refl
 
 pub add-requires-3 : goal.add-requires-3
-unfolding value_of add_fault is_bad_value chain_within
+unfolding value_of add_fault is_bad_value is_within chain_within
 add-requires-3 c =
     let room = c.requires.room in
     let full : nat_le c.args.builder.now.room 3 ≡ false = grind (arith, room) in
     rw (c.in_ok-add-2.ensures.ok, c.in_ok-add.ensures.ok, c.requires.first, full) refl
 
 pub add-requires-4 : goal.add-requires-4
-unfolding value_of add_fault is_bad_value chain_within
+unfolding value_of add_fault is_bad_value is_within chain_within
 add-requires-4 c =
     let room = c.requires.room in
     let full : nat_le c.args.builder.now.room 4 ≡ false = grind (arith, room) in

@@ -19,7 +19,7 @@ returns-clause-makes c =
     let names : has_bad_name c.args.spec.now.kind ≡ false = sym c.if-has_bad_name.ensures in
     let short : length c.args.spec.now.role.now ≤ 64 = c.in-Some-new.ensures.variant.0 refl in
     let range : is_bad_value (value_of c.args.spec.now.kind) ≡ false = c.in-Some-value_of.ensures.1 in
-    let o : Object = record { ono = c.args.ono; container = c.args.container; lockable = c.args.spec.now.lockable; role = c.in-Some-new.role; label = c.default.result; enabled = true; value = c.in-Some-value_of.value; lock = None } in
+    let o : Object = record { ono = c.args.ono; container = c.args.container; lockable = c.args.spec.now.lockable; role = c.in-Some-new.role; label = c.default.result; enabled = true; value = c.in-Some-value_of.value; lock = None; failing = false } in
     let sound : IsSound o = record { value = c.in-Some-value_of.ensures.2; lock = tt } in (
       no_fault c.args.objects.now.room c.args.objects.now.list c.args.container.0 c.args.ono.0 c.args.spec.now room number free block shallow full names short range,
       first_object c.args.container.0 c.args.ono.0 c.args.spec.now c.in-Some-new.role c.default.result c.in-Some-value_of.value c.in-Some-new.ensures.value c.default.ensures c.in-Some-value_of.ensures.0,

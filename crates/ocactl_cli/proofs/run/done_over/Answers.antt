@@ -4,5 +4,5 @@ use Rattle.ocactl_cli.proofs.run.done_over.Goals as goal
 
 pub returns : goal.returns
 returns g c =
-    notes-behind c.args.task.now c.args.reach.device _ c.do_task-ended.new.panel c.into_end-end.result.end_state c.note_no_answer.new.end.end_state (fault_in c.do_task-ended.result) _ _ _ _
-    c.do_task-ended.ensures c.into_end-end.ensures c.note_no_answer.ensures.beside
+    notes-behind c.args.task.now c.args.reach.device _ c.do_task-ended.new.panel c.note_no_answer.new.panel.end_state (fault_in c.do_task-ended.result) _ _ _ _
+    c.do_task-ended.ensures c.note_no_answer.ensures.beside

@@ -11,11 +11,11 @@ pub returns-clause-packet : goal.returns-clause-packet
 returns-clause-packet c =
     let a = c.self.inside in
     let g = gives c.args.now a.low a.next c.in-Some.at c.place.result a.slots c.index-self-place.result c.may_repeat.result c.self.invariant c.in-Some.ensures c.place.ensures.value c.may_repeat.ensures c.if-not-may_repeat.false in
-    rw (← c.self.view_is) (gives_packet c.args.now c.in-Some.at _ _ _ g c.give_out.ensures.packet)
+    rw (← c.self.view_is) (gives_packet c.args.now c.in-Some.at _ _ _ g c.send_due.ensures.packet)
 
 pub returns-clause-state : goal.returns-clause-state
 returns-clause-state c =
     let a = c.self.inside in
     let g = gives c.args.now a.low a.next c.in-Some.at c.place.result a.slots c.index-self-place.result c.may_repeat.result c.self.invariant c.in-Some.ensures c.place.ensures.value c.may_repeat.ensures c.if-not-may_repeat.false in
     rw (← c.self.view_is) (gives_state c.args.now a.next c.in-Some.at _ _ _ g
-    (view_given c.args.now a.low a.next c.in-Some.at c.place.result a.slots c.index-self-place.result c.give_out.new.self c.self.invariant c.in-Some.ensures c.place.ensures.value c.give_out.ensures.slot))
+    (view_given c.args.now a.low a.next c.in-Some.at c.place.result a.slots c.index-self-place.result c.send_due.new.self c.self.invariant c.in-Some.ensures c.place.ensures.value c.send_due.ensures.slot))

@@ -1,5 +1,5 @@
 use Rattle.std.proofs.Common.{ℕ, List, take, length, length-take, ◌≡◌, ◌+◌, ◌*◌, ◌<◌, ◌≤◌, ap, sym, ◌∙◌, subst, refl, arith, Some, None, ◌++◌, ◌∷◌, []}
-use Rattle.std.specs.Prelude.{is_some, position}
+use Rattle.std.specs.Prelude.{is_some, min, position}
 use Rattle.std.proofs.Math.ListN.{length-set}
 use Rattle.std.proofs.lemmas.List.Elements.{All-set}
 use Rattle.oca_types.specs.Sizes.{sizes_of}
@@ -83,12 +83,12 @@ invariant_of-self-2 c =
     let before : IsSession a.sizes.window.size c.index_mut-slot-2.result.now =
     subst (IsSession a.sizes.window.size) (sym c.index_mut-slot-2.ensures.value) (c.self.invariant.2 a.count c.index_mut-slot-2.result.now below) in
     let new : c.open.new.self ≡ opened_session a.sizes.window.size c.args.peer m = c.open.ensures ∙ ap (λ n. opened_session n c.args.peer m) before.size in
-    let quiet : c.quiet_until-2.result ≤ m + 3 * 5000 = rw new at c.quiet_until-2.ensures in (
+    let latest : c.quiet_until-2.result ≡ min (m + 3 * 5000) 18446744073709551615 = rw new at c.quiet_until-2.ensures in (
       omega arith,
       length-set a.slots.items a.count _ ∙ c.self.invariant.1,
       All-set (IsSession a.sizes.window.size) a.slots.items a.count _ (subst (IsSession a.sizes.window.size) (sym new) (opened_sound a.sizes.window.size c.args.peer m)) c.self.invariant.2,
       subst IsOnePerPeer (sym last) (IsOnePerPeer-push ss (opened_session a.sizes.window.size c.args.peer m) (none_known c.args.peer ss unplaced) c.self.invariant.3),
-      quiet_push a.quiet_until c.min-self-inside-2.result ss _ (opened_session a.sizes.window.size c.args.peer m) last c.self.invariant.4 (omega arith) (omega (arith, quiet)),
+      quiet_push a.quiet_until c.min-self-inside-2.result ss _ (opened_session a.sizes.window.size c.args.peer m) last c.self.invariant.4 (omega arith) (omega (arith, latest)),
       λ some. omega arith,
     )
 

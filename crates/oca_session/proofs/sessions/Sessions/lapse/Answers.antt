@@ -7,6 +7,7 @@ use Rattle.oca_session.specs.Table.{lapsed, peers_of, forgotten, stays}
 use Rattle.oca_session.specs.PrivateQuiet.{IsQuietUntil}
 use Rattle.oca_session.specs.Sound.{IsSession, IsOnePerPeer}
 use Rattle.oca_session.proofs.Tables.{forgotten_lapsed}
+use Rattle.oca_session.proofs.Quiet.{latest_is_quiet}
 use Rattle.oca_session.proofs.sessions.Sessions.lapse.Goals as goal
 
 pub invariant_of-self : goal.invariant_of-self
@@ -17,7 +18,7 @@ invariant_of-self c =
       after.sound c.self.inside.sizes.window.size c.self.invariant.2,
       subst IsOnePerPeer (sym after.front)
           (AllPairs-filter (λ s t. same_peer s.peer t.peer ≡ false) (stays c.self.inside.moment) (take c.self.inside.count c.self.inside.slots.items) c.self.invariant.3),
-      subst (IsQuietUntil c.quiet_until-self-inside.result) (ap (take c.forget-self-inside.result) c.deref-2.ensures.value) c.quiet_until-self-inside.ensures,
+      subst (IsQuietUntil c.quiet_until-self-inside.result) (ap (take c.forget-self-inside.result) c.deref-2.ensures.value) (latest_is_quiet c.quiet_until-self-inside.result _ c.quiet_until-self-inside.ensures),
       λ some. (omega (arith, some)),
     )
 

@@ -1,0 +1,91 @@
+//! Setting a reading to a value: the limits stay.
+ghost use Rattle.std.specs.Prelude.{◌≡◌};
+ghost use Rattle.oca_model.specs.Settings.{class_of_reading, is_within, with_value, set_to};
+
+use crate::reading::{Ranged, Reading};
+use crate::value::Value;
+use oca_types::Class;
+
+/// Why a reading cannot be set to a value.
+#[derive(Clone, Copy, Debug, PartialEq, Eq)]
+pub enum SettingFault {
+    /// The value is of another class.
+    OtherClass,
+    /// The value is below the least or above the greatest.
+    OutOfRange,
+}
+
+impl Reading {
+    /// The class of the objects that read so.
+    #[inline(always)]
+    pub fn class(self) -> Class
+        ensures { result ≡ class_of_reading self }
+    {
+        self.value().class()
+    }
+
+    /// Whether the setting is not below the least and not above the greatest; true of a reading that has no limits.
+    #[tactic(auto, unfolding(crate::specs::Settings::is_within))]
+    pub fn is_within(self) -> bool
+        ensures { result ≡ is_within self }
+    {
+        match self {
+            Reading::Switch(r) => r.least <= r.setting && r.setting <= r.greatest,
+            Reading::Int8(r) => r.least <= r.setting && r.setting <= r.greatest,
+            Reading::Int16(r) => r.least <= r.setting && r.setting <= r.greatest,
+            Reading::Int32(r) => r.least <= r.setting && r.setting <= r.greatest,
+            Reading::Int64(r) => r.least <= r.setting && r.setting <= r.greatest,
+            Reading::Uint8(r) => r.least <= r.setting && r.setting <= r.greatest,
+            Reading::Uint16(r) => r.least <= r.setting && r.setting <= r.greatest,
+            Reading::Uint32(r) => r.least <= r.setting && r.setting <= r.greatest,
+            Reading::Uint64(r) => r.least <= r.setting && r.setting <= r.greatest,
+            _ => true,
+        }
+    }
+
+    /// The same limits with this value, be it within them or not; nothing for a value of another class.
+    #[tactic(auto, unfolding(crate::specs::Settings::with_value))]
+    pub fn with_value(self, value: Value) -> Option<Reading>
+        ensures { result ≡ with_value self value }
+    {
+        match (self, value) {
+            (Reading::Mute(_), Value::Mute(state)) => Some(Reading::Mute(state)),
+            (Reading::Polarity(_), Value::Polarity(state)) => Some(Reading::Polarity(state)),
+            (Reading::Switch(r), Value::Switch(n)) => Some(Reading::Switch(set_in_limits(r, n))),
+            (Reading::Boolean(_), Value::Boolean(truth)) => Some(Reading::Boolean(truth)),
+            (Reading::Int8(r), Value::Int8(n)) => Some(Reading::Int8(set_in_limits(r, n))),
+            (Reading::Int16(r), Value::Int16(n)) => Some(Reading::Int16(set_in_limits(r, n))),
+            (Reading::Int32(r), Value::Int32(n)) => Some(Reading::Int32(set_in_limits(r, n))),
+            (Reading::Int64(r), Value::Int64(n)) => Some(Reading::Int64(set_in_limits(r, n))),
+            (Reading::Uint8(r), Value::Uint8(n)) => Some(Reading::Uint8(set_in_limits(r, n))),
+            (Reading::Uint16(r), Value::Uint16(n)) => Some(Reading::Uint16(set_in_limits(r, n))),
+            (Reading::Uint32(r), Value::Uint32(n)) => Some(Reading::Uint32(set_in_limits(r, n))),
+            (Reading::Uint64(r), Value::Uint64(n)) => Some(Reading::Uint64(set_in_limits(r, n))),
+            _ => None,
+        }
+    }
+
+    /// The same limits with this value. Refusals: `OtherClass` for a value of another class; `OutOfRange` for one below
+    /// the least or above the greatest.
+    pub fn set_to(self, value: Value) -> Result<Reading, SettingFault>
+        ensures { result ≡ set_to self value }
+    {
+        match self.with_value(value) {
+            None => Err(SettingFault::OtherClass),
+            Some(reading) => {
+                if reading.is_within() {
+                    Ok(reading)
+                } else {
+                    Err(SettingFault::OutOfRange)
+                }
+            }
+        }
+    }
+}
+
+/// The same limits with another setting.
+fn set_in_limits<N: Copy>(ranged: Ranged<N>, setting: N) -> Ranged<N>
+    ensures { result ≡ Rattle.oca_model.specs.Settings.set_in_limits ranged setting }
+{
+    Ranged { setting, ..ranged }
+}

@@ -1,0 +1,16 @@
+-- A keep-alive that is sent beside a panel's link (*profile*).
+use Rattle.std.specs.Prelude.{◌≡◌, ℕ, List}
+use Rattle.oca_types.specs.declared.words.Peer.{Peer}
+use Rattle.oca_net.specs.declared.end.Heard.{Heard}
+use Rattle.oca_net.specs.EndStates.{EndState, Receives}
+use Rattle.oca_panel.specs.Panels.{PanelState}
+use Rattle.oca_panel.specs.Probes.{SendsKeepAlive}
+
+-- A keep-alive of five seconds was sent to the device, then was received once, and this was heard. Nothing else was sent,
+-- and all but the end is as it was.
+pub record CallsBeside (device : Peer) (heard : Heard) (old new : PanelState) : Type 0 where
+  pub between : EndState
+  pub bytes : List ℕ
+  pub keeps : SendsKeepAlive device old.end_state between
+  pub receives : Receives heard bytes between new.end_state
+  pub same : new ≡ record old { end_state = new.end_state }

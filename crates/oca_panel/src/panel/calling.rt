@@ -1,0 +1,20 @@
+//! A keep-alive beside a panel's link.
+use super::Panel;
+use crate::answering::keep_alive;
+use oca_net::{End, Heard};
+use oca_types::{Packet, Peer};
+
+impl<E: End> Panel<E> {
+    ghost use Rattle.oca_panel.specs.Calls.{CallsBeside};
+
+    /// Sends a device a keep-alive of five seconds beside the link, and receives once, at a socket for at most 50 ms.
+    /// Returns what was heard; the link does not take it, also if it is an answer. So a device that returns keep-alives
+    /// but answers no command shows that it is there. A send that fails is not told.
+    pub fn call(&mut self, device: Peer) -> Heard
+        ensures { CallsBeside device result self.old self.new }
+    {
+        let mut packet = Packet::new();
+        keep_alive(&mut self.end, device);
+        self.end.receive(&mut packet)
+    }
+}

@@ -1,0 +1,57 @@
+//! A label that a page gives an object.
+ghost use Rattle.std.specs.Prelude.{◌≡◌, ◌&&◌, nat_le, nat_lt, not, ◌==◌};
+ghost use Rattle.oca_web.specs.Labels.{IsTextOf, is_label, is_shown, label_bytes};
+
+use oca_types::Text;
+use std::str;
+
+/// The most bytes of a label.
+const MOST_BYTES: usize = 64;
+
+/// A label that a page gives an object: at most 64 bytes of UTF-8, no control character of ASCII among them.
+#[derive(Clone, Copy, PartialEq, Eq)]
+pub struct Label {
+    bytes: [u8; MOST_BYTES],
+    count: u8,
+}
+
+impl Label {
+    ghost use Rattle.std.specs.Prelude.{◌≡◌, ◌↔◌, true, IsSome, IfSome};
+    ghost use Rattle.oca_web.specs.Labels.{IsTextOf, is_label, label_bytes};
+
+    /// The label with this text. `None` if the text has more than 64 bytes, or a control character of ASCII (below 32,
+    /// or 127).
+    pub fn new(text: &str) -> Option<Label>
+        ensures some { IsSome result ↔ (is_label text.now ≡ true) }
+        ensures same { IfSome result (λ label. label_bytes label ≡ text.now) }
+    {
+        let count = text.len();
+        if count > MOST_BYTES || !is_shown(text.as_bytes()) {
+            return None;
+        }
+        let mut bytes = [0u8; MOST_BYTES];
+        bytes[..count].copy_from_slice(text.as_bytes());
+        Some(Label {
+            bytes,
+            count: count as u8,
+        })
+    }
+
+    /// The label's text: at most 64 bytes.
+    pub fn text(&self) -> Text
+        ensures { IsTextOf self.now result }
+    {
+        let count = usize::from(self.count).min(MOST_BYTES);
+        match str::from_utf8(&self.bytes[..count]) {
+            Ok(text) => Text::new(text).unwrap_or_default(),
+            Err(_) => Text::default(),
+        }
+    }
+}
+
+/// Whether none of the bytes is a control character of ASCII.
+fn is_shown(bytes: &[u8]) -> bool
+    ensures { result ≡ is_shown bytes.now }
+{
+    bytes.iter().all(|byte| 32 <= *byte && *byte != 127)
+}

@@ -1,0 +1,109 @@
+"""A controller for what is tried against a device that is served, and a way between both. Other tools use it; it has no `main`."""
+import contextlib
+import random
+import select
+import socket
+import struct
+import threading
+
+import oca_profile as oca
+from own_ports import bound
+
+
+class Peer:
+    """A controller of the device at this port of this machine, that waits so many seconds for an answer, and sends so many copies."""
+
+    def __init__(self, port, patience=0.25, copies=40):
+        self.socket = socket.socket(socket.AF_INET, socket.SOCK_DGRAM)
+        self.socket.connect(("127.0.0.1", port))
+        self.socket.settimeout(patience)
+        self.copies, self.handle, self.answered = copies, 0, []
+
+    def copy(self, handle, target, level, index, *params):
+        """Sends a command, or a copy of one."""
+        self.socket.send(oca.command(handle, target, level, index, len(params), b"".join(params)))
+
+    def send(self, *command):
+        """Sends a command and waits for nothing; its handle."""
+        self.handle += 1
+        self.copy(self.handle, *command)
+        return self.handle
+
+    def ask(self, *command, copies=0):
+        """The status and the parameters of the response; nothing where the device is gone, or where so many copies are not answered."""
+        self.handle += 1
+        return self.again(*command, copies=copies)
+
+    def again(self, *command, copies=0):
+        """The same by copies of the command that was sent last."""
+        for _ in range(copies or self.copies):
+            try:
+                self.copy(self.handle, *command)
+                got = self.socket.recv(2000)
+            except TimeoutError:
+                continue
+            except ConnectionError:
+                return None
+            handle, status = struct.unpack(">IB", got[14:19])
+            self.answered.append(handle)
+            if handle == self.handle:
+                return status, got[20:]
+        return None
+
+
+class Relay:
+    """A way between controllers and the device at this port of this machine, in a thread of its own: `goes_forth` and `goes_back` say of each datagram
+    whether it goes on. Each controller has a port of its own behind it. It stands at a port that the system chooses, or at this socket."""
+
+    def __init__(self, device, front=None):
+        self.front, self.ways, self.device, self.ends = front or bound(), {}, ("127.0.0.1", device), False
+        self.port = self.front.getsockname()[1]
+        self.thread = threading.Thread(target=self.run, daemon=True)
+        self.thread.start()
+
+    def run(self):
+        while not self.ends:
+            controllers = {way: controller for controller, way in self.ways.items()}
+            for end in select.select([self.front, *controllers], [], [], 0.05)[0]:
+                with contextlib.suppress(OSError):
+                    data, sender = end.recvfrom(65535)
+                    if end is self.front:
+                        self.ways[sender] = self.ways.get(sender) or bound()
+                        self.forth(data, self.ways[sender])
+                    elif self.goes_back(data):
+                        self.front.sendto(data, controllers[end])
+
+    def forth(self, data, way):
+        """Hands a controller's datagram on, where it goes on."""
+        goes_on = self.goes_forth(data)
+        if goes_on:
+            way.sendto(data, self.device)
+        return goes_on
+
+    def close(self):
+        self.ends = True
+        self.thread.join()
+        for end in (self.front, *self.ways.values()):
+            end.close()
+
+    def __enter__(self):
+        return self
+
+    def __exit__(self, *_):
+        self.close()
+
+
+class Lossy(Relay):
+    """A way that loses one datagram of five each way, or another share."""
+
+    def __init__(self, device, seed=1, share=0.2):
+        self.random, self.share, self.lost, self.came = random.Random(seed), share, 0, 0
+        super().__init__(device)
+
+    def goes_forth(self, _):
+        is_lost = self.random.random() < self.share
+        self.came += 1
+        self.lost += is_lost
+        return not is_lost
+
+    goes_back = goes_forth

@@ -1,0 +1,54 @@
+"""Rows of data: the files tools/rows/NAME.toml. Other tools use it; it has no `main`.
+
+In each text `{N*TEXT}` stands for TEXT so many times, and `{NAME}` for the text of this name in the file's table `text`, or for one that the tool gives;
+no other brace stands there. Where bytes are meant a letter is one byte: \\u00ff is the byte 255."""
+import itertools
+import re
+import tomllib
+from pathlib import Path
+from types import SimpleNamespace
+
+ROWS = Path(__file__).resolve().parent / "rows"
+TIMES, NAME = re.compile(r"\{(\d+)\*([^{}]*)\}"), re.compile(r"\{([a-z][a-z0-9_]*)\}")
+
+
+def whole(value, names):
+    """A value with all texts in it written out."""
+    if isinstance(value, dict):
+        return {key: whole(it, names) for key, it in value.items()}
+    if isinstance(value, list):
+        return [whole(it, names) for it in value]
+    while isinstance(value, str) and (found := TIMES.search(value) or NAME.search(value)):
+        text = found[2] * int(found[1]) if found.re is TIMES else names[found[1]]
+        value = value[:found.start()] + text + value[found.end():]
+    return value
+
+
+def table(name, **names):
+    """The file of this name: rows by their kind, and the table `text`."""
+    read = tomllib.loads((ROWS / f"{name}.toml").read_text())
+    return whole(read, read.get("text", {}) | names)
+
+
+def frozen(value):
+    """The same with tuples for lists."""
+    if isinstance(value, list):
+        return tuple(map(frozen, value))
+    return {key: frozen(it) for key, it in value.items()} if isinstance(value, dict) else value
+
+
+def data(name):
+    """The tables of the file of this name, as they stand there, each an attribute: lists are tuples."""
+    return SimpleNamespace(**frozen(tomllib.loads((ROWS / f"{name}.toml").read_text())))
+
+
+def each(row, *keys):
+    """A row for each choice of one of these keys' values, where they are lists."""
+    lists = [key for key in keys if isinstance(row.get(key), list)]
+    for chosen in itertools.product(*(row[key] for key in lists)):
+        yield row | dict(zip(lists, chosen))
+
+
+def octets(text):
+    """The bytes that a text stands for."""
+    return text.encode("latin-1")
