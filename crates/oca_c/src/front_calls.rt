@@ -147,8 +147,8 @@ pub extern "C" fn oca_device_set(
 
 /// Gives an object a label of at most 64 bytes of UTF-8 at the local front panel. Locks do not prevent it. Returns
 /// `Done`; otherwise the first of these that applies, and nothing is changed. `Closed` if the struct is closed,
-/// `NotStarted` before the start, `BadText` if the bytes are no UTF-8. Then `NoObject` if there is no such object,
-/// `BadText` of a longer label.
+/// `NotStarted` before the start, `BadText` if the bytes are not UTF-8. Then `NoObject` if there is no such object,
+/// `BadText` if the label is longer.
 #[unsafe(no_mangle)]
 pub extern "C" fn oca_device_set_label(
     alloc: Global,
@@ -213,10 +213,10 @@ pub extern "C" fn oca_device_unlock(alloc: Global, handle: &mut DeviceHandle, on
     answer.number()
 }
 
-/// Says at the local front panel whether the hardware of an object refuses to be changed. While it does, each command
-/// that is executed and whose method writes is answered `ProcessingFailed` if no other status refuses it, and changes
-/// nothing. Returns `Done`; otherwise `Closed` if the struct is closed, `NotStarted` before the start, or `NoObject`.
-/// Then nothing is changed.
+/// Sets, at the local front panel, whether the hardware of an object refuses to be changed. If it does, each command
+/// that would write to the object, and that no other status refuses, is answered `ProcessingFailed` and changes
+/// nothing. Returns `Done`; otherwise `Closed` if the struct is closed, `NotStarted` before the start, or `NoObject` if
+/// there is no such object. Then nothing is changed.
 #[unsafe(no_mangle)]
 pub extern "C" fn oca_device_set_failing(
     alloc: Global,

@@ -126,12 +126,13 @@ impl<E: End> Panel<E> {
         done_in(&outcome)
     }
 
-    /// Waits for a command that was begun, for the panel's `wait` milliseconds. Returns Ok if it was carried out. After
-    /// `Unanswered` it can be waited for again.
+    /// Waits for the answer to a command that [`begin_set`](Panel::begin_set) began, for the panel's `wait`
+    /// milliseconds. Ok if the device carried it out.
     ///
-    /// Faults ([`Trouble`]): `Refused` if the answer's status is not OK: then nothing was changed. `Lost` if the link
-    /// is lost or late. `Unanswered` if no answer comes in that time; the command then stays in flight. After `Lost`
-    /// and `Unanswered` the command may have been carried out, or may still be.
+    /// Faults ([`Trouble`]): `Refused` with the status if the answer's status is not OK: then nothing was changed.
+    /// `Lost` if the link is lost or late. `Unanswered` if no answer comes in that time, and for a handle that no
+    /// command has. After `Unanswered` the command stays in flight and can be waited for again. After `Lost` and
+    /// `Unanswered` the command may have been carried out, or may still be.
     pub fn finish_set(&mut self, handle: Handle) -> Result<(), Trouble>
         ensures { Finishes handle.0 self.old self.new result }
     {

@@ -21,15 +21,16 @@ pub trait Source {
     // Whether it is known that a read does not wait: since there are bytes, or the end is reached, or it never waits.
     ghost ready: { Self → Bool } = { λ _. true };
 
-    /// Waits until a read does not wait, or until there is something at the descriptor `beside`, for at most so many
-    /// milliseconds. It reads nothing. `true` if a read does not wait: there are bytes, or the end is reached. `false`
-    /// otherwise.
+    /// Waits for at most `milliseconds` until a read would not wait, or until the descriptor `beside` can be read
+    /// (`None`: no descriptor). It reads nothing. `true` if a read would not wait: there are bytes, or the end is
+    /// reached. `false` otherwise.
     fn await_input(&mut self, beside: Option<RawFd>, milliseconds: u64) -> bool
         ensures ready { ready self.new ≡ result }
         ensures source { input (remaining self.new) (failed self.new) ≡ input (remaining self.old) (failed self.old) };
 
-    /// Puts the next bytes at the front of the buffer and returns how many there are: 0 at the end, or if the buffer
-    /// has no room. `ReadFailed` if reading failed: what the buffer then holds is not known.
+    /// Puts the next bytes at the front of the buffer, and returns how many there are. 0 means that the end is reached,
+    /// or that the buffer has no room. Refusal: `ReadFailed` if reading failed; what the buffer then holds is not
+    /// known.
     fn read(&mut self, buf: &mut [u8]) -> Result<usize, ReadFailed>
         ensures within { ReadsAtMost result buf.new }
         ensures bytes { ReadConsumes (remaining self.old) (remaining self.new) result buf.new }
@@ -44,8 +45,8 @@ pub trait Sink {
     // Whether a write has failed.
     ghost failed: { Self → Bool };
 
-    /// Takes bytes from the front, and returns how many it took: at least one, unless there are none. `WriteFailed` if
-    /// it took none since writing failed.
+    /// Writes a first part of the bytes, and returns how many bytes these are: at least one, unless `bytes` is empty.
+    /// Refusal: `WriteFailed` if writing failed; then no byte was written.
     fn write(&mut self, bytes: &[u8]) -> Result<usize, WriteFailed>
         ensures within { WritesAtMost result bytes.now }
         ensures some { IfOk result (λ n. 0 < length bytes.now → 0 < n) }

@@ -467,9 +467,9 @@ impl TreeBuilder {
         TreeBuilder::holding(alloc, room, root_object())
     }
 
-    /// A builder as [`with_room`](TreeBuilder::with_room) makes it, with what was stored of the root. Refusals, the
-    /// first that applies: `BadLabel` if the label has more than 64 bytes, `BadFlags` if there are any flags of
-    /// positions, `Add(NoMemory)` if memory was refused.
+    /// A builder as [`with_room`](TreeBuilder::with_room) makes it, whose root has the label that was stored and is
+    /// enabled or disabled as stored. Refusals, the first that applies: `BadLabel` if the label has more than 64 bytes.
+    /// `BadFlags` if there are any flags of positions, since a block has none. `Add(NoMemory)` if memory was refused.
     pub fn with_root(
         alloc: Global,
         room: Room,
@@ -502,7 +502,8 @@ impl TreeBuilder {
     /// another object, `Reserved` if the number is below 4096, `Taken` if another object has the number. `NoSuchBlock`
     /// if the container is no block of the tree, `TooDeep` at depth 9 (the root is at depth 1). `BadText` if the role
     /// is empty, or the role or a position's name has more than 64 bytes. `BadRange` if the setting is outside its
-    /// limits, or a switch has no or more than 16 positions. `NoMemory` does not come.
+    /// limits. `BadRange` also if a switch has no or more than 16 positions, or its position is not one of them.
+    /// `NoMemory` never comes.
     pub fn add(&mut self, container: Ono, ono: Ono, spec: &Spec<'_>) -> Result<(), AddFault>
         ensures { Adds result self.old self.new container.0 ono.0 spec.now }
     {
