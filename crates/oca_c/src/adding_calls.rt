@@ -13,7 +13,7 @@ use std::alloc::Global;
 
 /// Adds an OcaBlock with the number `ono` to the block `container`, before the start. Returns `Done`; otherwise the
 /// first of these that applies, and nothing is changed. `Closed` if the struct is closed, `Started` after the start,
-/// `BadText` if the role is no UTF-8. Then `Full` if there is no room for another object, `Reserved` if the number is
+/// `BadText` if the role is not UTF-8. Then `Full` if there is no room for another object, `Reserved` if the number is
 /// below 4,096, `Taken` if an object has the number. Then `NoSuchBlock` if the container is no block of the tree,
 /// `TooDeep` at depth 9, `BadText` if the role is empty or has more than 64 bytes.
 #[unsafe(no_mangle)]
@@ -35,7 +35,7 @@ pub extern "C" fn oca_device_add_block(
 
 /// Adds an OcaMute with the number `ono` to the block `container`, before the start. `muted` is its first state.
 /// Returns `Done`; otherwise the first of these that applies, and nothing is changed. `Closed` if the struct is closed,
-/// `Started` after the start, `BadText` if the role is no UTF-8. Then `Full` if there is no room for another object,
+/// `Started` after the start, `BadText` if the role is not UTF-8. Then `Full` if there is no room for another object,
 /// `Reserved` if the number is below 4,096, `Taken` if an object has the number. Then `NoSuchBlock` if the container is
 /// no block of the tree, `TooDeep` at depth 9, `BadText` if the role is empty or has more than 64 bytes.
 #[unsafe(no_mangle)]
@@ -71,7 +71,7 @@ pub extern "C" fn oca_device_add_mute(
 
 /// Adds an OcaPolarity with the number `ono` to the block `container`, before the start. `inverted` is its first state.
 /// Returns `Done`; otherwise the first of these that applies, and nothing is changed. `Closed` if the struct is closed,
-/// `Started` after the start, `BadText` if the role is no UTF-8. Then `Full` if there is no room for another object,
+/// `Started` after the start, `BadText` if the role is not UTF-8. Then `Full` if there is no room for another object,
 /// `Reserved` if the number is below 4,096, `Taken` if an object has the number. Then `NoSuchBlock` if the container is
 /// no block of the tree, `TooDeep` at depth 9, `BadText` if the role is empty or has more than 64 bytes.
 #[unsafe(no_mangle)]
@@ -110,7 +110,7 @@ pub extern "C" fn oca_device_add_polarity(
 /// these names, all of them enabled. `position` is the one at which it stands first, counted from 0. Returns `Done`;
 /// otherwise the first of these that applies, and nothing is changed. `Closed` if the struct is closed, `Started` after
 /// the start, `BadRange` if there are more than 16 names. `BadText` if a name has more than 64 bytes, or the role or a
-/// name is no UTF-8. Then `Full` if there is no room for another object, `Reserved` if the number is below 4,096,
+/// name is not UTF-8. Then `Full` if there is no room for another object, `Reserved` if the number is below 4,096,
 /// `Taken` if an object has the number. Then `NoSuchBlock` if the container is no block of the tree, `TooDeep` at depth
 /// 9, `BadText` if the role is empty or has more than 64 bytes. Last `BadRange` if there is no name, or none for the
 /// position.
@@ -140,9 +140,10 @@ pub extern "C" fn oca_device_add_switch(
 
 /// Adds an OcaBooleanActuator with the number `ono` to the block `container`, before the start. `setting` is its first
 /// setting. Returns `Done`; otherwise the first of these that applies, and nothing is changed. `Closed` if the struct
-/// is closed, `Started` after the start, `BadText` if the role is no UTF-8. Then `Full` if there is no room for another
-/// object, `Reserved` if the number is below 4,096, `Taken` if an object has the number. Then `NoSuchBlock` if the
-/// container is no block of the tree, `TooDeep` at depth 9, `BadText` if the role is empty or has more than 64 bytes.
+/// is closed, `Started` after the start, `BadText` if the role is not UTF-8. Then `Full` if there is no room for
+/// another object, `Reserved` if the number is below 4,096, `Taken` if an object has the number. Then `NoSuchBlock` if
+/// the container is no block of the tree, `TooDeep` at depth 9, `BadText` if the role is empty or has more than 64
+/// bytes.
 #[unsafe(no_mangle)]
 pub extern "C" fn oca_device_add_boolean(
     alloc: Global,
@@ -171,7 +172,7 @@ pub extern "C" fn oca_device_add_boolean(
 
 /// Adds an OcaInt8Actuator with the number `ono` to the block `container`, before the start. Its first setting lies
 /// within `least` to `greatest`, as all later ones do. Returns `Done`; otherwise the first of these that applies, and
-/// nothing is changed. `Closed` if the struct is closed, `Started` after the start, `BadText` if the role is no UTF-8.
+/// nothing is changed. `Closed` if the struct is closed, `Started` after the start, `BadText` if the role is not UTF-8.
 /// Then `Full` if there is no room for another object, `Reserved` if the number is below 4,096, `Taken` if an object
 /// has the number. Then `NoSuchBlock` if the container is no block of the tree, `TooDeep` at depth 9, `BadText` if the
 /// role is empty or has more than 64 bytes. Last `BadRange` if the setting is outside its limits.
@@ -202,7 +203,7 @@ pub extern "C" fn oca_device_add_int8(
 
 /// Adds an OcaInt16Actuator with the number `ono` to the block `container`, before the start. Its first setting lies
 /// within `least` to `greatest`, as all later ones do. Returns `Done`; otherwise the first of these that applies, and
-/// nothing is changed. `Closed` if the struct is closed, `Started` after the start, `BadText` if the role is no UTF-8.
+/// nothing is changed. `Closed` if the struct is closed, `Started` after the start, `BadText` if the role is not UTF-8.
 /// Then `Full` if there is no room for another object, `Reserved` if the number is below 4,096, `Taken` if an object
 /// has the number. Then `NoSuchBlock` if the container is no block of the tree, `TooDeep` at depth 9, `BadText` if the
 /// role is empty or has more than 64 bytes. Last `BadRange` if the setting is outside its limits.
@@ -233,7 +234,7 @@ pub extern "C" fn oca_device_add_int16(
 
 /// Adds an OcaInt32Actuator with the number `ono` to the block `container`, before the start. Its first setting lies
 /// within `least` to `greatest`, as all later ones do. Returns `Done`; otherwise the first of these that applies, and
-/// nothing is changed. `Closed` if the struct is closed, `Started` after the start, `BadText` if the role is no UTF-8.
+/// nothing is changed. `Closed` if the struct is closed, `Started` after the start, `BadText` if the role is not UTF-8.
 /// Then `Full` if there is no room for another object, `Reserved` if the number is below 4,096, `Taken` if an object
 /// has the number. Then `NoSuchBlock` if the container is no block of the tree, `TooDeep` at depth 9, `BadText` if the
 /// role is empty or has more than 64 bytes. Last `BadRange` if the setting is outside its limits.
@@ -264,7 +265,7 @@ pub extern "C" fn oca_device_add_int32(
 
 /// Adds an OcaInt64Actuator with the number `ono` to the block `container`, before the start. Its first setting lies
 /// within `least` to `greatest`, as all later ones do. Returns `Done`; otherwise the first of these that applies, and
-/// nothing is changed. `Closed` if the struct is closed, `Started` after the start, `BadText` if the role is no UTF-8.
+/// nothing is changed. `Closed` if the struct is closed, `Started` after the start, `BadText` if the role is not UTF-8.
 /// Then `Full` if there is no room for another object, `Reserved` if the number is below 4,096, `Taken` if an object
 /// has the number. Then `NoSuchBlock` if the container is no block of the tree, `TooDeep` at depth 9, `BadText` if the
 /// role is empty or has more than 64 bytes. Last `BadRange` if the setting is outside its limits.
@@ -295,7 +296,7 @@ pub extern "C" fn oca_device_add_int64(
 
 /// Adds an OcaUint8Actuator with the number `ono` to the block `container`, before the start. Its first setting lies
 /// within `least` to `greatest`, as all later ones do. Returns `Done`; otherwise the first of these that applies, and
-/// nothing is changed. `Closed` if the struct is closed, `Started` after the start, `BadText` if the role is no UTF-8.
+/// nothing is changed. `Closed` if the struct is closed, `Started` after the start, `BadText` if the role is not UTF-8.
 /// Then `Full` if there is no room for another object, `Reserved` if the number is below 4,096, `Taken` if an object
 /// has the number. Then `NoSuchBlock` if the container is no block of the tree, `TooDeep` at depth 9, `BadText` if the
 /// role is empty or has more than 64 bytes. Last `BadRange` if the setting is outside its limits.
@@ -326,7 +327,7 @@ pub extern "C" fn oca_device_add_uint8(
 
 /// Adds an OcaUint16Actuator with the number `ono` to the block `container`, before the start. Its first setting lies
 /// within `least` to `greatest`, as all later ones do. Returns `Done`; otherwise the first of these that applies, and
-/// nothing is changed. `Closed` if the struct is closed, `Started` after the start, `BadText` if the role is no UTF-8.
+/// nothing is changed. `Closed` if the struct is closed, `Started` after the start, `BadText` if the role is not UTF-8.
 /// Then `Full` if there is no room for another object, `Reserved` if the number is below 4,096, `Taken` if an object
 /// has the number. Then `NoSuchBlock` if the container is no block of the tree, `TooDeep` at depth 9, `BadText` if the
 /// role is empty or has more than 64 bytes. Last `BadRange` if the setting is outside its limits.
@@ -358,7 +359,7 @@ pub extern "C" fn oca_device_add_uint16(
 
 /// Adds an OcaUint32Actuator with the number `ono` to the block `container`, before the start. Its first setting lies
 /// within `least` to `greatest`, as all later ones do. Returns `Done`; otherwise the first of these that applies, and
-/// nothing is changed. `Closed` if the struct is closed, `Started` after the start, `BadText` if the role is no UTF-8.
+/// nothing is changed. `Closed` if the struct is closed, `Started` after the start, `BadText` if the role is not UTF-8.
 /// Then `Full` if there is no room for another object, `Reserved` if the number is below 4,096, `Taken` if an object
 /// has the number. Then `NoSuchBlock` if the container is no block of the tree, `TooDeep` at depth 9, `BadText` if the
 /// role is empty or has more than 64 bytes. Last `BadRange` if the setting is outside its limits.
@@ -390,7 +391,7 @@ pub extern "C" fn oca_device_add_uint32(
 
 /// Adds an OcaUint64Actuator with the number `ono` to the block `container`, before the start. Its first setting lies
 /// within `least` to `greatest`, as all later ones do. Returns `Done`; otherwise the first of these that applies, and
-/// nothing is changed. `Closed` if the struct is closed, `Started` after the start, `BadText` if the role is no UTF-8.
+/// nothing is changed. `Closed` if the struct is closed, `Started` after the start, `BadText` if the role is not UTF-8.
 /// Then `Full` if there is no room for another object, `Reserved` if the number is below 4,096, `Taken` if an object
 /// has the number. Then `NoSuchBlock` if the container is no block of the tree, `TooDeep` at depth 9, `BadText` if the
 /// role is empty or has more than 64 bytes. Last `BadRange` if the setting is outside its limits.

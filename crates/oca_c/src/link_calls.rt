@@ -102,9 +102,9 @@ pub extern "C" fn oca_link_submit(
 
 /// Puts what is due at the moment `now`, in milliseconds of the caller's clock, to the front of `out`; it must be sent
 /// to the device. Its size, 0 to 1,472 bytes, goes into `len`. `kind` becomes 0 if nothing is due, 1 for a command, 2
-/// for a keep-alive, 3 if the link is lost (`enum oca_due`). `command` becomes the handle of the command, or 0 if it is
-/// none. Returns `Done`; otherwise `Closed` if the struct is closed, or `TooSmall` if `out` has fewer than 1,472 bytes,
-/// whatever is due. Then nothing is changed or written.
+/// for a keep-alive, 3 if the link is lost (`enum oca_due`). `command` becomes the handle of the command, or 0 if no
+/// command is due. Returns `Done`; otherwise `Closed` if the struct is closed, or `TooSmall` if `out` has fewer than
+/// 1,472 bytes, whatever is due. Then nothing is changed or written.
 #[unsafe(no_mangle)]
 pub extern "C" fn oca_link_due(
     alloc: Global,

@@ -26,8 +26,8 @@ pub extern "C" fn oca_value_put(value: &ValueWords, out: &mut [u8], len: &mut us
 }
 
 /// Reads the answer to `oca_get_request` of the class with this number: the value with its limits. Returns `Done`;
-/// otherwise `NoValue` if no class has the number, it is that of a block, or the parameters are not exactly such an
-/// answer, and then nothing is written.
+/// otherwise `NoValue` if no class has the number, it is the number of a block, or the parameters are not exactly such
+/// an answer, and then nothing is written.
 #[unsafe(no_mangle)]
 pub extern "C" fn oca_value_read(
     class_number: u32,
@@ -62,7 +62,7 @@ pub extern "C" fn oca_set_request(value: &ValueWords, request: &mut RequestWords
 }
 
 /// Writes the request that reads how an object of the class with this number is set: the method, without parameters.
-/// Returns `Done`; otherwise `NoValue` if no class has the number, or it is that of a block, and then nothing is
+/// Returns `Done`; otherwise `NoValue` if no class has the number, or it is the number of a block, and then nothing is
 /// written.
 #[unsafe(no_mangle)]
 pub extern "C" fn oca_get_request(class_number: u32, request: &mut RequestWords) -> u32
@@ -94,8 +94,8 @@ pub extern "C" fn oca_value_text(value: &ValueWords, out: &mut [u8], len: &mut u
 
 /// Writes the value for which a word stands, of an object of the class with this number. The word is one of the class's
 /// words, or a number in decimal digits within the class's type. A number may begin with `+`, and of a signed type also
-/// with `-`. Returns `Done`; otherwise `NoValue` if no class has the number, it is that of a block, or the word stands
-/// for no value of it. Then nothing is written.
+/// with `-`. Returns `Done`; otherwise `NoValue` if no class has the number, it is the number of a block, or the word
+/// stands for no value of it. Then nothing is written.
 #[unsafe(no_mangle)]
 pub extern "C" fn oca_value_from_text(class_number: u32, text: &[u8], value: &mut ValueWords) -> u32
     ensures writes { WritesNamed class_number text.now value.old value.new result }

@@ -68,8 +68,8 @@ impl LinkBehind {
 
     /// Puts what is due at the moment `now`, in milliseconds of the caller's clock, to the front of `out`. Its size, 0
     /// to 1,472 bytes, goes into `len`. `kind` becomes 0 if nothing is due, 1 for a command, 2 for a keep-alive, 3 if
-    /// the link is lost. `handle` becomes the handle of the command, or 0 if it is none. Returns the number of `Done`.
-    /// That of `TooSmall` if `out` has fewer than 1,472 bytes: then nothing is changed or written.
+    /// the link is lost. `handle` becomes the handle of the command, or 0 if no command is due. Returns the number of
+    /// `Done`. That of `TooSmall` if `out` has fewer than 1,472 bytes: then nothing is changed or written.
     pub fn due(
         &mut self,
         now: u64,

@@ -73,8 +73,8 @@ pub fn text_of(name: &Name) -> Option<&str>
     str::from_utf8(bytes).ok()
 }
 
-/// The texts of these names, of which there must be at most 16 (a premise). `None` if a name says that it has more than
-/// 64 bytes, or its bytes are not UTF-8.
+/// The texts of these names. There must be at most 16 (a premise). `None` if a name says that it has more than 64
+/// bytes, or its bytes are not UTF-8.
 pub fn texts_of(names: &[Name]) -> Option<ArrayVec<&str, MOST_POSITIONS>>
     requires { length names.now ≤ 16 }
     ensures texts { IfSome result (λ texts. AllByRecursion IsName names.now

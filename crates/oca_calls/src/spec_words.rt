@@ -126,8 +126,8 @@ fn kind_with<'a>(reading: Reading, names: &'a [&'a str]) -> Kind<'a>
 }
 
 /// The kind of object that these words hold: its class, its value and its limits. A switch gets these names of its
-/// positions. `None` if the words hold no reading, unless their class is that of a block: then it is a block, and the
-/// rest of the words is not looked at.
+/// positions. `None` if the words hold no reading, unless their class number is 1: then it is a block, and the rest is
+/// not looked at.
 pub fn kind_of<'a>(words: &ReadingWords, names: &'a [&'a str]) -> Option<Kind<'a>>
     ensures { GivesKind words.now (map (λ name. name.now) names.now) result }
 {

@@ -122,7 +122,7 @@ fn set_in<'a>(class: Class, count: u8, params: &[u8]) -> Result<Asked<'a>, Value
 
 impl<'a> Asked<'a> {
     /// Reads a command by its method and its parameters, as a device understands it; `count` is ParamCount. It does not
-    /// check that the class has the method. The class says only of which type the value of a set method is. A list of
+    /// check that the class has the method. The class determines only the type of the value of a set method. A list of
     /// names or flags has at most 16 entries, and a text at most 64 bytes. Texts are not copied.
     ///
     /// Refusals: `Malformed` (the status ParameterError) if `count` is not the method's, or the bytes are not exactly

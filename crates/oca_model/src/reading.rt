@@ -96,7 +96,7 @@ impl Reading {
         }
     }
 
-    /// How many parameters the reading has (ParamCount): 3 for a switch and an integer, else 1.
+    /// How many parameters the reading has (ParamCount): 3 for a switch and an integer, otherwise 1.
     pub fn count(self) -> u8
         ensures { result ≡ reading_count self }
     {

@@ -55,7 +55,7 @@ pub fn run_pair(
 /// 127.0.0.1:65000 and has these objects and sizes. There is a link with this span for each of `starts`, made at moment
 /// 0.
 ///
-/// Refusals, of which none returns anything of the run. `SamePeer` if two starts have the same peer, or one has the
+/// Refusals, after which nothing of the run is returned. `SamePeer` if two starts have the same peer, or one has the
 /// device's; this is checked first. `BadStep` with the number, from 0, of the first step that is bad. A step is bad if
 /// it names a link or a datagram that is not there, or is an `Other` from a link's peer. `NoMemory` if memory was
 /// refused before such a step.

@@ -148,8 +148,8 @@ impl<T: Copy + Default> InFlight<T> {
     /// Takes the first command out of the queue and waits for its answer, for the panel's `wait` milliseconds. Returns
     /// its item, and its outcome as [`Panel::finish`] does. `None` if no command is in flight: then nothing is changed.
     ///
-    /// A command that comes out `Unanswered` stays in flight at the panel: [`Panel::answered`] tells when its answer
-    /// has come.
+    /// A command with the outcome `Unanswered` stays in flight at the panel. [`Panel::answered`] returns its handle
+    /// once its answer has come.
     pub fn finish_first<E: End>(&mut self, panel: &mut Panel<E>) -> Option<(T, Outcome)>
         ensures { FinishesFirst result self.old self.new panel.old panel.new }
     {

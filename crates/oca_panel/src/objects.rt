@@ -23,8 +23,8 @@ impl<E: End> Panel<E> {
     ghost use Rattle.oca_panel.specs.Outcomes.{text_answered, truth_answered};
     ghost use Rattle.oca_panel.specs.Objects.{AsksClass, Finishes, GetsValue, Reads, ReadsBy, ReadsObject, SetsValue};
 
-    /// Asks for the class of an object, by GetClassIdentification (AES70-2). `NoValue` if the class is not of this
-    /// profile.
+    /// Asks for the class of an object, by GetClassIdentification of OcaRoot (AES70-2). `NoValue` if the class is not
+    /// of this profile.
     ///
     /// Waits for the answer for the panel's `wait` milliseconds. Nothing is changed at the device. Faults
     /// ([`Trouble`]): `Refused` if the answer's status is not OK. `Unreadable` if the answer is not one to the command.
@@ -39,8 +39,8 @@ impl<E: End> Panel<E> {
         class_in(&outcome)
     }
 
-    /// Asks for the fields of an object's class identifier, by GetClassIdentification (AES70-2): at most 16. The class
-    /// may be any.
+    /// Asks for the fields of an object's class identifier, by GetClassIdentification of OcaRoot (AES70-2): at most 16.
+    /// The class may be any.
     ///
     /// Waits for the answer for the panel's `wait` milliseconds. Nothing is changed at the device. Faults
     /// ([`Trouble`]): `Refused` if the answer's status is not OK. `Unreadable` if the answer is not one to the command.
@@ -92,7 +92,7 @@ impl<E: End> Panel<E> {
     }
 
     /// Asks how an object of this class is set, with the least and the greatest value of a switch or an integer. The
-    /// object's class is not asked. `NoValue` for a block, of which nothing is asked.
+    /// object's class is not asked. `NoValue` for a block: then nothing is asked.
     ///
     /// Waits for the answer for the panel's `wait` milliseconds. Nothing is changed at the device. Faults
     /// ([`Trouble`]): `Refused` if the answer's status is not OK. `Unreadable` if the answer is not one to the command.
@@ -111,8 +111,8 @@ impl<E: End> Panel<E> {
         }
     }
 
-    /// Sets an object to a value, by the set method of the value's class. The object must be of this class, else the
-    /// device refuses the command or takes it as a value of the object's own class.
+    /// Sets an object to a value, by the set method of the value's class (AES70-2). The object must be of this class.
+    /// Otherwise the device refuses the command or takes it as a value of the object's own class.
     ///
     /// Waits for the answer for the panel's `wait` milliseconds. Faults ([`Trouble`]): `Refused` if the answer's status
     /// is not OK: then nothing was changed. `NotSubmitted` if the link refuses the command, as it does if it is lost or
@@ -140,8 +140,8 @@ impl<E: End> Panel<E> {
         done_in(&outcome)
     }
 
-    /// Keeps other controllers from reading and setting an object, by LockTotal (AES70-2). The lock ends once the
-    /// device hears nothing from this panel for more than 15,000 ms.
+    /// Locks an object, by LockTotal of OcaRoot (AES70-2): other controllers can then neither read nor set it. The lock
+    /// ends once the device hears nothing from this panel for more than 15,000 ms.
     ///
     /// Waits for the answer for the panel's `wait` milliseconds. Faults ([`Trouble`]): `Refused` if the answer's status
     /// is not OK: then nothing was changed. `NotSubmitted` if the link refuses the command: then nothing was sent.
@@ -155,7 +155,7 @@ impl<E: End> Panel<E> {
         done_in(&outcome)
     }
 
-    /// Takes this panel's lock off an object, by Unlock (AES70-2).
+    /// Releases this panel's lock of an object, by Unlock of OcaRoot (AES70-2).
     ///
     /// Waits for the answer for the panel's `wait` milliseconds. Faults ([`Trouble`]): `Refused` if the answer's status
     /// is not OK: then nothing was changed. `NotSubmitted` if the link refuses the command: then nothing was sent.
@@ -169,7 +169,7 @@ impl<E: End> Panel<E> {
         done_in(&outcome)
     }
 
-    /// Asks for the label of an object: at most 64 bytes.
+    /// Asks for the label of an object, by GetLabel of OcaWorker (AES70-2): at most 64 bytes.
     ///
     /// Waits for the answer for the panel's `wait` milliseconds. Nothing is changed at the device. Faults
     /// ([`Trouble`]): `Refused` if the answer's status is not OK. `Unreadable` if the answer is not one to the command.
@@ -183,7 +183,7 @@ impl<E: End> Panel<E> {
         text_in(&outcome)
     }
 
-    /// Gives an object a label of at most 64 bytes.
+    /// Gives an object a label of at most 64 bytes, by SetLabel of OcaWorker (AES70-2).
     ///
     /// Waits for the answer for the panel's `wait` milliseconds. Faults ([`Trouble`]): `Refused` if the answer's status
     /// is not OK: then nothing was changed. `NotSubmitted` if the link refuses the command: then nothing was sent.
@@ -198,7 +198,7 @@ impl<E: End> Panel<E> {
         done_in(&outcome)
     }
 
-    /// Asks for the role of an object, which its maker gave it: at most 64 bytes.
+    /// Asks for the role of an object, by GetRole of OcaRoot (AES70-2): at most 64 bytes.
     ///
     /// Waits for the answer for the panel's `wait` milliseconds. Nothing is changed at the device. Faults
     /// ([`Trouble`]): `Refused` if the answer's status is not OK. `Unreadable` if the answer is not one to the command.
@@ -212,7 +212,7 @@ impl<E: End> Panel<E> {
         text_in(&outcome)
     }
 
-    /// Asks whether an object is enabled.
+    /// Asks whether an object is enabled, by GetEnabled of OcaWorker (AES70-2).
     ///
     /// Waits for the answer for the panel's `wait` milliseconds. Nothing is changed at the device. Faults
     /// ([`Trouble`]): `Refused` if the answer's status is not OK. `Unreadable` if the answer is not one to the command.
@@ -226,8 +226,8 @@ impl<E: End> Panel<E> {
         truth_in(&outcome)
     }
 
-    /// Asks for the numbers of a block's members, in their order, at most 181. `Refused` with the status BufferOverflow
-    /// if the block has more members than a response has room for.
+    /// Asks for the numbers of a block's members, by GetMembers of OcaBlock (AES70-2): in their order, at most 181.
+    /// `Refused` with the status BufferOverflow if the block has more members than a response has room for.
     ///
     /// Waits for the answer for the panel's `wait` milliseconds. Nothing is changed at the device. Faults
     /// ([`Trouble`]): `Refused` if the answer's status is not OK. `Unreadable` if the answer is not one to the command.
@@ -242,8 +242,8 @@ impl<E: End> Panel<E> {
         members_in(&outcome)
     }
 
-    /// Asks for the name of a switch's position, which is counted from 0: at most 64 bytes. `Refused` with the status
-    /// ParameterOutOfRange if the switch has no such position.
+    /// Asks for the name of a switch's position, by GetPositionName of OcaSwitch (AES70-2): at most 64 bytes.
+    /// `position` is counted from 0. `Refused` with the status ParameterOutOfRange if the switch has no such position.
     ///
     /// Waits for the answer for the panel's `wait` milliseconds. Nothing is changed at the device. Faults
     /// ([`Trouble`]): `Refused` if the answer's status is not OK. `Unreadable` if the answer is not one to the command.
@@ -257,7 +257,8 @@ impl<E: End> Panel<E> {
         text_in(&outcome)
     }
 
-    /// Asks for the names of a switch's positions, in their order: at most 16, of at most 64 bytes each.
+    /// Asks for the names of a switch's positions, by GetPositionNames of OcaSwitch (AES70-2): in their order, at most
+    /// 16, of at most 64 bytes each.
     ///
     /// Waits for the answer for the panel's `wait` milliseconds. Nothing is changed at the device. Faults
     /// ([`Trouble`]): `Refused` if the answer's status is not OK. `Unreadable` if the answer is not one to the command.

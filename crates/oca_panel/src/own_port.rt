@@ -45,8 +45,8 @@ impl OwnPort {
         }
     }
 
-    /// The ports and the first handle for so many seconds and microseconds after the beginning of 1970. `microseconds`
-    /// may be any number; a million of them are a second.
+    /// The ports and the first handle for the time of day that is `seconds` and `microseconds` after the beginning of
+    /// 1970. `microseconds` may be any number; a million of them are a second.
     ///
     /// `port` is 65001 or 65002, and `other` is the other of the two. `first_handle` is below 2,147,483,648. It rises
     /// by 100,000 a second, and starts again from 0 about every six hours, when `port` changes.

@@ -35,8 +35,9 @@ fn put(packet: &mut Packet, bytes: &[u8])
     }
 }
 
-/// Appends a PDU of one command (AES70-3) to the packet: of type 1 if `respond` asks for a response, else of type 0.
-/// Refusal: `TooLong` if the packet would have more than 1,472 bytes; then the packet is unchanged.
+/// Appends a PDU of one command (AES70-3) to the packet. It is of type 1 if `respond` is true, which asks for a
+/// response, otherwise of type 0. Refusal: `TooLong` if the packet would have more than 1,472 bytes; then the packet is
+/// unchanged.
 pub fn write_command(
     packet: &mut Packet,
     respond: bool,

@@ -26,8 +26,7 @@ use oca_pdu::law_reading;
 /// Lock and unlock: the object was locked for this peer, or its lock was released. Class, role and label: they are the
 /// object's. Describes: what a walk returns of an object, its class and its role, is the object's.
 ///
-/// If the end does not record what it delivers, there are some deliveries and an answer that fit the call, of which
-/// this holds.
+/// If the end does not record what it delivers, all this holds of some deliveries and an answer that fit the call.
 pub fn law_of_calls()
     ensures once { EveryAnsweredCallKeeps IsOfOneExecutionSince }
     ensures in_time { EveryCallIsInTime }

@@ -65,7 +65,8 @@ pub struct FromReader<R> {
 }
 
 impl<R: Read> FromReader<R> {
-    /// A source of this reader, of which no read has failed. Each read is taken not to wait, as with files and memory.
+    /// A source over this reader, without a failed read. It assumes that no read waits, which is so for files and
+    /// memory.
     pub fn new(reader: R) -> FromReader<R>
         ensures reader { result.reader ≡ reader }
         ensures unfailed { result.failed ≡ false }
@@ -80,8 +81,8 @@ impl<R: Read> FromReader<R> {
         }
     }
 
-    /// A source of this reader, of which no read has failed. A read may wait: so the source asks the system about the
-    /// reader's descriptor.
+    /// A source over this reader, without a failed read. A read may wait, so the source asks the system whether the
+    /// reader's descriptor is ready.
     pub fn awaited(reader: R) -> FromReader<R>
     where
         R: AsRawFd,
@@ -172,7 +173,7 @@ pub struct ToWriter<W> {
 }
 
 impl<W: Write> ToWriter<W> {
-    /// A sink of this writer, to which no write has failed.
+    /// A sink over this writer, without a failed write.
     pub fn new(writer: W) -> ToWriter<W>
         ensures writer { result.writer ≡ writer }
         ensures unfailed { result.failed ≡ false }

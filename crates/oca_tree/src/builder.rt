@@ -459,7 +459,7 @@ impl TreeBuilder {
     }
 
     /// A builder that holds the root alone, a lockable block of the number 100 with the role `root`, and has room for
-    /// so many objects, the root counted. It takes the memory for them. Refusal: `NoMemory`, if memory was refused.
+    /// `room` objects, the root counted. It takes the memory for them. Refusal: `NoMemory`, if memory was refused.
     pub fn with_room(alloc: Global, room: Room) -> Result<TreeBuilder, AddFault>
         ensures ok { IfOk result (λ builder. builder ≡ record { room = room_size room; list = root ∷ [] }) }
         ensures err { IfErr result (λ e. e ≡ NoMemory) }
@@ -516,8 +516,8 @@ impl TreeBuilder {
     /// positions are. It is unlocked. It takes no memory.
     ///
     /// Refusals, the first that applies; the builder is then unchanged: `Add` with the reason for which
-    /// [`add`](TreeBuilder::add) refuses the object. `BadLabel` if the label has more than 64 bytes. `BadFlags` if the
-    /// flags are not as many as the positions, of which only a switch has any.
+    /// [`add`](TreeBuilder::add) refuses the object. `BadLabel` if the label has more than 64 bytes. `BadFlags` if
+    /// there are flags, and not one for each position; only a switch has positions.
     pub fn add_with(
         &mut self,
         container: Ono,

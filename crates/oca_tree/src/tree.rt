@@ -281,7 +281,7 @@ impl Tree {
         failing_in(&self.objects, ono)
     }
 
-    /// How many objects are locked: 0 to 4,096. It looks at no object.
+    /// How many objects are locked: 0 to 4,096. The tree keeps this count, so no object is looked at.
     pub fn lock_count(&self) -> usize
         ensures { result ≡ lock_count self.now }
     {

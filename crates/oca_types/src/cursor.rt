@@ -197,9 +197,9 @@ impl<'a> Cursor<'a> {
     }
 
     /// Takes an OcaString of at most 64 bytes: a Uint16 with the number of its Unicode scalar values, then its UTF-8
-    /// (AES70-3; past ASCII the count is the profile's). The cursor then stands after it. Refusals, each of which
-    /// leaves the cursor unchanged: `Short` if the bytes end before the text does. `NotUtf8` if what stands there is
-    /// not so many characters of UTF-8. `TooLong` if the text has more than 64 bytes.
+    /// (AES70-3; that characters outside ASCII count as one is the profile's). The cursor then stands after it.
+    /// Refusals, which leave the cursor unchanged: `Short` if the bytes end before the text does. `NotUtf8` if the
+    /// bytes are not that number of characters in UTF-8. `TooLong` if the text has more than 64 bytes.
     pub fn take_text(&mut self) -> Result<Text, ReadFault>
         ensures found { IfOk result (λ text. Takes IsTextEncoding text (bytes_left self.old) (bytes_left self.new)) }
         ensures only { (text front rest : List ℕ) → IsTextEncoding text front → bytes_left self.old ≡ front ++ rest →

@@ -45,7 +45,7 @@ pub struct Shown {
 }
 
 impl Shown {
-    /// What is shown of an object of which nothing was read yet: no reading, no trouble, no lock, and enabled.
+    /// What is shown of an object before anything was read of it: no reading, no trouble, no lock, and enabled.
     pub fn unread() -> Shown {
         Shown {
             reading: None,
@@ -95,8 +95,8 @@ pub struct Object {
 }
 
 impl Object {
-    /// An object of which only its number, its container and its class are known. The class is `None` if it is not of
-    /// this profile.
+    /// A new object: only its number, its container and its class are known. The class is `None` if it is not of this
+    /// profile.
     pub fn new(ono: Ono, container: Ono, class: Option<Class>) -> Object {
         Object {
             ono,
@@ -181,7 +181,7 @@ pub fn class_name(class: Option<Class>) -> &'static str
     }
 }
 
-/// Whether this is the name of a class of this profile, as [`class_name`] gives it; `unknown` is none.
+/// Whether this is the name of a class of this profile, as [`class_name`] gives it; `false` for `unknown`.
 pub fn is_class_name(name: &str) -> bool {
     matches!(
         name,

@@ -530,7 +530,7 @@ impl View {
             && leaves_half(lowest, self.next_handle, self.reach.span.get())
     }
 
-    /// The moment, in milliseconds of the program's clock, from which something is to be read again; it may already be
+    /// The moment, in milliseconds of the program's clock, from which something must be read again; it may already be
     /// past. What the link has to send is not counted. `None` if no page is open, or a walk or a round is not over:
     /// they go on when an answer comes.
     pub fn next_moment(&self) -> Option<u64> {

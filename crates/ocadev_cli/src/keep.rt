@@ -42,8 +42,8 @@ pub fn is_there<F: Files>(files: &F, keep: Option<&str>) -> bool {
     }
 }
 
-/// Chooses from where a device gets its objects at the start: from the file in which its state is kept, if one is named
-/// and exists. Otherwise from where the options of the command line say.
+/// Chooses the source of a device's objects at its start. It is the file in which the state is kept, if one is named
+/// and exists. Otherwise it is the source that the options of the command line name (`asked`).
 pub fn starting<'a>(keep: Option<&'a str>, there: bool, asked: Objects<'a>) -> Objects<'a>
     ensures { object_source result ≡ starting_objects (option_copied keep.entry) there (object_source asked.entry) }
 {
@@ -54,9 +54,9 @@ pub fn starting<'a>(keep: Option<&'a str>, there: bool, asked: Objects<'a>) -> O
 }
 
 /// The objects with which a device starts. They come from the file in which its state is kept, if one is named and
-/// exists, otherwise from where the options of the command line say. `refusal` is why the file can't be kept
-/// ([`claimed`]); its fault must be `Read` (a premise). If it is given and the file exists, the file is not read, and
-/// `refusal` is returned.
+/// exists, otherwise from the source that the options of the command line name (`asked`). `refusal` is why the file
+/// can't be kept ([`claimed`]); its fault must be `Read` (a premise). If it is given and the file exists, the file is
+/// not read, and `refusal` is returned.
 ///
 /// Failures: `NoMemory` if memory was refused. Of a file `Read` if it can't be read, `TooMuch` if it has more than
 /// 16,777,216 bytes, and `Object` with its first line that has a fault. `Read` also if the file in which the state is
@@ -150,9 +150,9 @@ fn unreadable(alloc: Global, path: &str, reason: io::Error) -> Failure
 /// Locks the file FILE in which the state is to be kept for this device alone, if one is named. It locks the file
 /// FILE.lock beside it, until the file returned is dropped. FILE.lock is made if it does not exist.
 ///
-/// Returns the lock, or the failure `Read` for which there is none. It fails if FILE, FILE.new or FILE.lock exists and
-/// is no plain file, as a folder, a FIFO or a symbolic link. It fails if FILE.lock can't be made or locked, if another
-/// device has it, or if memory was refused. If no file is named, neither is returned.
+/// Returns the lock, or the failure `Read`. It fails if FILE, FILE.new or FILE.lock exists and is no plain file, as a
+/// folder, a FIFO or a symbolic link. It fails if FILE.lock can't be made or locked, if another device has it, or if
+/// memory was refused. If no file is named, neither is returned.
 pub fn claimed<F: Files<File = File>>(
     alloc: Global,
     files: &F,
@@ -339,8 +339,8 @@ impl<'d, 'p, 'f, D, F: Sink> Drop for FileStore<'d, 'p, 'f, D, F> {
 }
 
 impl<'d, 'p, 'f, D: Disk, F: Sink> FileStore<'d, 'p, 'f, D, F> {
-    /// A store in the file at this path, on this disk, of which no store has failed. What is printed while it stores
-    /// goes to `faults`.
+    /// A store in the file at this path, on this disk, without a failed store. What is printed while it stores goes to
+    /// `faults`.
     pub fn new(
         alloc: Global,
         path: &'p str,

@@ -356,8 +356,8 @@ fn channels(options: &ArgMatches<'_>) -> u16
     }
 }
 
-/// From where the device gets its objects: from a file if the options name one. Otherwise it is the bench device with a
-/// number of channel strips, 0 unless the options give it.
+/// The source of the device's objects: a file if the options name one. Otherwise it is the bench device with the number
+/// of channel strips in the options, 0 if they give none.
 pub fn objects_of<'a>(options: &ArgMatches<'a>) -> Objects<'a>
     ensures { object_source result ≡ objects_in options.now }
 {
