@@ -25,9 +25,9 @@ pub extern "C" fn oca_value_put(value: &ValueWords, out: &mut [u8], len: &mut us
     put_bytes(request.params.as_slice(), out, len).number()
 }
 
-/// Reads the answer to `oca_get_request` of the class with this number: the value with its limits. Returns `Done`;
-/// otherwise `NoValue` if no class has the number, it is the number of a block, or the parameters are not exactly such
-/// an answer, and then nothing is written.
+/// Reads the answer to `oca_get_request` of the class with this number: the value with its limits. Returns `Done`.
+/// Otherwise `NoValue` if no class has the number, it is the number of a block, or the parameters are not exactly such
+/// an answer. Then nothing is written.
 #[unsafe(no_mangle)]
 pub extern "C" fn oca_value_read(
     class_number: u32,

@@ -205,8 +205,8 @@ impl Tree {
         set_failing(&mut self.objects, &mut self.marks, ono, failing)
     }
 
-    /// Releases every lock that the peer holds. If it holds none, nothing is changed. If no object of the tree is
-    /// locked, no object is looked at.
+    /// Releases every lock of the peer. If it holds none, nothing is changed. If no object of the tree is locked, no
+    /// object is looked at.
     pub fn release(&mut self, peer: Peer)
         ensures { self.new ≡ released self.old peer }
     {

@@ -196,9 +196,9 @@ impl<'a> Cursor<'a> {
         self.take::<bool>()
     }
 
-    /// Takes an OcaString of at most 64 bytes: a Uint16 with the number of its Unicode scalar values, then its UTF-8
-    /// (AES70-3; that characters outside ASCII count as one is the profile's). The cursor then stands after it.
-    /// Refusals, which leave the cursor unchanged: `Short` if the bytes end before the text does. `NotUtf8` if the
+    /// Takes an OcaString of at most 64 bytes (AES70-3): a Uint16 with the number of its Unicode scalar values, then
+    /// its UTF-8. (That each scalar value outside ASCII counts as one is the profile's.) The cursor then stands after
+    /// it. Refusals, which leave the cursor unchanged: `Short` if the bytes end before the text does. `NotUtf8` if the
     /// bytes are not that number of characters in UTF-8. `TooLong` if the text has more than 64 bytes.
     pub fn take_text(&mut self) -> Result<Text, ReadFault>
         ensures found { IfOk result (λ text. Takes IsTextEncoding text (bytes_left self.old) (bytes_left self.new)) }
