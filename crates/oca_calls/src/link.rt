@@ -26,10 +26,10 @@ pub struct LinkBehind {
 
 impl LinkBehind {
     /// Submits a command at the moment `now`, in milliseconds of the caller's clock, and writes its handle. `count` is
-    /// ParamCount. Returns the number of `Done`. If the link refuses the command, that of the first that applies, and
-    /// then nothing is changed or written. `Lost` if the link is lost. `HandlesSpent` after the handle 4294967295.
-    /// `SpanFull` if the next handle is not below the lowest one in flight plus the span. `TooLong` if the parameters
-    /// have more than 1,445 bytes.
+    /// ParamCount. Returns the number of `Done`. If the link refuses the command, it returns the number of the first of
+    /// these that applies, and then nothing is changed or written. `Lost` if the link is lost. `HandlesSpent` after the
+    /// handle 4294967295. `SpanFull` if the next handle is not below the lowest one in flight plus the span. `TooLong`
+    /// if the parameters have more than 1,445 bytes.
     pub fn submit(
         &mut self,
         target: Ono,
@@ -69,7 +69,7 @@ impl LinkBehind {
     /// Puts what is due at the moment `now`, in milliseconds of the caller's clock, to the front of `out`. Its size, 0
     /// to 1,472 bytes, goes into `len`. `kind` becomes 0 if nothing is due, 1 for a command, 2 for a keep-alive, 3 if
     /// the link is lost. `handle` becomes the handle of the command, or 0 if no command is due. Returns the number of
-    /// `Done`. That of `TooSmall` if `out` has fewer than 1,472 bytes: then nothing is changed or written.
+    /// `Done`. The number of `TooSmall` if `out` has fewer than 1,472 bytes: then nothing is changed or written.
     pub fn due(
         &mut self,
         now: u64,
@@ -126,8 +126,9 @@ impl LinkBehind {
     }
 
     /// Takes the answer under a handle, and removes the command. Writes its status and its ParamCount, puts its
-    /// parameters to the front of `out`, and their size into `len`. Returns the number of `Done`. That of `TooSmall` if
-    /// `out` has fewer than 1,452 bytes, or of `Nothing` if there is no answer: then nothing is changed or written.
+    /// parameters to the front of `out`, and their size into `len`. Returns the number of `Done`. The number of
+    /// `TooSmall` if `out` has fewer than 1,452 bytes, or of `Nothing` if there is no answer: then nothing is changed
+    /// or written.
     pub fn take(
         &mut self,
         handle: u32,
@@ -158,8 +159,8 @@ impl LinkBehind {
     }
 
     /// Writes the earliest moment at which something is due or the link is lost. It is in milliseconds of the caller's
-    /// clock, and not before the latest moment that the link was given. Returns the number of `Done`. That of `Nothing`
-    /// if the moment lies beyond 64 bits: then nothing is written.
+    /// clock, and not before the latest moment that the link was given. Returns the number of `Done`. The number of
+    /// `Nothing` if the moment lies beyond 64 bits: then nothing is written.
     pub fn next_due(&self, moment: &mut u64) -> u32
         ensures writes { WritesNextDue result moment.new self.now.link }
         ensures unwritten { (result ≡ 0) ⊎ (moment.new ≡ moment.old) }
@@ -173,7 +174,7 @@ impl LinkBehind {
         }
     }
 
-    /// Writes the lowest handle whose answer came and was not taken yet. Returns the number of `Done`. That of
+    /// Writes the lowest handle whose answer came and was not taken yet. Returns the number of `Done`. The number of
     /// `Nothing` if there is none: then nothing is written.
     pub fn answered(&self, handle: &mut u32) -> u32
         ensures writes { WritesNumber result handle.new (first_answered self.now.link.untaken) }
@@ -197,8 +198,8 @@ impl LinkBehind {
         Answer::Done.number()
     }
 
-    /// Writes the handle that the next command gets. Returns the number of `Done`. That of `Nothing` after the last
-    /// handle, 4294967295: then nothing is written.
+    /// Writes the handle that the next command gets. Returns the number of `Done`. The number of `Nothing` after the
+    /// last handle, 4294967295: then nothing is written.
     pub fn next_handle(&self, handle: &mut u32) -> u32
         ensures writes { WritesNumber result handle.new self.now.link.next }
         ensures unwritten { (result ≡ 0) ⊎ (handle.new ≡ handle.old) }

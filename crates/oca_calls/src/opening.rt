@@ -9,7 +9,8 @@ use oca_tree::TreeBuilder;
 use std::alloc::Global;
 
 /// Opens a closed handle over a device that is not started, with the objects of this builder. The handle must be closed
-/// (a premise). Returns the number of `Done`. That of `NoMemory` if memory was refused: then the handle stays closed.
+/// (a premise). Returns the number of `Done`. The number of `NoMemory` if memory was refused: then the handle stays
+/// closed.
 pub fn open_over(alloc: Global, handle: &mut DeviceHandle, builder: TreeBuilder) -> u32
     requires { handle.old.slot.inner ≡ None }
     ensures { OpensOver result handle.new.slot.inner builder }

@@ -263,8 +263,8 @@ impl<'a, C: Clock> UdpEnd<'a, C> {
     /// Receives once. It waits until the moment `moment` of the end's clock, in milliseconds, for at most an hour, and
     /// not at all if that moment is past. `Datagram` with its sender if a datagram came, and its bytes are in `packet`.
     /// Otherwise `packet` is empty: `Quiet` if none came, `Oversize` if one of more than 1,472 bytes came. `Failed` if
-    /// the system reported an error. That counts as a failure, and the call then waits until 50 ms after its beginning,
-    /// or until `moment` if that is sooner.
+    /// the system returned anything else, such as an error. That counts as a failure, and the call then waits until 50
+    /// ms after its beginning, or until `moment` if that is sooner.
     #[tactic(auto, using(crate::proofs::Waiting::until_most, crate::proofs::Waiting::until_later))]
     pub fn receive_by(&mut self, packet: &mut Packet, moment: u64) -> Heard
         ensures packet { HoldsOnlyADatagram result packet.new.items }

@@ -71,10 +71,10 @@ impl<E: End> Panel<E> {
     ///
     /// `first` is the handle of the first command ([`OwnPort`](crate::OwnPort) chooses one). If the device has heard
     /// the end's port before, `first` must be above the handles that were used there. Handles from before a pause of
-    /// more than two minutes, in which nothing was sent from the port, do not count. `span` is how far above the lowest
-    /// handle in flight the next one may lie, and so how many commands can be in flight. A command waits for its answer
-    /// for `wait` milliseconds ([`wait_while`](oca_control::wait_while)), whatever else comes to the end meanwhile. If
-    /// the device is silent, the link is lost after 5 to 10.25 seconds.
+    /// more than two minutes, in which nothing was sent from the port, do not count. The next handle lies below the
+    /// lowest one in flight plus `span`, so at most `span` commands are in flight. A command waits for its answer for
+    /// `wait` milliseconds ([`wait_while`](oca_control::wait_while)), whatever else comes to the end meanwhile. If the
+    /// device is silent, the link is lost after 5 to 10.25 seconds.
     pub fn open(device: Peer, end: E, first: Handle, span: Span, wait: u32) -> Panel<E>
         ensures { IsOpened device first.0 (span_size span) wait (E.state end) result }
     {

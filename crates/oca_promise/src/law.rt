@@ -10,11 +10,11 @@ ghost use Rattle.oca_promise.specs.Flights.{EverySetInFlightKeeps, EveryReadingI
 use oca_pair::law_of_what_is_said;
 use oca_pdu::law_reading;
 
-/// Laws: what a panel's calls return is true of the device, in every network in which the calls are made. Such a
-/// network delivers to the panel's end what the end delivered, and that is what its device sent to this link. The
-/// premises of [`law_of_what_is_said`](oca_pair::law_of_what_is_said) hold in it: the link and the network are in time.
-/// For all but the first three, the device's objects were a tree at first, with texts and numbers of their types. They
-/// do nothing at run time.
+/// Laws: what a panel's calls return is true of the device, in every network in which the calls are made. In such a
+/// network, what the panel's end delivered is what the network's device sent to this link. The premises of
+/// [`law_of_what_is_said`](oca_pair::law_of_what_is_said) hold in it: the link and the network are in time. For all but
+/// the first three, the device's objects were a tree at first, with texts and numbers of their types. They do nothing
+/// at run time.
 ///
 /// Once: each answer is that of the only execution of the command of the call, and this execution lies between the call
 /// and its return. In time: no call sends while its link is late, if no stranger's datagram was delivered. Refused: a

@@ -128,8 +128,7 @@ impl View {
         &self.inventory
     }
 
-    /// The device's address, and the span of its links (how far above the lowest handle in flight the next one may
-    /// lie).
+    /// The device's address, and the span of its links: a new handle lies below the lowest one in flight plus the span.
     pub fn reach(&self) -> Reach
         ensures { result ≡ self.now.reach }
     {

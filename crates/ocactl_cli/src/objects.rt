@@ -251,7 +251,7 @@ pub fn lock_all<E: End, W: Sink>(
 /// Otherwise `since` becomes the present moment.
 ///
 /// Returns the exit status: 0 if it was done, 4 if the device refused, 3 if no answer came or nothing was sent.
-/// Refusal: `WriteFailed` if the line was not written; the command was sent all the same.
+/// Refusal: `WriteFailed` if the line was not written; a command that was sent may be carried out all the same.
 pub fn lock_one<E: End, W: Sink>(
     panel: &mut Panel<E>,
     ono: Ono,
