@@ -309,6 +309,12 @@ def lists_each_edit(_):
     return refused == [("a.edit", False), ("b.edits", True), ("c", True)]
 
 
+def names_functions(_):
+    """`edits.py` gives a method the path that the prover prints: with other types than its own parameters where its `impl` is of those."""
+    found = [edits.functions_of("src/m.rt", f"{head} {{\n    fn f() {{}}\n}}\n")[0].path() for head, _ in DATA.heads]
+    return found == [path for _, path in DATA.heads]
+
+
 def answered(lines, texts=()):
     """What the prover says of a copy of a crate with these texts, where these lines tell of what is not proved."""
     told = "\n".join([*lines, "logic=not-proved" if lines else "logic=proved"]) + "\n"
@@ -593,7 +599,8 @@ ROWS = [(what, functools.partial(is_as_wanted, steps=steps, passes=passes, last=
     ("the crate that others wait for", knows_what_is_waited_for), ("what hangs is ended", ends_all_that_hangs),
     ("what failed is told", tells_what_failed), ("a step goes on beside others", goes_on_beside), ("steps begin beside rt ci", begins_early),
     ("examples/run.py compares", compares_examples), ("library.py builds as asked", builds_as_asked), ("snippets.py compares", compares_documents),
-    ("edits.py lists each edit", lists_each_edit), ("edits.py judges edits", judges_edits), ("no step is lost", loses_no_step),
+    ("edits.py lists each edit", lists_each_edit), ("edits.py names functions", names_functions),
+    ("edits.py judges edits", judges_edits), ("no step is lost", loses_no_step),
     ("each tool stands in a step", leaves_none_out), ("make library stands on its sources", stands_on_its_sources),
     ("all that is tried counts", counts_all), ("how many checks run at once", knows_the_lanes), ("a missing kit is told", says_what_is_missing),
     ("edits.py counts all", counts_edits), ("edits.py waits for proofs", waits_for_proofs), ("edits.py copies functions", copies_edits),

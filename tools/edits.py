@@ -94,16 +94,27 @@ class Function:
         return rest[:2] == [self.of + self.trait, self.name] if self.of else rest[:1] == [self.name]
 
 
-def names_of(head):
+def names_of(head, is_trait):
     """The name of the type that an `impl` is of, or of a trait, and that of the trait that it implements, if any, with the names of what
-    that trait is of, as the prover puts them together."""
+    that trait is of, as the prover puts them together. Where the `impl` is not of the type at its own parameters alone, but at other
+    types, their names stand behind it: `impl<E> Session<Watched<E>>` is of `Session+Watched+E`, and as `impl<E> Drop for ..` of `SessionWatched`."""
+    parameters = set()
     if head.startswith("<"):  # what the impl is generic over
         open_ones = [head[:at + 1].count("<") - head[:at + 1].count(">") for at in range(len(head))]
-        head = head[open_ones.index(0) + 1:]
+        end = open_ones.index(0) + 1
+        parameters, head = set(re.findall(r"\w+", head[:end])), head[end:]
     parts = [re.sub(r"'\w+,? ?|\w+::", "", it).strip().lstrip("&") for it in head.split(" for ")]
-    trait = "".join(re.findall(r"\w+", parts[0])) if len(parts) > 1 else ""
-    name = re.match(r"\w*", parts[-1])[0]
-    return name[:1].upper() + name[1:], trait  # of a type such as u8 too
+    trait = "".join(map(capital, re.findall(r"\w+", parts[0]))) if len(parts) > 1 else ""
+    name, *others = re.findall(r"\w+", parts[-1].split(" where ")[0]) or [""]
+    at = [] if is_trait or parameters.issuperset(others) else others
+    if trait:
+        return "".join(map(capital, [name, *(it for it in at if it not in parameters)])), trait
+    return "+".join([capital(name), *at]), trait
+
+
+def capital(name):
+    """A name with a first letter that is large, as the prover puts names together: of a type such as u8 too."""
+    return name[:1].upper() + name[1:]
 
 
 def module_of(path):
@@ -117,9 +128,10 @@ def declares(text, name):
 
 def at_its_type(function, folder, text):
     """The function, in the module of the type that it belongs to, which may be another than that of its impl: so the prover names it."""
-    if function.of and not declares(text, function.of):
+    name = (function.of or "").split("+")[0]
+    if name and not declares(text, name):
         for file in sorted(Path(folder, "src").rglob("*.rt")):
-            if declares(file.read_text(), function.of):
+            if declares(file.read_text(), name):
                 function.module = module_of(file.relative_to(folder))
                 break
     return function
@@ -142,7 +154,7 @@ def functions_of(path, text):
     for at, line in enumerate(lines):
         head, of = FUNCTION.match(line), BLOCK.match(line)
         if of and not line.endswith("}"):
-            block = of[1], names_of(of[3]), of[2]
+            block = of[1], names_of(of[3], of[2] == "trait"), of[2]
         elif block and line == block[0] + "}":
             block = None
         if head:
