@@ -14,6 +14,7 @@ use crate::reason::{is_interrupted, is_signal, reason_of, says_none_came};
 use crate::socket::{Socket, address_towards};
 use oca_types::{MOST_BYTES, Packet, Peer};
 use std::alloc::Global;
+use std::fmt;
 use std::io;
 use std::marker::Model;
 use std::net::Net;
@@ -126,6 +127,18 @@ impl<'a, C: Clock> Model for UdpEnd<'a, C> {
       receive_fault = a.failed_receive;
       send_fault = a.failed_send;
     } };
+}
+
+impl<'a, C: Clock> fmt::Debug for UdpEnd<'a, C> {
+    /// The end's address, how many datagrams it took and how many receives there were, and how many of both failed.
+    fn fmt<W: fmt::Write>(&self, f: &mut fmt::Formatter<W>) -> fmt::Result {
+        f.debug_struct("UdpEnd")
+            .field("local", &self.local)
+            .field("sends", &self.sends)
+            .field("receives", &self.receives)
+            .field("failures", &self.failures)
+            .finish()
+    }
 }
 
 impl<'a, C: Clock> UdpEnd<'a, C> {

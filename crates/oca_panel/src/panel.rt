@@ -7,6 +7,7 @@ ghost use Rattle.oca_panel.specs.Panels.{is_lost_or_unanswered};
 use oca_control::{ControlFault, Link, Outcome, begin, is_late, turn, wait_for, wait_while};
 use oca_net::End;
 use oca_types::{Handle, Peer, Request, Span};
+use std::fmt;
 use std::marker::Model;
 
 mod calling;
@@ -55,6 +56,17 @@ impl<E: End + Drop> Drop for Panel<E> {
             wait: _,
             unanswered: _,
         } = self;
+    }
+}
+
+impl<E: End> fmt::Debug for Panel<E> {
+    /// The link, for how many milliseconds a command waits for its answer, and whether one got none.
+    fn fmt<W: fmt::Write>(&self, f: &mut fmt::Formatter<W>) -> fmt::Result {
+        f.debug_struct("Panel")
+            .field("link", &self.link)
+            .field("wait", &self.wait)
+            .field("unanswered", &self.unanswered)
+            .finish()
     }
 }
 

@@ -11,6 +11,7 @@ use oca_model::{ClassFields, class_with};
 use oca_net::End;
 use oca_types::{Class, NoMemory, Ono, Text};
 use std::alloc::Global;
+use std::fmt;
 use std::marker::Model;
 
 mod apart;
@@ -86,6 +87,16 @@ impl Model for Walk {
     ghost Value = { WalkState };
 
     ghost view = { λ w. record { waiting = w.waiting.items; visited = w.visited.items } };
+}
+
+impl fmt::Debug for Walk {
+    /// How many objects were asked, and how many are waiting to be.
+    fn fmt<W: fmt::Write>(&self, f: &mut fmt::Formatter<W>) -> fmt::Result {
+        f.debug_struct("Walk")
+            .field("visited", &self.visited.len())
+            .field("waiting", &self.waiting.len())
+            .finish()
+    }
 }
 
 impl Walk {

@@ -4,6 +4,7 @@ ghost use Rattle.oca_panel.specs.Watching.{heard_after};
 
 use oca_net::{End, Heard};
 use oca_types::{Packet, Peer};
+use std::fmt;
 use std::marker::Model;
 
 /// An end, and the moment of the last datagram that it delivered from a peer, in milliseconds.
@@ -29,6 +30,16 @@ impl<E: End + Drop> Drop for Watched<E> {
             peer: _,
             heard: _,
         } = self;
+    }
+}
+
+impl<E: End> fmt::Debug for Watched<E> {
+    /// The peer that is watched, and when it was last heard.
+    fn fmt<W: fmt::Write>(&self, f: &mut fmt::Formatter<W>) -> fmt::Result {
+        f.debug_struct("Watched")
+            .field("peer", &self.peer)
+            .field("heard", &self.heard)
+            .finish()
     }
 }
 

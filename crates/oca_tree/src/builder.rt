@@ -448,6 +448,15 @@ impl Model for TreeBuilder {
     ghost invariant = { λ t. IsTree t.objects.list × (t.objects.room ≤ 4096) };
 }
 
+impl fmt::Debug for TreeBuilder {
+    /// How many objects were added, the root block counted.
+    fn fmt<W: fmt::Write>(&self, f: &mut fmt::Formatter<W>) -> fmt::Result {
+        f.debug_struct("TreeBuilder")
+            .field("objects", &self.objects.len())
+            .finish()
+    }
+}
+
 impl TreeBuilder {
     /// A builder that holds the root alone, a lockable block of the number 100 with the role `root`, and has room for
     /// 128 objects. It takes the memory for them. Refusal: `NoMemory`, if memory was refused.

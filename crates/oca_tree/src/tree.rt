@@ -27,6 +27,7 @@ use crate::setting::{SetFault, set};
 use crate::start::Start;
 use oca_model::{Reading, Value};
 use oca_types::{Class, Command, Ono, Params, Peer, Status, Text};
+use std::fmt;
 use std::marker::Model;
 
 /// What executing a command gave: the status and the ParamCount of the answer, and whether it wrote.
@@ -93,6 +94,16 @@ impl Model for Tree {
     ghost view = { λ t. t.objects.list };
 
     ghost invariant = { λ t. IsTree t.objects.list × (t.marks.locks ≡ lock_count t.objects.list) };
+}
+
+impl fmt::Debug for Tree {
+    /// How many objects there are, and how many of them are locked.
+    fn fmt<W: fmt::Write>(&self, f: &mut fmt::Formatter<W>) -> fmt::Result {
+        f.debug_struct("Tree")
+            .field("objects", &self.objects.len())
+            .field("locked", &self.marks.locks)
+            .finish()
+    }
 }
 
 impl Tree {
