@@ -99,8 +99,8 @@ static inline const char *oca_result_text(uint32_t result) {
     }
 }
 
-/* The most bytes of a datagram and of an answer's parameters, and the most objects that a datagram writes to (a command has 17 bytes
- * at least): room for so many always suffices. */
+/* The most bytes of a datagram and of an answer's parameters, and the most objects that a datagram writes to (a command has at least 17
+ * bytes). Room for these always suffices. */
 enum { OCA_MOST_BYTES = 1472, OCA_MOST_ANSWER = 1452, OCA_MOST_WRITTEN = 86 };
 
 /* ---- numbers of AES70 ---- */
@@ -140,7 +140,7 @@ enum oca_fault {
     OCA_FAULT_COUNT = 7, OCA_FAULT_MESSAGE_SIZE = 8, OCA_FAULT_TRUNCATED = 9
 };
 
-/* The numbers of the classes: oca_device_object and oca_panel_class tell an object's class by one of them. */
+/* The numbers of the classes, by which oca_device_object and oca_panel_class say an object's class. */
 enum oca_class {
     OCA_CLASS_BLOCK = 1, OCA_CLASS_MUTE = 2, OCA_CLASS_POLARITY = 3, OCA_CLASS_SWITCH = 4, OCA_CLASS_BOOLEAN = 5, OCA_CLASS_INT8 = 6,
     OCA_CLASS_INT16 = 7, OCA_CLASS_INT32 = 8, OCA_CLASS_INT64 = 9, OCA_CLASS_UINT8 = 10, OCA_CLASS_UINT16 = 11, OCA_CLASS_UINT32 = 12,
@@ -154,11 +154,11 @@ enum oca_lock_kind { OCA_LOCKED_TOTAL = 1, OCA_LOCKED_READONLY = 2 };
 
 /* ---- values ---- */
 
-/* A value: the number of its class (2 to 13), 0, and its number in 64 bits: of a state (1 or 2), a position, a truth (0 or 1) or a
- * setting, a signed one in two's complement. The functions below make one. Words of fixed size, the same on every compiler. */
+/* A value: the number of its class (2 to 13), 0, and its number in 64 bits. That is a state (1 or 2), a position, a Boolean (0 or 1) or an
+ * integer, a signed one in two's complement. The functions below make one. Words of fixed size, the same on every compiler. */
 struct oca_value { uint32_t class_number, zero; uint64_t bits; };
 
-/* A value, and the least and the greatest that the object can be set to: of a position and of an integer; else both are the value. */
+/* A value, and the least and the greatest to which the object can be set, for a position and an integer; otherwise both are the value. */
 struct oca_reading { struct oca_value value, least, greatest; };
 
 /* The value of the class with this number (enum oca_class) and with these bits. */
@@ -215,16 +215,18 @@ static inline struct oca_reading oca_alone(struct oca_value value) { return oca_
 /* The number of a value of a class of signed integers. */
 static inline int64_t oca_value_signed(struct oca_value value) { return (int64_t)value.bits; }
 
-/* The bytes of the value as a set method has them for its one parameter: 1 to 8, and how many they are. OCA_NO_VALUE if the struct holds no
- * such value. */
+/* Writes the bytes of a value to `out`, as a set method has them for its one parameter (AES70-3), and their number, 1 to 8, to `len`.
+ * OCA_NO_VALUE if the struct holds no value: then nothing is written. OCA_TOO_SMALL if `out` has no room for them: then only `len` is
+ * written. */
 enum oca_result oca_value_put(const struct oca_value *value, uint8_t *out, size_t out_len, size_t *len) OCA_NONNULL;
 
-/* Reads the value and its limits from the parameters of the answer to oca_get_request of the same class. OCA_NO_VALUE if they are no such
- * answer, and for a block. */
+/* Reads the value and its limits from the parameters of the answer to oca_get_request of the same class. OCA_NO_VALUE if no class has the
+ * number, it is the number of a block, or the parameters are not exactly such an answer: then nothing is written. */
 enum oca_result oca_value_read(uint32_t class_number, const uint8_t *params, size_t params_len, struct oca_reading *reading) OCA_NONNULL;
 
-/* The word for a value, 1 to 20 bytes, without a 0 behind it, and how many they are: "muted", "unmuted", "non-inverted", "inverted", "on",
- * "off", and a position and an integer in decimal digits. OCA_NO_VALUE if the struct holds no such value. */
+/* Writes the word for a value to `out`, without a 0 after it, and the number of its bytes, 1 to 20, to `len`. The words are "muted",
+ * "unmuted", "non-inverted", "inverted", "on", "off", and decimal digits for a position and an integer. OCA_NO_VALUE if the struct holds no
+ * value: then nothing is written. OCA_TOO_SMALL if `out` has no room for the word: then only `len` is written. */
 enum oca_result oca_value_text(const struct oca_value *value, uint8_t *out, size_t out_len, size_t *len) OCA_NONNULL;
 
 /* The word for a value, as oca_value_text writes it, as a C string for a log: oca_value_word(oca_int16(-60)).text is "-60". The string is
@@ -239,26 +241,29 @@ static inline struct oca_word oca_value_word(struct oca_value value) {
     return word;
 }
 
-/* The value of an object of the class that a word names: one of the class's words as oca_value_text puts them, or an integer of its type in
- * decimal digits with or without a sign. For a switch the word is the number of a position, and not the position's name. OCA_NO_VALUE for any
- * other word, and for a block, and then nothing is written. */
+/* Writes the value for which a word stands, of an object of the class with this number. The word is one of the class's words, as
+ * oca_value_text writes them, or a number in decimal digits within the class's type. A number may begin with +, and of a signed type also
+ * with -. For a switch the word is the number of a position, and not the position's name. OCA_NO_VALUE for any other word, for a block, and
+ * if no class has the number: then nothing is written. */
 enum oca_result oca_value_from_text(uint32_t class_number, const uint8_t *text, size_t text_len, struct oca_value *value) OCA_NONNULL;
 
-/* What is asked of an object: the method's level and index, ParamCount, and so many bytes of parameters. */
+/* A request to an object: the level and the index of its method, ParamCount, and `size` bytes of parameters. */
 struct oca_request { uint16_t level, index; uint8_t count, size; uint8_t params[8]; };
 
-/* The request that sets an object to the value. OCA_NO_VALUE if the struct holds no such value, and for a block. */
+/* Writes the request that sets an object to a value: the set method of the value's class (AES70-2). OCA_NO_VALUE if the struct holds no
+ * value, as that of a block: then nothing is written. */
 enum oca_result oca_set_request(const struct oca_value *value, struct oca_request *request) OCA_NONNULL;
 
-/* The request that reads the value of an object of the class. OCA_NO_VALUE if there is no such class, and for a block. */
+/* Writes the request that reads how an object of the class with this number is set: the get method of the class (AES70-2). OCA_NO_VALUE if
+ * no class has the number, and for a block: then nothing is written. */
 enum oca_result oca_get_request(uint32_t class_number, struct oca_request *request) OCA_NONNULL;
 
 /* ---- objects ---- */
 
-/* A text: a role, a label or the name of a switch's position: how many bytes it has, at most 64, and they, in UTF-8. In a table: {3, "off"}. */
+/* A text: a role, a label or the name of a switch's position. It has `size` bytes of UTF-8, at most 64. In a table: {3, "off"}. */
 struct oca_name { uint8_t size; uint8_t text[64]; };
 
-/* The text of a C string. A string above 64 bytes makes a text that each call refuses. */
+/* The text of a C string. If the string has more than 64 bytes, each call refuses the text. */
 static inline struct oca_name oca_name_of(const char *text) {
     struct oca_name name = {0, {0}};
     while (name.size < 64 && text[name.size]) {
@@ -269,35 +274,40 @@ static inline struct oca_name oca_name_of(const char *text) {
     return name;
 }
 
-/* The bytes of a text as SetLabel has them for its one parameter: 2 to 66, and how many they are. OCA_NO_VALUE for one above 64 bytes, or that
- * is no UTF-8. */
+/* Writes the bytes of a text to `out`, as SetLabel has them for its one parameter (AES70-2), and their number, 2 to 66, to `len`.
+ * OCA_NO_VALUE if the text has more than 64 bytes or is not UTF-8: then nothing is written. OCA_TOO_SMALL if `out` has no room for them:
+ * then only `len` is written. */
 enum oca_result oca_text_put(const struct oca_name *text, uint8_t *out, size_t out_len, size_t *len) OCA_NONNULL;
 
-/* What the parameters of an answer give: the text of a role, a label or a position's name; the names of a switch's positions; the numbers of a
- * block's members; and the identifier of a class. OCA_NO_VALUE where they are no such answer, and then nothing is written. */
+/* Reads the text from the parameters of the answer to GetRole, GetLabel or GetPositionName. OCA_NO_VALUE if they are not exactly a text of
+ * at most 64 bytes: then nothing is written. */
 enum oca_result oca_text_read(const uint8_t *params, size_t params_len, struct oca_name *text) OCA_NONNULL;
 
-/* The names of a switch's positions, in their order, at most 16. */
+/* Reads the names of a switch's positions from the parameters of the answer to GetPositionNames: in their order, at most 16. OCA_NO_VALUE
+ * if they are not exactly such an answer: then nothing is written. */
 struct oca_names { uint32_t count; struct oca_name names[16]; };
 enum oca_result oca_names_read(const uint8_t *params, size_t params_len, struct oca_names *names) OCA_NONNULL;
 
-/* The numbers of a block's members, in their order, at most 181. */
+/* Reads the numbers of a block's members from the parameters of the answer to GetMembers: in their order, at most 181. OCA_NO_VALUE if they
+ * are not exactly such an answer: then nothing is written. */
 struct oca_members { uint32_t count, onos[181]; };
 enum oca_result oca_members_read(const uint8_t *params, size_t params_len, struct oca_members *members) OCA_NONNULL;
 
-/* The identifier of a class (OcaClassID): how many fields it has, at most 16, and they; and the number in enum oca_class of the class, 0
- * for one that is not of this profile. The number by the fields alone, too. */
+/* The identifier of a class (OcaClassID, AES70-2): `count` fields, at most 16, and the number of the class in enum oca_class, 0 for a class
+ * that is not of this profile. oca_class_read reads it from the parameters of the answer to GetClassIdentification. OCA_NO_VALUE if they
+ * are not exactly such an answer: then nothing is written. oca_class_with returns the number of the class with these fields, 1 to 13, or 0.
+ * */
 struct oca_class_id { uint16_t count, fields[16]; uint32_t class_number; };
 enum oca_result oca_class_read(const uint8_t *params, size_t params_len, struct oca_class_id *id) OCA_NONNULL;
 uint32_t oca_class_with(const uint16_t *fields, size_t fields_len) OCA_NONNULL;
 
-/* An object, as it is added and as it is read, so that a device can be made again as it was. It has the class with the setting and its
- * limits, whether the object can be locked and is enabled (0 no, any other byte yes), its role and its label. Of a switch it has the
- * positions too: how many there are, the name of each, and which are enabled. A block's class is OCA_CLASS_BLOCK, and nothing else of its
- * reading is looked at; nor are the limits of a mute, a polarity, a Boolean and a position. There is no pointer in it, and no byte between
- * its fields. Its size comes first, also where it is to be written, and the zeros are 0: a struct of another size than the library's, or
- * with another byte there, is refused with OCA_BAD_SIZE. If a call only writes to the struct, it looks at the size alone: struct oca_spec
- * spec = OCA_SPEC_INIT; */
+/* The description of an object, by which it is added and as which it is read, so that a device can be made again as it was. It has the
+ * class, the setting and its limits, whether the object can be locked and is enabled (0 is false, any other byte is true), its role and its
+ * label. For a switch it also has the number of positions, their names, and which are enabled. For a block the class is OCA_CLASS_BLOCK,
+ * and the rest of the reading is not looked at. The limits of a mute, a polarity, a Boolean and a position are not looked at either. There
+ * is no pointer in it, and no byte between its fields. Its size comes first, even if it is only written to, and the zeros are 0. A struct
+ * of another size than the library's, or with another byte there, is refused with OCA_BAD_SIZE. A call that only writes to the struct looks
+ * at the size alone: struct oca_spec spec = OCA_SPEC_INIT; */
 struct oca_spec {
     uint32_t size;
     uint8_t lockable, enabled;
@@ -328,11 +338,12 @@ static inline void oca_spec_position(struct oca_spec *spec, const char *name) {
     if (spec->positions < 17) spec->positions++;
 }
 
-/* Brings what was stored of an object into the struct that says what it is to be: its value, its label, whether it is enabled, and of a
- * switch the names of its positions and which are enabled. Its role, its limits and whether it can be locked stay. So a new version of a
- * program may change those. The first that applies, and then nothing is changed: OCA_BAD_SIZE; OCA_OTHER_KIND for two classes, or two
- * numbers of positions; OCA_BAD_RANGE for more than 16 positions; OCA_BAD_TEXT for a stored label or name that is no UTF-8 or has more than
- * 64 bytes; OCA_OUT_OF_RANGE for a stored value that is none, or that the struct does not allow. */
+/* Changes the description of an object to what was stored of it: its value, its label, and whether it is enabled. For a switch it also
+ * changes the names of its positions and which are enabled. The role, the limits and whether it can be locked stay, so a new version of a
+ * program may change those. Otherwise the first of these that applies, and then nothing is changed. OCA_BAD_SIZE if one of the structs is
+ * of another size. OCA_OTHER_KIND if they are of two classes, or have two numbers of positions. OCA_BAD_RANGE if there are more than 16
+ * positions. OCA_BAD_TEXT if a stored label or name is not UTF-8 or has more than 64 bytes. OCA_OUT_OF_RANGE if the stored value is none,
+ * or the struct does not allow it. */
 enum oca_result oca_spec_restore(struct oca_spec *spec, const struct oca_spec *stored) OCA_NONNULL;
 
 /* ---- the device ---- */
@@ -342,27 +353,32 @@ struct oca_device { void *at; bool is_open; };
 /* A closed one: struct oca_device device = OCA_DEVICE_INIT; */
 #define OCA_DEVICE_INIT {NULL, false}
 
-/* Opens a device that has its root alone (the block 100), with room for so many objects, the root counted: 1 to 4,096. */
+/* Opens a device that has its root alone (the block 100), with room for `room` objects, the root counted: 1 to 4,096. It takes the memory
+ * for them. Otherwise the first of these that applies, and then nothing is changed. OCA_OPEN if the struct is open already. OCA_BAD_SIZE if
+ * `room` is outside its range. OCA_NO_MEMORY if memory was refused. */
 enum oca_result oca_device_open(struct oca_device *device, uint16_t room) OCA_CHECKED;
 
 /* Opens a device as oca_device_open does, with what was stored of the root: its label, and whether it is enabled. Of the rest of the struct
- * only its size and its zeros are looked at. The first that applies: OCA_BAD_SIZE, OCA_BAD_TEXT for a label that is no UTF-8 or has more than 64 bytes, OCA_NO_MEMORY. */
+ * only its size and its zeros are looked at. Otherwise the first of these that applies, and then nothing is changed. OCA_OPEN if the struct
+ * is open already. OCA_BAD_SIZE if `room` is outside its range, or `root` is of another size. OCA_BAD_TEXT if the label is not UTF-8 or has
+ * more than 64 bytes. OCA_NO_MEMORY if memory was refused. */
 enum oca_result oca_device_open_with(struct oca_device *device, uint16_t room, const struct oca_spec *root) OCA_CHECKED;
 
-/* Closes a device and gives its memory back; a closed one stays closed, and at a null pointer nothing is done. */
+/* Closes a device and frees its memory. A closed one stays closed, and for a null pointer nothing is done. */
 void oca_device_close(struct oca_device *device);
 static inline void oca_device_close_any(struct oca_device *device) {
     if (device) oca_device_close(device);
 }
 #define oca_device_close(device) oca_device_close_any(device)
 
-/* Adds an object to the tree, in a block that is there (the root is the block 100), before the start. Before what enum oca_result has of an
- * addition: OCA_BAD_SIZE; OCA_BAD_RANGE for more than 16 positions; OCA_BAD_TEXT for a role, a label or a name that is no UTF-8 or has more
- * than 64 bytes; OCA_NO_VALUE if the reading is none that an object can have. */
+/* Adds an object to the tree, before the start, in a block that is there (the root is the block 100). Otherwise the first of these that
+ * applies, and then nothing is changed. OCA_CLOSED, or OCA_STARTED after the start. OCA_BAD_SIZE if the struct is of another size.
+ * OCA_BAD_RANGE if it has more than 16 positions. OCA_BAD_TEXT if the role, the label or a name is not UTF-8 or has more than 64 bytes.
+ * OCA_NO_VALUE if the reading is none that an object can have. Then what enum oca_result says of an addition. */
 enum oca_result oca_device_add(struct oca_device *device, uint32_t container, uint32_t ono, const struct oca_spec *spec) OCA_CHECKED;
 
-/* Adds an object of one class to the tree, as oca_device_add does, with the fields one by one. `muted` and `inverted` are the states at
- * first. */
+/* Adds an object of one class to the tree, as oca_device_add does, with the fields one by one. `lockable` says whether it can be locked.
+ * `muted`, `inverted` and `setting` are its first state or setting. An integer lies within `least` to `greatest`, now and later. */
 enum oca_result oca_device_add_block(struct oca_device *device, uint32_t container, uint32_t ono, const uint8_t *role, size_t role_len, bool lockable) OCA_CHECKED;
 enum oca_result oca_device_add_mute(struct oca_device *device, uint32_t container, uint32_t ono, const uint8_t *role, size_t role_len, bool lockable, bool muted) OCA_CHECKED;
 enum oca_result oca_device_add_polarity(struct oca_device *device, uint32_t container, uint32_t ono, const uint8_t *role, size_t role_len, bool lockable, bool inverted) OCA_CHECKED;
@@ -376,144 +392,166 @@ enum oca_result oca_device_add_uint16(struct oca_device *device, uint32_t contai
 enum oca_result oca_device_add_uint32(struct oca_device *device, uint32_t container, uint32_t ono, const uint8_t *role, size_t role_len, bool lockable, uint32_t setting, uint32_t least, uint32_t greatest) OCA_CHECKED;
 enum oca_result oca_device_add_uint64(struct oca_device *device, uint32_t container, uint32_t ono, const uint8_t *role, size_t role_len, bool lockable, uint64_t setting, uint64_t least, uint64_t greatest) OCA_CHECKED;
 
-/* Adds a switch with 1 to 16 positions, which are all enabled, and with the position at which it is first, counted from 0. */
+/* Adds a switch with 1 to 16 positions, which are all enabled, as oca_device_add does. `position` is the one at which it stands first,
+ * counted from 0. */
 enum oca_result oca_device_add_switch(struct oca_device *device, uint32_t container, uint32_t ono, const uint8_t *role, size_t role_len, bool lockable, const struct oca_name *names, size_t names_len, uint16_t position) OCA_CHECKED;
 
-/* Starts the device, with reply windows of this size (1 to 64; 32 is usual; at least twice the panels' span less one) and sessions of so
- * many peers (1 to 64; 16 is usual). If it is started already, the result is OCA_STARTED, whatever is asked for. OCA_NO_MEMORY loses the
+/* Starts the device. `window` is for how many commands of one peer it keeps the replies: 1 to 64; 32 is usual, and it must be at least
+ * twice the panels' span less one. `peers` is how many peers have a session at once: 1 to 64; 16 is usual. If it is started already, the
+ * result is OCA_STARTED, whatever the sizes. OCA_BAD_SIZE if a size is outside its range: then nothing is changed. OCA_NO_MEMORY loses the
  * objects and closes the struct: each call then answers OCA_CLOSED, and it can be opened again. */
 enum oca_result oca_device_start(struct oca_device *device, uint8_t window, uint8_t peers) OCA_CHECKED;
 
-/* Starts a small device as oca_device_start does, but with room for `packets` packets that answer a datagram (1 to 122), of some 1,480
- * bytes each. oca_device_start has room for 122, as many as a datagram can ask for. All commands of a datagram are executed, whatever the room; the first packets are
- * kept, and the others are left out, as if the network had lost those: a controller that sends such a command again gets the retained
- * reply. A datagram is never answered with more packets than it has commands and keep-alives, so nothing is left out of what answers a
- * controller that has fewer commands in flight than there is room for packets, and at most one keep-alive in a datagram. */
+/* Starts a small device as oca_device_start does, but with room for `packets` packets that answer a datagram: 1 to 122, of some 1,480 bytes
+ * each. oca_device_start has room for 122, the most that a datagram can ask for. All commands of a datagram are executed, whatever the
+ * room. The first packets are kept, and the others are left out, as if the network had lost them: a controller that sends such a command
+ * again gets the retained reply. A datagram is never answered with more packets than it has commands and keep-alives. So nothing is left
+ * out for a controller that has fewer commands in flight than there is room for packets, and sends at most one keep-alive in a datagram. */
 enum oca_result oca_device_start_within(struct oca_device *device, uint8_t window, uint8_t peers, size_t packets) OCA_CHECKED;
 
-/* What became of a datagram. `kind` is 0 for one that was served: then come how many of its commands were executed, were duplicates, were too
- * old, and asked something else under a known handle. It is 1 for a malformed one, with its first fault (1 to 9) and where it lies, and 2 where
- * there was no room for its sender. A later version may have further fields: each is a word. */
+/* What became of a datagram. `kind` is 0 if it was served. Then come how many of its commands were executed, were duplicates, were too old,
+ * and asked something else under a known handle. `kind` is 1 if it was malformed: `fault` is its first fault (1 to 9) and `at` its offset
+ * in bytes. `kind` is 2 if there was no room for its sender. A later version may have further fields: each is a word. */
 struct oca_verdict { uint32_t kind, executed, kept, old, reused, fault, at; };
 
-/* Hands a datagram over. Its answers are then there until the next one, all for its sender. The verdict goes to `words` words. */
+/* Handles a datagram that came from an address and a port at the moment `now`. Its answers are then the device's packets, all for its
+ * sender, until the next datagram. The verdict is written to `verdict`; oca_device_datagram_words writes its first `words` words. A moment
+ * earlier than one already seen counts as that one. OCA_CLOSED, or OCA_NOT_STARTED before the start: then nothing is changed or written. */
 enum oca_result oca_device_datagram_words(struct oca_device *device, uint32_t ip, uint16_t port, const uint8_t *bytes, size_t len, uint64_t now, uint32_t *verdict, size_t words) OCA_NONNULL;
 static inline enum oca_result oca_device_datagram(struct oca_device *device, uint32_t ip, uint16_t port, const uint8_t *bytes, size_t len, uint64_t now, struct oca_verdict *verdict) {
     return oca_device_datagram_words(device, ip, port, bytes, len, now, &verdict->kind, sizeof *verdict / sizeof verdict->kind);
 }
 
-/* How many packets answer the last datagram (none before the first datagram), and the bytes of each, by its index from 0; OCA_NOTHING for
- * an index after the last. */
+/* How many packets answer the last datagram, 0 to 122 (0 before the first datagram), and the bytes of each, by its index from 0.
+ * OCA_NOTHING for an index after the last: then nothing is written. OCA_TOO_SMALL if `out` has no room for the packet: then only `len` is
+ * written. */
 enum oca_result oca_device_packets(struct oca_device *device, size_t *count) OCA_NONNULL;
 enum oca_result oca_device_packet(struct oca_device *device, size_t i, uint8_t *out, size_t out_len, size_t *len) OCA_NONNULL;
 
-/* Whether packets that answer the last datagram were left out, since there was no room for them (oca_device_start_within); false before the
- * first datagram. */
+/* Whether answers to the last datagram were left out because there was no room for them (oca_device_start_within); false before the first
+ * datagram. */
 enum oca_result oca_device_left_out(struct oca_device *device, bool *left_out) OCA_NONNULL;
 
-/* The numbers of the objects that the last datagram wrote to, in order, each as often as it was; none before the first datagram. Each
- * command that writes and was executed with the status OCA_STATUS_OK counts: a value, also one that was there before, a label, whether the object is
- * enabled, names and flags of positions. A lock, a refused command and a duplicate do not. Clock
- * readings and settings at the local front panel leave them. `count` is how many there are; where `out` has room for fewer it gets the first of
- * them, and the answer is OCA_TOO_SMALL. */
+/* The numbers of the objects that the last datagram wrote to, in order, each as often as it was written; none before the first datagram.
+ * Each command that writes and was executed with the status OCA_STATUS_OK counts: a value, even one that was there before, a label, whether
+ * the object is enabled, names and flags of positions. A lock, a refused command and a duplicate do not count. Clock readings and settings
+ * at the local front panel leave the list as it is. `count` is how many there are, at most OCA_MOST_WRITTEN. OCA_TOO_SMALL if `out` has no
+ * room for all: then it gets the first of them, and `count` is written too. */
 enum oca_result oca_device_written(struct oca_device *device, uint32_t *out, size_t out_len, size_t *count) OCA_NONNULL;
 
-/* Whether the answers to the last datagram wait until the objects are stored, for a device of which what was answered with OCA_STATUS_OK is
- * to be there after a power cut. They do if the datagram wrote to an object (oca_device_written lists one). While something that datagrams
- * wrote is not stored, they also do if the datagram held a duplicate, whose answer is that of an earlier command. So store the objects
- * (oca_store_save), say so by oca_device_stored, and then send the packets. Where they cannot be stored, send none of them: for the
- * controller it is as if the network had lost them, and its next copy of the command, which finds the retained reply, waits too. Other
+/* Whether the answers to the last datagram must wait until the objects are stored. This is for a device on which everything that was
+ * answered with OCA_STATUS_OK must be there after a power cut. They wait if the datagram wrote to an object (oca_device_written lists one).
+ * While something that datagrams wrote is not stored, they also wait if the datagram held a duplicate, whose answer is that of an earlier
+ * command. So store the objects (oca_store_save), call oca_device_stored, and then send the packets. If they cannot be stored, send none of
+ * them. For the controller it is as if the network had lost them, and the answers to its next transmission of the command wait too. Other
  * answers leave at once. None wait before the first datagram. */
 enum oca_result oca_device_waits(struct oca_device *device, bool *waits) OCA_NONNULL;
 
-/* Notes that the objects are stored as they are now, before the next datagram is handed over: no answers wait then. What is set at the local front panel
- * makes none wait. */
+/* Notes that the objects are stored as they are now: no answers wait then. Call it before the next datagram is handled. What is set at the
+ * local front panel makes no answers wait. */
 enum oca_result oca_device_stored(struct oca_device *device) OCA_NONNULL;
 
-/* Hands a clock reading over when no datagram comes: sessions and locks lapse by it. */
+/* Moves the device's clock on to `now` when no datagram comes: sessions and locks lapse by it. Locks of peers that are silent for more than
+ * three heartbeats are released, and sessions that are silent for more than 120,000 ms are forgotten. A moment earlier than one already
+ * seen counts as that one. */
 enum oca_result oca_device_tick(struct oca_device *device, uint64_t now) OCA_NONNULL;
 
-/* The earliest moment, not before the device's own, at which a clock reading changes the objects or the sessions: a loop may sleep until
- * then if no datagram comes. OCA_NOTHING if there is no such moment within 64 bits, for example because there is no session. */
+/* The earliest moment, not before the device's own, at which oca_device_tick changes the objects or the sessions: a loop may sleep until
+ * then if no datagram comes. OCA_NOTHING if there is no such moment within 64 bits, for example because there is no session: then nothing
+ * is written. */
 enum oca_result oca_device_next_lapse(struct oca_device *device, uint64_t *moment) OCA_NONNULL;
 
-/* Sets an object at the local front panel; locks do not bind it. A state is 1 or 2, as in AES70-2. */
+/* Sets an object at the local front panel, whether it is locked or not. A state is 1 or 2, as in AES70-2, and a position is counted from 0.
+ * Otherwise the first of these that applies, and then nothing is changed. OCA_CLOSED, or OCA_NOT_STARTED before the start. OCA_NO_OBJECT if
+ * there is no such object. OCA_NO_SETTING for a block. OCA_OTHER_KIND if the object's class is set by another kind of value.
+ * OCA_OUT_OF_RANGE for another state, for a position that is not there or disabled, and for a number outside the object's limits. */
 enum oca_result oca_device_set_state(struct oca_device *device, uint32_t ono, uint8_t state) OCA_NONNULL;
 enum oca_result oca_device_set_position(struct oca_device *device, uint32_t ono, uint16_t position) OCA_NONNULL;
 enum oca_result oca_device_set_truth(struct oca_device *device, uint32_t ono, bool truth) OCA_NONNULL;
 enum oca_result oca_device_set_signed(struct oca_device *device, uint32_t ono, int64_t number) OCA_NONNULL;
 enum oca_result oca_device_set_unsigned(struct oca_device *device, uint32_t ono, uint64_t number) OCA_NONNULL;
 
-/* Sets an object at the local front panel to a value of the object's class; locks do not bind it. OCA_OTHER_KIND for a value of another class, such as a
- * polarity's for a mute, or an integer of another type. OCA_NO_VALUE if the struct holds no such value; only OCA_CLOSED and OCA_NOT_STARTED come before it. */
+/* Sets an object at the local front panel to a value of the object's class, whether it is locked or not. Otherwise the first of these that
+ * applies, and then nothing is changed. OCA_CLOSED, or OCA_NOT_STARTED before the start. OCA_NO_VALUE if the struct holds no value.
+ * OCA_NO_OBJECT if there is no such object. OCA_NO_SETTING for a block. OCA_OTHER_KIND for a value of another class, such as a polarity's
+ * for a mute, or an integer of another type. OCA_OUT_OF_RANGE for a position that is not there or disabled, and for a number outside the
+ * object's limits. */
 enum oca_result oca_device_set(struct oca_device *device, uint32_t ono, const struct oca_value *value) OCA_NONNULL;
 
-/* Gives an object a label of `label_len` bytes of UTF-8, 0 to 64, at the local front panel; locks do not bind it. The first that applies:
- * OCA_BAD_TEXT for bytes that are no UTF-8, OCA_NO_OBJECT if there is no such object, OCA_BAD_TEXT for a longer label. */
+/* Gives an object a label of `label_len` bytes of UTF-8, 0 to 64, at the local front panel, whether it is locked or not. Otherwise the
+ * first of these that applies, and then nothing is changed. OCA_CLOSED, or OCA_NOT_STARTED before the start. OCA_BAD_TEXT for bytes that
+ * are not UTF-8. OCA_NO_OBJECT if there is no such object. OCA_BAD_TEXT for a longer label. */
 enum oca_result oca_device_set_label(struct oca_device *device, uint32_t ono, const uint8_t *label, size_t label_len) OCA_NONNULL;
 
-/* Enables or disables an object at the local front panel; locks do not bind it. OCA_NO_OBJECT if there is no such object. */
+/* Enables or disables an object at the local front panel, whether it is locked or not. OCA_NO_OBJECT if there is no such object: then
+ * nothing is changed. */
 enum oca_result oca_device_set_enabled(struct oca_device *device, uint32_t ono, bool enabled) OCA_NONNULL;
 
-/* Takes the lock off an object at the local front panel, whoever holds it (oca_device_lock tells who). OCA_NO_OBJECT if there is no such object;
- * OCA_NOTHING if it is not locked. The peer is told nothing of it: it keeps its session and its other locks, and may lock the object again. */
+/* Releases the lock of an object at the local front panel, whichever peer holds it (oca_device_lock writes which). OCA_NO_OBJECT if there
+ * is no such object; OCA_NOTHING if it is not locked: then nothing is changed. The peer gets no message. It keeps its session and its other
+ * locks, and may lock the object again. */
 enum oca_result oca_device_unlock(struct oca_device *device, uint32_t ono) OCA_NONNULL;
 
-/* Says whether the hardware of an object refuses to be changed, until the next such call for the object. While it refuses, each command that is
- * executed and whose method writes is answered OCA_STATUS_PROCESSING_FAILED if no other status refuses it, and changes nothing; a duplicate of an
- * earlier command gets its retained reply. Commands that read or lock are answered, and the calls of the local front panel change the object as
- * before. No struct of this library stores it. OCA_NO_OBJECT if there is no such object. */
+/* Sets whether the hardware of an object refuses to be changed, until the next such call for the object. While it refuses, each command
+ * that would write to the object, and that no other status refuses, is answered OCA_STATUS_PROCESSING_FAILED, and changes nothing. A
+ * duplicate of an earlier command gets its retained reply. Commands that read or lock are answered as before, and the calls of the local
+ * front panel change the object as before. No struct of this library stores it. OCA_NO_OBJECT if there is no such object: then nothing is
+ * changed. */
 enum oca_result oca_device_set_failing(struct oca_device *device, uint32_t ono, bool failing) OCA_NONNULL;
 
-/* Tells what oca_device_set_failing said last of the hardware of an object; false if it said nothing since the start. OCA_NO_OBJECT if there is
- * no such object, and then nothing is written. */
+/* Writes whether the hardware of an object refuses to be changed, as oca_device_set_failing set it last; false if it was not set since the
+ * start. OCA_NO_OBJECT if there is no such object: then nothing is written. */
 enum oca_result oca_device_is_failing(struct oca_device *device, uint32_t ono, bool *failing) OCA_NONNULL;
 
-/* The setting of an object. Its kind is 1 for a state, 2 for a position, 3 for a truth (0 or 1) and 4 for a number; `negative` is 1 if the
- * number is below 0, and otherwise 0. OCA_NOTHING for a block, and if the object is not there. */
+/* The setting of an object. Its kind is 1 for a state, 2 for a position, 3 for a Boolean (0 or 1) and 4 for an integer; `negative` is 1 if
+ * the number is below 0, and otherwise 0. OCA_NOTHING for a block, and if the object is not there: then nothing is written. */
 struct oca_setting { uint32_t kind, negative; uint64_t magnitude; };
 enum oca_result oca_device_setting(struct oca_device *device, uint32_t ono, struct oca_setting *setting) OCA_NONNULL;
 
-/* An object: its number, that of the block that contains it (0 for the root), its class, and its role of so many bytes. A later
- * version may have further words before the role. */
+/* An object: its number, the number of the block that contains it (0 for the root), the number of its class (enum oca_class), and its role
+ * of `role_size` bytes. A later version may have further words before the role. */
 struct oca_object { uint32_t ono, container, class_number, role_size; uint8_t role[64]; };
 
-/* How many objects there are, the root counted; and what each is, by its index in order of adding, from 0 for the root; OCA_NOTHING for an
- * index after the last. The words go to `words` words, and the role to `role_len` bytes, as far as there is room. */
+/* How many objects there are, the root counted, and what each is, by its index in order of adding, from 0 for the root. OCA_NOTHING for an
+ * index after the last: then nothing is written. oca_device_object_words writes `words` words to `object`, and `role_len` bytes to `role`,
+ * as far as there is room. */
 enum oca_result oca_device_objects(struct oca_device *device, size_t *count) OCA_NONNULL;
 enum oca_result oca_device_object_words(struct oca_device *device, size_t index, uint32_t *object, size_t words, uint8_t *role, size_t role_len) OCA_NONNULL;
 static inline enum oca_result oca_device_object(struct oca_device *device, size_t index, struct oca_object *object) {
     return oca_device_object_words(device, index, &object->ono, offsetof(struct oca_object, role) / sizeof object->ono, object->role, sizeof object->role);
 }
 
-/* What an object is now, by its index from 0 at the root in order of adding: an addition of the struct makes the same object again, except
- * that it is not locked and that its hardware does not refuse; for the root oca_device_open_with does so. OCA_BAD_SIZE if the struct does not
- * say its size; OCA_NOTHING after the last. So a device saves what was set, by peers and at its local front panel; oca_device_object has the object's number and that of its
- * block. */
+/* Writes the description of an object as it is now, by its index from 0 at the root in order of adding. An addition of this struct makes
+ * the same object again, except that it is not locked and that its hardware does not refuse; for the root oca_device_open_with does so.
+ * OCA_BAD_SIZE if the struct does not say its size; OCA_NOTHING after the last object: then nothing is written. So a device saves what was
+ * set, by peers and at its local front panel. oca_device_object has the object's number and the number of its block. */
 enum oca_result oca_device_spec(struct oca_device *device, size_t index, struct oca_spec *spec) OCA_NONNULL;
 
-/* What the object with this number is now, as oca_device_spec writes it. OCA_NOTHING if there is no such object. */
+/* Writes the description of the object with this number as it is now, as oca_device_spec does. OCA_BAD_SIZE if the struct does not say its
+ * size; OCA_NOTHING if there is no such object: then nothing is written. */
 enum oca_result oca_device_spec_of(struct oca_device *device, uint32_t ono, struct oca_spec *spec) OCA_NONNULL;
 
-/* Which peers have a session at the device's present moment: how many they are, and the address and port of each, by its index from 0 in
- * order of opening; OCA_NOTHING for an index after the last. A session ends 120,000 ms after its peer was heard last. */
+/* Which peers have a session at the device's present moment: how many they are, 0 to 64, and the address and port of each, by its index
+ * from 0 in order of opening. OCA_NOTHING for an index after the last: then nothing is written. A session ends when its peer was not heard
+ * for more than 120,000 ms. */
 enum oca_result oca_device_peers(struct oca_device *device, size_t *count) OCA_NONNULL;
 enum oca_result oca_device_peer(struct oca_device *device, size_t index, uint32_t *ip, uint16_t *port) OCA_NONNULL;
 
 /* The lock of an object, and the peer that holds it: kind 1 keeps other peers from all access, kind 2 from all but reading. The lock of a
- * block does not lock its members. OCA_NOTHING if the object is not locked or not there. */
+ * block does not lock its members. OCA_NOTHING if the object is not locked or not there: then nothing is written. */
 enum oca_result oca_device_lock(struct oca_device *device, uint32_t ono, uint32_t *kind, uint32_t *ip, uint16_t *port) OCA_NONNULL;
 
-/* What a device keeps of an object over a stop: its number, that of its block, and what it is. There is no pointer in it, and no byte between
- * its fields. */
+/* What a device keeps of an object over a stop: its number, the number of its block, and its description. There is no pointer in it, and no
+ * byte between its fields. */
 struct oca_kept { uint32_t ono, container; struct oca_spec spec; };
 
-/* What each object is now, in order of adding, the root first: as many as there is room for, and how many there are. OCA_TOO_SMALL where they
- * are more. Between the first and the last of them nothing else is to be called for the device. */
+/* Writes what to keep of each object, in order of adding, the root first: as many as there is room for, and how many there are.
+ * OCA_TOO_SMALL if there is no room for all: then the first of them and their number are written. Between the first and the last of them no
+ * other call may be made for the device. */
 enum oca_result oca_device_keep(struct oca_device *device, struct oca_kept *kept, size_t room, size_t *count) OCA_NONNULL;
 
-/* Opens a device with this root, and adds an object to it, as oca_device_open_with and oca_device_add do, but as they were kept:
- * oca_spec_restore brings what was kept under its number into a copy of the struct. If nothing was kept under it, or oca_spec_restore
+/* Opens a device with this root, or adds an object to it, as oca_device_open_with and oca_device_add do, but as it was kept: what was kept
+ * under its number is brought into a copy of the struct by oca_spec_restore. If nothing was kept under the number, or oca_spec_restore
  * refuses that, the object is as the struct says. `count` may be 0. */
 enum oca_result oca_device_open_kept(struct oca_device *device, uint16_t room, const struct oca_spec *root, const struct oca_kept *kept, size_t count) OCA_CHECKED;
 enum oca_result oca_device_add_kept(struct oca_device *device, uint32_t container, uint32_t ono, const struct oca_spec *spec, const struct oca_kept *kept, size_t count) OCA_CHECKED;
@@ -524,7 +562,7 @@ enum oca_result oca_device_add_kept(struct oca_device *device, uint32_t containe
  * not call it does not link it. */
 #ifndef OCA_NO_POSIX
 
-/* What became of a call of a store. Where it is OCA_STORE_SYSTEM, a call of the system failed: the store has its name and its errno. */
+/* The result of a call of a store. If it is OCA_STORE_SYSTEM, a call of the system failed: the store has its name and its errno. */
 enum oca_store_result {
     OCA_STORE_DONE = 0,
     OCA_STORE_NOTHING = 1,   /* nothing was stored yet: there is no file */
@@ -563,25 +601,26 @@ static inline const char *oca_store_text(uint32_t result) {
 struct oca_store { bool is_open; int folder, lock, error; const char *call; char name[256]; };
 #define OCA_STORE_INIT {false, 0, 0, 0, NULL, {0}}
 
-/* Opens the store of a file for this program alone, until it is closed or the program ends: a lock on FILE.lock beside it, which is made and
- * stays. Nothing is written to FILE. The first that applies: OCA_STORE_NULL, OCA_STORE_OPEN, OCA_STORE_BAD_PATH, OCA_STORE_SYSTEM where its
- * folder can't be opened, OCA_STORE_NO_FILE, OCA_STORE_SYSTEM where FILE.lock can't be made, OCA_STORE_HELD. All but the first two leave it
- * closed. */
+/* Opens the store of a file for this program alone, until it is closed or the program ends. It locks the file FILE.lock beside FILE, which
+ * is made and stays. Nothing is written to FILE. Otherwise the first of these that applies. OCA_STORE_NULL if a pointer is null.
+ * OCA_STORE_OPEN if the store is open. OCA_STORE_BAD_PATH if the path names no file. OCA_STORE_SYSTEM if its folder can't be opened.
+ * OCA_STORE_NO_FILE if FILE, FILE.new or FILE.lock is no plain file. OCA_STORE_SYSTEM if FILE.lock can't be made. OCA_STORE_HELD if another
+ * store has the file open. All but the first two leave it closed. */
 enum oca_store_result oca_store_open(const char *path, struct oca_store *store) OCA_LOOKED_AT;
 
-/* Reads what was stored last, into room for so many bytes, and tells how many it is. After any result but OCA_STORE_DONE the room may hold
- * anything; the length is then 0, except after OCA_STORE_TOO_SMALL: then it is the number of bytes that were stored. OCA_STORE_NOTHING
- * where there is no file: a new device. OCA_STORE_BROKEN: it is empty, cut off, longer than it was or changed, or it is of something else;
- * it stays as it is. */
+/* Reads what was stored last into `out`, which has room for `room` bytes, and writes how many bytes it is to `length`. After any result but
+ * OCA_STORE_DONE `out` may hold anything, and the length is 0. Only after OCA_STORE_TOO_SMALL it is the number of bytes that were stored.
+ * OCA_STORE_NOTHING if there is no file, as on a new device. OCA_STORE_BROKEN if the file is empty, cut off, longer than it was or changed,
+ * or is something else; it stays as it is. */
 enum oca_store_result oca_store_load(struct oca_store *store, void *out, size_t room, size_t *length) OCA_LOOKED_AT;
 
-/* Stores these bytes in the place of what was stored before. OCA_STORE_DONE: they are there after any stop, a power cut among them, as far as
- * the disk keeps what it says is on it. They are written to FILE.new, that is brought to the disk and takes the place of FILE, and then the
- * folder is brought to the disk; FILE keeps its mode and its owner. Where anything fails, FILE is whole: what was stored before, or, where
- * only bringing the folder to the disk failed, these bytes. */
+/* Stores these bytes in the place of what was stored before. After OCA_STORE_DONE they are there after any stop, even a power cut, if the
+ * disk keeps what it reports as written. They are written to FILE.new, which is synchronized to the disk and takes the place of FILE; then
+ * the folder is synchronized. FILE keeps its mode and its owner. If anything fails, FILE is whole: it has what was stored before, or these
+ * bytes if only synchronizing the folder failed. */
 enum oca_store_result oca_store_save(struct oca_store *store, const void *bytes, size_t length) OCA_LOOKED_AT;
 
-/* Closes a store and lets the lock go; a closed one stays closed, and at a null pointer nothing is done. */
+/* Closes a store and releases its lock. A closed one stays closed, and for a null pointer nothing is done. */
 void oca_store_close(struct oca_store *store);
 #endif
 
@@ -592,76 +631,91 @@ struct oca_link { void *at; bool is_open; };
 /* A closed one: struct oca_link link = OCA_LINK_INIT; */
 #define OCA_LINK_INIT {NULL, false}
 
-/* Opens a link to the device at this address. Its first command gets this handle, and the handles in flight lie within
- * the span (1 to 32; 16 is usual). */
+/* Opens a link to the device at this address, at the moment `now`. Its first command gets the handle `first_handle`. Each later handle is
+ * one higher, and lies below the lowest handle in flight plus the span (1 to 32; 16 is usual). Otherwise the first of these that applies,
+ * and then nothing is changed. OCA_OPEN if the struct is open already. OCA_BAD_SIZE if the span is outside its range. OCA_NO_MEMORY if
+ * memory was refused. */
 enum oca_result oca_link_open(struct oca_link *link, uint32_t ip, uint16_t port, uint32_t first_handle, uint64_t now, uint8_t span) OCA_CHECKED;
 
-/* Closes a link and gives its memory back; a closed one stays closed, and at a null pointer nothing is done. Its commands may be carried out all the same. */
+/* Closes a link and frees its memory. A closed one stays closed, and for a null pointer nothing is done. Commands in flight may still be
+ * carried out. */
 void oca_link_close(struct oca_link *link);
 static inline void oca_link_close_any(struct oca_link *link) {
     if (link) oca_link_close(link);
 }
 #define oca_link_close(link) oca_link_close_any(link)
 
-/* Submits a command, of at most 1,445 bytes of parameters, and tells its handle. Then call oca_link_due. */
+/* Submits a command with at most 1,445 bytes of parameters at the moment `now`, and writes its handle. `count` is ParamCount. Then call
+ * oca_link_due. Otherwise the first of these that applies, and then nothing is changed or written. OCA_CLOSED if the struct is closed.
+ * OCA_LOST if the link is lost. OCA_HANDLES_SPENT after the handle 4294967295. OCA_SPAN_FULL if the next handle is not below the lowest one
+ * in flight plus the span. OCA_TOO_LONG if the parameters are longer. */
 enum oca_result oca_link_submit(struct oca_link *link, uint32_t target, uint16_t level, uint16_t index, uint8_t count, const uint8_t *params, size_t params_len, uint64_t now, uint32_t *handle) OCA_CHECKED;
 
-/* Submits a request that sets or reads a value, as oca_set_request and oca_get_request make it, and tells the handle of the command. */
+/* Submits a request that sets or reads a value, as oca_set_request and oca_get_request make it, and writes the handle of the command. The
+ * results are those of oca_link_submit. */
 static inline enum oca_result oca_link_ask(struct oca_link *link, uint32_t target, const struct oca_request *request, uint64_t now, uint32_t *handle) {
     return oca_link_submit(link, target, request->level, request->index, request->count, request->params, request->size, now, handle);
 }
 
-/* Submits a command by a method of enum oca_method, with its parameters, and tells the handle of the command. */
+/* Submits a command by a method of enum oca_method, with its parameters, and writes the handle of the command. The results are those of
+ * oca_link_submit. */
 static inline enum oca_result oca_link_call(struct oca_link *link, uint32_t target, uint32_t method, uint8_t count, const uint8_t *params, size_t params_len, uint64_t now, uint32_t *handle) {
     return oca_link_submit(link, target, (uint16_t)(method >> 16), (uint16_t)method, count, params, params_len, now, handle);
 }
 
-/* Puts what is due at the moment into `out`, to be sent; call it until `due` is OCA_DUE_NOTHING or OCA_DUE_LOST: then `len` and `handle`
- * are 0. For OCA_DUE_COMMAND `handle` is that of the command, for OCA_DUE_KEEP_ALIVE it is 0. `out` has room for 1,472 bytes: with less the
- * result is always OCA_TOO_SMALL, whatever is due, and nothing is changed. */
+/* Puts what is due at the moment `now` into `out`, to be sent to the device. Call it until `due` is OCA_DUE_NOTHING or OCA_DUE_LOST: then
+ * `len` and `handle` are 0. `handle` is the handle of the command for OCA_DUE_COMMAND, and 0 for OCA_DUE_KEEP_ALIVE. A command is due if it
+ * is unanswered, and was never sent or was sent 250 ms ago or earlier. A keep-alive is due if no command is, and nothing was sent for 2,500
+ * ms. `out` must have room for 1,472 bytes. With less the result is always OCA_TOO_SMALL, whatever is due, and nothing is changed or
+ * written. */
 enum oca_due { OCA_DUE_NOTHING = 0, OCA_DUE_COMMAND = 1, OCA_DUE_KEEP_ALIVE = 2, OCA_DUE_LOST = 3 };
 enum oca_result oca_link_due(struct oca_link *link, uint64_t now, uint8_t *out, size_t out_len, size_t *len, uint32_t *due, uint32_t *handle) OCA_NONNULL;
 
-/* Takes a datagram that came from an address. `reception` says what it was: it held nothing new, answered `answered` commands, came from a
- * stranger, or was malformed. */
+/* Handles a datagram that came from an address and a port at the moment `now`. `reception` says what it was: OCA_STRANGER if it came from
+ * another address than the device's, OCA_MALFORMED if it is not well-formed. OCA_ANSWERED if `answered` commands in flight got their first
+ * answer in it, and otherwise OCA_NOTHING_NEW. */
 enum oca_reception { OCA_NOTHING_NEW = 0, OCA_ANSWERED = 1, OCA_STRANGER = 2, OCA_MALFORMED = 3 };
 enum oca_result oca_link_datagram(struct oca_link *link, uint32_t ip, uint16_t port, const uint8_t *bytes, size_t len, uint64_t now, uint32_t *reception, uint32_t *answered) OCA_NONNULL;
 
-/* When something is due next: the earliest moment, not before the last one that the link was handed, at which oca_link_due tells
- * anything but nothing. A loop may wait until then. OCA_NOTHING where that lies beyond 64 bits. */
+/* The earliest moment, not before the last one that the link was given, at which oca_link_due has something to send or finds the link lost.
+ * A loop may wait until then. OCA_NOTHING if that moment lies beyond 64 bits: then nothing is written. */
 enum oca_result oca_link_next_due(struct oca_link *link, uint64_t *moment) OCA_NONNULL;
 
-/* The lowest handle whose answer came and was not taken yet; OCA_NOTHING where there is none. */
+/* The lowest handle whose answer came and was not taken yet. OCA_NOTHING if there is none: then nothing is written. */
 enum oca_result oca_link_answered(struct oca_link *link, uint32_t *handle) OCA_NONNULL;
 
-/* Whether the command under a handle is unanswered (despite the name: a command whose answer came and was not taken is still in flight, and
- * gives false). If this gives false and oca_link_take gives no answer, the answer was taken before, or no command has that handle. */
+/* Whether a command with this handle was submitted and has no answer yet. Despite the name it is false for a command whose answer came and
+ * was not taken. If this is false and oca_link_take finds no answer, the answer was taken before, or no command has that handle. */
 enum oca_result oca_link_in_flight(struct oca_link *link, uint32_t handle, bool *in_flight) OCA_NONNULL;
 
-/* The handle that the next command gets: a link that is opened after this one to the same device begins there or above. OCA_NOTHING
- * after the last one, 4294967295. */
+/* The handle that the next command gets. A link that is opened after this one to the same device must begin there or above. OCA_NOTHING
+ * after the last handle, 4294967295: then nothing is written. */
 enum oca_result oca_link_next_handle(struct oca_link *link, uint32_t *handle) OCA_NONNULL;
 
-/* The moment at which the last well-formed datagram came from the device; before the first one, the moment of the opening. */
+/* The moment at which the last well-formed datagram came from the device. Before the first one it is the moment of the opening. */
 enum oca_result oca_link_last_heard(struct oca_link *link, uint64_t *moment) OCA_NONNULL;
 
-/* Whether the link is lost: a command got no answer to 20 transmissions. It stays so; answers that still come are taken as before. */
+/* Whether the link is lost: a command got no answer to 20 transmissions. A lost link stays lost and sends nothing more; answers that still
+ * come are stored as before. */
 enum oca_result oca_link_is_lost(struct oca_link *link, bool *lost) OCA_NONNULL;
 
-/* Whether the link is late at a moment: a command was submitted more than 15,000 ms before that moment and has no answer, whether it was
- * sent or not, for example because the program was suspended. No command is to act so late: do not call oca_link_due, and open a new link. */
+/* Whether the link is late at the moment `now`: a command was submitted more than 15,000 ms before and has no answer, whether it was sent
+ * or not. That is so, for example, if the program was suspended. No command may act so late: do not call oca_link_due, and open a new link.
+ * */
 enum oca_result oca_link_is_late(struct oca_link *link, uint64_t now, bool *late) OCA_NONNULL;
 
-/* Takes the answer to a command: its status and ParamCount, and its parameters. `out` has room for 1,452 bytes. */
+/* Takes the answer to a command, and removes the command: its status, its ParamCount, and its parameters. `out` must have room for 1,452
+ * bytes. With less the result is always OCA_TOO_SMALL. OCA_NOTHING if there is no answer under the handle. After both nothing is changed or
+ * written. */
 enum oca_result oca_link_take(struct oca_link *link, uint32_t handle, uint32_t *status, uint32_t *count, uint8_t *out, size_t out_len, size_t *len) OCA_NONNULL;
 
 /* ---- the panel ---- */
 
-/* The caller's socket, by which a panel reaches its device: first the size of the struct, then what each of the three functions is handed,
- * then the functions. `now` reads the clock. `send` hands a datagram to the device; what is not sent is as if lost. `receive` waits for a
- * datagram until that moment at most, puts it into room for `out_len` bytes with its length and its sender, and answers whether there was
- * one: one that is longer than the room has that length or more, and is dropped. It may answer sooner that there is none. None of them
- * calls the panel or its link. */
+/* The caller's socket, by which a panel reaches its device: first the size of the struct, then the `context` with which each of the three
+ * functions is called, then the functions. `now` reads the clock. `send` sends a datagram to the device; one that is not sent counts as
+ * lost. `receive` waits for a datagram until the moment `until` at most, puts it into `out` with its length and its sender, and returns
+ * whether there was one. A datagram that is longer than `out_len` has that length or more, and is dropped. It may return sooner that there
+ * is none. None of them calls the panel or its link. */
 struct oca_end {
     size_t size;
     void *context;
@@ -675,13 +729,13 @@ struct oca_end {
 struct oca_panel { struct oca_link link; struct oca_end end; uint32_t wait_ms; };
 #define OCA_PANEL_INIT {OCA_LINK_INIT, {0, NULL, NULL, NULL, NULL}, 0}
 
-/* What became of what was asked. OCA_ASKED_DONE: the device did it. OCA_ASKED_REFUSED: it refused, with a status of enum oca_status.
- * OCA_ASKED_UNREADABLE: its answer is none to what was asked. OCA_ASKED_NO_VALUE: nothing of the object's class can be asked so, or there
- * is no such value; it was not sent. OCA_ASKED_NOT_SENT: the link did not take it, with a result of enum oca_result. OCA_ASKED_LOST and
- * OCA_ASKED_LATE: the link is lost, or late, and sends nothing any more: it may have been carried out, or not, and a new
- * panel is to be opened. OCA_ASKED_UNANSWERED: no answer came in the time that the panel waits; it stays in flight, under the handle that
- * `result` has. Wait for it again by oca_panel_finish: until its answer is taken, no command can be begun whose handle is the span or more
- * above it (OCA_SPAN_FULL). Where the panel waits for 10,500 ms, longer than a link retransmits, an answer comes or the link is lost.
+/* The outcome of what was asked. OCA_ASKED_DONE: the device did it. OCA_ASKED_REFUSED: the device refused, with a status of enum
+ * oca_status. OCA_ASKED_UNREADABLE: its answer is none to what was asked. OCA_ASKED_NO_VALUE: nothing of the object's class can be asked
+ * so, or there is no such value; it was not sent. OCA_ASKED_NOT_SENT: the link refused it, with a result of enum oca_result. OCA_ASKED_LOST
+ * and OCA_ASKED_LATE: the link is lost, or late, and sends nothing any more. It may have been carried out, or not, and a new panel must be
+ * opened. OCA_ASKED_UNANSWERED: no answer came in the time that the panel waits. It stays in flight, under the handle in `result`: wait for
+ * it again by oca_panel_finish. Until its answer is taken, no command can be begun whose handle is the span or more above it
+ * (OCA_SPAN_FULL). If the panel waits for 10,500 ms, longer than a link retransmits, an answer comes or the link is lost.
  * OCA_ASKED_NO_HANDLE: there is no command under the handle, which `result` has: its answer was taken, or it was never begun. */
 enum oca_asked {
     OCA_ASKED_DONE = 0, OCA_ASKED_REFUSED = 1, OCA_ASKED_UNREADABLE = 2, OCA_ASKED_NO_VALUE = 3, OCA_ASKED_NOT_SENT = 4, OCA_ASKED_LOST = 5,
@@ -689,7 +743,7 @@ enum oca_asked {
 };
 struct oca_outcome { uint32_t asked, status, result; };
 
-/* An outcome in words, for a log: the name of a status, why it was not sent, or what else became of it. */
+/* An outcome in words, for a log: the name of a status, why it was not sent, or another outcome. */
 static inline const char *oca_outcome_text(struct oca_outcome outcome) {
     static const char *const texts[] = {"done", "a status of a later version", "unreadable answer", "no value", "not sent", "lost", "late", "no answer", "no such handle"};
     if (outcome.asked == OCA_ASKED_REFUSED && oca_status_text(outcome.status)) return oca_status_text(outcome.status);
@@ -714,29 +768,30 @@ static inline struct oca_own_port oca_own_port(uint64_t seconds, uint32_t micros
     return own;
 }
 
-/* Opens a panel for the device at this address, over a socket of the caller's, which is copied. Its first command gets this handle: on a
- * port that the device heard before, one above all that were used there since the last pause of more than two minutes in which nothing was
- * sent from it (oca_own_port gives one). The span is that of oca_link_open. A call waits for the answer to its command for so many milliseconds by the clock of
- * the end, whatever else comes: datagrams of strangers cost none of it. 10,500 are longer than a link retransmits; with 0 no call waits.
- * Where a device is silent the link is lost after some 5 seconds. As a last resort a wait ends where the clock shows no later moment in
- * 100,000 receives.
- * OCA_OPEN where the panel is open; OCA_BAD_SIZE also for a struct of another size. */
+/* Opens a panel for the device at this address, over a socket of the caller's, which is copied. Its first command gets the handle
+ * `first_handle` (oca_own_port returns one). If the device heard the port before, it must be above all handles that were used there.
+ * Handles from before the last pause of more than two minutes, in which nothing was sent from the port, do not count. The span is that of
+ * oca_link_open. A call waits for the answer to its command for `wait_ms` milliseconds by the clock of the end, whatever else comes;
+ * datagrams of strangers do not shorten it. 10,500 ms are longer than a link retransmits; with 0 no call waits. If a device is silent, the
+ * link is lost after some 5 seconds. As a last resort a wait ends if the clock shows no later moment in 100,000 receives. OCA_OPEN if the
+ * panel is open; OCA_BAD_SIZE if the span is outside its range, or `end` is of another size; OCA_NO_MEMORY if memory was refused. */
 enum oca_result oca_panel_open(struct oca_panel *panel, const struct oca_end *end, uint32_t ip, uint16_t port, uint32_t first_handle, uint8_t span, uint32_t wait_ms);
 
-/* Closes a panel and gives its memory back; a closed one stays closed, and at a null pointer nothing is done. Commands that are in flight
- * may still be carried out. The caller's socket stays open. */
+/* Closes a panel and frees its memory. A closed one stays closed, and for a null pointer nothing is done. Commands in flight may still be
+ * carried out. The caller's socket stays open. */
 void oca_panel_close(struct oca_panel *panel);
 
-/* Whether the panel can go on: OCA_ASKED_DONE, or OCA_ASKED_LOST or OCA_ASKED_LATE; OCA_ASKED_NOT_SENT with OCA_CLOSED where it is closed. */
+/* Whether the panel can go on: OCA_ASKED_DONE if it can. Otherwise OCA_ASKED_LOST if the link is lost, OCA_ASKED_LATE if it is late, and
+ * OCA_ASKED_NOT_SENT with OCA_CLOSED if the panel is closed. */
 struct oca_outcome oca_panel_state(struct oca_panel *panel);
 
 /* Takes one turn: receives once, for at most 50 ms or until something is due, whichever is sooner, and sends what is due, keep-alives too.
- * Returns what oca_panel_state returns: OCA_ASKED_LOST or OCA_ASKED_LATE also if only this turn finds it. */
+ * Returns what oca_panel_state returns: OCA_ASKED_LOST or OCA_ASKED_LATE even if only this turn finds it. */
 struct oca_outcome oca_panel_turn(struct oca_panel *panel);
 
-/* Submits a command by a method of enum oca_method, or one that sets or reads an object by its value, sends it at once and tells its
- * handle. Several can be in flight, in the order in which they were begun. If the link refuses it, or there is no such value, nothing is
- * changed. A link that is late answers OCA_LOST. */
+/* Submits a command by a method of enum oca_method, or one that sets or reads an object by its value, sends it at once and writes its
+ * handle. Several commands can be in flight at once, in the order in which they were begun. If the link refuses the command (the results of
+ * oca_link_submit), or there is no such value (OCA_NO_VALUE), nothing is changed. OCA_LOST also if the link is late. */
 enum oca_result oca_panel_begin(struct oca_panel *panel, uint32_t ono, uint32_t method, uint8_t count, const uint8_t *params, size_t params_len, uint32_t *handle);
 enum oca_result oca_panel_begin_set(struct oca_panel *panel, uint32_t ono, struct oca_value value, uint32_t *handle);
 enum oca_result oca_panel_begin_get(struct oca_panel *panel, uint32_t ono, uint32_t class_number, uint32_t *handle);
@@ -744,87 +799,94 @@ enum oca_result oca_panel_begin_get(struct oca_panel *panel, uint32_t ono, uint3
 /* An answer: ParamCount, and its parameters. */
 struct oca_answer { uint32_t count; size_t params_len; uint8_t params[OCA_MOST_ANSWER]; };
 
-/* How a command that was begun came out, if that is known without a turn; its answer is then taken. Otherwise it is OCA_ASKED_UNANSWERED,
- * which changes nothing. `answer` is written for OCA_ASKED_DONE and OCA_ASKED_REFUSED alone. */
+/* The outcome of a command that was begun, if it is known without a turn; its answer is then taken. Otherwise it is OCA_ASKED_UNANSWERED,
+ * and nothing is changed. `answer` is written only for OCA_ASKED_DONE and OCA_ASKED_REFUSED. */
 struct oca_outcome oca_panel_try_finish(struct oca_panel *panel, uint32_t handle, struct oca_answer *answer);
 
-/* Waits for a command that was begun, and takes its answer. After OCA_ASKED_UNANSWERED it can be waited for again. `answer` is written for
- * OCA_ASKED_DONE and OCA_ASKED_REFUSED alone. */
+/* Waits for the answer to a command that was begun, and takes it. After OCA_ASKED_UNANSWERED the command stays in flight and can be waited
+ * for again. `answer` is written only for OCA_ASKED_DONE and OCA_ASKED_REFUSED. */
 struct oca_outcome oca_panel_finish(struct oca_panel *panel, uint32_t handle, struct oca_answer *answer);
 
 /* The commands of a panel that are in flight, in the order in which they were begun, each with what the caller keeps of it; in a zeroed
  * struct there are none. */
 struct oca_flight { uint32_t first, count, handles[32]; void *items[32]; };
 
-/* Adds a command that was begun; `item` may be null. OCA_SPAN_FULL where there are 32: a panel has no more in flight, where each that was begun is added. */
+/* Adds a command that was begun; `item` may be null. OCA_SPAN_FULL if there are 32 already: then nothing is changed. A panel never has more
+ * in flight, if each command that was begun is added. */
 enum oca_result oca_flight_push(struct oca_flight *flight, uint32_t handle, void *item);
 
-/* How the first of the commands came out, with what the caller kept of it: oca_flight_finish waits for that, oca_flight_try_finish does
- * not. The command is then taken out, unless the outcome is OCA_ASKED_UNANSWERED; `item` is written in both cases. If there is no command,
+/* The outcome of the first of the commands, with what the caller kept of it: oca_flight_finish waits for it, oca_flight_try_finish does
+ * not. The command is then removed, unless the outcome is OCA_ASKED_UNANSWERED; `item` is written in both cases. If there is no command,
  * the outcome is OCA_ASKED_NO_HANDLE, and nothing is written. */
 struct oca_outcome oca_flight_finish(struct oca_flight *flight, struct oca_panel *panel, struct oca_answer *answer, void **item);
 struct oca_outcome oca_flight_try_finish(struct oca_flight *flight, struct oca_panel *panel, struct oca_answer *answer, void **item);
 
-/* Asks for a command by a method of enum oca_method with its parameters (at most 1,445 bytes; their layout is in docs/PROTOCOL.md, section
- * 3), and waits for its answer. `answer` is written for OCA_ASKED_DONE and OCA_ASKED_REFUSED alone. */
+/* Sends a command by a method of enum oca_method with its parameters (at most 1,445 bytes; their layout is in docs/PROTOCOL.md, section 3),
+ * and waits for its answer. `answer` is written only for OCA_ASKED_DONE and OCA_ASKED_REFUSED. */
 struct oca_outcome oca_panel_ask(struct oca_panel *panel, uint32_t ono, uint32_t method, uint8_t count, const uint8_t *params, size_t params_len, struct oca_answer *answer);
 
-/* Asks for a command by a method of enum oca_method without parameters, and waits for its answer, as oca_panel_ask does. */
+/* Sends a command by a method of enum oca_method without parameters, and waits for its answer, as oca_panel_ask does. */
 struct oca_outcome oca_panel_read(struct oca_panel *panel, uint32_t ono, uint32_t method, struct oca_answer *answer);
 
-/* Waits for a command that was begun to set an object, or to read one of the class, whose reading it tells. */
+/* Waits for a command that was begun to set an object, or to read one of the class, whose reading is then written. The outcomes are those
+ * of oca_panel_finish. */
 struct oca_outcome oca_panel_finish_set(struct oca_panel *panel, uint32_t handle);
 struct oca_outcome oca_panel_finish_get(struct oca_panel *panel, uint32_t handle, uint32_t class_number, struct oca_reading *reading);
 
-/* Sets an object to a value, by the set method of the value's class. */
+/* Sets an object to a value, by the set method of the value's class (AES70-2), and waits for the answer. */
 struct oca_outcome oca_panel_set(struct oca_panel *panel, uint32_t ono, struct oca_value value);
 
-/* The reading of an object of this class, which is not asked: the value, with the least and the greatest of a position and of an integer.
- * OCA_ASKED_NO_VALUE for a block. */
+/* Reads how an object of this class is set, and waits for the answer: the value, with the least and the greatest of a position and of an
+ * integer. The object is not asked for its class. OCA_ASKED_NO_VALUE for a block: then nothing is asked. */
 struct oca_outcome oca_panel_get_of(struct oca_panel *panel, uint32_t ono, uint32_t class_number, struct oca_reading *reading);
 
-/* The class of an object, by GetClassIdentification; of a class that is not of this profile the class number is 0. */
+/* Asks for the class of an object, by GetClassIdentification of OcaRoot (AES70-2). The class number is 0 for a class that is not of this
+ * profile. */
 struct oca_outcome oca_panel_class(struct oca_panel *panel, uint32_t ono, struct oca_class_id *id);
 
-/* The reading of an object: its class is asked first, and then what oca_panel_get_of asks. */
+/* Reads how an object is set: asks for its class first, and then for what oca_panel_get_of asks. OCA_ASKED_NO_VALUE for a block, and if the
+ * class is not of this profile. */
 struct oca_outcome oca_panel_get(struct oca_panel *panel, uint32_t ono, struct oca_reading *reading);
 
-/* Keeps other controllers from reading and setting an object, by LockTotal; and takes this panel's lock off the object, by Unlock. */
+/* Locks an object, by LockTotal of OcaRoot (AES70-2), so that other controllers can neither read nor set it; or releases this panel's lock
+ * of the object, by Unlock of OcaRoot. */
 struct oca_outcome oca_panel_lock(struct oca_panel *panel, uint32_t ono);
 struct oca_outcome oca_panel_unlock(struct oca_panel *panel, uint32_t ono);
 
-/* The role of an object, which its maker gave it, and its label. */
+/* Asks for the role of an object, by GetRole of OcaRoot (AES70-2), or for its label, by GetLabel of OcaWorker. */
 struct oca_outcome oca_panel_role(struct oca_panel *panel, uint32_t ono, struct oca_name *role);
 struct oca_outcome oca_panel_label(struct oca_panel *panel, uint32_t ono, struct oca_name *label);
 
-/* Gives an object a label. OCA_ASKED_NO_VALUE for one above 64 bytes, or that is no UTF-8. */
+/* Gives an object a label, by SetLabel of OcaWorker (AES70-2). OCA_ASKED_NO_VALUE if the label has more than 64 bytes or is not UTF-8: then
+ * nothing is sent. */
 struct oca_outcome oca_panel_set_label(struct oca_panel *panel, uint32_t ono, const struct oca_name *label);
 
-/* The name of a switch's position, which is counted from 0. */
+/* Asks for the name of a switch's position, by GetPositionName of OcaSwitch (AES70-2). `position` is counted from 0. */
 struct oca_outcome oca_panel_position_name(struct oca_panel *panel, uint32_t ono, uint16_t position, struct oca_name *name);
 
-/* The names of a switch's positions. */
+/* Asks for the names of a switch's positions, by GetPositionNames of OcaSwitch (AES70-2): in their order, at most 16. */
 struct oca_outcome oca_panel_position_names(struct oca_panel *panel, uint32_t ono, struct oca_names *names);
 
-/* The numbers of a block's members. OCA_ASKED_REFUSED with OCA_STATUS_BUFFER_OVERFLOW where there are more than a response has room for, some
- * 90. */
+/* Asks for the numbers of a block's members, by GetMembers of OcaBlock (AES70-2), in their order. OCA_ASKED_REFUSED with
+ * OCA_STATUS_BUFFER_OVERFLOW if there are more than a response has room for, some 90. */
 struct oca_outcome oca_panel_members(struct oca_panel *panel, uint32_t ono, struct oca_members *members);
 
-/* What a walk finds of an object: its number, and that of the block that lists it (0 of the root). `described` is what became of the
- * questions for its class and its role, which are in `id` and `role` if it is OCA_ASKED_DONE. For a block, `listed` is what became of the
+/* What a walk finds of an object: its number, and the number of the block that lists it (0 for the root). `described` is the outcome of the
+ * questions for its class and its role, which are in `id` and `role` if it is OCA_ASKED_DONE. For a block, `listed` is the outcome of the
  * question for its members. If the class or the role is not known, `listed` is as `described`. */
 struct oca_visit { uint32_t ono, container; struct oca_outcome described; struct oca_class_id id; struct oca_name role; struct oca_outcome listed; };
 
-/* The place of a walk, of the caller's: first the numbers of the objects that were visited, and at the end those of the objects that wait. */
+/* The memory of a walk: first the numbers of the objects that were visited, and at the end those of the objects that wait. */
 struct oca_place { uint32_t ono, container; };
 struct oca_walk { uint32_t visited, waiting; struct oca_place places[4096]; };
 
-/* What a walk calls at each object, with what the caller gave for it: it goes on where this answers true. It may ask the panel too. */
+/* What a walk calls for each object, with the `context` that the caller gave: the walk goes on if it returns true. It may ask the panel
+ * too. */
 typedef bool (*oca_visitor)(void *context, const struct oca_visit *visit);
 
-/* Visits the objects of the device from the root on, each block's members behind it in their order: each object once, at most 4,096, in the
- * place of a walk that the caller has for it. Each is asked for its class and its role, and a block for its members; nothing is set. A walk
- * has one command in flight at a time. Each answer is waited for until it is there or the link is lost, for 20,000 ms at most, however long
+/* Visits the objects of the device from the root on, after each block its members in their order: each object once, at most 4,096. `walk`
+ * is memory of the caller's for this. Each object is asked for its class and its role, and a block for its members; nothing is set. A walk
+ * has one command in flight at a time. Each answer is waited for until it is there or the link is lost, for at most 20,000 ms, however long
  * the panel waits. OCA_ASKED_DONE if all were visited, or the visitor ended the walk. Otherwise the outcome says why the walk could not go
  * on: it is OCA_ASKED_UNANSWERED if in that time no answer came and the link was not lost, for example if the clock stops. */
 struct oca_outcome oca_panel_walk(struct oca_panel *panel, struct oca_walk *walk, oca_visitor visit, void *context);
@@ -833,7 +895,7 @@ struct oca_outcome oca_panel_walk(struct oca_panel *panel, struct oca_walk *walk
 
 #ifndef OCA_NO_POSIX
 
-/* What became of a call of a socket. Where it is OCA_SOCKET_SYSTEM, a call of the system failed: the socket has its name and its errno. */
+/* The result of a call of a socket. If it is OCA_SOCKET_SYSTEM, a call of the system failed: the socket has its name and its errno. */
 enum oca_socket_result {
     OCA_SOCKET_DONE = 0,
     OCA_SOCKET_NOTHING = 1, /* no datagram is there */
@@ -864,29 +926,31 @@ static inline const char *oca_socket_text(uint32_t result) {
 struct oca_socket { bool is_open; int file, error; const char *call; uint32_t ip, device_ip; uint16_t port, device_port; };
 #define OCA_SOCKET_INIT {false, 0, 0, NULL, 0, 0, 0, 0}
 
-/* The present moment, in milliseconds of a clock that does not go back and, on Linux, counts the time for which the machine slept. */
+/* The present moment, in milliseconds of a clock that does not go back. On Linux it counts the time for which the machine slept. */
 uint64_t oca_socket_now(void);
 
-/* Opens a device's socket at an address of this machine and a port (0 for any). At the address 0 it hears at each, and a machine with
- * several may answer from another one. OCA_SOCKET_OPEN leaves an open socket as it is; any other failure leaves it closed. */
+/* Opens a device's socket at an address of this machine and a port (0: the system chooses one). At the address 0 it hears at each address,
+ * and a machine with several may answer from another one. OCA_SOCKET_OPEN leaves an open socket as it is; any other failure leaves it
+ * closed. */
 enum oca_socket_result oca_socket_open(struct oca_socket *own, uint32_t ip, uint16_t port) OCA_LOOKED_AT;
 
-/* Opens a panel's socket, at the one address from which the system reaches the device, and this port (0 for any): each copy of a command
- * leaves from there, or is not sent. OCA_SOCKET_OPEN leaves an open socket as it is; any other failure leaves it closed, for example if
- * there is no route. */
+/* Opens a panel's socket, at the one address from which the system reaches the device, and this port (0: the system chooses one). Each
+ * transmission of a command leaves from there, or is not sent. OCA_SOCKET_OPEN leaves an open socket as it is; any other failure leaves it
+ * closed, for example if there is no route. */
 enum oca_socket_result oca_socket_open_towards(struct oca_socket *own, uint32_t device_ip, uint16_t device_port, uint16_t port) OCA_LOOKED_AT;
 
-/* Closes a socket; a closed one stays closed, and at a null pointer nothing is done. */
+/* Closes a socket. A closed one stays closed, and for a null pointer nothing is done. */
 void oca_socket_close(struct oca_socket *own);
 
-/* Waits for a datagram until that moment at most, and a minute at most. OCA_SOCKET_NOTHING where none came, also after a signal. */
+/* Waits for a datagram until the moment `until` (oca_socket_now), and for at most a minute. OCA_SOCKET_NOTHING if none came, also after a
+ * signal. */
 enum oca_socket_result oca_socket_wait(struct oca_socket *own, uint64_t until);
 
-/* Takes a datagram that is there, without waiting: its length and its sender. One that is longer than the room is cut: with room for 1,473
- * bytes one of more than 1,472 is seen. Nothing is told where none was there. */
+/* Receives a datagram that has come, without waiting: its bytes, its length and its sender. If it is longer than `out`, it is cut; with
+ * room for 1,473 bytes one of more than 1,472 is noticed. OCA_SOCKET_NOTHING if none has come: then nothing is written. */
 enum oca_socket_result oca_socket_receive(struct oca_socket *own, uint8_t *out, size_t out_len, size_t *len, uint32_t *ip, uint16_t *port) OCA_LOOKED_AT;
 
-/* Sends a datagram, without waiting: where there is no room for it, it is not sent, and that is OCA_SOCKET_SYSTEM. */
+/* Sends a datagram, without waiting. OCA_SOCKET_SYSTEM if the system has no room for it or refuses it: then it is not sent. */
 enum oca_socket_result oca_socket_send(struct oca_socket *own, const uint8_t *bytes, size_t len, uint32_t ip, uint16_t port);
 
 /* The end of a panel over a socket that was opened towards its device, for oca_panel_open. The socket stays where it is until the panel is
@@ -894,14 +958,14 @@ enum oca_socket_result oca_socket_send(struct oca_socket *own, const uint8_t *by
 struct oca_end oca_socket_end(struct oca_socket *own);
 
 /* A device that serves over a socket: the size of the struct first, the started device, and its open socket. If there is a store, what a
- * datagram wrote is stored before the datagram is answered; `kept` is an array of the caller's for this, with room for as many objects as
- * `room` says. Each of the functions may be a null pointer, and is handed `context`. `lock` and `unlock` are for a program in which other
- * threads use the device: each call for the device is made between the two, and neither waiting nor storing is. `written` is called,
- * between the two, for each object that a datagram wrote to, once it was answered, and also where it could not be stored. It gets the number
- * of the object alone: oca_device_setting and oca_device_spec_of read the object. It may call what reads or sets an object, and then sets
- * `is_set` where it set one; it must not call `lock`. `told` is called after each try to store, and not between the two: to use the device it
- * calls `lock` and `unlock` itself. If the program set something at the local front panel, it sets `is_set` under the lock: then that is
- * stored at the next turn, and if storing fails, again a second later. Then come what became of the last try to store, and of the last
+ * datagram wrote is stored before the datagram is answered. `kept` is an array of the caller's for this, with room for `room` objects. Each
+ * of the functions may be a null pointer, and is called with `context`. `lock` and `unlock` are for a program in which other threads use
+ * the device: each call for the device is made between the two; waiting and storing are not. `written` is called, between the two, for each
+ * object that a datagram wrote to. It is called once the datagram was answered, and also if it could not be stored. It gets only the number
+ * of the object: oca_device_setting and oca_device_spec_of read the object. It may call what reads or sets an object, and then sets
+ * `is_set` if it set one; it must not call `lock`. `told` is called after each try to store, and not between the two: to use the device it
+ * calls `lock` and `unlock` itself. If the program sets something at the local front panel, it sets `is_set` under the lock. Then that is
+ * stored at the next turn, and if storing fails, again a second later. Then come the result of the last try to store and of the last
  * receive, and two fields that are the server's own. */
 struct oca_server {
     size_t size;
@@ -928,19 +992,19 @@ static inline struct oca_server oca_server_of(struct oca_device *device, struct 
     return server;
 }
 
-/* Takes one turn: waits for a datagram until that moment at most (oca_socket_now), or until a clock reading changes something; takes one,
- * stores what it wrote, and sends its answers. If that can't be stored, no answer is sent: the panel's next copy of its command causes
- * another try. A datagram of more than 1,472 bytes is dropped. Where none came the clock is read. With the present moment it does not wait
- * for a datagram: so a loop polls the socket's file and its own, until oca_device_next_lapse and, with a store, for at most a second.
- * OCA_BAD_SIZE for a struct of another size; OCA_CLOSED and OCA_NOT_STARTED of the device. Where the system fails to wait or to receive,
- * the clock is read, the result is OCA_DONE and `received` is OCA_SOCKET_SYSTEM: the socket has the call and its errno. Sleep a little, and
- * call it again, since it may not have waited. A send that fails is not told: the answer counts as lost. OCA_NOTHING where one of the
- * server's functions calls it: nothing is done then. */
+/* Takes one turn: waits for a datagram until the moment `until` at most (oca_socket_now), or until a clock reading changes something;
+ * receives one, stores what it wrote, and sends its answers. If that can't be stored, no answer is sent: the panel's next transmission of
+ * its command causes another try. A datagram of more than 1,472 bytes is dropped. If none came, the device's clock moves on. If `until` is
+ * the present moment, it does not wait for a datagram. So a loop can poll the socket's file and its own, until oca_device_next_lapse and,
+ * with a store, for at most a second. OCA_BAD_SIZE if the struct is of another size; OCA_CLOSED and OCA_NOT_STARTED of the device. If the
+ * system fails to wait or to receive, the device's clock moves on, the result is OCA_DONE and `received` is OCA_SOCKET_SYSTEM: the socket
+ * has the call and its errno. Then sleep a little and call it again, since it may not have waited. A send that fails is not reported: the
+ * answer counts as lost. OCA_NOTHING if one of the server's functions calls it: then nothing is done. */
 enum oca_result oca_serve(struct oca_server *server, uint64_t until) OCA_NONNULL;
 
-/* Stores what was set at the local front panel and is not stored yet: at the end of a program. Call it after the last oca_serve and before the
- * store and the device are closed. It tries once, also to store what a datagram wrote and could not be stored; if that fails, `is_set` stays
- * true and `stored` says why. It closes nothing. Call it without the lock, which it takes itself. */
+/* Stores what was set at the local front panel and is not stored yet, at the end of a program. Call it after the last oca_serve, and before
+ * the store and the device are closed. It tries once, also to store what a datagram wrote and could not be stored. If that fails, `is_set`
+ * stays true and `stored` says why. It closes nothing. Call it without the lock, which it takes itself. */
 void oca_serve_end(struct oca_server *server);
 #endif
 

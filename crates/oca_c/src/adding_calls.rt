@@ -11,11 +11,12 @@ use oca_calls::name::Name;
 use oca_tree::{Kind, MuteState, PolarityState};
 use std::alloc::Global;
 
-/// Adds an OcaBlock with the number `ono` to the block `container`, before the start. Returns `Done`; otherwise the
-/// first of these that applies, and nothing is changed. `Closed` if the struct is closed, `Started` after the start,
-/// `BadText` if the role is no UTF-8. Then `Full` if there is no room for another object, `Reserved` if the number is
-/// below 4,096, `Taken` if an object has the number. Then `NoSuchBlock` if the container is no block of the tree,
-/// `TooDeep` at depth 9, `BadText` if the role is empty or has more than 64 bytes.
+/// Adds an OcaBlock with the number `ono` to the block `container`, before the start. `role` is its role, and
+/// `lockable` says whether it can be locked. Returns `Done`; otherwise the first of these that applies, and nothing is
+/// changed. `Closed` if the struct is closed, `Started` after the start, `BadText` if the role is not UTF-8. Then
+/// `Full` if there is no room for another object, `Reserved` if the number is below 4,096, `Taken` if an object has the
+/// number. Then `NoSuchBlock` if the container is no block of the tree, `TooDeep` at depth 9, `BadText` if the role is
+/// empty or has more than 64 bytes.
 #[unsafe(no_mangle)]
 pub extern "C" fn oca_device_add_block(
     alloc: Global,
@@ -33,11 +34,12 @@ pub extern "C" fn oca_device_add_block(
     add(alloc, handle, container, ono, role, lockable, Kind::Block)
 }
 
-/// Adds an OcaMute with the number `ono` to the block `container`, before the start. `muted` is its first state.
-/// Returns `Done`; otherwise the first of these that applies, and nothing is changed. `Closed` if the struct is closed,
-/// `Started` after the start, `BadText` if the role is no UTF-8. Then `Full` if there is no room for another object,
-/// `Reserved` if the number is below 4,096, `Taken` if an object has the number. Then `NoSuchBlock` if the container is
-/// no block of the tree, `TooDeep` at depth 9, `BadText` if the role is empty or has more than 64 bytes.
+/// Adds an OcaMute with the number `ono` to the block `container`, before the start. `role` is its role, and `lockable`
+/// says whether it can be locked. `muted` is its first state. Returns `Done`; otherwise the first of these that
+/// applies, and nothing is changed. `Closed` if the struct is closed, `Started` after the start, `BadText` if the role
+/// is not UTF-8. Then `Full` if there is no room for another object, `Reserved` if the number is below 4,096, `Taken`
+/// if an object has the number. Then `NoSuchBlock` if the container is no block of the tree, `TooDeep` at depth 9,
+/// `BadText` if the role is empty or has more than 64 bytes.
 #[unsafe(no_mangle)]
 pub extern "C" fn oca_device_add_mute(
     alloc: Global,
@@ -69,11 +71,12 @@ pub extern "C" fn oca_device_add_mute(
     )
 }
 
-/// Adds an OcaPolarity with the number `ono` to the block `container`, before the start. `inverted` is its first state.
-/// Returns `Done`; otherwise the first of these that applies, and nothing is changed. `Closed` if the struct is closed,
-/// `Started` after the start, `BadText` if the role is no UTF-8. Then `Full` if there is no room for another object,
-/// `Reserved` if the number is below 4,096, `Taken` if an object has the number. Then `NoSuchBlock` if the container is
-/// no block of the tree, `TooDeep` at depth 9, `BadText` if the role is empty or has more than 64 bytes.
+/// Adds an OcaPolarity with the number `ono` to the block `container`, before the start. `role` is its role, and
+/// `lockable` says whether it can be locked. `inverted` is its first state. Returns `Done`; otherwise the first of
+/// these that applies, and nothing is changed. `Closed` if the struct is closed, `Started` after the start, `BadText`
+/// if the role is not UTF-8. Then `Full` if there is no room for another object, `Reserved` if the number is below
+/// 4,096, `Taken` if an object has the number. Then `NoSuchBlock` if the container is no block of the tree, `TooDeep`
+/// at depth 9, `BadText` if the role is empty or has more than 64 bytes.
 #[unsafe(no_mangle)]
 pub extern "C" fn oca_device_add_polarity(
     alloc: Global,
@@ -106,14 +109,14 @@ pub extern "C" fn oca_device_add_polarity(
     )
 }
 
-/// Adds an OcaSwitch with the number `ono` to the block `container`, before the start. It has 1 to 16 positions with
-/// these names, all of them enabled. `position` is the one at which it stands first, counted from 0. Returns `Done`;
-/// otherwise the first of these that applies, and nothing is changed. `Closed` if the struct is closed, `Started` after
-/// the start, `BadRange` if there are more than 16 names. `BadText` if a name has more than 64 bytes, or the role or a
-/// name is no UTF-8. Then `Full` if there is no room for another object, `Reserved` if the number is below 4,096,
-/// `Taken` if an object has the number. Then `NoSuchBlock` if the container is no block of the tree, `TooDeep` at depth
-/// 9, `BadText` if the role is empty or has more than 64 bytes. Last `BadRange` if there is no name, or none for the
-/// position.
+/// Adds an OcaSwitch with the number `ono` to the block `container`, before the start. `role` is its role, and
+/// `lockable` says whether it can be locked. It has 1 to 16 positions with these names, all of them enabled. `position`
+/// is the one at which it stands first, counted from 0. Returns `Done`; otherwise the first of these that applies, and
+/// nothing is changed. `Closed` if the struct is closed, `Started` after the start, `BadRange` if there are more than
+/// 16 names. `BadText` if a name has more than 64 bytes, or the role or a name is not UTF-8. Then `Full` if there is no
+/// room for another object, `Reserved` if the number is below 4,096, `Taken` if an object has the number. Then
+/// `NoSuchBlock` if the container is no block of the tree, `TooDeep` at depth 9, `BadText` if the role is empty or has
+/// more than 64 bytes. Last `BadRange` if there is no name, or none for the position.
 #[unsafe(no_mangle)]
 pub extern "C" fn oca_device_add_switch(
     alloc: Global,
@@ -138,11 +141,12 @@ pub extern "C" fn oca_device_add_switch(
     answer.number()
 }
 
-/// Adds an OcaBooleanActuator with the number `ono` to the block `container`, before the start. `setting` is its first
-/// setting. Returns `Done`; otherwise the first of these that applies, and nothing is changed. `Closed` if the struct
-/// is closed, `Started` after the start, `BadText` if the role is no UTF-8. Then `Full` if there is no room for another
-/// object, `Reserved` if the number is below 4,096, `Taken` if an object has the number. Then `NoSuchBlock` if the
-/// container is no block of the tree, `TooDeep` at depth 9, `BadText` if the role is empty or has more than 64 bytes.
+/// Adds an OcaBooleanActuator with the number `ono` to the block `container`, before the start. `role` is its role, and
+/// `lockable` says whether it can be locked. `setting` is its first setting. Returns `Done`; otherwise the first of
+/// these that applies, and nothing is changed. `Closed` if the struct is closed, `Started` after the start, `BadText`
+/// if the role is not UTF-8. Then `Full` if there is no room for another object, `Reserved` if the number is below
+/// 4,096, `Taken` if an object has the number. Then `NoSuchBlock` if the container is no block of the tree, `TooDeep`
+/// at depth 9, `BadText` if the role is empty or has more than 64 bytes.
 #[unsafe(no_mangle)]
 pub extern "C" fn oca_device_add_boolean(
     alloc: Global,
@@ -169,12 +173,13 @@ pub extern "C" fn oca_device_add_boolean(
     )
 }
 
-/// Adds an OcaInt8Actuator with the number `ono` to the block `container`, before the start. Its first setting lies
-/// within `least` to `greatest`, as all later ones do. Returns `Done`; otherwise the first of these that applies, and
-/// nothing is changed. `Closed` if the struct is closed, `Started` after the start, `BadText` if the role is no UTF-8.
-/// Then `Full` if there is no room for another object, `Reserved` if the number is below 4,096, `Taken` if an object
-/// has the number. Then `NoSuchBlock` if the container is no block of the tree, `TooDeep` at depth 9, `BadText` if the
-/// role is empty or has more than 64 bytes. Last `BadRange` if the setting is outside its limits.
+/// Adds an OcaInt8Actuator with the number `ono` to the block `container`, before the start. `role` is its role, and
+/// `lockable` says whether it can be locked. Its first setting lies within `least` to `greatest`, as all later ones do.
+/// Returns `Done`; otherwise the first of these that applies, and nothing is changed. `Closed` if the struct is closed,
+/// `Started` after the start, `BadText` if the role is not UTF-8. Then `Full` if there is no room for another object,
+/// `Reserved` if the number is below 4,096, `Taken` if an object has the number. Then `NoSuchBlock` if the container is
+/// no block of the tree, `TooDeep` at depth 9, `BadText` if the role is empty or has more than 64 bytes. Last
+/// `BadRange` if the setting is outside its limits.
 #[unsafe(no_mangle)]
 pub extern "C" fn oca_device_add_int8(
     alloc: Global,
@@ -200,12 +205,13 @@ pub extern "C" fn oca_device_add_int8(
     add(alloc, handle, container, ono, role, lockable, kind)
 }
 
-/// Adds an OcaInt16Actuator with the number `ono` to the block `container`, before the start. Its first setting lies
-/// within `least` to `greatest`, as all later ones do. Returns `Done`; otherwise the first of these that applies, and
-/// nothing is changed. `Closed` if the struct is closed, `Started` after the start, `BadText` if the role is no UTF-8.
-/// Then `Full` if there is no room for another object, `Reserved` if the number is below 4,096, `Taken` if an object
-/// has the number. Then `NoSuchBlock` if the container is no block of the tree, `TooDeep` at depth 9, `BadText` if the
-/// role is empty or has more than 64 bytes. Last `BadRange` if the setting is outside its limits.
+/// Adds an OcaInt16Actuator with the number `ono` to the block `container`, before the start. `role` is its role, and
+/// `lockable` says whether it can be locked. Its first setting lies within `least` to `greatest`, as all later ones do.
+/// Returns `Done`; otherwise the first of these that applies, and nothing is changed. `Closed` if the struct is closed,
+/// `Started` after the start, `BadText` if the role is not UTF-8. Then `Full` if there is no room for another object,
+/// `Reserved` if the number is below 4,096, `Taken` if an object has the number. Then `NoSuchBlock` if the container is
+/// no block of the tree, `TooDeep` at depth 9, `BadText` if the role is empty or has more than 64 bytes. Last
+/// `BadRange` if the setting is outside its limits.
 #[unsafe(no_mangle)]
 pub extern "C" fn oca_device_add_int16(
     alloc: Global,
@@ -231,12 +237,13 @@ pub extern "C" fn oca_device_add_int16(
     add(alloc, handle, container, ono, role, lockable, kind)
 }
 
-/// Adds an OcaInt32Actuator with the number `ono` to the block `container`, before the start. Its first setting lies
-/// within `least` to `greatest`, as all later ones do. Returns `Done`; otherwise the first of these that applies, and
-/// nothing is changed. `Closed` if the struct is closed, `Started` after the start, `BadText` if the role is no UTF-8.
-/// Then `Full` if there is no room for another object, `Reserved` if the number is below 4,096, `Taken` if an object
-/// has the number. Then `NoSuchBlock` if the container is no block of the tree, `TooDeep` at depth 9, `BadText` if the
-/// role is empty or has more than 64 bytes. Last `BadRange` if the setting is outside its limits.
+/// Adds an OcaInt32Actuator with the number `ono` to the block `container`, before the start. `role` is its role, and
+/// `lockable` says whether it can be locked. Its first setting lies within `least` to `greatest`, as all later ones do.
+/// Returns `Done`; otherwise the first of these that applies, and nothing is changed. `Closed` if the struct is closed,
+/// `Started` after the start, `BadText` if the role is not UTF-8. Then `Full` if there is no room for another object,
+/// `Reserved` if the number is below 4,096, `Taken` if an object has the number. Then `NoSuchBlock` if the container is
+/// no block of the tree, `TooDeep` at depth 9, `BadText` if the role is empty or has more than 64 bytes. Last
+/// `BadRange` if the setting is outside its limits.
 #[unsafe(no_mangle)]
 pub extern "C" fn oca_device_add_int32(
     alloc: Global,
@@ -262,12 +269,13 @@ pub extern "C" fn oca_device_add_int32(
     add(alloc, handle, container, ono, role, lockable, kind)
 }
 
-/// Adds an OcaInt64Actuator with the number `ono` to the block `container`, before the start. Its first setting lies
-/// within `least` to `greatest`, as all later ones do. Returns `Done`; otherwise the first of these that applies, and
-/// nothing is changed. `Closed` if the struct is closed, `Started` after the start, `BadText` if the role is no UTF-8.
-/// Then `Full` if there is no room for another object, `Reserved` if the number is below 4,096, `Taken` if an object
-/// has the number. Then `NoSuchBlock` if the container is no block of the tree, `TooDeep` at depth 9, `BadText` if the
-/// role is empty or has more than 64 bytes. Last `BadRange` if the setting is outside its limits.
+/// Adds an OcaInt64Actuator with the number `ono` to the block `container`, before the start. `role` is its role, and
+/// `lockable` says whether it can be locked. Its first setting lies within `least` to `greatest`, as all later ones do.
+/// Returns `Done`; otherwise the first of these that applies, and nothing is changed. `Closed` if the struct is closed,
+/// `Started` after the start, `BadText` if the role is not UTF-8. Then `Full` if there is no room for another object,
+/// `Reserved` if the number is below 4,096, `Taken` if an object has the number. Then `NoSuchBlock` if the container is
+/// no block of the tree, `TooDeep` at depth 9, `BadText` if the role is empty or has more than 64 bytes. Last
+/// `BadRange` if the setting is outside its limits.
 #[unsafe(no_mangle)]
 pub extern "C" fn oca_device_add_int64(
     alloc: Global,
@@ -293,12 +301,13 @@ pub extern "C" fn oca_device_add_int64(
     add(alloc, handle, container, ono, role, lockable, kind)
 }
 
-/// Adds an OcaUint8Actuator with the number `ono` to the block `container`, before the start. Its first setting lies
-/// within `least` to `greatest`, as all later ones do. Returns `Done`; otherwise the first of these that applies, and
-/// nothing is changed. `Closed` if the struct is closed, `Started` after the start, `BadText` if the role is no UTF-8.
-/// Then `Full` if there is no room for another object, `Reserved` if the number is below 4,096, `Taken` if an object
-/// has the number. Then `NoSuchBlock` if the container is no block of the tree, `TooDeep` at depth 9, `BadText` if the
-/// role is empty or has more than 64 bytes. Last `BadRange` if the setting is outside its limits.
+/// Adds an OcaUint8Actuator with the number `ono` to the block `container`, before the start. `role` is its role, and
+/// `lockable` says whether it can be locked. Its first setting lies within `least` to `greatest`, as all later ones do.
+/// Returns `Done`; otherwise the first of these that applies, and nothing is changed. `Closed` if the struct is closed,
+/// `Started` after the start, `BadText` if the role is not UTF-8. Then `Full` if there is no room for another object,
+/// `Reserved` if the number is below 4,096, `Taken` if an object has the number. Then `NoSuchBlock` if the container is
+/// no block of the tree, `TooDeep` at depth 9, `BadText` if the role is empty or has more than 64 bytes. Last
+/// `BadRange` if the setting is outside its limits.
 #[unsafe(no_mangle)]
 pub extern "C" fn oca_device_add_uint8(
     alloc: Global,
@@ -324,12 +333,13 @@ pub extern "C" fn oca_device_add_uint8(
     add(alloc, handle, container, ono, role, lockable, kind)
 }
 
-/// Adds an OcaUint16Actuator with the number `ono` to the block `container`, before the start. Its first setting lies
-/// within `least` to `greatest`, as all later ones do. Returns `Done`; otherwise the first of these that applies, and
-/// nothing is changed. `Closed` if the struct is closed, `Started` after the start, `BadText` if the role is no UTF-8.
-/// Then `Full` if there is no room for another object, `Reserved` if the number is below 4,096, `Taken` if an object
-/// has the number. Then `NoSuchBlock` if the container is no block of the tree, `TooDeep` at depth 9, `BadText` if the
-/// role is empty or has more than 64 bytes. Last `BadRange` if the setting is outside its limits.
+/// Adds an OcaUint16Actuator with the number `ono` to the block `container`, before the start. `role` is its role, and
+/// `lockable` says whether it can be locked. Its first setting lies within `least` to `greatest`, as all later ones do.
+/// Returns `Done`; otherwise the first of these that applies, and nothing is changed. `Closed` if the struct is closed,
+/// `Started` after the start, `BadText` if the role is not UTF-8. Then `Full` if there is no room for another object,
+/// `Reserved` if the number is below 4,096, `Taken` if an object has the number. Then `NoSuchBlock` if the container is
+/// no block of the tree, `TooDeep` at depth 9, `BadText` if the role is empty or has more than 64 bytes. Last
+/// `BadRange` if the setting is outside its limits.
 #[unsafe(no_mangle)]
 pub extern "C" fn oca_device_add_uint16(
     alloc: Global,
@@ -356,12 +366,13 @@ pub extern "C" fn oca_device_add_uint16(
     add(alloc, handle, container, ono, role, lockable, kind)
 }
 
-/// Adds an OcaUint32Actuator with the number `ono` to the block `container`, before the start. Its first setting lies
-/// within `least` to `greatest`, as all later ones do. Returns `Done`; otherwise the first of these that applies, and
-/// nothing is changed. `Closed` if the struct is closed, `Started` after the start, `BadText` if the role is no UTF-8.
-/// Then `Full` if there is no room for another object, `Reserved` if the number is below 4,096, `Taken` if an object
-/// has the number. Then `NoSuchBlock` if the container is no block of the tree, `TooDeep` at depth 9, `BadText` if the
-/// role is empty or has more than 64 bytes. Last `BadRange` if the setting is outside its limits.
+/// Adds an OcaUint32Actuator with the number `ono` to the block `container`, before the start. `role` is its role, and
+/// `lockable` says whether it can be locked. Its first setting lies within `least` to `greatest`, as all later ones do.
+/// Returns `Done`; otherwise the first of these that applies, and nothing is changed. `Closed` if the struct is closed,
+/// `Started` after the start, `BadText` if the role is not UTF-8. Then `Full` if there is no room for another object,
+/// `Reserved` if the number is below 4,096, `Taken` if an object has the number. Then `NoSuchBlock` if the container is
+/// no block of the tree, `TooDeep` at depth 9, `BadText` if the role is empty or has more than 64 bytes. Last
+/// `BadRange` if the setting is outside its limits.
 #[unsafe(no_mangle)]
 pub extern "C" fn oca_device_add_uint32(
     alloc: Global,
@@ -388,12 +399,13 @@ pub extern "C" fn oca_device_add_uint32(
     add(alloc, handle, container, ono, role, lockable, kind)
 }
 
-/// Adds an OcaUint64Actuator with the number `ono` to the block `container`, before the start. Its first setting lies
-/// within `least` to `greatest`, as all later ones do. Returns `Done`; otherwise the first of these that applies, and
-/// nothing is changed. `Closed` if the struct is closed, `Started` after the start, `BadText` if the role is no UTF-8.
-/// Then `Full` if there is no room for another object, `Reserved` if the number is below 4,096, `Taken` if an object
-/// has the number. Then `NoSuchBlock` if the container is no block of the tree, `TooDeep` at depth 9, `BadText` if the
-/// role is empty or has more than 64 bytes. Last `BadRange` if the setting is outside its limits.
+/// Adds an OcaUint64Actuator with the number `ono` to the block `container`, before the start. `role` is its role, and
+/// `lockable` says whether it can be locked. Its first setting lies within `least` to `greatest`, as all later ones do.
+/// Returns `Done`; otherwise the first of these that applies, and nothing is changed. `Closed` if the struct is closed,
+/// `Started` after the start, `BadText` if the role is not UTF-8. Then `Full` if there is no room for another object,
+/// `Reserved` if the number is below 4,096, `Taken` if an object has the number. Then `NoSuchBlock` if the container is
+/// no block of the tree, `TooDeep` at depth 9, `BadText` if the role is empty or has more than 64 bytes. Last
+/// `BadRange` if the setting is outside its limits.
 #[unsafe(no_mangle)]
 pub extern "C" fn oca_device_add_uint64(
     alloc: Global,

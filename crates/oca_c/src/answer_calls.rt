@@ -76,7 +76,7 @@ pub extern "C" fn oca_class_with(fields: &[u16]) -> u32
 }
 
 /// Encodes a text as the one parameter of SetLabel: writes its bytes to the front of `out`, and how many they are, 2 to
-/// 66, into `len`. Returns `Done`. Otherwise `NoValue` if the text has more than 64 bytes or is no UTF-8, and then
+/// 66, into `len`. Returns `Done`. Otherwise `NoValue` if the text has more than 64 bytes or is not UTF-8, and then
 /// nothing is written. `TooSmall` if `out` has no room for the bytes, and then only `len` is written.
 #[unsafe(no_mangle)]
 pub extern "C" fn oca_text_put(text: &Name, out: &mut [u8], len: &mut usize) -> u32

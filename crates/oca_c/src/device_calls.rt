@@ -23,9 +23,9 @@ use oca_tree::{Room, TreeBuilder};
 use oca_types::Peer;
 use std::alloc::Global;
 
-/// Opens a device that has its root alone (the block 100), with room for so many objects, the root counted: 1 to 4,096.
-/// It takes the memory for them. Returns `Done`; otherwise the first that applies: `Open` if the struct is open
-/// already, `BadSize` of another room, `NoMemory` if memory was refused. Then nothing is changed.
+/// Opens a device that has its root alone (the block 100), with room for `room` objects, the root counted: 1 to 4,096.
+/// It takes the memory for them. Returns `Done`; otherwise the first of these that applies, and nothing is changed.
+/// `Open` if the struct is open already. `BadSize` if `room` is outside its range. `NoMemory` if memory was refused.
 #[unsafe(no_mangle)]
 pub extern "C" fn oca_device_open(alloc: Global, handle: &mut DeviceHandle, room: u16) -> u32
     ensures open { IsSome handle.old.slot.inner → (result ≡ 10) × (handle.new.slot.inner ≡ handle.old.slot.inner) }
@@ -43,7 +43,7 @@ pub extern "C" fn oca_device_open(alloc: Global, handle: &mut DeviceHandle, room
     }
 }
 
-/// Closes a device, and gives its memory back. A closed one stays closed.
+/// Closes a device, and frees its memory. A closed one stays closed.
 #[unsafe(no_mangle)]
 pub extern "C" fn oca_device_close(alloc: Global, handle: &mut DeviceHandle)
     ensures { handle.new.slot.inner ≡ None }
@@ -53,9 +53,9 @@ pub extern "C" fn oca_device_close(alloc: Global, handle: &mut DeviceHandle)
 
 /// Starts the device, with reply windows of `window` commands and sessions of `peers` peers. Both are 1 to 64. It has
 /// room for 122 packets that answer a datagram, which always suffices. No object can be added after it. Returns `Done`;
-/// otherwise the first that applies: `Closed` if the struct is closed, `Started` if the device is started already,
-/// `BadSize` of a size outside its range. Then nothing is changed. `NoMemory` if memory was refused: then the objects
-/// are lost, and the struct is closed.
+/// otherwise the first of these that applies. `Closed` if the struct is closed, `Started` if the device is started
+/// already, `BadSize` if a size is outside its range: then nothing is changed. `NoMemory` if memory was refused: then
+/// the objects are lost, and the struct is closed.
 #[unsafe(no_mangle)]
 pub extern "C" fn oca_device_start(
     alloc: Global,
@@ -73,9 +73,9 @@ pub extern "C" fn oca_device_start(
 
 /// Starts the device, with reply windows of `window` commands and sessions of `peers` peers, both 1 to 64. It has room
 /// for `packets` packets that answer a datagram, 1 to 122, of some 1,480 bytes each. No object can be added after it.
-/// Returns `Done`; otherwise the first that applies: `Closed` if the struct is closed, `Started` if the device is
-/// started already, `BadSize` of a size outside its range. Then nothing is changed. `NoMemory` if memory was refused:
-/// then the objects are lost, and the struct is closed.
+/// Returns `Done`; otherwise the first of these that applies. `Closed` if the struct is closed, `Started` if the device
+/// is started already, `BadSize` if a size is outside its range: then nothing is changed. `NoMemory` if memory was
+/// refused: then the objects are lost, and the struct is closed.
 #[unsafe(no_mangle)]
 pub extern "C" fn oca_device_start_within(
     alloc: Global,
@@ -97,15 +97,15 @@ pub extern "C" fn oca_device_start_within(
     answer.number()
 }
 
-/// Hands the device a datagram that came from the address `ip` (the first byte highest) and a port at the moment `now`,
-/// in milliseconds. Its answers replace the packets of the last datagram, as many as there is room for. A moment
-/// earlier than one already seen counts as that one.
+/// Handles a datagram that came from the address `ip` (an IPv4 address as a number, the first byte highest) and a port.
+/// `now` is the moment, in milliseconds of the caller's clock; a moment earlier than one already seen counts as that
+/// one. The answers replace the packets of the last datagram, as many as there is room for.
 ///
 /// The words of the verdict go to the front of `out`, as many as it has room for. The first is 0 if the datagram was
 /// served: then come how many commands were executed, duplicates, old and reused. It is 1 for a malformed datagram:
-/// after four zeros come the number of the fault and its offset. It is 2 if there was no room for the sender. Returns
-/// `Done`; otherwise `Closed` if the struct is closed, or `NotStarted` before the start. Then nothing is changed or
-/// written.
+/// after four zeros come the number of the fault (1 to 9) and its offset in bytes. It is 2 if there was no room for the
+/// sender. Returns `Done`; otherwise `Closed` if the struct is closed, or `NotStarted` before the start. Then nothing
+/// is changed or written.
 #[unsafe(no_mangle)]
 pub extern "C" fn oca_device_datagram_words(
     alloc: Global,
@@ -139,9 +139,10 @@ pub extern "C" fn oca_device_datagram_words(
     answer.number()
 }
 
-/// Hands the device a clock reading, in milliseconds: locks of silent peers are released, and silent sessions are
-/// forgotten. A moment earlier than one already seen counts as that one. Returns `Done`; otherwise `Closed` if the
-/// struct is closed, or `NotStarted` before the start. Then nothing is changed.
+/// Moves the device's clock on to `now`, in milliseconds of the caller's clock. Locks of peers that are silent for more
+/// than three heartbeats are released, and sessions that are silent for more than 120,000 ms are forgotten. A moment
+/// earlier than one already seen counts as that one. Returns `Done`; otherwise `Closed` if the struct is closed, or
+/// `NotStarted` before the start. Then nothing is changed.
 #[unsafe(no_mangle)]
 pub extern "C" fn oca_device_tick(alloc: Global, handle: &mut DeviceHandle, now: u64) -> u32
     ensures closed { RefusesClosed handle.old.slot.inner handle.new.slot.inner result }
@@ -159,9 +160,10 @@ pub extern "C" fn oca_device_tick(alloc: Global, handle: &mut DeviceHandle, now:
     answer.number()
 }
 
-/// Writes the earliest moment, in milliseconds and not before the device's own, at which a clock reading changes the
-/// objects or the sessions. Returns `Done`; otherwise `Closed` if the struct is closed, `NotStarted` before the start,
-/// or `Nothing` if there is no such moment within 64 bits. Then nothing is changed or written.
+/// Writes the earliest moment at which a clock reading changes the objects or the sessions. It is in milliseconds of
+/// the caller's clock, and not before the device's present moment. Returns `Done`; otherwise `Closed` if the struct is
+/// closed, `NotStarted` before the start, or `Nothing` if there is no such moment within 64 bits. Then nothing is
+/// changed or written.
 #[unsafe(no_mangle)]
 pub extern "C" fn oca_device_next_lapse(
     alloc: Global,
@@ -206,9 +208,9 @@ pub extern "C" fn oca_device_packets(
     answer.number()
 }
 
-/// Writes whether packets that answer the last datagram were left out, since there was no room for them; false before
-/// the first datagram. Returns `Done`; otherwise `Closed` if the struct is closed, or `NotStarted` before the start.
-/// Then nothing is changed or written.
+/// Writes whether answers to the last datagram were left out because there was no room for them; false before the first
+/// datagram. Returns `Done`; otherwise `Closed` if the struct is closed, or `NotStarted` before the start. Then nothing
+/// is changed or written.
 #[unsafe(no_mangle)]
 pub extern "C" fn oca_device_left_out(
     alloc: Global,

@@ -16,8 +16,8 @@ use std::alloc::Global;
 
 /// Sets a mute (1 Muted, 2 Unmuted) or a polarity (1 NonInverted, 2 Inverted) at the local front panel. Locks do not
 /// prevent it. Returns `Done`; otherwise the first of these that applies, and nothing is changed. `Closed` if the
-/// struct is closed, `NotStarted` before the start, `NoObject` if there is no such object, `NoSetting` of a block. Then
-/// `OtherKind` of another class, `OutOfRange` of another number.
+/// struct is closed, `NotStarted` before the start, `NoObject` if there is no such object, `NoSetting` if it is a
+/// block. Then `OtherKind` if it is of another class, `OutOfRange` if `state` is neither 1 nor 2.
 #[unsafe(no_mangle)]
 pub extern "C" fn oca_device_set_state(
     alloc: Global,
@@ -41,8 +41,8 @@ pub extern "C" fn oca_device_set_state(
 
 /// Sets a switch at the local front panel to a position, which is counted from 0. Locks do not prevent it. Returns
 /// `Done`; otherwise the first of these that applies, and nothing is changed. `Closed` if the struct is closed,
-/// `NotStarted` before the start, `NoObject` if there is no such object, `NoSetting` of a block. Then `OtherKind` of
-/// another class, `OutOfRange` of a position that is not there or disabled.
+/// `NotStarted` before the start, `NoObject` if there is no such object, `NoSetting` if it is a block. Then `OtherKind`
+/// if it is of another class, `OutOfRange` if the position is not there or disabled.
 #[unsafe(no_mangle)]
 pub extern "C" fn oca_device_set_position(
     alloc: Global,
@@ -61,8 +61,8 @@ pub extern "C" fn oca_device_set_position(
 
 /// Sets a Boolean actuator at the local front panel. Locks do not prevent it. Returns `Done`; otherwise the first of
 /// these that applies, and nothing is changed. `Closed` if the struct is closed, `NotStarted` before the start,
-/// `NoObject` if there is no such object, `NoSetting` of a block. Then `OtherKind` of another class. `OutOfRange` does
-/// not come.
+/// `NoObject` if there is no such object, `NoSetting` if it is a block. Then `OtherKind` if it is of another class.
+/// `OutOfRange` never comes.
 #[unsafe(no_mangle)]
 pub extern "C" fn oca_device_set_truth(
     alloc: Global,
@@ -81,8 +81,9 @@ pub extern "C" fn oca_device_set_truth(
 
 /// Sets an actuator of integers, of any type, at the local front panel to a number of 64 bits with a sign. Locks do not
 /// prevent it. Returns `Done`; otherwise the first of these that applies, and nothing is changed. `Closed` if the
-/// struct is closed, `NotStarted` before the start, `NoObject` if there is no such object, `NoSetting` of a block. Then
-/// `OtherKind` of a class without integers, `OutOfRange` of a number outside the object's limits.
+/// struct is closed, `NotStarted` before the start, `NoObject` if there is no such object, `NoSetting` if it is a
+/// block. Then `OtherKind` if its class is not one of integers, `OutOfRange` if the number is outside the object's
+/// limits.
 #[unsafe(no_mangle)]
 pub extern "C" fn oca_device_set_signed(
     alloc: Global,
@@ -101,8 +102,9 @@ pub extern "C" fn oca_device_set_signed(
 
 /// Sets an actuator of integers, of any type, at the local front panel to a number of 64 bits without a sign. Locks do
 /// not prevent it. Returns `Done`; otherwise the first of these that applies, and nothing is changed. `Closed` if the
-/// struct is closed, `NotStarted` before the start, `NoObject` if there is no such object, `NoSetting` of a block. Then
-/// `OtherKind` of a class without integers, `OutOfRange` of a number outside the object's limits.
+/// struct is closed, `NotStarted` before the start, `NoObject` if there is no such object, `NoSetting` if it is a
+/// block. Then `OtherKind` if its class is not one of integers, `OutOfRange` if the number is outside the object's
+/// limits.
 #[unsafe(no_mangle)]
 pub extern "C" fn oca_device_set_unsigned(
     alloc: Global,
@@ -119,11 +121,11 @@ pub extern "C" fn oca_device_set_unsigned(
     set_integer(alloc, handle, ono, i128::from(number))
 }
 
-/// Sets an object at the local front panel to a value of its class. Locks do not prevent it. Returns `Done`; otherwise
-/// the first of these that applies, and nothing is changed. `Closed` if the struct is closed, `NotStarted` before the
-/// start, `NoValue` if the words are those of no value. Then `NoObject` if there is no such object, `NoSetting` of a
-/// block, `OtherKind` of another class. Last `OutOfRange` of a position that is not there or disabled, or a number
-/// outside the object's limits.
+/// Sets an object at the local front panel to a value, which must be of its class. Locks do not prevent it. Returns
+/// `Done`; otherwise the first of these that applies, and nothing is changed. `Closed` if the struct is closed,
+/// `NotStarted` before the start, `NoValue` if the struct holds no value. Then `NoObject` if there is no such object,
+/// `NoSetting` if it is a block, `OtherKind` if it is of another class. Last `OutOfRange` if the position is not there
+/// or disabled, or the number is outside the object's limits.
 #[unsafe(no_mangle)]
 pub extern "C" fn oca_device_set(
     alloc: Global,
@@ -147,8 +149,8 @@ pub extern "C" fn oca_device_set(
 
 /// Gives an object a label of at most 64 bytes of UTF-8 at the local front panel. Locks do not prevent it. Returns
 /// `Done`; otherwise the first of these that applies, and nothing is changed. `Closed` if the struct is closed,
-/// `NotStarted` before the start, `BadText` if the bytes are no UTF-8. Then `NoObject` if there is no such object,
-/// `BadText` of a longer label.
+/// `NotStarted` before the start, `BadText` if the bytes are not UTF-8. Then `NoObject` if there is no such object,
+/// `BadText` if the label is longer.
 #[unsafe(no_mangle)]
 pub extern "C" fn oca_device_set_label(
     alloc: Global,
@@ -194,7 +196,7 @@ pub extern "C" fn oca_device_set_enabled(
     answer.number()
 }
 
-/// Releases the lock of an object at the local front panel, whichever peer holds it. The peer is not told. Returns
+/// Releases the lock of an object at the local front panel, whichever peer holds it. The peer gets no message. Returns
 /// `Done`; otherwise the first of these that applies, and nothing is changed. `Closed` if the struct is closed,
 /// `NotStarted` before the start, `NoObject` if there is no such object, `Nothing` if the object is not locked.
 #[unsafe(no_mangle)]
@@ -213,10 +215,10 @@ pub extern "C" fn oca_device_unlock(alloc: Global, handle: &mut DeviceHandle, on
     answer.number()
 }
 
-/// Says at the local front panel whether the hardware of an object refuses to be changed. While it does, each command
-/// that is executed and whose method writes is answered `ProcessingFailed` if no other status refuses it, and changes
-/// nothing. Returns `Done`; otherwise `Closed` if the struct is closed, `NotStarted` before the start, or `NoObject`.
-/// Then nothing is changed.
+/// Sets, at the local front panel, whether the hardware of an object refuses to be changed. If it does, each command
+/// that would write to the object, and that no other status refuses, is answered `ProcessingFailed` and changes
+/// nothing. Returns `Done`; otherwise `Closed` if the struct is closed, `NotStarted` before the start, or `NoObject` if
+/// there is no such object. Then nothing is changed.
 #[unsafe(no_mangle)]
 pub extern "C" fn oca_device_set_failing(
     alloc: Global,

@@ -19,10 +19,11 @@ use oca_control::Link;
 use oca_types::{Handle, MethodId, Ono, Peer, Span};
 use std::alloc::Global;
 
-/// Opens a link to the device at the address `ip` (the first byte highest) and a port, at the moment `now`, in
-/// milliseconds. Its first command gets the handle `first_handle`; the handles in flight lie within the span, 1 to 32.
-/// It takes the memory for the link. Returns `Done`; otherwise the first that applies: `Open` if the struct is open
-/// already, `BadSize` of another span, `NoMemory` if memory was refused. Then nothing is changed.
+/// Opens a link to the device at the address `ip` (an IPv4 address as a number, the first byte highest) and a port.
+/// `now` is the moment, in milliseconds of the caller's clock. Its first command gets the handle `first_handle`. Each
+/// later handle is one higher, and lies below the lowest handle in flight plus the span, 1 to 32. It takes the memory
+/// for the link. Returns `Done`; otherwise the first of these that applies, and nothing is changed. `Open` if the
+/// struct is open already. `BadSize` if the span is outside its range. `NoMemory` if memory was refused.
 #[unsafe(no_mangle)]
 pub extern "C" fn oca_link_open(
     alloc: Global,
@@ -53,7 +54,7 @@ pub extern "C" fn oca_link_open(
     }
 }
 
-/// Closes a link, and gives its memory back. A closed one stays closed. Commands in flight may still be carried out.
+/// Closes a link, and frees its memory. A closed one stays closed. Commands in flight may still be carried out.
 #[unsafe(no_mangle)]
 pub extern "C" fn oca_link_close(alloc: Global, handle: &mut LinkHandle)
     ensures { handle.new.slot.inner ≡ None }
@@ -61,11 +62,11 @@ pub extern "C" fn oca_link_close(alloc: Global, handle: &mut LinkHandle)
     handle.close(alloc);
 }
 
-/// Submits a command at the moment `now`, in milliseconds, and writes its handle into `command`. `count` is ParamCount.
-/// It sends nothing: `oca_link_due` gives what is to be sent. Returns `Done`; otherwise the first of these that
-/// applies, and nothing is changed or written. `Closed` if the struct is closed, `Lost` if the link is lost,
-/// `HandlesSpent` after the handle 4294967295. Then `SpanFull` if the next handle is not within the span, `TooLong` of
-/// parameters above 1,445 bytes.
+/// Submits a command at the moment `now`, in milliseconds of the caller's clock, and writes its handle into `command`.
+/// `count` is ParamCount. It sends nothing: `oca_link_due` returns what must be sent. Returns `Done`; otherwise the
+/// first of these that applies, and nothing is changed or written. `Closed` if the struct is closed, `Lost` if the link
+/// is lost, `HandlesSpent` after the handle 4294967295. Then `SpanFull` if the next handle is not below the lowest one
+/// in flight plus the span, `TooLong` if the parameters have more than 1,445 bytes.
 #[unsafe(no_mangle)]
 pub extern "C" fn oca_link_submit(
     alloc: Global,
@@ -99,11 +100,11 @@ pub extern "C" fn oca_link_submit(
     number
 }
 
-/// Puts what is due at the moment `now`, in milliseconds, to the front of `out`, and its size, 0 to 1,472 bytes, into
-/// `len`: it is to be sent to the device. `kind` becomes 0 if nothing is due, 1 for a command, 2 for a keep-alive, 3 if
-/// the link is lost (`enum oca_due`). `command` becomes the handle of the command, else 0. Returns `Done`; otherwise
-/// `Closed` if the struct is closed, or `TooSmall` if `out` has fewer than 1,472 bytes, whatever is due. Then nothing
-/// is changed or written.
+/// Puts what is due at the moment `now`, in milliseconds of the caller's clock, to the front of `out`; it must be sent
+/// to the device. Its size, 0 to 1,472 bytes, goes into `len`. `kind` becomes 0 if nothing is due, 1 for a command, 2
+/// for a keep-alive, 3 if the link is lost (`enum oca_due`). `command` becomes the handle of the command, or 0 if no
+/// command is due. Returns `Done`; otherwise `Closed` if the struct is closed, or `TooSmall` if `out` has fewer than
+/// 1,472 bytes, whatever is due. Then nothing is changed or written.
 #[unsafe(no_mangle)]
 pub extern "C" fn oca_link_due(
     alloc: Global,
@@ -133,10 +134,11 @@ pub extern "C" fn oca_link_due(
     number
 }
 
-/// Takes a datagram that came from the address `ip` (the first byte highest) and a port at the moment `now`, in
-/// milliseconds. `kind` becomes 0 if it held nothing new, 1 if it answered commands, 2 if it came from another address
-/// than the device's, 3 if it is malformed (`enum oca_reception`). `answered` becomes how many commands it answered.
-/// Returns `Done`; otherwise `Closed` if the struct is closed. Then nothing is changed or written.
+/// Handles a datagram that came from the address `ip` (an IPv4 address as a number, the first byte highest) and a port.
+/// `now` is the moment, in milliseconds of the caller's clock. `kind` becomes 2 if it came from another address than
+/// the device's. Otherwise it becomes 3 if the datagram is malformed. Otherwise it becomes 1 if commands got their
+/// first answer in it, and 0 if none did (`enum oca_reception`). `answered` becomes how many commands did. Returns
+/// `Done`; otherwise `Closed` if the struct is closed. Then nothing is changed or written.
 #[unsafe(no_mangle)]
 pub extern "C" fn oca_link_datagram(
     alloc: Global,
@@ -163,10 +165,10 @@ pub extern "C" fn oca_link_datagram(
     number
 }
 
-/// Takes the answer to a command, and the command with it: its status, its ParamCount, and its parameters at the front
-/// of `out`, with their size in `len`. Returns `Done`; otherwise `Closed` if the struct is closed, or `TooSmall` if
-/// `out` has fewer than 1,452 bytes, whatever the answer, or `Nothing` if there is no answer under this handle. Then
-/// nothing is changed or written.
+/// Takes the answer to a command, and removes the command. Writes its status and its ParamCount, puts its parameters to
+/// the front of `out`, and their size into `len`. Returns `Done`; otherwise the first of these that applies, and
+/// nothing is changed or written. `Closed` if the struct is closed. `TooSmall` if `out` has fewer than 1,452 bytes,
+/// whatever the answer. `Nothing` if there is no answer under this handle.
 #[unsafe(no_mangle)]
 pub extern "C" fn oca_link_take(
     alloc: Global,
@@ -194,9 +196,9 @@ pub extern "C" fn oca_link_take(
     number
 }
 
-/// Writes the earliest moment, in milliseconds and not before the link's own, at which something is due or the link is
-/// lost. Returns `Done`; otherwise `Closed` if the struct is closed, or `Nothing` if that moment lies beyond 64 bits.
-/// Then nothing is changed or written.
+/// Writes the earliest moment at which something is due or the link is lost. It is in milliseconds of the caller's
+/// clock, and not before the latest moment that the link was given. Returns `Done`; otherwise `Closed` if the struct is
+/// closed, or `Nothing` if that moment lies beyond 64 bits. Then nothing is changed or written.
 #[unsafe(no_mangle)]
 pub extern "C" fn oca_link_next_due(alloc: Global, handle: &mut LinkHandle, moment: &mut u64) -> u32
     ensures closed { RefusesClosed handle.old.slot.inner handle.new.slot.inner result }
@@ -234,9 +236,8 @@ pub extern "C" fn oca_link_answered(
     number
 }
 
-/// Writes whether the command under a handle is unanswered: it was submitted, and no answer to it came yet. It writes
-/// false for a handle that no command has. Returns `Done`; otherwise `Closed` if the struct is closed. Then nothing is
-/// changed or written.
+/// Writes whether the command under a handle was submitted and has no answer yet. It writes false for a handle that no
+/// command has. Returns `Done`; otherwise `Closed` if the struct is closed. Then nothing is changed or written.
 #[unsafe(no_mangle)]
 pub extern "C" fn oca_link_in_flight(
     alloc: Global,
@@ -279,9 +280,9 @@ pub extern "C" fn oca_link_next_handle(
     number
 }
 
-/// Writes the moment, in milliseconds, at which the last well-formed datagram came from the device; until then, the
-/// moment of the opening. Returns `Done`; otherwise `Closed` if the struct is closed. Then nothing is changed or
-/// written.
+/// Writes the moment, in milliseconds of the caller's clock, at which the last well-formed datagram came from the
+/// device. Before the first one it is the moment of the opening. Returns `Done`; otherwise `Closed` if the struct is
+/// closed. Then nothing is changed or written.
 #[unsafe(no_mangle)]
 pub extern "C" fn oca_link_last_heard(
     alloc: Global,
@@ -318,9 +319,9 @@ pub extern "C" fn oca_link_is_lost(alloc: Global, handle: &mut LinkHandle, lost:
     number
 }
 
-/// Writes whether the link is late at the moment `now`, in milliseconds: a command is unanswered that was submitted
-/// more than 15,000 ms before, sent or not. Returns `Done`; otherwise `Closed` if the struct is closed. Then nothing is
-/// changed or written.
+/// Writes whether the link is late at the moment `now`, in milliseconds of the caller's clock: a command is unanswered
+/// that was submitted more than 15,000 ms before. It does not matter whether it was sent. Returns `Done`; otherwise
+/// `Closed` if the struct is closed. Then nothing is changed or written.
 #[unsafe(no_mangle)]
 pub extern "C" fn oca_link_is_late(
     alloc: Global,

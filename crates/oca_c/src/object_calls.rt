@@ -36,10 +36,11 @@ pub extern "C" fn oca_device_objects(
     answer.number()
 }
 
-/// Writes what the object at this index is, counted from 0 at the root in order of adding. To `out` go its number, that
-/// of its container (0 for the root), that of its class (1 to 13) and the size of its role in bytes. Its role goes to
-/// `role`. Each is written as far as there is room. Returns `Done`; otherwise `Closed` if the struct is closed,
-/// `NotStarted` before the start, or `Nothing` after the last object. Then nothing is changed or written.
+/// Writes what the object at this index is; indices count from 0 at the root, in order of adding. To `out` go its
+/// number, its container's number (0 for the root), the number of its class (1 to 13, `enum oca_class`) and the size of
+/// its role in bytes. Its role goes to `role`. Each is written as far as there is room. Returns `Done`; otherwise
+/// `Closed` if the struct is closed, `NotStarted` before the start, or `Nothing` after the last object. Then nothing is
+/// changed or written.
 #[unsafe(no_mangle)]
 pub extern "C" fn oca_device_object_words(
     alloc: Global,
@@ -63,9 +64,10 @@ pub extern "C" fn oca_device_object_words(
     answer.number()
 }
 
-/// Writes the kind of an object's lock (1 against all access, 2 against all but reading) and the address (the first
-/// byte highest) and port of its holder. Returns `Done`; otherwise `Closed` if the struct is closed, `NotStarted`
-/// before the start, or `Nothing` if the object is not locked or not there. Then nothing is changed or written.
+/// Writes the kind of an object's lock, and the address (an IPv4 address as a number, the first byte highest) and port
+/// of its holder. Kind 1 keeps other peers from all access, kind 2 from all but reading. Returns `Done`; otherwise
+/// `Closed` if the struct is closed, `NotStarted` before the start, or `Nothing` if the object is not locked or not
+/// there. Then nothing is changed or written.
 #[unsafe(no_mangle)]
 pub extern "C" fn oca_device_lock(
     alloc: Global,
@@ -90,8 +92,9 @@ pub extern "C" fn oca_device_lock(
     answer.number()
 }
 
-/// Writes whether the hardware of an object refuses to be changed, as `oca_device_set_failing` said last; false before.
-/// Returns `Done`; otherwise `Closed`, `NotStarted` or `NoObject`, and then nothing is changed or written.
+/// Writes whether the hardware of an object refuses to be changed, as `oca_device_set_failing` set it last; false if it
+/// was never set. Returns `Done`; otherwise `Closed` if the struct is closed, `NotStarted` before the start, or
+/// `NoObject` if there is no such object. Then nothing is changed or written.
 #[unsafe(no_mangle)]
 pub extern "C" fn oca_device_is_failing(
     alloc: Global,
@@ -114,9 +117,9 @@ pub extern "C" fn oca_device_is_failing(
     answer.number()
 }
 
-/// Writes how an object is set: a kind (1 a state, 2 a position, 3 a truth, 4 a number), whether the number is
+/// Writes how an object is set: a kind (1 a state, 2 a position, 3 a Boolean, 4 an integer), whether the number is
 /// negative, and its magnitude. Returns `Done`; otherwise `Closed` if the struct is closed, `NotStarted` before the
-/// start, or `Nothing` for a block, and if the object is not there. Then nothing is changed or written.
+/// start, or `Nothing` for a block and if the object is not there. Then nothing is changed or written.
 #[unsafe(no_mangle)]
 pub extern "C" fn oca_device_setting(
     alloc: Global,
@@ -162,9 +165,10 @@ pub extern "C" fn oca_device_peers(
     answer.number()
 }
 
-/// Writes the address (the first byte highest) and the port of the peer of the session at this index, counted from 0 in
-/// order of opening. Returns `Done`; otherwise `Closed` if the struct is closed, `NotStarted` before the start, or
-/// `Nothing` after the last session. Then nothing is changed or written.
+/// Writes the address (an IPv4 address as a number, the first byte highest) and the port of the peer of the session at
+/// this index. Sessions are counted from 0, in order of opening; if one is forgotten, the later ones move up. Returns
+/// `Done`; otherwise `Closed` if the struct is closed, `NotStarted` before the start, or `Nothing` after the last
+/// session. Then nothing is changed or written.
 #[unsafe(no_mangle)]
 pub extern "C" fn oca_device_peer(
     alloc: Global,

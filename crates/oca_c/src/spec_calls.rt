@@ -23,11 +23,11 @@ use oca_calls::spec_words::SpecWords;
 use oca_tree::{Room, TreeBuilder};
 use std::alloc::Global;
 
-/// Opens a device that has its root alone (the block 100), with room for so many objects, the root counted: 1 to 4,096.
+/// Opens a device that has its root alone (the block 100), with room for `room` objects, the root counted: 1 to 4,096.
 /// The root has the label of the struct, and is enabled as the struct says. It takes the memory for the objects.
 /// Returns `Done`; otherwise the first of these that applies, and nothing is changed. `Open` if the struct is open
-/// already. `BadSize` of another room or a struct of another size. `BadText` if the label has more than 64 bytes or is
-/// no UTF-8. `NoMemory` if memory was refused.
+/// already. `BadSize` if `room` is outside its range, or the struct is of another version. `BadText` if the label has
+/// more than 64 bytes or is not UTF-8. `NoMemory` if memory was refused.
 #[unsafe(no_mangle)]
 pub extern "C" fn oca_device_open_with(
     alloc: Global,
@@ -59,12 +59,12 @@ pub extern "C" fn oca_device_open_with(
 
 /// Adds the object that the struct describes, with what was stored of it, to the block `container` under the number
 /// `ono`, before the start. Returns `Done`; otherwise the first of these that applies, and nothing is changed. `Closed`
-/// if the struct is closed, `Started` after the start, `BadSize` of a struct of another size, `BadRange` of more than
-/// 16 positions. Then `BadText` if the role, the label or a name has more than 64 bytes or is no UTF-8, `NoValue` if
-/// the reading is none that an object can have. Then `Full` if there is no room for another object, `Reserved` if the
-/// number is below 4,096, `Taken` if an object has the number. Then `NoSuchBlock` if the container is no block of the
-/// tree, `TooDeep` at depth 9, `BadText` of an empty role. Last `BadRange` if the setting is outside its limits, or a
-/// switch has no position.
+/// if the struct is closed, `Started` after the start, `BadSize` if the struct is of another version, `BadRange` if it
+/// has more than 16 positions. Then `BadText` if the role, the label or a name has more than 64 bytes or is not UTF-8,
+/// `NoValue` if the reading is none that an object can have. Then `Full` if there is no room for another object,
+/// `Reserved` if the number is below 4,096, `Taken` if an object has the number. Then `NoSuchBlock` if the container is
+/// no block of the tree, `TooDeep` at depth 9, `BadText` if the role is empty. Last `BadRange` if the setting is
+/// outside its limits, or a switch has no position.
 #[unsafe(no_mangle)]
 pub extern "C" fn oca_device_add(
     alloc: Global,
@@ -88,10 +88,10 @@ pub extern "C" fn oca_device_add(
     answer.number()
 }
 
-/// Writes what an addition makes of the object at this index, counted from 0 at the root in order of adding; its lock
-/// is not told. Returns `Done`; otherwise the first of these that applies, and nothing is changed or written. `Closed`
-/// if the struct is closed, `NotStarted` before the start, `BadSize` if the struct does not say its size, `Nothing`
-/// after the last object.
+/// Writes the description of the object at this index, by which it can be added again; indices count from 0 at the
+/// root, in order of adding. Its lock is not written. Returns `Done`; otherwise the first of these that applies, and
+/// nothing is changed or written. `Closed` if the struct is closed, `NotStarted` before the start, `BadSize` if `spec`
+/// does not say its size, `Nothing` after the last object.
 #[unsafe(no_mangle)]
 pub extern "C" fn oca_device_spec(
     alloc: Global,
@@ -116,9 +116,10 @@ pub extern "C" fn oca_device_spec(
     answer.number()
 }
 
-/// Writes what an addition makes of the object with this number; its lock is not told. Returns `Done`; otherwise the
-/// first of these that applies, and nothing is changed or written. `Closed` if the struct is closed, `NotStarted`
-/// before the start, `BadSize` if the struct does not say its size, `Nothing` if there is no such object.
+/// Writes the description of the object with this number, by which it can be added again. Its lock is not written.
+/// Returns `Done`; otherwise the first of these that applies, and nothing is changed or written. `Closed` if the struct
+/// is closed, `NotStarted` before the start, `BadSize` if `spec` does not say its size, `Nothing` if there is no such
+/// object.
 #[unsafe(no_mangle)]
 pub extern "C" fn oca_device_spec_of(
     alloc: Global,
@@ -143,12 +144,12 @@ pub extern "C" fn oca_device_spec_of(
     answer.number()
 }
 
-/// Brings what was stored of an object into the struct that says what it is to be. It brings the value, the label,
-/// whether the object is enabled, and of a switch the names of its positions and which are enabled. The role, the
-/// limits and whether the object can be locked stay. Returns `Done`; otherwise the first of these that applies, and
-/// nothing is changed. `BadSize` if one of the structs is of another size. `OtherKind` of two classes, or two numbers
-/// of positions. `BadRange` of more than 16 positions. `BadText` if a stored label or name has more than 64 bytes or is
-/// no UTF-8. `OutOfRange` if the stored value is none, or the struct's limits do not allow it.
+/// Changes the description of an object to what was stored of it: the value, the label, and whether it is enabled. For
+/// a switch it also changes the names of its positions and which are enabled. The role, the limits and whether it can
+/// be locked stay. Returns `Done`; otherwise the first of these that applies, and nothing is changed. `BadSize` if one
+/// of the structs is of another version. `OtherKind` if they are of two classes, or have two numbers of positions.
+/// `BadRange` if there are more than 16 positions. `BadText` if a stored label or name has more than 64 bytes or is not
+/// UTF-8. `OutOfRange` if the stored value is none, or the limits in `spec` do not allow it.
 #[unsafe(no_mangle)]
 pub extern "C" fn oca_spec_restore(spec: &mut SpecWords, stored: &SpecWords) -> u32
     ensures { (answer : AnswerItself) × (result ≡ answer_number answer) × RestoresSpec answer spec.old stored.now spec.new }

@@ -7,8 +7,9 @@ use crate::device_handle::DeviceHandle;
 use oca_tree::Kind;
 use std::alloc::Global;
 
-/// Adds an object to the device behind a handle. Returns the number of [`Answer`]: `Closed`, `Started`, or what
-/// [`DeviceBehind::add`](crate::device::DeviceBehind::add) answers. A refusal adds nothing.
+/// Adds an object to the device of a handle, before its start. Returns the number of an [`Answer`]: `Closed` if the
+/// handle is closed, `Started` after the start. Otherwise it is what
+/// [`DeviceBehind::add`](crate::device::DeviceBehind::add) returns. If it is not `Done`, nothing is added.
 pub fn add(
     alloc: Global,
     handle: &mut DeviceHandle,

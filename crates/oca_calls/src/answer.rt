@@ -45,14 +45,14 @@ pub enum Answer {
 }
 
 impl Answer {
-    /// Its number: 0 to 24.
+    /// The number of the answer in C: 0 to 24.
     pub fn number(self) -> u32
         ensures { result ≡ answer_number self }
     {
         self as u32
     }
 
-    /// The result for an addition that was refused: the fault's namesake.
+    /// The answer for an addition that was refused with this fault: the one of the same name.
     pub fn of_add(fault: AddFault) -> Answer
         ensures { result ≡ add_answer fault }
     {
@@ -68,8 +68,9 @@ impl Answer {
         }
     }
 
-    /// The result for an addition with what was stored, or a root with it, that was refused: that of the addition's
-    /// fault; `BadText` of a label, `BadRange` of flags.
+    /// The answer for an addition with what was stored, or a root with it, that was refused with this fault. `BadText`
+    /// for a label, `BadRange` for flags, otherwise the answer for the fault of the addition
+    /// ([`of_add`](Answer::of_add)).
     pub fn of_start(fault: StartFault) -> Answer
         ensures { result ≡ start_answer fault }
     {
@@ -80,8 +81,8 @@ impl Answer {
         }
     }
 
-    /// The result for a setting that was refused: `NoObject`, `NoSetting`, `OtherKind` or `OutOfRange`, as the fault
-    /// is.
+    /// The answer for a setting that was refused with this fault: the one of the same name (`NoObject`, `NoSetting`,
+    /// `OtherKind` or `OutOfRange`).
     pub fn of_set(fault: SetFault) -> Answer
         ensures { result ≡ set_answer fault }
     {
@@ -93,8 +94,9 @@ impl Answer {
         }
     }
 
-    /// The result for a refused change of a label, of whether an object is enabled, or of its lock: `NoObject`;
-    /// `BadText` of a label above 64 bytes; `Nothing` if the object is not locked.
+    /// The answer for a change of a label, of whether an object is enabled, or of its lock, that was refused with this
+    /// fault. `NoObject` if there is no such object. `BadText` if a label has more than 64 bytes. `Nothing` if the
+    /// object is not locked.
     pub fn of_front(fault: FrontFault) -> Answer
         ensures { result ≡ front_answer fault }
     {
@@ -105,8 +107,8 @@ impl Answer {
         }
     }
 
-    /// The result for a command that was not submitted: `Lost`, `HandlesSpent`, `SpanFull` or `TooLong`, as the fault
-    /// is.
+    /// The answer for a command that was not submitted because of this fault: the one of the same name (`Lost`,
+    /// `HandlesSpent`, `SpanFull` or `TooLong`).
     pub fn of_submission(fault: ControlFault) -> Answer
         ensures { result ≡ submission_answer fault }
     {

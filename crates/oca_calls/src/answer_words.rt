@@ -36,7 +36,7 @@ pub struct ClassId {
 }
 
 impl Names {
-    /// These names, of which there are at most 16.
+    /// These names as a struct for C. There must be at most 16 (a premise).
     pub fn of(texts: &[Text]) -> Names
         requires { length texts.now ≤ 16 }
         ensures count { result.count ≡ length texts.now }
@@ -51,7 +51,7 @@ impl Names {
 }
 
 impl Members {
-    /// These members, of which there are at most 181.
+    /// The numbers of these members as a struct for C. There must be at most 181 (a premise).
     pub fn of(onos: &[u32]) -> Members
         requires { length onos.now ≤ 181 }
         ensures count { result.count ≡ length onos.now }
@@ -67,7 +67,8 @@ impl Members {
 }
 
 impl ClassId {
-    /// The identifier with these fields, of which there are at most 16.
+    /// The class identifier with these fields as a struct for C, with the number of the class ([`number_with`]). There
+    /// must be at most 16 fields (a premise).
     pub fn of(fields: &[u16]) -> ClassId
         requires { length fields.now ≤ 16 }
         ensures count { result.count ≡ length fields.now }
@@ -84,7 +85,9 @@ impl ClassId {
     }
 }
 
-/// The number of the class whose identifier has these fields; 0 for one that is not of this profile.
+/// The number in C of the class whose identifier (OcaClassID, AES70-2) has these fields, as
+/// [`class_number`](crate::words::class_number) lists them: 1 for OcaBlock to 13 for OcaUint64Actuator. 0 if no class
+/// of this profile has these fields.
 pub fn number_with(fields: &[u16]) -> u32
     ensures { result ≡ number_of_class (class_with fields.now) }
 {

@@ -56,7 +56,8 @@ pub struct DeviceBehind {
 }
 
 impl DeviceBehind {
-    /// A device that is not started: the objects that were built, and an empty outbox for its answers.
+    /// A device that is not started, with the objects of this builder. `outbox` is its outbox until the start. Nothing
+    /// waits to be stored.
     pub fn over(builder: TreeBuilder, outbox: BoundedOutbox) -> DeviceBehind
         ensures { Builds result builder }
     {
@@ -68,8 +69,8 @@ impl DeviceBehind {
         }
     }
 
-    /// Adds an object, before the start. `Started` after it; `BadText` for a role that is no UTF-8; else as the builder
-    /// refuses ([`Answer::of_add`]). A refusal adds nothing.
+    /// Adds an object, before the start. Returns `Done`. `Started` after the start, `BadText` if the role is not UTF-8,
+    /// otherwise the answer for the builder's fault ([`Answer::of_add`]): then nothing is added.
     pub fn add(
         &mut self,
         container: u32,
@@ -94,9 +95,10 @@ impl DeviceBehind {
         }
     }
 
-    /// Adds a switch with these names of its positions, 1 to 16, before the start. `Started` after it; `BadRange` for
-    /// more than 16 names; `BadText` for a name above 64 bytes, or a role or a name that is no UTF-8; else as the
-    /// builder refuses. A refusal adds nothing.
+    /// Adds a switch, before the start. `names` are the names of its positions, 1 to 16, and `position` is the current
+    /// one, counted from 0. Returns `Done`; otherwise the first of these that applies, and nothing is added. `Started`
+    /// after the start. `BadRange` if there are more than 16 names. `BadText` if a name has more than 64 bytes, or the
+    /// role or a name is not UTF-8. Then the answer for the builder's fault ([`Answer::of_add`]).
     pub fn add_switch(
         &mut self,
         container: u32,
@@ -127,8 +129,8 @@ impl DeviceBehind {
         self.add(container, ono, role, lockable, kind)
     }
 
-    /// Adds an object that a struct describes, before the start. `Started` after it; else as
-    /// [`add_spec`](crate::spec_adding::add_spec) refuses. A refusal adds nothing.
+    /// Adds an object that a struct describes, before the start. Returns `Done`. `Started` after the start, otherwise
+    /// the answers of [`add_spec`](crate::spec_adding::add_spec): then nothing is added.
     pub fn add_spec(&mut self, container: u32, ono: u32, words: &SpecWords) -> Answer
         ensures adds { (B : Store) → Builds self.old B →
             (B' : Store) × Builds self.new B' × SpecAddedBy result B B' container ono words.now }
@@ -140,10 +142,10 @@ impl DeviceBehind {
         add_spec(builder, container, ono, words)
     }
 
-    /// Makes the device of the objects, with reply windows of `window` commands, sessions of `peers` peers, and room
-    /// for so many packets that answer a datagram. Returns `Done`; `BadSize` unless the window and the peers are 1 to
-    /// 64 and the packets 1 to 122, or `Started` if it is started already: then nothing is changed. After `NoMemory`
-    /// the objects are lost.
+    /// Starts the device with the objects that were added. It has reply windows of `window` commands, sessions of
+    /// `peers` peers, and room for `packets` packets that answer a datagram. Returns `Done`. `Started` if it is started
+    /// already, or `BadSize` unless the window and the peers are 1 to 64 and the packets 1 to 122: then nothing is
+    /// changed. `NoMemory` if memory was refused: then the objects are lost.
     pub fn start(&mut self, alloc: Global, window: u8, peers: u8, packets: usize) -> Answer
         ensures starts { (B : Store) → Builds self.old B → Starts result self.old self.new window peers packets B.list }
         ensures started { self.old.builder ≡ None → (result ≡ Started) × (self.new ≡ self.old) }
@@ -206,13 +208,14 @@ impl DeviceBehind {
         }
     }
 
-    /// Takes a datagram that came from a peer at the moment `now`, in milliseconds, as
-    /// [`Device::datagram_within`](oca_device::Device::datagram_within) does: its commands are executed, and sessions,
-    /// locks, and the list of what was written change as there. The answers replace the packets of the last datagram,
-    /// as many as there is room for ([`left_out`](DeviceBehind::left_out)). The words of the verdict
-    /// ([`words_of`](crate::words::words_of)) go to the front of `out`, as many as it has room for. A moment earlier
-    /// than one already seen counts as that one. Returns `Done`; `NotStarted` before the start: then nothing is changed
-    /// or written.
+    /// Handles a datagram that came from a peer at the moment `now`, in milliseconds of the caller's clock, as
+    /// [`Device::datagram_within`](oca_device::Device::datagram_within) does. Its commands are executed, and sessions,
+    /// locks and the list of what was written change accordingly. The answers replace the packets of the last datagram,
+    /// as many as there is room for ([`left_out`](DeviceBehind::left_out)). A moment earlier than one already seen
+    /// counts as that one.
+    ///
+    /// The words of the verdict ([`words_of`](crate::words::words_of)) go to the front of `out`, as many as it has room
+    /// for. Returns `Done`. `NotStarted` before the start: then nothing is changed or written.
     pub fn datagram(&mut self, from: Peer, bytes: &[u8], now: u64, out: &mut [u32]) -> Answer
         ensures serves { (w : DeviceSizes) (T : List Object) (E : List Event) → RunsBehind w self.old T E →
             RunsBehind w self.new T (DatagramEvent from bytes.now now ∷ E)
@@ -235,8 +238,9 @@ impl DeviceBehind {
         Answer::Done
     }
 
-    /// Takes a clock reading, in milliseconds: locks of silent peers are released, and silent sessions are forgotten. A
-    /// moment earlier than one already seen counts as that one. Returns `Done`; `NotStarted` before the start: then
+    /// Moves the device's clock on to `now`, in milliseconds of the caller's clock. Locks of peers that are silent for
+    /// more than three heartbeats are released, and sessions that are silent for more than 120,000 ms are forgotten. A
+    /// moment earlier than one already seen counts as that one. Returns `Done`. `NotStarted` before the start: then
     /// nothing is changed.
     pub fn tick(&mut self, now: u64) -> Answer
         ensures serves { (w : DeviceSizes) (T : List Object) (E : List Event) → RunsBehind w self.old T E →
@@ -252,9 +256,9 @@ impl DeviceBehind {
         Answer::Done
     }
 
-    /// Writes the moment, in milliseconds, at which a clock reading next changes the objects or the sessions. Returns
-    /// `Done`; `Nothing` if there is none within 64 bits, or `NotStarted` before the start: then nothing is changed or
-    /// written.
+    /// Writes the earliest moment at which [`tick`](DeviceBehind::tick) would change the objects or the sessions. It is
+    /// in milliseconds of the caller's clock, and not before the device's present moment. Returns `Done`. `Nothing` if
+    /// there is no such moment within 64 bits, or `NotStarted` before the start: then nothing is written.
     pub fn next_lapse(&self, moment: &mut u64) -> Answer
         ensures writes { (w : DeviceSizes) (T : List Object) (E : List Event) → RunsBehind w self.now T E →
             WritesNextLapse w (state_after w T E) moment.new (answer_number result) }
@@ -273,10 +277,11 @@ impl DeviceBehind {
         }
     }
 
-    /// Sets an object at the local front panel. Returns `Done`; otherwise the first that applies, and then nothing is
-    /// changed: `NotStarted` before the start, `NoObject`, `NoSetting` of a block, `OtherKind` of a value of another
-    /// class, `OutOfRange` of a position that is not there or disabled, and of a number outside the object's limits.
-    /// The packets, and whether answers wait, stay as they are.
+    /// Sets an object at the local front panel. Returns `Done`; otherwise the first of these that applies, and then
+    /// nothing is changed. `NotStarted` before the start. `NoObject` if no object has the number. `NoSetting` if the
+    /// object is a block. `OtherKind` if the value is of another class. `OutOfRange` if a switch has no such position
+    /// or the position is disabled, or a number is outside the object's limits. In all cases the packets, and whether
+    /// answers wait, stay as they are.
     pub fn set(&mut self, ono: u32, value: Value) -> Answer
         ensures sets { (w : DeviceSizes) (T : List Object) (E : List Event) → RunsBehind w self.old T E →
             RunsBehind w self.new T (Local ono (ToValue value) ∷ E)
@@ -294,9 +299,9 @@ impl DeviceBehind {
         }
     }
 
-    /// Sets an object at the local front panel to the value with these words, which must be of the object's class.
-    /// Returns `Done`; `NotStarted` before the start, `NoValue` if no value has these words, else as
-    /// [`set`](DeviceBehind::set): then nothing is changed.
+    /// Sets an object at the local front panel to the value that `words` hold. Returns `Done`; otherwise the first of
+    /// these that applies, and then nothing is changed. `NotStarted` before the start. `NoValue` if `words` hold no
+    /// value. Then the answers of [`set`](DeviceBehind::set).
     pub fn set_words(&mut self, ono: u32, words: ValueWords) -> Answer
         ensures sets { (w : DeviceSizes) (T : List Object) (E : List Event) → RunsBehind w self.old T E →
             (value : Option ValueItself) × AreWordsOf words value × SetsWords w result self.new T E ono value }
@@ -314,8 +319,9 @@ impl DeviceBehind {
     }
 
     /// Sets a mute (1 Muted, 2 Unmuted) or a polarity (1 NonInverted, 2 Inverted) at the local front panel. Returns
-    /// `Done`; otherwise the first that applies, and then nothing is changed: `NotStarted` before the start,
-    /// `NoObject`, `NoSetting` of a block, `OtherKind` of another class, `OutOfRange` of another number.
+    /// `Done`; otherwise the first of these that applies, and then nothing is changed. `NotStarted` before the start.
+    /// `NoObject` if no object has the number. `NoSetting` if the object is a block. `OtherKind` if it is of another
+    /// class. `OutOfRange` if `state` is neither 1 nor 2.
     pub fn set_state(&mut self, ono: u32, state: u8) -> Answer
         ensures sets { (w : DeviceSizes) (T : List Object) (E : List Event) → RunsBehind w self.old T E →
             SetsEntry w result self.new T E ono (State state) }
@@ -330,9 +336,10 @@ impl DeviceBehind {
         self.set_found(ono, found)
     }
 
-    /// Sets an actuator of integers at the local front panel. Returns `Done`; otherwise the first that applies, and
-    /// then nothing is changed: `NotStarted` before the start, `NoObject`, `NoSetting` of a block, `OtherKind` of a
-    /// class without integers, `OutOfRange` of a number outside the object's limits.
+    /// Sets an actuator of integers at the local front panel. Returns `Done`; otherwise the first of these that
+    /// applies, and then nothing is changed. `NotStarted` before the start. `NoObject` if no object is numbered `ono`.
+    /// `NoSetting` if the object is a block. `OtherKind` if its class is not one of integers. `OutOfRange` if `number`
+    /// is outside the object's limits.
     pub fn set_integer(&mut self, ono: u32, number: i128) -> Answer
         ensures sets { (w : DeviceSizes) (T : List Object) (E : List Event) → RunsBehind w self.old T E →
             SetsEntry w result self.new T E ono (Integer number) }
@@ -360,9 +367,9 @@ impl DeviceBehind {
         }
     }
 
-    /// Gives an object a label of at most 64 bytes at the local front panel. Returns `Done`; otherwise the first that
-    /// applies, and then nothing is changed: `NotStarted` before the start, `BadText` if the bytes are no UTF-8,
-    /// `NoObject`, `BadText` of a longer label.
+    /// Gives an object a label of at most 64 bytes at the local front panel. Returns `Done`; otherwise the first of
+    /// these that applies, and then nothing is changed. `NotStarted` before the start. `BadText` if the bytes are not
+    /// UTF-8. `NoObject` if no object has the number. `BadText` if the label is longer.
     pub fn set_label(&mut self, ono: u32, label: &[u8]) -> Answer
         ensures labels { IsUtf8 label.now → (w : DeviceSizes) (T : List Object) (E : List Event) →
             RunsBehind w self.old T E →
@@ -385,8 +392,8 @@ impl DeviceBehind {
         }
     }
 
-    /// Enables or disables an object at the local front panel. Returns `Done`; `NotStarted` before the start or
-    /// `NoObject`: then nothing is changed.
+    /// Enables or disables an object at the local front panel. Returns `Done`. `NotStarted` before the start, or
+    /// `NoObject` if no object has the number: then nothing is changed.
     pub fn set_enabled(&mut self, ono: u32, enabled: bool) -> Answer
         ensures sets { (w : DeviceSizes) (T : List Object) (E : List Event) → RunsBehind w self.old T E →
             ChangesFront w result self.new T E ono (ToEnabled enabled) (asked.SetEnabled enabled) }
@@ -403,8 +410,9 @@ impl DeviceBehind {
         }
     }
 
-    /// Releases the lock of an object at the local front panel, whichever peer holds it. Returns `Done`; `NotStarted`
-    /// before the start, `NoObject`, or `Nothing` if it is not locked: then nothing is changed.
+    /// Releases the lock of an object at the local front panel, whichever peer holds it. Returns `Done`; otherwise the
+    /// first of these that applies, and then nothing is changed. `NotStarted` before the start. `NoObject` if no object
+    /// has the number. `Nothing` if the object is not locked.
     pub fn unlock(&mut self, ono: u32) -> Answer
         ensures unlocks { (w : DeviceSizes) (T : List Object) (E : List Event) → RunsBehind w self.old T E →
             ChangesFront w result self.new T E ono ToUnlocked asked.Unlock }
@@ -421,8 +429,10 @@ impl DeviceBehind {
         }
     }
 
-    /// Says at the local front panel whether the hardware of an object refuses to be changed. Returns `Done`;
-    /// `NotStarted` before the start or `NoObject`: then nothing is changed.
+    /// Sets, at the local front panel, whether the hardware of an object refuses to be changed. If it does, commands
+    /// that would write to the object are answered `ProcessingFailed`
+    /// ([`Device::set_failing`](oca_device::Device::set_failing)). Returns `Done`. `NotStarted` before the start, or
+    /// `NoObject` if no object has the number: then nothing is changed.
     pub fn set_failing(&mut self, ono: u32, failing: bool) -> Answer
         ensures tells { (w : DeviceSizes) (T : List Object) (E : List Event) → RunsBehind w self.old T E →
             ChangesFront w result self.new T E ono (ToFailing failing) (asked.SetEnabled failing) }
@@ -439,8 +449,8 @@ impl DeviceBehind {
         }
     }
 
-    /// Writes how many packets there are that answer the last datagram. Returns `Done`; `NotStarted` before the start:
-    /// then nothing is changed or written.
+    /// Writes how many packets answer the last datagram: 0 to 122. Returns `Done`. `NotStarted` before the start: then
+    /// nothing is written.
     pub fn packets(&self, count: &mut usize) -> Answer
         ensures writes { IsSome self.now.device → (result ≡ Done) × (count.new ≡ length self.now.outbox.packets) }
         ensures building { self.now.device ≡ None → (result ≡ NotStarted) × (count.new ≡ count.old) }
@@ -452,8 +462,8 @@ impl DeviceBehind {
         Answer::Done
     }
 
-    /// Writes whether packets that answer the last datagram were left out, since there was no room for them: then the
-    /// peer sends its commands again. Returns `Done`; `NotStarted` before the start, and then nothing is written.
+    /// Writes whether answers to the last datagram were left out because there was no room for them. The peer then
+    /// sends these commands again. Returns `Done`. `NotStarted` before the start: then nothing is written.
     pub fn left_out(&self, left_out: &mut bool) -> Answer
         ensures writes { IsSome self.now.device → (result ≡ Done) × (left_out.new ≡ self.now.outbox.is_cut) }
         ensures building { self.now.device ≡ None → (result ≡ NotStarted) × (left_out.new ≡ left_out.old) }
@@ -465,9 +475,9 @@ impl DeviceBehind {
         Answer::Done
     }
 
-    /// Copies a packet, by its index from 0, to the front of `out`, and writes its size in bytes, at most 1,472, into
-    /// `len`. Returns `Done`; `TooSmall` if it does not fit, and then only its size is written; `Nothing` after the
-    /// last packet, or `NotStarted` before the start: then nothing is written.
+    /// Copies the packet with the index `i`, counted from 0, to the front of `out`, and writes its size, at most 1,472
+    /// bytes, into `len`. Returns `Done`. `TooSmall` if `out` has no room for it: then only `len` is written. `Nothing`
+    /// after the last packet, or `NotStarted` before the start: then nothing is written.
     pub fn packet(&self, i: usize, out: &mut [u8], len: &mut usize) -> Answer
         ensures nothing { IsSome self.now.device → IfNone (slice_get self.now.outbox.packets i) (result ≡ Nothing) }
         ensures packet { IsSome self.now.device →
@@ -496,9 +506,9 @@ impl DeviceBehind {
         Answer::Done
     }
 
-    /// Copies the numbers of the objects that the last datagram wrote to to the front of `out`, and writes into `count`
-    /// how many they are. Returns `Done`; `TooSmall` if they do not all fit: then `out` has the first of them;
-    /// `NotStarted` before the start: then nothing is written.
+    /// Copies the numbers of the objects that the last datagram wrote to, in order, to the front of `out`. Writes into
+    /// `count` how many they are. Returns `Done`. `TooSmall` if they do not all fit: then `out` has the first of them,
+    /// and `count` is written too. `NotStarted` before the start: then nothing is written.
     pub fn written(&self, out: &mut [u32], count: &mut usize) -> Answer
         ensures writes { (w : DeviceSizes) (T : List Object) (E : List Event) → RunsBehind w self.now T E →
             WritesWords (written w T E) out.old out.new count.new (answer_number result) }
@@ -519,8 +529,8 @@ impl DeviceBehind {
         }
     }
 
-    /// Writes whether the answers to the last datagram must wait until the objects are stored. Returns `Done`;
-    /// `NotStarted` before the start: then nothing is changed or written.
+    /// Writes whether the answers to the last datagram must wait until the objects are stored. Returns `Done`.
+    /// `NotStarted` before the start: then nothing is written.
     pub fn waits(&self, waits: &mut bool) -> Answer
         ensures writes { IsSome self.now.device → (result ≡ Done) × (waits.new ≡ self.now.unstored.waits) }
         ensures building { self.now.device ≡ None → (result ≡ NotStarted) × (waits.new ≡ waits.old) }
@@ -532,8 +542,8 @@ impl DeviceBehind {
         Answer::Done
     }
 
-    /// Records that the objects are stored as they are now: no answers wait. Returns `Done`; `NotStarted` before the
-    /// start: then nothing is changed.
+    /// Notes that the objects are stored as they are now, so that no answers wait. Returns `Done`. `NotStarted` before
+    /// the start: then nothing is changed.
     pub fn stored(&mut self) -> Answer
         ensures notes { IsSome self.old.device → (result ≡ Done) × (self.new.unstored ≡ all_stored) }
         ensures building { self.old.device ≡ None → (result ≡ NotStarted) × (self.new ≡ self.old) }
@@ -549,8 +559,8 @@ impl DeviceBehind {
         Answer::Done
     }
 
-    /// Writes how many objects there are, the root included. Returns `Done`; `NotStarted` before the start: then
-    /// nothing is changed or written.
+    /// Writes how many objects there are, the root included: 1 to 4,096. Returns `Done`. `NotStarted` before the start:
+    /// then nothing is written.
     pub fn objects(&self, count: &mut usize) -> Answer
         ensures writes { (w : DeviceSizes) (T : List Object) (E : List Event) → RunsBehind w self.now T E →
             (result ≡ Done) × (count.new ≡ length (state_after w T E).tree) }
@@ -564,9 +574,11 @@ impl DeviceBehind {
         Answer::Done
     }
 
-    /// Writes what the object at this index is ([`object_words`](crate::words::object_words)), and its role, each as
-    /// far as there is room. The index is counted from 0. Returns `Done`; `Nothing` after the last object, or
-    /// `NotStarted` before the start: then nothing is changed or written.
+    /// Writes what the object at this index is; indices count from 0 at the root, in order of adding. To the front of
+    /// `out` go its number, its container's number, the number of its class and the size of its role
+    /// ([`object_words`](crate::words::object_words)). To the front of `role` go the bytes of its role. Each is written
+    /// as far as there is room. Returns `Done`. `Nothing` after the last object, or `NotStarted` before the start: then
+    /// nothing is written.
     pub fn object(&self, index: usize, out: &mut [u32], role: &mut [u8]) -> Answer
         ensures writes { (w : DeviceSizes) (T : List Object) (E : List Event) → RunsBehind w self.now T E →
             WritesObject (info_at (state_after w T E).tree index) out.old out.new role.old role.new
@@ -585,9 +597,9 @@ impl DeviceBehind {
         Answer::Done
     }
 
-    /// Writes what an addition makes of the object at this index, which is counted from 0. Returns `Done`; `BadSize` if
-    /// the struct does not say its size, `Nothing` after the last object, or `NotStarted` before the start: then
-    /// nothing is changed or written.
+    /// Writes the description of the object at this index, by which it can be added again; indices count from 0 at the
+    /// root, in order of adding. Returns `Done`. `BadSize` if `out` does not say its size, `Nothing` after the last
+    /// object, or `NotStarted` before the start: then nothing is written.
     pub fn spec(&self, index: usize, out: &mut SpecWords) -> Answer
         ensures writes { (w : DeviceSizes) (T : List Object) (E : List Event) → RunsBehind w self.now T E →
             WritesSpec (state_after w T E).tree (info_at (state_after w T E).tree index) out.old out.new
@@ -601,9 +613,9 @@ impl DeviceBehind {
         read_spec(device.tree(), index, out)
     }
 
-    /// Writes what an addition makes of the object with this number. Returns `Done`; `BadSize` if the struct does not
-    /// say its size, `Nothing` if there is no such object, or `NotStarted` before the start: then nothing is changed or
-    /// written.
+    /// Writes the description of the object with this number, by which it can be added again. Returns `Done`. `BadSize`
+    /// if `out` does not say its size, `Nothing` if no object has the number, or `NotStarted` before the start: then
+    /// nothing is written.
     pub fn spec_of(&self, ono: u32, out: &mut SpecWords) -> Answer
         ensures writes { (w : DeviceSizes) (T : List Object) (E : List Event) → RunsBehind w self.now T E →
             WritesSpec (state_after w T E).tree (info_of_ono (state_after w T E).tree ono) out.old out.new
@@ -617,7 +629,7 @@ impl DeviceBehind {
         read_spec_of(device.tree(), Ono(ono), out)
     }
 
-    /// Writes how many peers have a session. Returns `Done`; `NotStarted` before the start: then nothing is changed or
+    /// Writes how many peers have a session: 0 to 64. Returns `Done`. `NotStarted` before the start: then nothing is
     /// written.
     pub fn peers(&self, count: &mut usize) -> Answer
         ensures writes { (w : DeviceSizes) (T : List Object) (E : List Event) → RunsBehind w self.now T E →
@@ -634,8 +646,7 @@ impl DeviceBehind {
 
     /// Writes the address (an IPv4 address as a number, the first byte highest) and the port of the peer of the session
     /// at this index. Sessions are counted from 0, in order of opening; if one is forgotten, the later ones move up.
-    /// Returns `Done`; `Nothing` after the last session, or `NotStarted` before the start: then nothing is changed or
-    /// written.
+    /// Returns `Done`. `Nothing` after the last session, or `NotStarted` before the start: then nothing is written.
     pub fn peer(&self, index: usize, ip: &mut u32, port: &mut u16) -> Answer
         ensures writes { (w : DeviceSizes) (T : List Object) (E : List Event) → RunsBehind w self.now T E →
             WritesPeer (slice_get (known_after (state_after w T E)) index) ip.new port.new (answer_number result) }
@@ -653,9 +664,9 @@ impl DeviceBehind {
         Answer::Done
     }
 
-    /// Writes the kind of an object's lock (1 against all access, 2 against all but reading) and the address and port
-    /// of its holder. Returns `Done`; `Nothing` if the object is not locked or not there, or `NotStarted` before the
-    /// start: then nothing is changed or written.
+    /// Writes the kind of an object's lock, and the address (an IPv4 address as a number, the first byte highest) and
+    /// port of its holder. Kind 1 keeps other peers from all access, kind 2 from all but reading. Returns `Done`.
+    /// `Nothing` if the object is not locked or not there, or `NotStarted` before the start: then nothing is written.
     pub fn lock(&self, ono: u32, kind: &mut u32, ip: &mut u32, port: &mut u16) -> Answer
         ensures writes { (w : DeviceSizes) (T : List Object) (E : List Event) → RunsBehind w self.now T E →
             WritesLock (lock_at (state_after w T E).tree ono) kind.new ip.new port.new (answer_number result) }
@@ -674,8 +685,8 @@ impl DeviceBehind {
         Answer::Done
     }
 
-    /// Writes whether the hardware of an object refuses to be changed. Returns `Done`; `NoObject`, or `NotStarted`
-    /// before the start: then nothing is written.
+    /// Writes whether the hardware of an object refuses to be changed. Returns `Done`. `NoObject` if no object has the
+    /// number, or `NotStarted` before the start: then nothing is written.
     pub fn is_failing(&self, ono: u32, failing: &mut bool) -> Answer
         ensures writes { (w : DeviceSizes) (T : List Object) (E : List Event) → RunsBehind w self.now T E →
             WritesFailing (failing_at (state_after w T E).tree ono) failing.new (answer_number result) }
@@ -692,9 +703,9 @@ impl DeviceBehind {
         Answer::Done
     }
 
-    /// Writes how an object is set: its kind, whether its number is negative, and its magnitude, without limits.
-    /// Returns `Done`; `Nothing` for a block and if there is no such object, or `NotStarted` before the start: then
-    /// nothing is changed or written.
+    /// Writes how an object is set, without limits. The kind is 1 for a state, 2 for a position, 3 for a Boolean and 4
+    /// for an integer. With it come whether the number is negative, and its magnitude. Returns `Done`. `Nothing` for a
+    /// block and if no object has the number, or `NotStarted` before the start: then nothing is written.
     pub fn reading(&self, ono: u32, reading: &mut Reading) -> Answer
         ensures writes { (w : DeviceSizes) (T : List Object) (E : List Event) → RunsBehind w self.now T E →
             WritesSetting (setting_at (state_after w T E).tree ono) reading.new (answer_number result) }
@@ -729,7 +740,7 @@ fn sizes_for(window: u8, peers: u8, packets: usize) -> Option<Sizes>
     Some(Sizes { window, peers })
 }
 
-/// An empty outbox with room for so many packets, some 1,480 bytes each. `None` if memory was refused.
+/// An empty outbox with room for `packets` packets, some 1,480 bytes each. `None` if memory was refused.
 pub fn room_for(alloc: Global, packets: usize) -> Option<BoundedOutbox>
     ensures { IfSome result (λ outbox. outbox ≡ first_packets packets []) }
 {

@@ -20,7 +20,7 @@ pub struct DeviceHandle {
 const _: () = prove!(std::mem::size_of::<DeviceHandle>() == 16);
 
 impl DeviceHandle {
-    /// Takes out what is behind the handle, which is then closed. `None` where it was closed already.
+    /// Returns the device of the handle, which is then closed. `None` if it was closed already.
     pub fn take(&mut self, alloc: Global) -> Option<Box<DeviceBehind>>
         ensures closed { self.new.slot.inner ≡ None }
         ensures was { MatchOption result (self.old.slot.inner ≡ None) (λ b. self.old.slot.inner ≡ Some b.value) }
@@ -37,15 +37,16 @@ impl DeviceHandle {
         }
     }
 
-    /// Closes it, and gives the memory of what is behind it back. A closed one stays closed.
+    /// Closes the handle, and frees the memory of its device. A closed one stays closed.
     pub fn close(&mut self, alloc: Global)
         ensures { self.new.slot.inner ≡ None }
     {
         drop(self.take(alloc));
     }
 
-    /// Puts back what a start that was answered so has left: where memory was refused the objects are lost, and the
-    /// handle stays closed. The handle must be closed.
+    /// Puts back a device for which a start was tried, with its answer. The handle must be closed (a premise). If the
+    /// answer is `NoMemory`, the objects are lost: the device is dropped and the handle stays closed. Otherwise the
+    /// handle is then open.
     pub fn put_started(&mut self, behind: Box<DeviceBehind>, answer: Answer)
         requires { self.old.slot.inner ≡ None }
         ensures { self.new.slot.inner ≡ left_by_start answer behind.value }
@@ -56,7 +57,7 @@ impl DeviceHandle {
         }
     }
 
-    /// Puts it behind the handle, which is then open.
+    /// Makes this the device of the handle, which is then open.
     pub fn put(&mut self, behind: Box<DeviceBehind>)
         ensures { self.new.slot.inner ≡ Some behind.value }
     {

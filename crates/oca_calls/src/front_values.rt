@@ -34,8 +34,9 @@ fn has_integers(class: Class) -> bool
     }
 }
 
-/// The value of the object's class whose state has this number; or why there is none: `NoObject` where there is no
-/// class, `NoSetting` of a block, `OtherKind` of a class without states, `OutOfRange`.
+/// The value of an object of this class by the number of its state: of a mute 1 Muted and 2 Unmuted, of a polarity 1
+/// NonInverted and 2 Inverted. `class` is `None` if there is no such object. Refusals: `NoObject` if `class` is `None`.
+/// `NoSetting` for a block. `OtherKind` for a class without states. `OutOfRange` for another number.
 pub fn state_at(class: Option<Class>, state: u8) -> Result<Value, SetFault>
     ensures { FindsWith state_in has_states class state result }
 {
@@ -48,8 +49,9 @@ pub fn state_at(class: Option<Class>, state: u8) -> Result<Value, SetFault>
     }
 }
 
-/// The value of the object's class that is this integer; or why there is none: `NoObject` where there is no class,
-/// `NoSetting` of a block, `OtherKind` of a class without integers, `OutOfRange`.
+/// The value of an object of this class with this integer. `class` is `None` if there is no such object. Refusals:
+/// `NoObject` if `class` is `None`. `NoSetting` for a block. `OtherKind` for a class that is not one of integers.
+/// `OutOfRange` for a number outside the class's type.
 pub fn integer_at(class: Option<Class>, number: i128) -> Result<Value, SetFault>
     ensures { FindsWith integer_in has_integers class number result }
 {

@@ -97,8 +97,8 @@ fn uint64_in(value: Option<Value>) -> Option<u64>
     }
 }
 
-/// The reading whose words these are; nothing where there is none. The limits of an integer are of its class; those of
-/// other values are not looked at.
+/// The reading that these words hold. `None` if the value is none ([`ValueWords::value`]). `None` also if it is an
+/// integer and one of its limits is no value of its class. The limits of other values are not looked at.
 pub fn reading_of(words: &ReadingWords) -> Option<Reading>
     ensures { AreReadingOf words.now result }
 {

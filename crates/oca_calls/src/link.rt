@@ -25,9 +25,11 @@ pub struct LinkBehind {
 }
 
 impl LinkBehind {
-    /// Submits a command at the moment `now`, in milliseconds, and writes its handle. `count` is ParamCount. Returns
-    /// the number of `Done`; if the link refuses the command, that of `Lost`, `HandlesSpent`, `SpanFull` or `TooLong`
-    /// (above 1,445 bytes), the first that applies: then nothing is changed or written.
+    /// Submits a command at the moment `now`, in milliseconds of the caller's clock, and writes its handle. `count` is
+    /// ParamCount. Returns the number of `Done`. If the link refuses the command, it returns the number of the first of
+    /// these that applies, and then nothing is changed or written. `Lost` if the link is lost. `HandlesSpent` after the
+    /// handle 4294967295. `SpanFull` if the next handle is not below the lowest one in flight plus the span. `TooLong`
+    /// if the parameters have more than 1,445 bytes.
     pub fn submit(
         &mut self,
         target: Ono,
@@ -64,10 +66,10 @@ impl LinkBehind {
         }
     }
 
-    /// Puts what is due at the moment `now`, in milliseconds, to the front of `out`, and its size, 0 to 1,472 bytes,
-    /// into `len`. `kind` becomes 0 if nothing is due, 1 for a command, 2 for a keep-alive, 3 if the link is lost;
-    /// `handle` the handle of the command, else 0. Returns the number of `Done`; of `TooSmall` if `out` has fewer than
-    /// 1,472 bytes: then nothing is changed or written.
+    /// Puts what is due at the moment `now`, in milliseconds of the caller's clock, to the front of `out`. Its size, 0
+    /// to 1,472 bytes, goes into `len`. `kind` becomes 0 if nothing is due, 1 for a command, 2 for a keep-alive, 3 if
+    /// the link is lost. `handle` becomes the handle of the command, or 0 if no command is due. Returns the number of
+    /// `Done`. The number of `TooSmall` if `out` has fewer than 1,472 bytes: then nothing is changed or written.
     pub fn due(
         &mut self,
         now: u64,
@@ -96,13 +98,13 @@ impl LinkBehind {
         Answer::Done.number()
     }
 
-    /// Takes a datagram that came from a peer at the moment `now`, in milliseconds. The address is looked at first,
-    /// then whether the bytes are well-formed. `kind` becomes 0 if it answered no command, 1 if it answered commands, 2
-    /// if it came from another address than the device's, 3 if it is not well-formed. `answered` becomes how many
-    /// commands it answered first, 0 to 32.
+    /// Handles a datagram that came from a peer at the moment `now`, in milliseconds of the caller's clock. `kind`
+    /// becomes 2 if it came from another address than the device's. Otherwise it becomes 3 if the datagram is not
+    /// well-formed. Otherwise it becomes 1 if commands got their first answer in it, and 0 if none did. `answered`
+    /// becomes how many commands did: 0 to 32.
     ///
-    /// An answer to a command in flight is stored, also at a lost link. If `kind` becomes 2 or 3, nothing is changed
-    /// but the moment. Returns the number of `Done`.
+    /// An answer to a command in flight is stored, even if the link is lost. If `kind` becomes 2 or 3, only the link's
+    /// clock is changed. Returns the number of `Done`.
     pub fn datagram(
         &mut self,
         from: Peer,
@@ -123,9 +125,10 @@ impl LinkBehind {
         Answer::Done.number()
     }
 
-    /// Takes the answer under a handle, and the command with it: its status, its ParamCount, and its parameters at the
-    /// front of `out`, with their size in `len`. Returns the number of `Done`; of `TooSmall` if `out` has fewer than
-    /// 1,452 bytes, or of `Nothing` if there is no answer: then nothing is changed or written.
+    /// Takes the answer under a handle, and removes the command. Writes its status and its ParamCount, puts its
+    /// parameters to the front of `out`, and their size into `len`. Returns the number of `Done`. The number of
+    /// `TooSmall` if `out` has fewer than 1,452 bytes, or of `Nothing` if there is no answer: then nothing is changed
+    /// or written.
     pub fn take(
         &mut self,
         handle: u32,
@@ -155,8 +158,9 @@ impl LinkBehind {
         }
     }
 
-    /// Writes the moment, in milliseconds, at which something is due next. Returns the number of `Done`; of `Nothing`
-    /// if that moment lies beyond 64 bits: then nothing is written.
+    /// Writes the earliest moment at which something is due or the link is lost. It is in milliseconds of the caller's
+    /// clock, and not before the latest moment that the link was given. Returns the number of `Done`. The number of
+    /// `Nothing` if the moment lies beyond 64 bits: then nothing is written.
     pub fn next_due(&self, moment: &mut u64) -> u32
         ensures writes { WritesNextDue result moment.new self.now.link }
         ensures unwritten { (result ≡ 0) ⊎ (moment.new ≡ moment.old) }
@@ -170,8 +174,8 @@ impl LinkBehind {
         }
     }
 
-    /// Writes the lowest handle whose answer came and was not taken yet. Returns the number of `Done`; of `Nothing` if
-    /// there is none: then nothing is written.
+    /// Writes the lowest handle whose answer came and was not taken yet. Returns the number of `Done`. The number of
+    /// `Nothing` if there is none: then nothing is written.
     pub fn answered(&self, handle: &mut u32) -> u32
         ensures writes { WritesNumber result handle.new (first_answered self.now.link.untaken) }
         ensures unwritten { (result ≡ 0) ⊎ (handle.new ≡ handle.old) }
@@ -185,8 +189,8 @@ impl LinkBehind {
         }
     }
 
-    /// Writes whether the command under a handle is unanswered: it was submitted, and no answer to it came yet; false
-    /// for a handle that no command has. Returns the number of `Done`.
+    /// Writes whether the command under a handle was submitted and has no answer yet. It writes false for a handle that
+    /// no command has. Returns the number of `Done`.
     pub fn is_in_flight(&self, handle: u32, in_flight: &mut bool) -> u32
         ensures { (result ≡ 0) × (in_flight.new ≡ list_any (waits handle) self.now.link.untaken) }
     {
@@ -194,8 +198,8 @@ impl LinkBehind {
         Answer::Done.number()
     }
 
-    /// Writes the handle that the next command gets. Returns the number of `Done`; of `Nothing` after the last handle,
-    /// 4294967295: then nothing is written.
+    /// Writes the handle that the next command gets. Returns the number of `Done`. The number of `Nothing` after the
+    /// last handle, 4294967295: then nothing is written.
     pub fn next_handle(&self, handle: &mut u32) -> u32
         ensures writes { WritesNumber result handle.new self.now.link.next }
         ensures unwritten { (result ≡ 0) ⊎ (handle.new ≡ handle.old) }
@@ -209,8 +213,8 @@ impl LinkBehind {
         }
     }
 
-    /// Writes the moment, in milliseconds, at which the last well-formed datagram came from the device; until then, the
-    /// moment of the opening. Returns the number of `Done`.
+    /// Writes the moment, in milliseconds of the caller's clock, at which the last well-formed datagram came from the
+    /// device. Before the first one it is the moment of the opening. Returns the number of `Done`.
     pub fn last_heard(&self, moment: &mut u64) -> u32
         ensures { (result ≡ 0) × (moment.new ≡ self.now.link.heard) }
     {
@@ -226,8 +230,9 @@ impl LinkBehind {
         Answer::Done.number()
     }
 
-    /// Writes whether the link is late at the moment `now`, in milliseconds: a command is unanswered that was submitted
-    /// more than 15,000 ms before, sent or not. Returns the number of `Done`.
+    /// Writes whether the link is late at the moment `now`, in milliseconds of the caller's clock: a command is
+    /// unanswered that was submitted more than 15,000 ms before. It does not matter whether it was sent. Returns the
+    /// number of `Done`.
     pub fn is_late(&self, now: u64, late: &mut bool) -> u32
         ensures { (result ≡ 0) × (late.new ≡ late_at now self.now.link) }
     {

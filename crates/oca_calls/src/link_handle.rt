@@ -18,7 +18,7 @@ pub struct LinkHandle {
 const _: () = prove!(std::mem::size_of::<LinkHandle>() == 16);
 
 impl LinkHandle {
-    /// Takes out what is behind the handle, which is then closed. `None` where it was closed already.
+    /// Returns the link of the handle, which is then closed. `None` if it was closed already.
     pub fn take(&mut self, alloc: Global) -> Option<Box<LinkBehind>>
         ensures closed { self.new.slot.inner ≡ None }
         ensures was { MatchOption result (self.old.slot.inner ≡ None) (λ b. self.old.slot.inner ≡ Some b.value) }
@@ -35,14 +35,14 @@ impl LinkHandle {
         }
     }
 
-    /// Closes it, and gives the memory of what is behind it back. A closed one stays closed.
+    /// Closes the handle, and frees the memory of its link. A closed one stays closed.
     pub fn close(&mut self, alloc: Global)
         ensures { self.new.slot.inner ≡ None }
     {
         drop(self.take(alloc));
     }
 
-    /// Puts it behind the handle, which is then open.
+    /// Makes this the link of the handle, which is then open.
     pub fn put(&mut self, behind: Box<LinkBehind>)
         ensures { self.new.slot.inner ≡ Some behind.value }
     {

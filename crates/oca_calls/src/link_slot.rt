@@ -32,7 +32,7 @@ impl LinkSlot {
         }
     }
 
-    /// A slot that owns what a box did.
+    /// A slot that owns what these parts of a box own.
     pub fn of_parts(parts: Parts<LinkBehind, Global>) -> LinkSlot
         ensures { result.inner ≡ Some parts.value }
     {
@@ -43,7 +43,7 @@ impl LinkSlot {
         }
     }
 
-    /// The box that the slot owns, by its parts. The slot must own one.
+    /// The parts of the box that the slot owns. The slot must own one (a premise).
     pub fn into_parts(self) -> Parts<LinkBehind, Global>
         requires { is_some self.inner ≡ true }
         ensures { self.inner ≡ Some result.value }

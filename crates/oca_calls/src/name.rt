@@ -34,7 +34,7 @@ impl Default for Name {
 }
 
 impl Name {
-    /// The name with this text, which must have at most 64 bytes.
+    /// This text as a struct for C. It must have at most 64 bytes (a premise).
     pub fn of(text: &str) -> Name
         requires { length text.now ≤ 64 }
         ensures text { name_bytes result ≡ text.now }
@@ -49,7 +49,7 @@ impl Name {
     }
 }
 
-/// The names with these texts, at most 16, in a place for 16.
+/// These texts as structs for C, at the front of an array of 16. There must be at most 16 (a premise).
 pub fn names_with(texts: &[Text]) -> [Name; MOST_POSITIONS]
     requires { length texts.now ≤ 16 }
     ensures texts { map name_bytes (take (length texts.now) result) ≡ texts.now }
@@ -64,7 +64,7 @@ pub fn names_with(texts: &[Text]) -> [Name; MOST_POSITIONS]
     place
 }
 
-/// The text of a name; nothing where it is longer than its room or no UTF-8.
+/// The text of a name. `None` if the name says that it has more than 64 bytes, or its bytes are not UTF-8.
 pub fn text_of(name: &Name) -> Option<&str>
     ensures text { IfSome result (λ text. IsName name.now × (text.now ≡ name_bytes name.now)) }
     ensures none { IfNone result (IsName name.now → ⊥) }
@@ -73,7 +73,8 @@ pub fn text_of(name: &Name) -> Option<&str>
     str::from_utf8(bytes).ok()
 }
 
-/// The texts of these names, of which there are at most 16; nothing where one is longer than its room or no UTF-8.
+/// The texts of these names. There must be at most 16 (a premise). `None` if a name says that it has more than 64
+/// bytes, or its bytes are not UTF-8.
 pub fn texts_of(names: &[Name]) -> Option<ArrayVec<&str, MOST_POSITIONS>>
     requires { length names.now ≤ 16 }
     ensures texts { IfSome result (λ texts. AllByRecursion IsName names.now

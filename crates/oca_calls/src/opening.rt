@@ -8,7 +8,9 @@ use crate::device_handle::DeviceHandle;
 use oca_tree::TreeBuilder;
 use std::alloc::Global;
 
-/// Opens a closed device over what was built. Returns the number of `Done`; or of `NoMemory`, and then it stays closed.
+/// Opens a closed handle over a device that is not started, with the objects of this builder. The handle must be closed
+/// (a premise). Returns the number of `Done`. The number of `NoMemory` if memory was refused: then the handle stays
+/// closed.
 pub fn open_over(alloc: Global, handle: &mut DeviceHandle, builder: TreeBuilder) -> u32
     requires { handle.old.slot.inner ≡ None }
     ensures { OpensOver result handle.new.slot.inner builder }

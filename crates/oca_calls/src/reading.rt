@@ -14,7 +14,7 @@ pub struct Reading {
 }
 
 impl Reading {
-    /// The words of a setting; nothing of a number beyond 64 bits, which no object has.
+    /// This setting as a struct for C. `None` if its number needs more than 64 bits, which that of no object does.
     pub fn of(setting: Setting) -> Option<Reading>
         ensures writes { IfSome result (λ reading. reading ≡ reading_of setting) }
         ensures fits { FitsReading setting → IsSome result }

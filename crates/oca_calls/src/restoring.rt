@@ -10,10 +10,14 @@ use crate::spec_words::SpecWords;
 use crate::value_words::{ReadingWords, ValueWords};
 use oca_model::Reading;
 
-/// Brings what was stored of an object into the struct that says what it is to be. The first that applies, and then
-/// nothing is changed: `BadSize` of one of the two structs; `OtherKind` for two classes or two numbers of positions;
-/// `BadRange` for more than 16 positions; `BadText`; `OutOfRange` where the value is none, or the struct's limits do
-/// not allow it.
+/// Changes the description of an object to what was stored of it: the value, the label, and whether it is enabled. For
+/// a switch it also changes the names of its positions and which are enabled. The role, the limits and whether it can
+/// be locked stay.
+///
+/// Returns `Done`; otherwise the first of these that applies, and then nothing is changed. `BadSize` if one of the two
+/// structs is of another version. `OtherKind` if they are of two classes, or have two numbers of positions. `BadRange`
+/// if there are more than 16 positions. `BadText` if a stored label or name has more than 64 bytes or is not UTF-8.
+/// `OutOfRange` if the stored value is none, or the limits in `spec` do not allow it.
 pub fn restore(spec: &mut SpecWords, stored: &SpecWords) -> Answer
     ensures { RestoresSpec result spec.old stored.now spec.new }
 {

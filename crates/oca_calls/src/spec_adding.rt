@@ -11,9 +11,10 @@ use crate::spec_words::{SpecWords, flags_for, flags_of, kind_of};
 use oca_tree::{Spec, Start, TreeBuilder};
 use oca_types::Ono;
 
-/// Adds an object that a struct describes. Before what the builder refuses ([`Answer::of_start`]) come `BadSize` of a
-/// struct of another version, `BadRange` for more than 16 positions, `BadText` for a text that is above 64 bytes or no
-/// UTF-8, and `NoValue`. A refusal adds nothing.
+/// Adds an object that a struct describes. Returns `Done`; otherwise the first of these that applies, and then nothing
+/// is added. `BadSize` if the struct is of another version. `BadRange` if there are more than 16 positions. `BadText`
+/// if a text has more than 64 bytes or is not UTF-8. `NoValue` if the reading is none that an object can have. Then the
+/// answer for the builder's fault ([`Answer::of_start`]).
 pub fn add_spec(builder: &mut TreeBuilder, container: u32, ono: u32, words: &SpecWords) -> Answer
     ensures { SpecAddedBy result builder.old builder.new container ono words.now }
 {
@@ -82,7 +83,8 @@ fn add_given(
     }
 }
 
-/// What was stored of an object.
+/// What was stored of an object: this label, whether it is enabled, and of a switch which positions are enabled.
+/// `enableds` is `None` for any other object.
 pub fn start_with<'a>(label: &'a str, enabled: bool, enableds: Option<&'a [bool]>) -> Start<'a>
     ensures label { result.label.now ≡ label.now }
     ensures enabled { result.enabled ≡ enabled }

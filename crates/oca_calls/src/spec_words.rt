@@ -35,7 +35,7 @@ pub struct SpecWords {
 const _: () = prove!(std::mem::size_of::<SpecWords>() == 1248);
 
 impl SpecWords {
-    /// Whether the struct is of this version: it says its size, and the bytes that a later one may use are 0.
+    /// Whether the struct is of this version: it says its own size, and the bytes that a later version may use are 0.
     pub fn is_of_this_version(&self) -> bool
         ensures { IsTrue result ↔ IsOfThisVersion self.now }
     {
@@ -43,7 +43,7 @@ impl SpecWords {
     }
 }
 
-/// What each of these bytes, at most 16, says: 0 no, any other yes.
+/// These bytes as flags: 0 is false, any other byte is true. There must be at most 16 (a premise).
 pub fn flags_of(bytes: &[u8]) -> ArrayVec<bool, MOST_POSITIONS>
     requires { length bytes.now ≤ 16 }
     ensures { result.items ≡ map is_yes bytes.now }
@@ -55,7 +55,8 @@ pub fn flags_of(bytes: &[u8]) -> ArrayVec<bool, MOST_POSITIONS>
     flags
 }
 
-/// The bytes that say these flags, at most 16, in a place for 16.
+/// These flags as bytes, at the front of an array of 16: 0 is false, any other byte is true. There must be at most 16
+/// (a premise).
 pub fn bytes_of(flags: &[bool]) -> [u8; MOST_POSITIONS]
     requires { length flags.now ≤ 16 }
     ensures { map is_yes (take (length flags.now) result) ≡ flags.now }
@@ -124,7 +125,9 @@ fn kind_with<'a>(reading: Reading, names: &'a [&'a str]) -> Kind<'a>
     }
 }
 
-/// The kind of object that these words give, a switch with these names; nothing where they are those of none.
+/// The kind of object that these words hold: its class, its value and its limits. A switch gets these names of its
+/// positions. `None` if the words hold no reading, unless their class number is 1: then it is a block, and the rest is
+/// not looked at.
 pub fn kind_of<'a>(words: &ReadingWords, names: &'a [&'a str]) -> Option<Kind<'a>>
     ensures { GivesKind words.now (map (λ name. name.now) names.now) result }
 {
@@ -135,7 +138,7 @@ pub fn kind_of<'a>(words: &ReadingWords, names: &'a [&'a str]) -> Option<Kind<'a
     Some(kind_with(reading, names))
 }
 
-/// The flags, of a switch; `None` of any other kind.
+/// The flags if the object is a switch. `None` for any other kind of object, which has no positions.
 pub fn flags_for<'a>(kind: &Kind<'_>, flags: &'a [bool]) -> Option<&'a [bool]>
     ensures { option_copied result ≡ flags_for kind.now flags.now }
 {

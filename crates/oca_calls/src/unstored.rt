@@ -12,7 +12,7 @@ pub struct Unstored {
 }
 
 impl Unstored {
-    /// All that was written is stored, and no answers wait.
+    /// The state in which everything that was written is stored, and no answers wait.
     pub fn none() -> Unstored
         ensures { result ≡ all_stored }
     {
@@ -22,7 +22,8 @@ impl Unstored {
         }
     }
 
-    /// The same behind a datagram that wrote to an object or not, and that held so many duplicates.
+    /// The state after a datagram that wrote to an object or not (`wrote`), and that held `duplicates` duplicates. Its
+    /// answers wait if it wrote. They also wait if it held a duplicate while something that was written is not stored.
     pub fn after(self, wrote: bool, duplicates: u32) -> Unstored
         ensures { result ≡ unstored_after self wrote duplicates }
     {
@@ -40,7 +41,7 @@ pub fn has_written(device: &Device) -> bool
     !device.written().is_empty()
 }
 
-/// How many duplicates a datagram with this verdict held.
+/// How many duplicates the datagram with this verdict held; 0 if it was malformed or found no room.
 pub fn duplicates_in(verdict: Verdict) -> u32
     ensures { result ≡ duplicates_of verdict }
 {

@@ -11,8 +11,9 @@ use oca_model::{Value, value_from_word, word_of};
 use oca_types::Class;
 use std::str;
 
-/// Puts the word for a value, and tells how many bytes it has, 1 to 20. `NoValue` where the words are those of none;
-/// `TooSmall` where it does not fit, and then only its size is told.
+/// Puts the word for a value, such as `muted` or `-60`, to the front of `out`, and writes its size, 1 to 20 bytes, into
+/// `len`. Returns `Done`. `NoValue` if `words` hold no value: then nothing is written. `TooSmall` if the word does not
+/// fit: then only `len` is written.
 pub fn put_word(words: ValueWords, out: &mut [u8], len: &mut usize) -> Answer
     ensures writes { WritesWordOf words out.old out.new len.new (answer_number result) }
     ensures untold { (result ≡ NoValue) → (len.new ≡ len.old) }
@@ -23,8 +24,8 @@ pub fn put_word(words: ValueWords, out: &mut [u8], len: &mut usize) -> Answer
     put_bytes(word_of(value).as_str().as_bytes(), out, len)
 }
 
-/// Tells the value that a word names, of an object of the class with this number. `NoValue` where it names none, and
-/// then nothing is written.
+/// Writes the value for which a word stands, of an object of the class with this number. Returns `Done`. `NoValue` if
+/// no class has the number, or the word stands for no value of it: then nothing is written.
 pub fn read_word(class_number: u32, word: &[u8], out: &mut ValueWords) -> Answer
     ensures { WritesNamed class_number word.now out.old out.new (answer_number result) }
 {

@@ -49,7 +49,7 @@ fn unsigned(class_number: u32, number: u64) -> ValueWords
 }
 
 impl ValueWords {
-    /// The words of the value.
+    /// This value as a struct for C: the number of its class, and its number in 64 bits.
     pub fn of(value: Value) -> ValueWords
         ensures { result ≡ Rattle.oca_calls.specs.CValues.words_of value }
     {
@@ -69,7 +69,9 @@ impl ValueWords {
         }
     }
 
-    /// The value whose words these are; nothing where there is none.
+    /// The value that these words hold. `None` if `class_number` is not 2 to 13, or the bits are no number of such a
+    /// value. They must be 1 or 2 for a state, 0 or 1 for a Boolean, and within the class's type for a position or an
+    /// integer.
     pub fn value(self) -> Option<Value>
         ensures { AreWordsOf self result }
     {
@@ -137,7 +139,7 @@ fn within(value: Value, least: Value, greatest: Value) -> ReadingWords
 }
 
 impl ReadingWords {
-    /// The words of what reading an object gives.
+    /// This reading as a struct for C. For a class without limits, both limits are the value.
     pub fn of(reading: Reading) -> ReadingWords
         ensures { result ≡ Rattle.oca_calls.specs.CValues.reading_words reading }
     {
@@ -172,7 +174,7 @@ pub struct RequestWords {
 }
 
 impl RequestWords {
-    /// The words of a request.
+    /// This request as a struct for C: its method, ParamCount, and its parameters, at most 8 bytes.
     pub fn of(request: &ValueRequest) -> RequestWords
         ensures { HasRequestWords request.now result }
     {
@@ -189,7 +191,7 @@ impl RequestWords {
     }
 }
 
-/// The class with this number; nothing where none has it.
+/// The class with this number, 1 for OcaBlock to 13 for OcaUint64Actuator. `None` for any other number.
 pub fn class_with(number: u32) -> Option<Class>
     ensures { HasClass number result }
 {

@@ -17,8 +17,9 @@ pub const VERDICT_WORDS: usize = 7;
 /// How many words tell of an object.
 pub const OBJECT_WORDS: usize = 4;
 
-/// The words of a verdict: 0, how many commands were executed, kept, old and reused; 1, 0, 0, 0, 0, the number of
-/// the fault and where it lies; or 2 for no room.
+/// The verdict as seven words. For a datagram that was served: 0, how many commands were executed, duplicates, old and
+/// reused, and two zeros. For a malformed one: 1, four zeros, the number of the fault (1 to 9) and its offset in bytes.
+/// If there was no room for the sender: 2 and six zeros.
 pub fn words_of(verdict: Verdict) -> [u32; VERDICT_WORDS]
     ensures { result ≡ verdict_words verdict }
 {
@@ -42,7 +43,8 @@ pub fn words_of(verdict: Verdict) -> [u32; VERDICT_WORDS]
     }
 }
 
-/// The words of an object: its number, its container's, its class and how many bytes its role has.
+/// What an object is, as four words. They are its number, its container's number (0 for the root), the number of its
+/// class (1 to 13, [`class_number`]) and the size of its role in bytes.
 pub fn object_words(object: &ObjectInfo) -> [u32; OBJECT_WORDS]
     ensures { result ≡ object_words object.now }
 {
@@ -55,7 +57,8 @@ pub fn object_words(object: &ObjectInfo) -> [u32; OBJECT_WORDS]
     ]
 }
 
-/// The number of a class: 1 to 13.
+/// The number of a class in C: 1 OcaBlock, 2 OcaMute, 3 OcaPolarity, 4 OcaSwitch, 5 OcaBooleanActuator. Then 6 to 9 are
+/// OcaInt8Actuator to OcaInt64Actuator, and 10 to 13 are OcaUint8Actuator to OcaUint64Actuator.
 pub fn class_number(class: Class) -> u32
     ensures { result ≡ class_number class }
 {
@@ -76,7 +79,7 @@ pub fn class_number(class: Class) -> u32
     }
 }
 
-/// The number of a kind of lock: 1 keeps other peers from all access, 2 from all but reading.
+/// The number of a kind of lock in C. 1 keeps other peers from all access, 2 from all but reading.
 pub fn lock_number(kind: LockKind) -> u32
     ensures { result ≡ lock_number kind }
 {
@@ -86,7 +89,7 @@ pub fn lock_number(kind: LockKind) -> u32
     }
 }
 
-/// Puts words at the front of a place, as many as it has room for.
+/// Copies words to the front of `place`, as many as it has room for. The rest of `place` stays as it is.
 pub fn put_words<T: Copy>(words: &[T], place: &mut [T])
     ensures { place.new ≡ put_words words.now place.old }
 {
@@ -95,7 +98,8 @@ pub fn put_words<T: Copy>(words: &[T], place: &mut [T])
     front.copy_from_slice(&words[..count]);
 }
 
-/// Puts the numbers of objects at the front of a place, as many as it has room for.
+/// Copies the numbers of objects to the front of `place`, as many as it has room for. The rest of `place` stays as it
+/// is.
 pub fn put_numbers(onos: &[Ono], place: &mut [u32])
     ensures { place.new ≡ put_words (numbers_of onos.now) place.old }
 {
@@ -105,7 +109,7 @@ pub fn put_numbers(onos: &[Ono], place: &mut [u32])
     }
 }
 
-/// Copies bytes to the front of a place that must have room for them, and returns how many.
+/// Copies bytes to the front of `place`, which must have room for them (a premise), and returns how many they are.
 pub fn put_front(bytes: &[u8], place: &mut [u8]) -> usize
     requires { length bytes.now ≤ length place.old }
     ensures { LiesIn bytes.now place.new result }
@@ -115,7 +119,7 @@ pub fn put_front(bytes: &[u8], place: &mut [u8]) -> usize
     bytes.len()
 }
 
-/// Copies bytes to the front of a place, and writes into `len` how many they are. Returns `Done`; `TooSmall` if they do
+/// Copies bytes to the front of `place`, and writes into `len` how many they are. Returns `Done`. `TooSmall` if they do
 /// not fit: then only `len` is written.
 pub fn put_bytes(bytes: &[u8], place: &mut [u8], len: &mut usize) -> Answer
     ensures { WritesToBuffer bytes.now place.old place.new len.new (answer_number result) }

@@ -14,10 +14,11 @@ use crate::turning::turn;
 use oca_net::End;
 use oca_types::{Handle, Request};
 
-/// Begins a command as [`begin`] does, and waits for its answer as [`wait_for`] does.
+/// Sends a command as [`begin`] does, and waits for its answer for at most `turns` turns, as [`wait_for`] does.
 ///
-/// What `begin` refuses changes nothing and sends nothing: `Lost` where the link is lost, or late, else `Refused`. A
-/// command that got no answer stays in the link, and can be waited for again.
+/// `Lost` if the link is lost or late before the command is submitted, and `Refused` with the reason if the link
+/// refuses the command otherwise. After these two nothing is changed or sent. All other results are those of
+/// `wait_for`. A command that got no answer stays in the link, and can be waited for again.
 pub fn ask<E: End>(link: &mut Link, end: &mut E, request: Request<'_>, turns: u32) -> Outcome
     ensures asks { Asks (request_of request.entry) turns link.old result link.new (E.state end.old) (E.state end.new) }
     ensures receives { (E.state end.new).receives < last_u64 →
@@ -29,13 +30,15 @@ pub fn ask<E: End>(link: &mut Link, end: &mut E, request: Request<'_>, turns: u3
     }
 }
 
-/// Submits a command at the end's present moment and hands it to the end at once, and returns its handle.
+/// Submits a command at the end's present moment, sends it at once, and returns its handle. If the end keeps no time,
+/// the moment is the latest that the link was given.
 ///
-/// An end that keeps no time has the link's own moment, the greatest that it was told. All else that is due at the
-/// moment is sent with the command. Where an older one is due and had 20 transmissions, the link is lost, and this one
-/// is not sent; else nothing is left to send at that moment (`law_of_running`). Refusals, which change nothing and send
-/// nothing: `Lost` where the link is late at the moment ([`is_late`](crate::is_late)), then those of
-/// [`submit`](Link::submit).
+/// All else that is due at this moment is sent too, older commands first. If an older command is due that was sent 20
+/// times, the link becomes lost, and this command is not sent. Otherwise nothing is left to send at this moment
+/// (`law_of_running`).
+///
+/// Refusals, which change nothing and send nothing: `Lost` if the link is late at this moment
+/// ([`is_late`](crate::is_late)), then those of [`submit`](Link::submit).
 pub fn begin<E: End>(
     link: &mut Link,
     end: &mut E,
@@ -58,12 +61,12 @@ pub fn begin<E: End>(
     Ok(handle)
 }
 
-/// Waits for the answer under this handle, and takes it: looks for it first, then takes turns ([`turn`]).
+/// Waits for the answer under this handle, and takes it. It looks for the answer first, and then takes at most `turns`
+/// turns ([`turn`]). Each turn receives once, at a socket for at most 50 ms, even if the end is closed.
 ///
-/// `Answered` as soon as the answer is there; `Lost` as soon as the link is lost, or a turn found it late, and no
-/// answer is there; `Unanswered` after so many turns, each of which receives once (at a closed end too), at a socket
-/// for at most 50 ms. A handle that the link does not hold is never answered. After `Unanswered` the command stays in
-/// flight: the link still sends it, and a later wait may take its answer.
+/// `Answered` as soon as the answer is there. `Lost` as soon as the link is lost, or a turn found it late, and no
+/// answer is there. `Unanswered` after `turns` turns, and then also for a handle that no command has. After
+/// `Unanswered` the command stays in flight: the link still sends it, and a later wait may take its answer.
 pub fn wait_for<E: End>(link: &mut Link, end: &mut E, handle: Handle, turns: u32) -> Outcome
     ensures waits { Waits handle.0 turns link.old result link.new (E.state end.old) (E.state end.new) }
     ensures receives { (E.state end.new).receives < last_u64 →
@@ -82,13 +85,15 @@ pub fn wait_for<E: End>(link: &mut Link, end: &mut E, handle: Handle, turns: u32
     }
 }
 
-/// Waits for the answer under this handle, and takes it, as [`wait_for`] does, until this moment, in milliseconds.
+/// Waits for the answer under this handle, and takes it, until the moment `until`, in milliseconds of the end's clock.
 ///
-/// `Answered` and `Lost` as there. `Unanswered` as soon as the present moment is `until` or later, or a turn found the
-/// end closed, or 4,294,967,295 turns were taken, so that it also ends over an end whose clock stops. The present
-/// moment is what [`now`](End::now) of the end returns, or the link's own, the latest that it was told, where that is
-/// later. A turn is begun only before `until`, and is at a socket one of at most 50 ms; however many datagrams come
-/// from others, the wait goes on. After `Unanswered` the command stays in flight, as after [`wait_for`].
+/// `Answered` and `Lost` as in [`wait_for`]. `Unanswered` as soon as the present moment is `until` or later, or a turn
+/// found the end closed. `Unanswered` also after 4,294,967,295 turns, so that the call ends even if the end's clock
+/// stops. After `Unanswered` the command stays in flight, as after [`wait_for`].
+///
+/// The present moment is what [`now`](End::now) of the end returns, or the latest that the link was given if that is
+/// later. A turn is begun only before `until`, and takes at most 50 ms at a socket. Datagrams from other senders do not
+/// end the wait.
 pub fn wait_until<E: End>(link: &mut Link, end: &mut E, handle: Handle, until: u64) -> Outcome
     ensures waits { WaitsUntil handle.0 until link.old result link.new (E.state end.old) (E.state end.new) }
     ensures receives { ReceivesInAWait (E.state end.old).receives (E.state end.new).receives }
@@ -109,9 +114,8 @@ pub fn wait_until<E: End>(link: &mut Link, end: &mut E, handle: Handle, until: u
     }
 }
 
-/// Waits for the answer under this handle as [`wait_until`] does, for so many milliseconds from the present moment on.
-/// They are at most 4,294,967,295; at 0 it looks once and takes no turn. The results, and what stays after them, are
-/// those of `wait_until`.
+/// Waits for the answer under this handle, as [`wait_until`] does, for at most `milliseconds` from the present moment
+/// on. At 0 it looks once and takes no turn. The results, and what stays after them, are those of `wait_until`.
 pub fn wait_while<E: End>(
     link: &mut Link,
     end: &mut E,
@@ -205,7 +209,8 @@ fn take_one<E: End>(link: &mut Link, end: &mut E) -> bool
     turn(link, end).lost
 }
 
-/// The outcome of a command that the link refuses: `Lost` where the link is lost, else `Refused`.
+/// The outcome of a command that the link refuses for this reason: `Lost` if the link is lost, otherwise `Refused` with
+/// the reason.
 pub fn refused(fault: ControlFault) -> Outcome
     ensures { result ≡ refused_by fault }
 {

@@ -13,16 +13,18 @@ use crate::report::DriveReport;
 use oca_net::{End, Heard};
 use oca_types::{Packet, Peer};
 
-/// Drives a link over an end for at most so many turns, and returns what was done.
+/// Drives a link over an end for at most `turns` turns, and returns how often each thing was done.
 ///
-/// A turn receives once: at a socket for at most 50 ms. A datagram goes to the link. Then, at a datagram, at silence
-/// and at an oversize datagram, what is due is handed to the end, for the device, until `due` returns `Nothing` or
-/// `Lost`, and at most once more than the span has handles; a send that fails is counted. A failed receive does nothing
-/// else. The loop ends at Closed, which is no turn and after which it receives nothing, after a turn in which `due`
-/// returns `Lost`, or after the turns.
+/// A turn receives once: at a socket for at most 50 ms. A datagram goes to the link. After a datagram, an oversize
+/// datagram, or if none came, everything that is due is sent to the device. [`due`](Link::due) is called until it
+/// returns `Nothing` or `Lost`, and at most once more than the span. A send that fails is counted. After a failed
+/// receive nothing is sent.
 ///
-/// It does not look whether the link is late: after a pause of the program it may send a command more than 15 s after
-/// its submit. Use [`turn`](crate::turn) unless something else looks at that.
+/// The loop ends after `turns` turns, or after a turn in which `due` returns `Lost`. It also ends if the end is closed,
+/// which does not count as a turn.
+///
+/// It does not check whether the link is late: after a pause of the program it may send a command more than 15 s after
+/// its submit. Use [`turn`](crate::turn) unless the program checks that itself.
 pub fn drive<E: End>(link: &mut Link, end: &mut E, turns: u32) -> DriveReport
     ensures driven { DrivesEnd link.old link.new (E.state end.old) (E.state end.new) result }
     ensures turns { result.turns ≤ turns }
@@ -46,13 +48,13 @@ pub fn drive<E: End>(link: &mut Link, end: &mut E, turns: u32) -> DriveReport
     report
 }
 
-/// Hands the end all that is due at this moment, for the device, and returns what was handed over; `turns` is 0.
+/// Sends the device everything that is due at the moment `now`, in milliseconds, and returns how often each thing was
+/// done; `turns` is 0 in it. A moment earlier than one already seen counts as that one. Nothing is received. A send
+/// that fails is counted.
 ///
-/// `due` is called at this moment until it returns `Nothing` or `Lost`, and at most once more than the span has
-/// handles: these are all, since at most as many commands as the span has handles are in flight (`law_of_histories`),
-/// so that each is reached (`law_of_sending`). So nothing is left to send at that moment, or the link is lost. Where
-/// a send fails, it is counted. Nothing is received. A moment that is earlier than one already seen counts as the one
-/// already seen. `now` is in milliseconds.
+/// [`due`](Link::due) is called until it returns `Nothing` or `Lost`, and at most once more than the span. That reaches
+/// every command, since no more commands are in flight than the span (`law_of_histories`, `law_of_sending`). So
+/// afterwards nothing is left to send at that moment, or the link is lost.
 pub fn send_due<E: End>(link: &mut Link, end: &mut E, now: u64) -> DriveReport
     ensures gives { SendsDue now (link.old.span + 1) link.old link.new (E.state end.old) (E.state end.new) result }
     ensures lost { result.lost ≡ link.new.lost }

@@ -10,28 +10,29 @@ ghost use Rattle.oca_control.specs.Histories.{EveryHistoryIsLawful, EveryLinkAgr
 
 use oca_pdu::law_one_list_of_messages;
 
-/// Over every list of calls of a link, what it returns is said by these alone. Each accepted command gets a handle of
-/// its own, and they rise by one from the first. A submit is refused exactly where the link is lost, no handle of 32
-/// bits is left, the next handle is not below each one in flight plus the span, or the parameters have more than 1,445
-/// bytes.
+/// Law: what a link returns follows from the list of its calls alone, whatever this list is. With the clauses of
+/// [`Link`](crate::Link) this is a promise of every run of a link. The premise is a span of at least 1. It does nothing
+/// at run time.
 ///
-/// What is sent for a handle is the same bytes each time, a PDU of type 1 with its command alone; at most 20
-/// times, and at least 250 ms apart by the clock, which is the greatest moment so far. `due` gives the lowest handle
-/// that is unanswered and was not sent for 250 ms, or else a keep-alive after 2,500 ms, or else nothing; and the link
-/// is lost exactly where that handle was sent 20 times. A take of a handle in flight gives the first answer that came
-/// to it in a well-formed datagram of the device since its submit, and nothing where none came: also where that answers
-/// a command that an earlier link of this address and port had under this handle. The next handle is at most one in
-/// flight plus the span.
+/// Handles: each accepted command gets its own handle, and these rise by one from the first. The next handle is at most
+/// one in flight plus the span. A submit is refused in exactly four cases. The link is lost. No handle of 32 bits is
+/// left. The next handle is not below each one in flight plus the span. The parameters have more than 1,445 bytes.
 ///
-/// `datagram` says by the sender whether it is a stranger, by the bytes whether they are well-formed, and else how many
-/// commands in flight got their first answer in it.
+/// Sending: what is sent for a handle has the same bytes each time: a PDU of type 1 with its command alone. It is sent
+/// at most 20 times, at least 250 ms apart by the link's clock, which is the latest moment so far.
+/// [`due`](crate::Link::due) returns the lowest handle that is unanswered and was not sent for 250 ms. If there is
+/// none, it returns a keep-alive after 2,500 ms without sending, and otherwise nothing. The link is lost exactly if
+/// `due` finds a handle that was sent 20 times.
 ///
-/// The state of a link: `last_heard` is the clock at the last well-formed datagram of the device, at first that
-/// of the opening; `is_lost` says whether `due` returned so; `answered` is the lowest handle in flight to which an
-/// answer came.
+/// Answers: a take of a handle in flight returns the first answer to it that came in a well-formed datagram of the
+/// device since its submit. It returns none if none came. It cannot tell whether the answer is to a command that an
+/// earlier link of this address and port had under this handle. `datagram` returns by the sender whether it is a
+/// stranger, and by the bytes whether they are well-formed. Otherwise it returns how many commands in flight got their
+/// first answer in it. Bytes have only one content.
 ///
-/// With the clauses of [`Link`](crate::Link) this is a promise of every run of a link. And bytes have one content
-/// alone. It does nothing at run time.
+/// State: `last_heard` is the clock at the last well-formed datagram of the device, and before the first one that of
+/// the opening. `is_lost` is true if `due` returned so. `answered` is the lowest handle in flight to which an answer
+/// came.
 pub fn law_of_histories()
     ensures law { EveryHistoryIsLawful }
     ensures datagrams { EveryDatagramIsCounted }
@@ -41,42 +42,44 @@ pub fn law_of_histories()
     law_one_list_of_messages();
 }
 
-/// One answer that comes is enough. Where a well-formed datagram of the device has a response to a command in flight,
-/// whatever else stands in the datagram, the link holds an answer to it from then on, through all calls but the take of
-/// that handle, which gives it: the first that came. It does nothing at run time.
+/// Law: one answer that comes is enough. Take a well-formed datagram of the device with a response to a command in
+/// flight, whatever else is in the datagram. From then on the link holds an answer to this command, until a take of its
+/// handle returns it: the first that came. It does nothing at run time.
 pub fn law_of_answering()
     ensures { EveryAnswerIsKept }
 {}
 
-/// Sending goes on. A command is due while it is unanswered, and was never sent or last 250 ms ago or earlier. Where k
-/// commands are due at a moment, each of them is sent within k calls of `due` at that moment, or the link is lost.
+/// Law: a link goes on sending. A command is due while it is unanswered, and was never sent or last 250 ms ago or
+/// earlier. If k commands are due at a moment, each of them is sent within k calls of `due` at that moment, or the link
+/// is lost.
 ///
-/// Where a link is asked at least every `ms` milliseconds, from the submit of a command on, each time until it returns
-/// anything but `Send`, the command is sent within `ms` of its submit, and again less than `250 + ms` after each
-/// transmission, until an answer came, it was taken, or the link is lost. One of these comes within
-/// `ms + 20 * (250 + ms)` of the submit: asked every 250 ms, the link sends a command again in less than half a second,
-/// and has its answer or is lost after 10,250 ms at most. It does nothing at run time.
+/// Take a link whose `due` is called at least every `ms` milliseconds from the submit of a command on, each time until
+/// it does not return `Send`. It sends the command within `ms` of its submit, and again less than `250 + ms` after each
+/// transmission. It does so until an answer came, the command was taken, or the link is lost. One of these comes within
+/// `ms + 20 * (250 + ms)` of the submit. With `ms` of 250 the link sends a command again in less than 500 ms, and has
+/// its answer or is lost after at most 10,250 ms. It does nothing at run time.
 pub fn law_of_sending()
     ensures due { EveryDueCommandIsSent }
     ensures in_time { EveryCommandIsSentInTime }
 {}
 
-/// A link that runs over an end is asked in time.
+/// Law: a link that runs over an end is asked what is due in time, which is the premise of [`law_of_sending`].
 ///
-/// What [`drive`](crate::drive), [`turn`](crate::turn), [`wait_for`](crate::wait_for), [`begin`](crate::begin) and
-/// [`ask`](crate::ask) do with a link is a run, over the moments of what the end delivered and those at which commands
-/// were begun. Where each of these moments is at most `ms` milliseconds after the latest one before it, and when the run
-/// began nothing was left to send and each command had time left, the link is asked every `ms` milliseconds, which
-/// is the premise of [`law_of_sending`], or it is lost; `ms` is at most 500. A command has time left where the
-/// transmissions that are left to it, `250 + ms` apart, end before it is late; so has each command that is begun in
-/// such a run, however many others are in flight, each by its own submit; and where none else waited when it was begun,
-/// whatever the link did before. After a [`begin`](crate::begin) nothing is left, so each command that is begun is sent
-/// at once, and from then on in time as long as it waits: with receives of at most 50 ms, again less than 300 ms after
-/// each transmission.
+/// A run is what [`drive`](crate::drive), [`turn`](crate::turn), [`begin`](crate::begin), [`ask`](crate::ask) and the
+/// waits do with a link. Its moments are those of what the end delivered, and those at which commands were begun. The
+/// premises are these three. Each moment is at most `ms` milliseconds after the latest one before it, and `ms` is at
+/// most 500. When the run began, nothing was left to send. Each command then had time left. Under these premises the
+/// link is asked every `ms` milliseconds, or it is lost.
 ///
-/// Of an end that tells what it delivers the premise is a fact of its state: its receives return within `ms` of one
-/// another. An end in memory keeps it where its script does. Of an end at a socket it is a fact of what its receives
-/// returned, and it holds as long as the program comes back to receive in time. It does nothing at run time.
+/// A command has time left if the transmissions that are left to it, `250 + ms` apart, end before it is late. In such a
+/// run each command that is begun has time left, however many others are in flight. It has time left too if no other
+/// command waited when it was begun, whatever the link did before. After a [`begin`](crate::begin) nothing is left to
+/// send. So each command is sent at once, and from then on in time as long as it waits. With receives of at most 50 ms
+/// it is sent again less than 300 ms after each transmission.
+///
+/// For an end that records what it delivers, the first premise is a fact of the end's state: its receives return within
+/// `ms` of one another. An end in memory meets it if its script does. An end at a socket meets it as long as the
+/// program comes back to receive in time. It does nothing at run time.
 pub fn law_of_running()
     ensures calls { EveryCallRuns }
     ensures goes_on { EveryRunGoesOn }
@@ -88,13 +91,13 @@ pub fn law_of_running()
     ensures in_memory { EveryScriptIsKept }
 {}
 
-/// No copy of a command is sent too late. Where [`due`](crate::Link::due) is never called at a moment at which the
-/// link is late ([`is_late`](crate::is_late)), each copy of a command is sent at most 15,000 ms after the submit of
-/// the command, by the clock, over every list of calls of a link.
+/// Law: no transmission of a command is too late. The premise is that [`due`](crate::Link::due) is never called at a
+/// moment at which the link is late ([`is_late`](crate::is_late)). Then each transmission of a command leaves at most
+/// 15,000 ms after the submit of the command, by the link's clock. It holds for every list of calls of a link.
 ///
-/// What [`send_in_time`](crate::send_in_time), [`turn`](crate::turn), [`begin`](crate::begin),
-/// [`wait_for`](crate::wait_for) and [`ask`](crate::ask) make of a link, they make by such calls. And a link that is
-/// late at a moment is so at each later one. It does nothing at run time.
+/// [`send_in_time`](crate::send_in_time), [`turn`](crate::turn), [`begin`](crate::begin), [`ask`](crate::ask) and the
+/// waits make only such calls. A link that is late at a moment is late at each later one, if nothing is called between.
+/// It does nothing at run time.
 pub fn law_copies_in_time()
     ensures copies { EveryCopyIsInTime }
     ensures steps { EveryStepIsInTime }

@@ -75,13 +75,15 @@ impl Model for Link {
 }
 
 impl Link {
-    /// A link to the device at this address, made at the moment `now` (in milliseconds), whose first command gets this
-    /// handle, and whose handles stay below the lowest one in flight plus the span.
+    /// A link to the device at this address. `now` is the moment of its making, in milliseconds of the caller's clock.
+    /// Its first command gets the handle `first_handle`. Each later handle is one higher, and lies below the lowest
+    /// handle in flight plus the span.
     ///
-    /// A device remembers what it executed for an address and port until it heard nothing from there for 120 seconds.
-    /// So the first handle is to lie above all handles that an earlier link used from this address and port in that
-    /// time: a device is silent at a handle that it counts as old, or that another command had. And a late answer to a
-    /// command of an earlier link is taken for one to this link's command under that handle.
+    /// A device remembers what it executed for an address and port until it has heard nothing from there for 120
+    /// seconds. So the first handle must be above all handles that an earlier link used from this address and port in
+    /// that time. Otherwise the device does not answer a handle that it counts as old, or that another command had. A
+    /// late answer to a command of an earlier link would also be taken for one to this link's command under that
+    /// handle.
     pub fn new(device: Peer, first_handle: Handle, now: u64, span: Span) -> Link
         ensures { result ≡ new_link device first_handle.0 now (span_size span) }
     {
@@ -97,11 +99,11 @@ impl Link {
     }
 
     /// Submits a command, to be sent when it is due, and returns its handle (AES70-3). `count` is ParamCount, and `now`
-    /// the moment in milliseconds.
+    /// the moment in milliseconds of the caller's clock.
     ///
-    /// Refusals, in this order, each of which changes nothing and keeps no moment: `Lost`; `HandlesSpent`, after the
-    /// handle 4294967295; `SpanFull`, where the next handle is not below the lowest one in flight plus the span;
-    /// `TooLong`, above 1,445 bytes of parameters.
+    /// Refusals, the first that applies, each of which changes nothing, not even the link's clock. `Lost` if the link
+    /// is lost. `HandlesSpent` after the handle 4294967295. `SpanFull` if the next handle is not below the lowest one
+    /// in flight plus the span. `TooLong` if the parameters have more than 1,445 bytes.
     pub fn submit(
         &mut self,
         target: Ono,
@@ -150,11 +152,14 @@ impl Link {
         Ok(handle)
     }
 
-    /// Puts what is due at the moment `now`, in milliseconds, into the packet, which it empties first: the due command
-    /// with the lowest handle, with unchanged bytes, or a keep-alive of 5 seconds where nothing was sent for 2,500 ms.
-    /// A command is due while it is unanswered, and was never sent or was sent 250 ms ago or earlier.
+    /// Puts what is due at the moment `now`, in milliseconds of the caller's clock, into the packet, which it empties
+    /// first. Call it until it returns `Nothing` or `Lost`.
     ///
-    /// `Lost` where that command was sent 20 times, and from then on. The packet is empty at `Nothing` and `Lost`.
+    /// `Send` with its handle if a command is due, the one with the lowest handle; its bytes are the same at each
+    /// transmission. A command is due while it is unanswered, and was never sent or was sent 250 ms ago or earlier.
+    /// `KeepAlive` if no command is due and nothing was sent for 2,500 ms: the packet is then a keep-alive with a
+    /// heartbeat of 5 seconds. `Nothing` if nothing is due. `Lost` if the command with the lowest handle that is due
+    /// was sent 20 times, and at each later call. The packet is empty at `Nothing` and `Lost`.
     pub fn due(&mut self, now: u64, packet: &mut Packet) -> Due
         ensures answer { result ≡ due_answer (decision now self.old) }
         ensures packet { packet.new.items ≡ due_bytes (decision now self.old) }
@@ -185,14 +190,15 @@ impl Link {
         }
     }
 
-    /// Takes a datagram that came from this address at the moment `now`, in milliseconds, and returns what became of
-    /// it: `Stranger` if the address is not the device's; else `Malformed` if the bytes are not well-formed (AES70-3);
-    /// else `Answered` with how many commands in flight it answered first, or `NothingNew` if it answered none.
+    /// Handles a datagram that came from the address `from` at the moment `now`, in milliseconds of the caller's clock,
+    /// and returns what became of it. `Stranger` if the address is not the device's. Otherwise `Malformed` if the bytes
+    /// are not well-formed (AES70-3). Otherwise `Answered` with how many commands in flight got their first answer, or
+    /// `NothingNew` if none did.
     ///
-    /// The responses are taken in order. A response is stored if its handle is that of a command in flight without an
-    /// answer; commands and keep-alives are ignored. A stranger's or malformed datagram changes nothing but the moment,
-    /// which is kept in all cases; a moment earlier than one already seen counts as that one. A lost link still takes
-    /// answers.
+    /// The responses are handled in order. A response is stored if its handle is the handle of a command in flight
+    /// without an answer. Commands and keep-alives are ignored. A stranger's or malformed datagram changes only the
+    /// link's clock, which moves on to `now` in all cases. A moment earlier than one already seen counts as that one. A
+    /// lost link still stores answers.
     pub fn datagram(&mut self, from: Peer, bytes: &[u8], now: u64) -> Reception
         ensures receives { ReceivesDatagram from bytes.now now self.old result self.new }
         ensures answer { (content : Option (List Msg)) → IsContent content bytes.now →
@@ -213,8 +219,8 @@ impl Link {
         }
     }
 
-    /// Takes the answer under this handle, and the command with it. `None` where there is no answer, which changes
-    /// nothing.
+    /// Takes the answer under this handle, and removes the command. `None` if there is no answer under the handle: then
+    /// nothing is changed.
     pub fn take(&mut self, handle: Handle) -> Option<Answer>
         ensures answer { option_map answer_fields result ≡ answer_under handle.0 self.old.untaken }
         ensures link { self.new ≡ taken handle.0 self.old }
@@ -222,8 +228,9 @@ impl Link {
         self.table.take(handle)
     }
 
-    /// The earliest moment, in milliseconds and not before the link's own, at which [`due`](Link::due) returns anything
-    /// but `Nothing`: a loop may wait until then. `None` where that lies beyond 64 bits.
+    /// The earliest moment at which [`due`](Link::due) returns anything but `Nothing`: a loop may wait until then. It
+    /// is in milliseconds of the caller's clock, and not before the latest moment that the link was given. For a lost
+    /// link it is that latest moment. `None` if the moment lies beyond 64 bits.
     pub fn next_due(&self) -> Option<u64>
         ensures { MatchOption result (NeverIsDue self.now) (λ t. IsNextDue self.now t) }
     {
@@ -243,36 +250,38 @@ impl Link {
         self.table.answered()
     }
 
-    /// Whether the command under this handle is unanswered (despite the name: a command whose answer came and was not
-    /// taken is still in flight, and gives `false`). `false` also for a command whose answer was taken, and for a
-    /// handle that no command has. So a wait can end at once if this is `false` and [`take`](Link::take) gives nothing.
+    /// Whether a command with this handle was submitted and has no answer yet. Despite the name it is `false` for a
+    /// command whose answer came and was not taken. `false` also for a command whose answer was taken, and for a handle
+    /// that no command has. So a wait can end at once if this is `false` and [`take`](Link::take) returns `None`.
     pub fn is_in_flight(&self, handle: Handle) -> bool
         ensures { result ≡ list_any (waits handle.0) self.now.untaken }
     {
         self.table.waits(handle)
     }
 
-    /// The handle that the next command gets; nothing after the last one, 4294967295.
+    /// The handle that the next command gets. `None` after the last handle, 4294967295.
     pub fn next_handle(&self) -> Option<Handle>
         ensures { option_map (λ h. h.0) result ≡ self.now.next }
     {
         self.table.next()
     }
 
-    /// The moment, in milliseconds, at which the last well-formed datagram from the device came; until the first one
-    /// comes, the moment at which the link was made. A datagram from another address does not move it, nor one that is
-    /// not well-formed. A device that is there and has room echoes each keep-alive, so it lags by little more than
-    /// 2,500 ms while the link is driven and no command waits for its answer. While one waits it is sent again and no
-    /// keep-alive leaves: a device that leaves it unanswered, as one whose handle was used before from this address and
-    /// port, is then not heard at all.
+    /// The moment, in milliseconds of the caller's clock, at which the last well-formed datagram from the device came.
+    /// Before the first one it is the moment at which the link was made. Datagrams from other addresses, and those that
+    /// are not well-formed, do not count.
+    ///
+    /// A device that is there and has room returns each keep-alive. So this lags by little more than 2,500 ms while the
+    /// link is driven and no command waits for its answer. While a command waits, it is sent again and no keep-alive is
+    /// sent. A device that ignores it, because another command had its handle on this address and port, is then not
+    /// heard at all.
     pub fn last_heard(&self) -> u64
         ensures { result ≡ self.now.heard }
     {
         self.heard
     }
 
-    /// Whether the link is lost: a command got no answer to 20 transmissions. It stays so, and sends nothing any more;
-    /// answers that still come are taken as before.
+    /// Whether the link is lost: a command got no answer to 20 transmissions. A lost link stays lost and sends nothing
+    /// more; answers that still come are stored as before.
     pub fn is_lost(&self) -> bool
         ensures { result ≡ self.now.lost }
     {

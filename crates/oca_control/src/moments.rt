@@ -2,7 +2,7 @@
 ghost use Rattle.std.specs.Prelude.{◌≡◌, ◌-◌, ◌<◌, ◌^◌, max, nat_le};
 ghost use Rattle.oca_types.specs.Moments.{HoldsFrom};
 
-/// So many milliseconds (one or more) after a moment; nothing where that lies beyond 64 bits.
+/// The moment `by` milliseconds after `moment`; `by` must be at least 1 (a premise). `None` if it lies beyond 64 bits.
 pub fn later(moment: u64, by: u64) -> Option<u64>
     requires { 0 < by }
     ensures { HoldsFrom (λ s. nat_le by (s - moment)) result }
@@ -10,7 +10,7 @@ pub fn later(moment: u64, by: u64) -> Option<u64>
     moment.checked_add(by)
 }
 
-/// The later of two moments.
+/// The later of two moments, both in milliseconds of the same clock.
 pub fn latest(a: u64, b: u64) -> u64
     ensures value { result ≡ max a b }
     ensures fits { result < 2 ^ 64 }

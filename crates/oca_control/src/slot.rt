@@ -92,15 +92,15 @@ impl Default for Slot {
 }
 
 impl Slot {
-    /// Whether a command is held.
+    /// Whether the slot holds a command.
     pub fn is_held(&self) -> bool
         ensures { result ≡ is_some self.now }
     {
         self.held
     }
 
-    /// Whether a command is held and due at the moment `now`, in milliseconds: it has no answer, and was never sent or
-    /// was sent 250 ms ago or earlier.
+    /// Whether the slot holds a command that is due at the moment `now`, in milliseconds. It is due if it has no
+    /// answer, and was never sent or was sent 250 ms ago or earlier.
     pub fn is_due(&self, now: u64) -> bool
         ensures { result ≡ held_is_due now self.now }
     {
@@ -109,15 +109,16 @@ impl Slot {
             && (self.times == 0 || now.saturating_sub(self.last) >= REPEAT_MS)
     }
 
-    /// Whether a command is held and late: unanswered, and submitted more than 15,000 ms before the moment `now`.
+    /// Whether the slot holds a command that is late at the moment `now`, in milliseconds: it is unanswered, and was
+    /// submitted more than 15,000 ms before.
     pub fn is_late(&self, now: u64) -> bool
         ensures { result ≡ held_is_late now self.now }
     {
         self.waits() && now.saturating_sub(self.submitted) > LONGEST_LIFE_MS
     }
 
-    /// From which moment on, in milliseconds, the command is due: from the first on where it was never sent, else 250
-    /// ms after it last was. Nothing where that lies beyond 64 bits, or no command waits.
+    /// The first moment, in milliseconds, at which the command is due: 0 if it was never sent, otherwise 250 ms after
+    /// it was sent last. `None` if that lies beyond 64 bits, or the slot holds no command without an answer.
     pub fn due_from(&self) -> Option<u64>
         ensures { HoldsFrom (λ s. held_is_due s self.now) result }
     {
@@ -130,29 +131,30 @@ impl Slot {
         later(self.last, REPEAT_MS)
     }
 
-    /// Whether a command is held that has its answer.
+    /// Whether the slot holds a command that has its answer.
     pub fn is_answered(&self) -> bool
         ensures { result ≡ is_some (held_answer self.now) }
     {
         self.held && self.answered
     }
 
-    /// Whether a command is held and has no answer.
+    /// Whether the slot holds a command that has no answer.
     pub fn waits(&self) -> bool
         ensures { result ≡ held_waits self.now }
     {
         self.held && !self.answered
     }
 
-    /// Whether the command that is held was sent fewer than 20 times.
+    /// Whether the command in the slot was sent fewer than 20 times. If the slot holds no command, the result means
+    /// nothing.
     pub fn may_repeat(&self) -> bool
         ensures { IfSome self.now (λ k. result ≡ nat_lt k.times most_sendings) }
     {
         self.times < MOST_SENDINGS
     }
 
-    /// Puts a command in that is submitted at the moment `now`, in milliseconds. It has at most 1,445 bytes of
-    /// parameters.
+    /// Puts a command into the slot, as submitted at the moment `now`, in milliseconds, and not sent yet. It must have
+    /// at most 1,445 bytes of parameters (a premise). What the slot held before is lost.
     pub fn put(&mut self, request: Request<'_>, now: u64)
         requires { length request.params.now ≤ most_command_parameter_bytes }
         ensures { self.new ≡ Some (new_held now (request_of request.entry)) }
@@ -169,8 +171,9 @@ impl Slot {
         let _ = self.params.try_extend_from_slice(request.params);
     }
 
-    /// Puts the command into the packet, which must be empty, under its handle, and notes that it was sent at the
-    /// moment `now`, in milliseconds. It must have been sent fewer than 20 times.
+    /// Puts the command into the packet under the handle `handle`, and counts a transmission at the moment `now`, in
+    /// milliseconds. The slot must hold a command that was sent fewer than 20 times, and the packet must be empty
+    /// (premises).
     pub fn send_due(&mut self, handle: Handle, now: u64, packet: &mut Packet)
         requires few { IsSomeAnd self.old (λ k. k.times < most_sendings) }
         requires empty { packet.old.items ≡ [] }
@@ -190,7 +193,8 @@ impl Slot {
         self.last = now;
     }
 
-    /// Stores the answer, of at most 1,452 bytes of parameters.
+    /// Stores the answer to the command in the slot: its status, its ParamCount and its parameters, at most 1,452 bytes
+    /// (a premise). An earlier answer is lost.
     pub fn store(&mut self, status: u8, count: u8, params: &[u8])
         requires { length params.now ≤ most_parameter_bytes }
         ensures { self.new
@@ -203,7 +207,7 @@ impl Slot {
         let _ = self.answer.params.try_extend_from_slice(params);
     }
 
-    /// Takes the answer, where there is one, and the command with it. `None`, where there is none, changes nothing.
+    /// Takes the answer, and removes the command. `None` if the slot has no answer: then nothing is changed.
     pub fn take(&mut self) -> Option<Answer>
         ensures answer { option_map answer_fields result ≡ held_answer self.old }
         ensures slot { self.new ≡ (if is_some (held_answer self.old) then None else self.old) }

@@ -43,7 +43,7 @@ impl Model for Table {
 }
 
 impl Table {
-    /// No command; the first one gets this handle.
+    /// A table without commands. The first command gets the handle `first`.
     pub fn new(first: Handle) -> Table
         ensures { result ≡ record { next = first.0; untaken = [] } }
     {
@@ -54,14 +54,14 @@ impl Table {
         }
     }
 
-    /// The handle of the next command; `None` after the last one, 4294967295.
+    /// The handle of the next command. `None` after the last one, 4294967295.
     pub fn next(&self) -> Option<Handle>
         ensures { option_map (λ h. h.0) result ≡ handle_left self.now.next }
     {
         u32::try_from(self.next).ok().map(Handle)
     }
 
-    /// Whether the next handle lies below each one in flight plus the span.
+    /// Whether the next handle lies below the lowest handle in flight plus the span; `true` if no command is in flight.
     pub fn has_room(&self, span: u8) -> bool
         ensures room { result ≡ span_has_room span self.now.next self.now.untaken }
         ensures few { IsTrue result → 0 < span → length self.now.untaken < span }
@@ -69,8 +69,9 @@ impl Table {
         self.low == self.next || self.next < self.low + u64::from(span)
     }
 
-    /// Puts a command behind the others, under the next handle, as submitted at the moment `now`, in milliseconds.
-    /// There must be a handle and room for it, and it has at most 1,445 bytes of parameters.
+    /// Adds a command after the others, under the next handle, as submitted at the moment `now`, in milliseconds. A
+    /// handle must be left, the next handle must lie below the lowest one in flight plus 32, and the parameters must
+    /// have at most 1,445 bytes (premises).
     pub fn submit(&mut self, request: Request<'_>, now: u64)
         requires left { self.old.next < 4294967296 }
         requires room { span_has_room 32 self.old.next self.old.untaken ≡ true }
@@ -84,9 +85,10 @@ impl Table {
         self.next += 1;
     }
 
-    /// Puts the due command with the lowest handle into the packet, which must be empty, and counts that as a
-    /// transmission at the moment `now`, in milliseconds: `Send` with its handle. `Lost` if that command was sent 20
-    /// times: then the packet stays empty, and nothing is changed. `None` if no command is due, and nothing is changed.
+    /// Puts the due command with the lowest handle into the packet, which must be empty (a premise). It counts a
+    /// transmission at the moment `now`, in milliseconds, and returns `Send` with the handle. `Lost` if that command
+    /// was sent 20 times: then the packet stays empty, and nothing is changed. `None` if no command is due: then
+    /// nothing is changed.
     pub fn give_first(&mut self, now: u64, packet: &mut Packet) -> Option<Due>
         requires { packet.old.items ≡ [] }
         ensures answer { result ≡ option_map due_answer (first_decided now self.old.untaken) }
@@ -108,21 +110,23 @@ impl Table {
         Some(Due::Send(handle))
     }
 
-    /// Whether a command is late at the moment `now`, in milliseconds.
+    /// Whether a command is late at the moment `now`, in milliseconds: it is unanswered, and was submitted more than
+    /// 15,000 ms before.
     pub fn is_late(&self, now: u64) -> bool
         ensures { result ≡ list_any (is_late now) self.now.untaken }
     {
         some_late(&self.slots, self.low, self.next, now)
     }
 
-    /// From which moment on, in milliseconds, a command is due; `None` where there is no such moment of 64 bits.
+    /// The first moment, in milliseconds, at which a command is due. `None` if no command waits for an answer, or that
+    /// moment lies beyond 64 bits.
     pub fn due_from(&self) -> Option<u64>
         ensures { HoldsFrom (some_due self.now.untaken) result }
     {
         due_from(&self.slots, self.low, self.next)
     }
 
-    /// The lowest handle that has its answer; `None` where none has.
+    /// The lowest handle whose command has its answer. `None` if no command has.
     pub fn answered(&self) -> Option<Handle>
         ensures { option_map (λ h. h.0) result ≡ first_answered self.now.untaken }
     {
@@ -132,7 +136,7 @@ impl Table {
         }
     }
 
-    /// Whether a command waits for an answer under this handle.
+    /// Whether a command with this handle waits for its answer.
     pub fn waits(&self, handle: Handle) -> bool
         ensures { result ≡ list_any (waits handle.0) self.now.untaken }
     {
@@ -142,8 +146,8 @@ impl Table {
         self.slots[at].waits()
     }
 
-    /// Stores an answer, of at most 1,452 bytes of parameters, and returns whether a command waited for it. Where none
-    /// did, nothing changes.
+    /// Stores an answer, of at most 1,452 bytes of parameters (a premise), and returns whether a command with this
+    /// handle waited for it. `false` if none did: then nothing is changed.
     pub fn answer(&mut self, handle: Handle, status: u8, count: u8, params: &[u8]) -> bool
         requires { length params.now ≤ most_parameter_bytes }
         ensures new { result ≡ list_any (waits handle.0) self.old.untaken }
@@ -164,8 +168,8 @@ impl Table {
         true
     }
 
-    /// Takes the answer of this handle, where there is one, and the command with it. `None`, where there is none,
-    /// changes nothing.
+    /// Takes the answer under this handle, and removes the command. `None` if there is no answer under the handle: then
+    /// nothing is changed.
     pub fn take(&mut self, handle: Handle) -> Option<Answer>
         ensures answer { option_map answer_fields result ≡ answer_under handle.0 self.old.untaken }
         ensures state { self.new

@@ -14,23 +14,24 @@ use oca_types::Packet;
 /// How long a turn receives at most, in milliseconds.
 const WAIT_MS: u64 = 50;
 
-/// Whether a link is late at this moment, in milliseconds: a command is unanswered, and was submitted more than 15,000
-/// ms before (*profile*), whether it was ever sent or not. A moment that is earlier than one already seen counts as the
-/// one already seen.
+/// Whether a link is late at the moment `now`, in milliseconds: a command is unanswered, and was submitted more than
+/// 15,000 ms before (*profile*). It does not matter whether it was sent. A moment earlier than one already seen counts
+/// as that one.
 ///
-/// A link that is asked in time has its answer by then or is lost, so this finds a program that was suspended. What was
-/// asked of it long ago may not act now. And a device that hears nothing for 120 seconds forgets what it executed, and
-/// would execute a command once more that comes again: no copy leaves so late that one which the network holds for up to
-/// 100 seconds could come then. A link that is late stays so as long as the command is in it, and has no answer.
+/// A link that is asked in time has its answer by then or is lost, so this finds a program that was suspended. A
+/// command must not act so long after it was submitted. Besides, a device that hears nothing for 120 seconds forgets
+/// what it executed, and would execute a command a second time. If no late link sends, no transmission leaves so late
+/// that the network, which may hold it for up to 100 seconds, delivers it then. A late link stays late as long as the
+/// command is in it and has no answer.
 pub fn is_late(link: &Link, now: u64) -> bool
     ensures { result ≡ late_at now link.now }
 {
     link.late_at(now)
 }
 
-/// As [`send_due`], unless the link is late at this moment: then it changes nothing, hands over nothing, and reports
-/// that the link is lost. Nothing is left to send at this moment where it does not report that. `now` is in
-/// milliseconds.
+/// Sends what is due at the moment `now`, in milliseconds, as [`send_due`] does, unless the link is late at that
+/// moment. If it is late, nothing is changed or sent, and `lost` is true in the report. If `lost` is false, nothing is
+/// left to send at that moment.
 pub fn send_in_time<E: End>(link: &mut Link, end: &mut E, now: u64) -> DriveReport
     ensures gives { SendsInTime now link.old link.new (E.state end.old) (E.state end.new) result }
     ensures left { result.lost ≡ false → NothingIsLeft link.new }
@@ -41,13 +42,14 @@ pub fn send_in_time<E: End>(link: &mut Link, end: &mut E, now: u64) -> DriveRepo
     send_due(link, end, now)
 }
 
-/// A turn of a link over an end, and what was done: receives once, and sends what is due in time.
+/// Takes one turn of a link over an end: receives once, and sends what is due in time. Returns how often each thing was
+/// done.
 ///
 /// An end that keeps time receives until something is due ([`Link::next_due`]), and for at most 50 ms. A datagram goes
-/// to the link, however late it is. Then, at a datagram, at silence and at an oversize datagram, [`send_in_time`]
-/// follows. A failed receive does nothing else. At Closed nothing is done, and `turns` is 0. `lost` says that the link
-/// is lost or late: it will send nothing more. After any other turn nothing is left to send at the link's
-/// moment.
+/// to the link, even if the link is late. After a datagram, an oversize datagram, or if none came, [`send_in_time`]
+/// follows. After a failed receive nothing is sent. If the end is closed, nothing is done and `turns` is 0. `lost` is
+/// true if the link is lost or late: it will send nothing more. After any other turn nothing is left to send at the
+/// link's moment.
 pub fn turn<E: End>(link: &mut Link, end: &mut E) -> DriveReport
     ensures turns { Turns link.old link.new (E.state end.old) (E.state end.new) result }
     ensures left { LeavesNothing result link.new }

@@ -44,7 +44,7 @@ impl Model for BoundedOutbox {
 impl BoundedOutbox {
     ghost use Rattle.oca_device.specs.Outboxes.{bytes_of_packets, first_packets};
 
-    /// An empty outbox with room for so many packets, of at most 1,472 bytes each. It takes all the memory that it will
+    /// An empty outbox with room for `room` packets, of at most 1,472 bytes each. It takes all the memory that it will
     /// need, some 1,480 bytes a packet. Refusal: `NoMemory`, if memory was refused.
     pub fn with_room(alloc: Global, room: usize) -> Result<BoundedOutbox, NoMemory>
         ensures { IfOk result (λ outbox. outbox ≡ first_packets room []) }
@@ -67,7 +67,7 @@ impl BoundedOutbox {
         self.room
     }
 
-    /// Whether answers to the last datagram were left out, since there was no room for them.
+    /// Whether answers to the last datagram were left out because the outbox had no room for them.
     pub fn is_cut(&self) -> bool
         ensures { result ≡ self.now.is_cut }
     {

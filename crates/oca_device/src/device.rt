@@ -131,16 +131,16 @@ impl Device {
         })
     }
 
-    /// Takes a datagram that came from a peer at the moment `now`, in milliseconds, and returns what became of it. The
-    /// outbox then holds the datagram's answers, all for that peer, and nothing else. A moment earlier than one already
-    /// seen counts as that one.
+    /// Handles a datagram that came from a peer at the moment `now`, in milliseconds of the caller's clock, and returns
+    /// what became of it. The outbox then holds the datagram's answers, all for that peer, and nothing else. A moment
+    /// earlier than one already seen counts as that one.
     ///
     /// First the clock moves: locks of peers that are silent for more than three heartbeats are released, and sessions
     /// that are silent for more than 120,000 ms are forgotten. Then the verdict is one of three:
     ///
     /// `Malformed` with the first fault if the bytes are no well-formed datagram. `NoRoom` if the sender has no session
-    /// and as many other peers as were chosen have one. After these two no object and no session is changed, nothing is
-    /// answered, and the list of what was written is empty.
+    /// and there is no room for another one. After these two no object and no session is changed, nothing is answered,
+    /// and the list of what was written is empty.
     ///
     /// `Served` otherwise, with the numbers of commands that were served in each way. The messages are served in order:
     /// a fresh command is executed, and a duplicate gets the retained reply. An old command is ignored, and so is one
@@ -158,13 +158,14 @@ impl Device {
         self.datagram_within(from, bytes, now, &mut outbox.first)
     }
 
-    /// Takes a datagram as [`Device::datagram`] does, with the same verdicts, and with an outbox that has room for some
-    /// packets only. The outbox then holds the first of the answers, as many as there is room for, and tells whether
-    /// others were left out ([`is_cut`](BoundedOutbox::is_cut)). `now` is in milliseconds.
+    /// Handles a datagram as [`Device::datagram`] does, with the same verdicts, and with an outbox that has room for a
+    /// chosen number of packets. The outbox then holds the first of the answers, as many as there is room for.
+    /// [`is_cut`](BoundedOutbox::is_cut) is true if others were left out. `now` is in milliseconds of the caller's
+    /// clock.
     ///
-    /// All commands are executed, answered or not. A peer that repeats a command whose answer was left out gets the
-    /// retained reply, as after a loss. There are never more packets than the datagram has commands and keep-alives,
-    /// and never more than 122.
+    /// All commands are executed, whether their answers have room or not. A peer that repeats a command whose answer
+    /// was left out gets the retained reply, as after a loss. There are never more packets than the datagram has
+    /// commands and keep-alives, and never more than 122.
     pub fn datagram_within(
         &mut self,
         from: Peer,
@@ -190,9 +191,9 @@ impl Device {
         self.receive(from, bytes, now, outbox)
     }
 
-    /// Takes a clock reading, in milliseconds. Locks of peers that are silent for more than three heartbeats are
-    /// released, and sessions that are silent for more than 120,000 ms are forgotten. A moment earlier than one already
-    /// seen counts as that one. The list of what was written stays.
+    /// Moves the device's clock on to `now`, in milliseconds of the caller's clock. Locks of peers that are silent for
+    /// more than three heartbeats are released, and sessions that are silent for more than 120,000 ms are forgotten. A
+    /// moment earlier than one already seen counts as that one. The list of what was written stays.
     pub fn tick(&mut self, now: u64)
         ensures { (w : DeviceSizes) (T : List Object) (E : List Event) → Represents w self.old T E →
             Represents w self.new T (Tick now ∷ E) }
@@ -200,11 +201,12 @@ impl Device {
         self.move_clock(now);
     }
 
-    /// Sets an object at the local front panel, as the set method of its class does for a peer that neither a lock nor
-    /// the object's hardware refuses. Neither the clock nor a session is changed. Refusals, the first of [`SetFault`]
-    /// that applies: `NoObject` if there is no such object, `NoSetting` of a block, `OtherKind` of another class's
-    /// value. `OutOfRange` of a position that is not there or disabled, and of a number outside its limits. A refusal
-    /// changes nothing.
+    /// Sets an object at the local front panel. It acts as the set method of the object's class, except that neither a
+    /// lock nor the object's hardware refuses it. Neither the clock nor a session is changed.
+    ///
+    /// Refusals, the first of [`SetFault`] that applies: `NoObject` if no object has the number. `NoSetting` if the
+    /// object is a block. `OtherKind` if the value is of another class. `OutOfRange` if a switch has no such position
+    /// or the position is disabled, or a number is outside its limits. A refusal changes nothing.
     pub fn set(&mut self, ono: Ono, value: Value) -> Result<(), SetFault>
         ensures represents { (w : DeviceSizes) (T : List Object) (E : List Event) → Represents w self.old T E →
             Represents w self.new T (Local ono.0 (ToValue value) ∷ E) }
@@ -216,10 +218,12 @@ impl Device {
         self.tree.set(ono, value)
     }
 
-    /// Gives an object a label of at most 64 bytes at the local front panel, as SetLabel of OcaWorker does for a peer
-    /// that neither a lock nor the object's hardware refuses (AES70-2). Neither the clock nor a session is changed.
-    /// Refusals, the first that applies: `NoObject` if there is no such object, `BadLabel` of a longer label. A refusal
-    /// changes nothing.
+    /// Gives an object a label of at most 64 bytes at the local front panel. It acts as SetLabel of OcaWorker
+    /// (AES70-2), except that neither a lock nor the object's hardware refuses it. Neither the clock nor a session is
+    /// changed.
+    ///
+    /// Refusals, the first that applies: `NoObject` if no object has the number, `BadLabel` if the label is longer. A
+    /// refusal changes nothing.
     pub fn set_label(&mut self, ono: Ono, label: &str) -> Result<(), FrontFault>
         ensures represents { (w : DeviceSizes) (T : List Object) (E : List Event) → Represents w self.old T E →
             Represents w self.new T (Local ono.0 (ToLabel label.now) ∷ E) }
@@ -231,9 +235,9 @@ impl Device {
         self.tree.set_label(ono, label)
     }
 
-    /// Enables or disables an object at the local front panel, as SetEnabled of OcaWorker does for a peer that neither
-    /// a lock nor the object's hardware refuses (AES70-2). Neither the clock nor a session is changed. Refusal:
-    /// `NoObject` if there is no such object; then nothing is changed.
+    /// Enables or disables an object at the local front panel. It acts as SetEnabled of OcaWorker (AES70-2), except
+    /// that neither a lock nor the object's hardware refuses it. Neither the clock nor a session is changed. Refusal:
+    /// `NoObject` if no object has the number; then nothing is changed.
     pub fn set_enabled(&mut self, ono: Ono, enabled: bool) -> Result<(), FrontFault>
         ensures represents { (w : DeviceSizes) (T : List Object) (E : List Event) → Represents w self.old T E →
             Represents w self.new T (Local ono.0 (ToEnabled enabled) ∷ E) }
@@ -246,8 +250,8 @@ impl Device {
     }
 
     /// Releases the lock of an object at the local front panel, whichever peer holds it, as Unlock of OcaRoot does for
-    /// its holder (AES70-2). The holder is not told, and keeps its session. The clock stays. Refusals: `NoObject` if
-    /// there is no such object, `NotLocked` if it is not locked. A refusal changes nothing.
+    /// its holder (AES70-2). The holder gets no message, and keeps its session. The clock stays. Refusals: `NoObject`
+    /// if no object has the number, `NotLocked` if the object is not locked. A refusal changes nothing.
     pub fn unlock(&mut self, ono: Ono) -> Result<(), FrontFault>
         ensures represents { (w : DeviceSizes) (T : List Object) (E : List Event) → Represents w self.old T E →
             Represents w self.new T (Local ono.0 ToUnlocked ∷ E) }
@@ -259,10 +263,10 @@ impl Device {
         self.tree.unlock(ono)
     }
 
-    /// Says at the local front panel whether the hardware of an object refuses to be changed; at first it does not.
-    /// While it does, each command that is executed, whose method writes to the object and that no other status refuses
-    /// is answered `ProcessingFailed`, and changes nothing. A duplicate gets its retained reply. Commands that read or
-    /// lock are answered as before, and the local front panel still changes the object. Nothing stores what was said.
+    /// Sets, at the local front panel, whether the hardware of an object refuses to be changed; at first it does not.
+    /// If it does, each command that would write to the object, and that no other status refuses, is answered
+    /// `ProcessingFailed` and changes nothing. A duplicate gets its retained reply. Commands that read or lock are
+    /// answered as before, and the local front panel still changes the object. A store does not keep this.
     ///
     /// Neither the clock nor a session is changed. Refusal: `NoObject` if no object has the number; then nothing is
     /// changed. (AES70-3 has the status; when it comes is the profile's.)
@@ -277,8 +281,8 @@ impl Device {
         self.tree.set_failing(ono, failing)
     }
 
-    /// Whether the hardware of an object refuses to be changed, as [`Device::set_failing`] said last; `false` if that
-    /// call said nothing yet. `None` if no object has the number.
+    /// Whether the hardware of an object refuses to be changed, as [`Device::set_failing`] set it last; `false` if it
+    /// was never set. `None` if no object has the number.
     pub fn is_failing(&self, ono: Ono) -> Option<bool>
         ensures failing { result ≡ failing_at self.now.tree ono.0 }
         ensures represented { (w : DeviceSizes) (T : List Object) (E : List Event) → Represents w self.now T E →
@@ -332,9 +336,9 @@ impl Device {
         self.written.as_slice()
     }
 
-    /// The earliest moment, in milliseconds and not before the present one, at which a clock reading would change the
-    /// device: release a lock of a silent peer, or forget a session. An event loop may wait until then. `None` if there
-    /// is none within 64 bits, as without sessions.
+    /// The earliest moment at which [`Device::tick`] would change the device: release a lock of a silent peer, or
+    /// forget a session. It is in milliseconds of the caller's clock, and not before the device's present moment. An
+    /// event loop may wait until then. `None` if there is no such moment within 64 bits, as without sessions.
     pub fn next_lapse(&self) -> Option<u64>
         ensures { (w : DeviceSizes) (T : List Object) (E : List Event) → Represents w self.now T E →
             let s = state_after w T E in MatchOption result (NeverLapses w s) (λ t. IsNextLapse w s t) }

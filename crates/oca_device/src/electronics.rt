@@ -13,9 +13,9 @@ pub trait Electronics {
     /// What the electronics say of themselves.
     ghost state: { Self → ElectronicsState };
 
-    /// Is handed each datagram after it was served, so that the electronics do what the objects say. `tree` has the
-    /// objects as the datagram left them. `written` are the objects that it wrote to, in order, each as often as it was
-    /// written ([`Device::written`](crate::Device::written)); there may be none.
+    /// Is called after each datagram was served, so that the electronics do what the objects say. `tree` has the
+    /// objects as the datagram left them. `written` are the numbers of the objects that it wrote to, in order, each as
+    /// often as it was written ([`Device::written`](crate::Device::written)). `written` may be empty.
     fn follow(&mut self, tree: &Tree, written: &[Ono])
         ensures { Follows tree.now (numbers_of written.now) (state self.old) (state self.new) };
 }

@@ -60,9 +60,9 @@ impl Model for Keeping {
 impl Keeping {
     ghost use Rattle.std.specs.Prelude.{false};
 
-    /// The keeping of a device that starts: no answer waits, and all that was written counts as stored. The caller must
-    /// see to it that the store holds the device's objects. It takes the memory for 366 packets, some 1,480 bytes each.
-    /// Refusal: `NoMemory`, if memory was refused.
+    /// The state of a device that starts: no answer waits, and everything counts as stored. The caller must make sure
+    /// that the store holds the device's objects. It takes the memory for 366 packets, some 1,480 bytes each. Refusal:
+    /// `NoMemory`, if memory was refused.
     pub fn new(alloc: Global) -> Result<Keeping, NoMemory>
         ensures { IfOk result (λ keeping. (keeping.is_behind ≡ false) × (keeping.held ≡ [])) }
     {
@@ -83,7 +83,7 @@ impl Keeping {
         self.places.clear();
     }
 
-    /// Whether something that was written is not stored: `true` after a store that failed, until one succeeds.
+    /// Whether something that datagrams wrote is not stored: `true` after a store that failed, until one succeeds.
     pub fn is_behind(&self) -> bool
         ensures { result ≡ self.now.is_behind }
     {
@@ -165,21 +165,20 @@ impl fmt::Debug for Keeping {
     }
 }
 
-/// Serves an end for at most so many turns, as [`serve_with`](crate::serve_with) does, and keeps the objects in a
-/// store. Returns what was done; a number that would pass 64 bits stays at its last value. The loop ends early if the
-/// end is closed. The outbox is then empty.
+/// Serves an end for at most `turns` turns, as [`serve_with`](crate::serve_with) does, and keeps the objects in a
+/// store. Returns how often each thing was done; a number that would pass 64 bits stays at its last value. The loop
+/// ends early if the end is closed. The outbox is then empty.
 ///
-/// The answers to a datagram that wrote to an object wait until the store has said that it holds the objects. While
-/// answers wait, the datagrams that are there are taken, in at most 64 turns. Then the objects are stored, once for all
-/// of them, and the answers are sent.
+/// The answers to a datagram that wrote to an object wait until the store has confirmed that it holds the objects.
+/// While answers wait, further datagrams that have already come are served, in at most 64 turns. Then the objects are
+/// stored, once for all of them, and the answers are sent.
 ///
 /// If the store fails, the answers that wait are dropped, as if the network had lost them. The objects stay as they are
 /// and each reply stays retained, so a peer that repeats its command gets it. While something written is not stored,
-/// the answers to a datagram with a duplicate wait too, and the store is handed the objects again.
+/// the answers to a datagram with a duplicate wait too, and the objects are stored again.
 ///
-/// Other answers are sent at once, also if they tell what is not stored yet. The electronics follow each datagram at
-/// once, before its answers are stored. What was set at the local front panel is stored with the next datagram that
-/// writes.
+/// All other answers are sent at once, even if they report what is not stored yet. The electronics follow each datagram
+/// at once, before it is stored. What was set at the local front panel is stored with the next datagram that writes.
 pub fn serve_keeping<E: End, S: Store, L: Electronics>(
     device: &mut Device,
     end: &mut E,

@@ -16,14 +16,14 @@ use crate::verdict::Verdict;
 use oca_net::{End, Heard};
 use oca_types::{Packet, Peer};
 
-/// Serves an end for at most so many turns, with this outbox, and returns what was done.
+/// Serves an end for at most `turns` turns, and returns how often each thing was done.
 ///
 /// A turn receives once. A datagram goes to the device, and its answers are sent to its sender, in order. A send that
-/// fails is counted, and the next packet is sent. If no datagram comes, or one of more than 1,472 bytes, the clock
-/// moves. A receive that fails is counted and does nothing.
+/// fails is counted, and the next packet is sent. If no datagram came, or one of more than 1,472 bytes, the device's
+/// clock moves on. A receive that fails is counted and does nothing else.
 ///
-/// The loop ends after so many turns, or as soon as the end is closed, which is no turn: then nothing more is received.
-/// The outbox is emptied at first and after each turn.
+/// The loop ends after `turns` turns. It ends earlier if the end is closed, which does not count as a turn; then
+/// nothing more is received. The outbox is emptied at the start and after each turn.
 pub fn serve<E: End>(device: &mut Device, end: &mut E, outbox: &mut Outbox, turns: u32) -> Report
     ensures served { ServesEnd device.old device.new (E.state end.old) (E.state end.new) result }
     ensures turns { result.turns ≤ turns }
@@ -36,11 +36,12 @@ pub fn serve<E: End>(device: &mut Device, end: &mut E, outbox: &mut Outbox, turn
     serve_with(device, end, outbox, &mut none, turns)
 }
 
-/// Serves an end as [`serve`] does, and hands the electronics each datagram once its answers are sent: the objects, and
-/// which of them the datagram wrote to, be it none. Returns what was done.
+/// Serves an end as [`serve`] does, and returns how often each thing was done. After the answers to a datagram were
+/// sent, the electronics are called with the objects and with the numbers of those that the datagram wrote to, which
+/// may be none.
 ///
-/// All sends come first, so failed sends delay the electronics, each for as long as the end lets it. At a `UdpEnd` that
-/// is up to a millisecond a packet, of which there are at most 122.
+/// All sends come first, so failed sends delay the electronics, each for as long as the end takes. At a `UdpEnd` that
+/// is up to a millisecond a packet, and there are at most 122 packets.
 pub fn serve_with<E: End, L: Electronics>(
     device: &mut Device,
     end: &mut E,

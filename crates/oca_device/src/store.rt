@@ -16,14 +16,14 @@ pub trait Store {
     /// What the store says of itself.
     ghost state: { Self → StoreState };
 
-    /// Stores the objects. `true` if they are there after any stop, also after a power cut. `false` if that failed: a
-    /// start then finds what was stored before, or these objects.
+    /// Stores the objects. `true` if they will be there after any stop, even after a power cut. `false` if that failed:
+    /// a later start then finds what was stored before, or these objects.
     fn store(&mut self, tree: &Tree) -> bool
         ensures { Stores result tree.now (state self.old) (state self.new) };
 
-    /// Is told of each turn as soon as its datagram is served, so that it can write a log. It is handed what was heard,
-    /// the datagram's bytes and its answers, what the turn did, and the device after it. A send that fails later is in
-    /// no turn's report. It does nothing unless the store defines it.
+    /// Is called for each turn as soon as its datagram is served, so that the store can write a log. Its arguments are
+    /// what was heard, the datagram's bytes and answers, what the turn did, and the device after it. A send that fails
+    /// later is in no turn's report. It does nothing unless the store defines it.
     fn tell(
         &mut self,
         _heard: Heard,

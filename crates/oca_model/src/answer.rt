@@ -75,8 +75,8 @@ pub enum Shape {
     Descendants,
 }
 
-/// What kind of answer the method has. `Done` is the kind of a method whose answer has no parameters, such as a set
-/// method.
+/// The kind of answer that a method has, by which [`Answer::read`] reads it. It is `Done` if the answer has no
+/// parameters, as that of each set method.
 pub fn shape_of(method: Method) -> Shape
     ensures { result ≡ shape_of method }
 {
@@ -184,8 +184,9 @@ impl Answer {
         }
     }
 
-    /// Reads what these parameters answer to a method of an object of the class; `count` is ParamCount. `None` if the
-    /// parameters are not exactly such an answer, or `count` is not the answer's.
+    /// Reads the parameters of an answer to this method of an object of this class; `count` is ParamCount. Only the
+    /// answer to a get method of the value depends on the class. `None` if the parameters are not exactly such an
+    /// answer, or `count` is not the number that the method has.
     #[tactic(auto, unfolding(crate::specs::Answers::answer_in))]
     pub fn read(class: Class, method: Method, count: u8, params: &[u8]) -> Option<Answer>
         ensures { result ≡ answer_in class method count params.now }

@@ -121,10 +121,13 @@ fn set_in<'a>(class: Class, count: u8, params: &[u8]) -> Result<Asked<'a>, Value
 }
 
 impl<'a> Asked<'a> {
-    /// Reads what a method with these parameters asks of an object of the class; `count` is ParamCount. Texts are not
-    /// copied. Refusals: `Malformed` (the status ParameterError) if `count` is not the method's, or the bytes are not
-    /// exactly its parameters, as with a text of more than 64 bytes. `Unlisted` (ParameterOutOfRange) if the number is
-    /// no state of a mute or a polarity.
+    /// Reads a command by its method and its parameters, as a device understands it; `count` is ParamCount. It does not
+    /// check that the class has the method. The class determines only the type of the value of a set method. A list of
+    /// names or flags has at most 16 entries, and a text at most 64 bytes. Texts are not copied.
+    ///
+    /// Refusals: `Malformed` (the status ParameterError) if `count` is not the method's, or the bytes are not exactly
+    /// such parameters. `Malformed` also for the value of a block. `Unlisted` (ParameterOutOfRange) if a set method
+    /// gives a mute or a polarity a number that is no state.
     #[tactic(auto, unfolding(crate::specs::Requests::request_in, crate::specs::HeldRequests::asked_by))]
     pub fn read(
         class: Class,
@@ -185,7 +188,7 @@ impl<'a> Asked<'a> {
         }
     }
 
-    /// The same request with its texts copied.
+    /// The same request, with its texts copied.
     #[tactic(auto, unfolding(crate::specs::HeldRequests::asked_by))]
     pub fn request(self) -> Request
         ensures { result ≡ asked_by self.entry }

@@ -96,7 +96,7 @@ impl Reading {
         }
     }
 
-    /// How many parameters the reading has (ParamCount): 3 for a switch and an integer, else 1.
+    /// How many parameters the reading has (ParamCount): 3 for a switch and an integer, otherwise 1.
     pub fn count(self) -> u8
         ensures { result ≡ reading_count self }
     {
@@ -129,8 +129,8 @@ impl Reading {
         }
     }
 
-    /// Reads the answer to the get method of the class: the value, and for a switch or an integer its limits. `None`
-    /// for a block, and if the parameters are not exactly such an answer.
+    /// Reads the answer to the get method of the class (AES70-2): the value, and after it the least and the greatest
+    /// for a switch or an integer. `None` for a block, and if the parameters are not exactly such an answer.
     #[tactic(auto, unfolding(crate::specs::Readings::reading_in))]
     pub fn read(class: Class, params: &[u8]) -> Option<Reading>
         ensures { result ≡ reading_in class params.now }

@@ -167,9 +167,9 @@ impl Request {
         }
     }
 
-    /// How this is asked of an object of the class: the method and ParamCount, and `params` become its parameters.
-    /// Refusals: `OtherClass` if the class has no such method, or is set by another kind of value. `Full` if the
-    /// parameters would have more than 1,452 bytes. After a refusal discard `params`.
+    /// Encodes the request for an object of this class (AES70-3). Returns the method and ParamCount, and replaces what
+    /// `params` held by the parameters. Refusals: `OtherClass` if the class has no such method, or the value is one of
+    /// another class. `Full` if the parameters would have more than 1,452 bytes. After a refusal discard `params`.
     pub fn call(&self, class: Class, params: &mut Params) -> Result<Call, RequestFault>
         ensures call { IfOk result (λ call. IsCallFor class self.now call params.new.items) }
         ensures refused { IfErr result (λ fault. IsRefusedCall class self.now fault) }
@@ -188,10 +188,13 @@ impl Request {
         })
     }
 
-    /// Reads what a method with these parameters asks of an object of the class, with its texts copied; `count` is
-    /// ParamCount. Refusals: `Malformed` (the status ParameterError) if `count` is not the method's, or the bytes are
-    /// not exactly its parameters, as with a text of more than 64 bytes. `Unlisted` (ParameterOutOfRange) if the number
-    /// is no state of a mute or a polarity.
+    /// Reads a command by its method and its parameters, as a device understands it, and copies its texts; `count` is
+    /// ParamCount. It does not check that the class has the method. The class determines only the type of the value of
+    /// a set method. A list of names or flags has at most 16 entries, and a text at most 64 bytes.
+    ///
+    /// Refusals: `Malformed` (the status ParameterError) if `count` is not the method's, or the bytes are not exactly
+    /// such parameters. `Malformed` also for the value of a block. `Unlisted` (ParameterOutOfRange) if a set method
+    /// gives a mute or a polarity a number that is no state.
     pub fn read(
         class: Class,
         method: Method,

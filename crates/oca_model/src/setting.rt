@@ -16,7 +16,7 @@ pub enum SettingFault {
 }
 
 impl Reading {
-    /// The class of the objects that read so.
+    /// The class of the objects that answer such a reading.
     #[inline(always)]
     pub fn class(self) -> Class
         ensures { result ≡ class_of_reading self }
@@ -24,7 +24,8 @@ impl Reading {
         self.value().class()
     }
 
-    /// Whether the setting is not below the least and not above the greatest; true of a reading that has no limits.
+    /// Whether the value is at least the least and at most the greatest of the reading. Always `true` of a mute, a
+    /// polarity and a Boolean, which have no limits.
     #[tactic(auto, unfolding(crate::specs::Settings::is_within))]
     pub fn is_within(self) -> bool
         ensures { result ≡ is_within self }
@@ -43,7 +44,8 @@ impl Reading {
         }
     }
 
-    /// The same limits with this value, be it within them or not; nothing for a value of another class.
+    /// The reading with this value in place of its own, and with the same limits. The value may lie outside the limits.
+    /// `None` if the value is of another class.
     #[tactic(auto, unfolding(crate::specs::Settings::with_value))]
     pub fn with_value(self, value: Value) -> Option<Reading>
         ensures { result ≡ with_value self value }
@@ -65,8 +67,8 @@ impl Reading {
         }
     }
 
-    /// The same limits with this value. Refusals: `OtherClass` for a value of another class; `OutOfRange` for one below
-    /// the least or above the greatest.
+    /// The reading after its object is set to this value: the value with the same limits. Refusals: `OtherClass` if the
+    /// value is of another class. `OutOfRange` if the value is below the least or above the greatest.
     pub fn set_to(self, value: Value) -> Result<Reading, SettingFault>
         ensures { result ≡ set_to self value }
     {

@@ -113,7 +113,7 @@ fn polarity_in(params: &[u8]) -> Result<PolarityState, ValueFault>
 }
 
 impl Value {
-    /// The class of the objects that can be set to such a value; OcaBlock is none of them.
+    /// The class of the objects that can be set to such a value. It is never OcaBlock.
     pub fn class(self) -> Class
         ensures { result ≡ class_of_value self }
     {

@@ -5,8 +5,8 @@ use crate::value::{MuteState, PolarityState, Value};
 use oca_types::Class;
 
 impl Value {
-    /// The value of a mute (1 Muted, 2 Unmuted) or a polarity (1 NonInverted, 2 Inverted) whose state has this number.
-    /// `None` for another class, and for another number.
+    /// The value of a mute (1 Muted, 2 Unmuted) or a polarity (1 NonInverted, 2 Inverted) by the number of its state.
+    /// `None` if the class is another one, or the number is neither 1 nor 2.
     pub fn of_state(class: Class, number: u8) -> Option<Value>
         ensures { IsValueWith state_in class number result }
     {
@@ -25,8 +25,8 @@ impl Value {
         }
     }
 
-    /// The value of an integer actuator of this class that is this number. `None` for a class without integers, and for
-    /// a number outside the range of the class's type.
+    /// The value of an integer actuator of this class with this number. `None` if the class is not one of integers, or
+    /// the number is outside the range of its type, such as -128 to 127 of OcaInt8Actuator.
     pub fn of_integer(class: Class, number: i128) -> Option<Value>
         ensures { IsValueWith integer_in class number result }
     {

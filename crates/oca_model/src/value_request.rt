@@ -24,7 +24,7 @@ impl ValueRequest {
     ghost use Rattle.oca_types.specs.Peers.{request_of};
     ghost use Rattle.oca_model.specs.ValueRequests.{request_to};
 
-    /// The request to the object with this number, as `ask` of `oca_control` takes it.
+    /// The same request, addressed to the object with the number `target`. A link or a panel takes it in this form.
     pub fn of(&self, target: Ono) -> oca_types::Request<'_>
         ensures { request_of result ≡ request_to target.0 self.now }
     {
@@ -92,7 +92,7 @@ fn encoding(value: Value) -> ArrayVec<u8, 8>
 }
 
 /// The request that sets an object of the value's class to the value: the class's own set method, with the value as its
-/// one parameter.
+/// one parameter (AES70-2).
 pub fn set_request(value: Value) -> ValueRequest
     ensures { CallsMethod (class_of_value value) (set_method value) result 1 (value_encoding value) }
 {
@@ -106,8 +106,8 @@ pub fn set_request(value: Value) -> ValueRequest
     }
 }
 
-/// The request that reads how an object of the class is set: the class's own get method, without parameters. `None` for
-/// a block, which has no setting.
+/// The request that reads how an object of the class is set: the class's own get method, without parameters (AES70-2).
+/// `None` for a block, which has no setting.
 pub fn get_request(class: Class) -> Option<ValueRequest>
     ensures { CallsMethodIfAny (get_method class) class result }
 {

@@ -46,8 +46,8 @@ pub trait End {
         self.receive(packet)
     }
 
-    /// The end's present moment, in milliseconds: no earlier than any that a receive has returned. 0 if the end keeps
-    /// no time.
+    /// The present moment of the end's clock, in milliseconds: no earlier than any that a receive has returned. 0 if
+    /// the end keeps no time.
     fn now(&self) -> u64
         ensures { IsPresent result (state self.now) };
 

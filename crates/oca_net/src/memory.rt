@@ -77,9 +77,10 @@ impl fmt::Debug for MemoryEnd {
 }
 
 impl MemoryEnd {
-    /// An end that will deliver this script, and take up to `room` datagrams. It takes the memory for them. The send
-    /// with the number `fail_send`, counted from 0, fails, and so does each send beyond the room. Refusal: `NoMemory`,
-    /// if memory was refused.
+    /// An end in memory whose receives return the entries of `script`, in order, and `Closed` after the last. It stores
+    /// up to `room` datagrams that are sent, and takes the memory for them. The send with the number `fail_send`,
+    /// counted from 0, fails (`None`: none does); each send beyond the room fails too. Refusal: `NoMemory`, if memory
+    /// was refused.
     pub fn new(
         alloc: Global,
         script: Vec<Scripted>,
@@ -110,7 +111,7 @@ impl MemoryEnd {
         &self.script[..self.next]
     }
 
-    /// The datagrams that were taken, in order, each with the peer to which it was sent.
+    /// The datagrams that were sent and stored, in order, each with the peer to which it was sent.
     pub fn taken(&self) -> &[(Peer, Packet)]
         ensures { sent_packets result.now ≡ self.now.taken }
     {

@@ -8,10 +8,11 @@ use std::time::Duration;
 /// How long a refusal is awaited, in milliseconds.
 const WAIT_MS: u64 = 200;
 
-/// Whether the host of a peer refuses its port, as it does if no program has the port. The call binds a socket of its
-/// own at the address `ip` and a port of the system's choice. `ip` is an IPv4 address as a number, the first byte
-/// highest; 0 stands for all of the machine's. It sends the peer an empty datagram, which is malformed, so that a
-/// device takes no note of it, and waits for the refusal, at most 200 ms. `false` if none came: then nothing is known.
+/// Whether the host of a peer refuses datagrams to the peer's port, as it does if no program has the port. The call
+/// binds a socket of its own at the address `ip` and a port of the system's choice. `ip` is an IPv4 address as a
+/// number, the first byte highest; 0 stands for all of the machine's. It sends the peer an empty datagram, which a
+/// device ignores as malformed, and waits for the refusal for at most 200 ms. `false` if no refusal came, or the system
+/// failed: then nothing is known.
 pub fn is_refused<R: Net>(rt: &R, ip: u32, peer: Peer) -> bool {
     match ask(rt, Peer { ip, port: 0 }, peer) {
         Ok(_) => false,
@@ -20,10 +21,11 @@ pub fn is_refused<R: Net>(rt: &R, ip: u32, peer: Peer) -> bool {
 }
 
 /// Whether this machine no longer has the address `ip` (an IPv4 address as a number, the first byte highest). `true` if
-/// no socket can be bound there, at a port of the system's choice, since the address is not available: then what an end
-/// sends that was bound there fails. `false` if a socket can be bound, as at an address whose interface is down, from
-/// which the system may send by another one. `false` also if the system refuses the socket for another reason: then
-/// nothing is known.
+/// the system says that the address is not available when a socket is bound there. Then each send of an end that was
+/// bound at this address fails.
+///
+/// `false` if a socket can be bound, as at an address whose interface is down: the system may then send by another
+/// interface. `false` also if the system refuses the socket for another reason: then nothing is known.
 pub fn is_gone<R: Net>(rt: &R, ip: u32) -> bool {
     let bound = UdpSocket::bind(rt, SocketAddrV4::from(Peer { ip, port: 0 }));
     lacks_address(reason_of(&bound))

@@ -193,11 +193,12 @@ impl<'a, C: Clock> UdpEnd<'a, C> {
         })
     }
 
-    /// An end for a controller of this device, bound at the one address from which the system reaches the device, and
-    /// at a port; at port 0 the system chooses one. The address comes from the system's routes, without a datagram. So
-    /// all transmissions of a command leave from there or not at all, and are of one peer to the device.
+    /// An end for a controller of this device, at the one address from which the system reaches the device. It is bound
+    /// at the port `port`; at 0 the system chooses one. The address comes from the system's routes, without a datagram.
+    /// So all transmissions of a command leave from this address or not at all, and the device takes them as those of
+    /// one peer.
     ///
-    /// Refusals: `Io` if the system has no route to the device, or refused the socket; `NoMemory` if the memory for the
+    /// Refusals: `Io` if the system has no route to the device, or refused the socket. `NoMemory` if the memory for the
     /// receive buffer was refused.
     pub fn bind_towards(
         alloc: Global,
@@ -243,8 +244,8 @@ impl<'a, C: Clock> UdpEnd<'a, C> {
         self.local
     }
 
-    /// The present moment: the milliseconds since the end was bound. It is not before a moment that a receive has
-    /// returned; if the clock can't be read, it is the last of those.
+    /// The present moment of the end's clock: the milliseconds since the end was bound. It is never before a moment
+    /// that a receive has returned; if the clock can't be read, it is the last of those.
     pub fn now(&self) -> u64
         ensures { self.now.moment ≤ result }
     {
@@ -265,9 +266,9 @@ impl<'a, C: Clock> UdpEnd<'a, C> {
         self.failed_send
     }
 
-    /// How many bytes the system granted for datagrams that have not left, by its own count; 0 if it does not tell.
-    /// Datagrams to a neighbour that does not answer take up to some 213,000 of them, so a grant of several times as
-    /// much leaves room for others.
+    /// How many bytes the system granted for datagrams that were sent and have not left yet, by the system's own count.
+    /// 0 if the system does not say. Datagrams to a neighbour that does not answer take up to some 213,000 of these
+    /// bytes, so a larger grant leaves room for others.
     pub fn send_buffer(&self) -> u32 {
         self.socket.send_buffer
     }
@@ -275,8 +276,8 @@ impl<'a, C: Clock> UdpEnd<'a, C> {
     /// Receives once. It waits until the moment `moment` of the end's clock, in milliseconds, for at most an hour, and
     /// not at all if that moment is past. `Datagram` with its sender if a datagram came, and its bytes are in `packet`.
     /// Otherwise `packet` is empty: `Quiet` if none came, `Oversize` if one of more than 1,472 bytes came. `Failed` if
-    /// the system returned anything else. That counts as a failure, and the call then waits until 50 ms after its
-    /// beginning, or until `moment` if that is sooner.
+    /// the system returned anything else, such as an error. That counts as a failure, and the call then waits until 50
+    /// ms after its beginning, or until `moment` if that is sooner.
     #[tactic(auto, using(crate::proofs::Waiting::until_most, crate::proofs::Waiting::until_later))]
     pub fn receive_by(&mut self, packet: &mut Packet, moment: u64) -> Heard
         ensures packet { HoldsOnlyADatagram result packet.new.items }

@@ -18,7 +18,7 @@ pub enum PairFault {
 }
 
 impl PairFault {
-    /// The number of the fault: 1 to 3 (*profile*).
+    /// The number of the fault (*profile*): 1 for `NoMemory`, 2 for `BadStep`, 3 for `SamePeer`.
     pub fn number(&self) -> u8
         ensures { result ≡ pair_fault_number self.now }
     {

@@ -17,14 +17,14 @@ use oca_model::{law_of_answers, law_of_requests};
 use oca_pdu::{law_reading, law_written_is_read_back};
 use oca_tree::law_of_typed_requests;
 
-/// Over every schedule and for all sizes of window, peers and span: take an answer that a link holds or returned under
-/// a handle. It is what an execution gave, for that link's peer, of the very command that the link submitted under that
-/// handle. What is executed is what the device's law by events says of what happened. Where the peer kept its session,
-/// it is the only execution for the peer under that handle. The handles of the commands that a link submitted rise by
-/// one.
+/// Law: over every schedule, and for all sizes of window, peers and span, each answer is the answer to its command. It
+/// holds of each answer that a link holds, or that was taken from it, under a handle. The answer is what an execution
+/// returned for that link's peer, of the very command that the link submitted under that handle. The handles of the
+/// commands that a link submitted rise by one.
 ///
-/// A peer keeps its session where each of its datagrams that the device admitted came at most 120,000 ms after the one
-/// before it. It does nothing at run time.
+/// What is executed is what the device's law by events says of what happened. If the peer kept its session, it is the
+/// only execution for the peer under that handle. A peer keeps its session if each of its datagrams that the device
+/// admitted came at most 120,000 ms after the one before it. It does nothing at run time.
 pub fn law_answers()
     ensures answers { EveryScheduleAnswersItsCommands }
     ensures happened { TheseHappened }
@@ -33,16 +33,18 @@ pub fn law_answers()
     law_reading();
 }
 
-/// Over every schedule, where the window `w` and the span `s` have `0 < s` and `2 * s <= w + 1`: a delivered datagram
-/// with a command that is still in flight at its link is answered. It is executed now, or its reply is found in the
-/// window; it is never too old, and never taken for another command under its handle. This holds where the datagram
-/// finds room, and where the link's peer kept its session (as [`law_answers`] says), this datagram counted. And no
-/// command is executed twice, for all sizes, where its peer kept its session.
+/// Laws over every schedule. The first is for a span `s` of at least 1 and a window `w` with `2 * s <= w + 1`. Take a
+/// datagram with a command that is still in flight at its link. When it is delivered to the device, it is answered. The
+/// command is executed now, or its reply is found in the window. It is never rejected as old, and never taken for
+/// another command under its handle. The premises are that the datagram finds room, and that the link's peer kept its
+/// session, this datagram counted ([`law_answers`] says what that is).
 ///
-/// A datagram finds room where its peer is known when it comes, or fewer peers are known than the device has room for.
-/// A peer is known for 120,000 ms after each of its admitted datagrams. So where the well-formed datagrams of the last
-/// 120,000 ms, this one counted, came from at most as many peers as there is room for, it finds room. It does nothing
-/// at run time.
+/// Second, for all sizes: no command of a link is executed twice, if its peer kept its session.
+///
+/// Third, for all sizes: a datagram finds room if its peer is known when it comes, or fewer peers are known than there
+/// is room for. A peer is known for 120,000 ms after each of its admitted datagrams. So a datagram finds room if few
+/// enough peers sent well-formed datagrams in the last 120,000 ms, its own peer counted. Few enough are at most as many
+/// as there is room for. They do nothing at run time.
 pub fn law_never_old()
     ensures answered { NoUntakenCommandIsTooOld }
     ensures once { EveryCommandIsExecutedOnce }
@@ -51,11 +53,13 @@ pub fn law_never_old()
     law_written_is_read_back();
 }
 
-/// Over every schedule, where `0 < s` and `2 * s <= w + 1`: a delivered datagram with a command that is still in flight
-/// at its link makes the device send one datagram to the link. Whatever happens then, once that datagram is delivered
-/// to the link, the link holds the answer to the command, where it still held the command before; and else its answer
-/// was taken earlier. The answer is the reply of an execution of that very command for that link's peer. The premises
-/// are those of `law_never_old`; of what happens between the two deliveries nothing is asked. Where the peer kept its
+/// Law: over every schedule, for a span `s` of at least 1 and a window `w` with `2 * s <= w + 1`, one round trip brings
+/// the answer. Take a datagram with a command that is still in flight at its link, delivered to the device under the
+/// premises of [`law_never_old`]. The device then sends one datagram to the link. Any steps may follow, with no further
+/// premise, until that datagram is delivered to the link.
+///
+/// If the link still held the command before that, it then holds the command's answer. Otherwise the answer was taken
+/// earlier. The answer is the reply of an execution of that very command for that link's peer. If the peer kept its
 /// session till the end, the answer is the reply that this datagram carried. It does nothing at run time.
 pub fn law_round_trip()
     ensures { EveryRoundTripBringsTheAnswer }
@@ -63,35 +67,38 @@ pub fn law_round_trip()
     law_written_is_read_back();
 }
 
-/// Over every schedule, where `0 < s` and `2 * s <= w + 1`: take a link whose `due` is called at least every `ms`
-/// milliseconds, each time until it returns no command. The link sends each command that it submitted to the device
-/// within `ms` of its submit, and again less than `250 + ms` after each transmission, with the same bytes. It does so
-/// until it has the command's answer (which may have been taken since), or is lost. One of the two comes within `ms +
-/// 20 * (250 + ms)` of the submit. And as long as neither came, one copy that arrives at the device, and the one
-/// response that comes back, are enough: that is a round trip of [`law_round_trip`], under its premises.
+/// Law: over every schedule, for a span `s` of at least 1 and a window `w` with `2 * s <= w + 1`, every command gets
+/// through. The premise is that the link's `due` is called at least every `ms` milliseconds from the submit on, each
+/// time until it returns no command.
 ///
-/// What the device, the other links and the network do, and what is lost, duplicated or reordered, is left open. It
-/// does nothing at run time.
+/// Then one of three things holds of each command that the link submitted. The link has its answer, or the answer was
+/// taken. Or the link is lost. Or the command still waits, and was sent in time. In time means within `ms` of its
+/// submit, and again less than `250 + ms` after each transmission, with the same bytes. It waits no longer than `ms +
+/// 20 * (250 + ms)` after its submit.
+///
+/// While it waits, one transmission that arrives at the device and the one response that comes back are enough. That is
+/// a round trip of [`law_round_trip`], under its premises. What the device, the other links and the network do is left
+/// open, and so is what is lost, duplicated or reordered. It does nothing at run time.
 pub fn law_getting_through()
     ensures { EveryCommandGetsThrough }
 {
     law_written_is_read_back();
 }
 
-/// Over every schedule and for all sizes: no command of a link is executed twice where the link and the network are in
-/// time, whatever sessions the device forgot meanwhile, and whatever became of the other links.
+/// Laws over every schedule and for all sizes, if a link and the network are in time. No command of the link is
+/// executed twice. That holds whatever sessions the device forgot meanwhile, and whatever became of the other links.
 ///
-/// In time means two things. The link is never asked what is due at a moment at which it is late: a command of it is
-/// unanswered, and was submitted more than 15,000 ms ago. And each of its datagrams that comes to the device comes no
-/// earlier than it left, and at most 100,000 ms later. That compares the device's clock with the link's, so it says
-/// that these clocks run alike, and that the network holds nothing for longer than 100,000 ms. A copy that was lost, or
-/// is on its way at the end, breaks nothing.
+/// In time means two things. First, the link is never asked what is due while it is late: a command of it is
+/// unanswered, and was submitted more than 15,000 ms ago. Second, each of the link's datagrams that comes to the device
+/// comes no earlier than it left, and at most 100,000 ms later. This compares the device's clock with the link's. So it
+/// says that these clocks run alike, and that the network holds nothing for longer than 100,000 ms. A datagram that is
+/// lost, or has not arrived at the end, does not matter.
 ///
-/// So each answer that the link holds or returned is that of the only execution under its handle. And a copy that comes
-/// to the device never finds that the session was forgotten in which its command was executed.
+/// So each answer that the link holds or returned is that of the only execution under its handle. And if a transmission
+/// of an executed command comes to the device, the session in which the command was executed is not forgotten.
 ///
-/// A schedule has one device from its begin to its end. So nothing is said of a device that is started again. It does
-/// nothing at run time.
+/// A schedule has one device from its beginning to its end. So nothing is proved of a device that is started again.
+/// They do nothing at run time.
 pub fn law_once_in_time()
     ensures once { EveryCommandInTimeIsExecutedOnce }
     ensures answers { EveryAnswerInTimeIsOfOneExecution }
@@ -100,28 +107,28 @@ pub fn law_once_in_time()
     law_written_is_read_back();
 }
 
-/// Over every schedule and for all sizes: what the answer to a command says of the device. A link submits a command
-/// under a handle in a step, and holds its answer at the end of the schedule, or returned it. The premises are those of
-/// [`law_once_in_time`]: the link and the network are in time.
+/// Laws over every schedule and for all sizes: what the answer to a command says of the device. A link submits a
+/// command under a handle in a step, and holds its answer at the end of the schedule, or returned it before. The
+/// premises are those of [`law_once_in_time`]: the link and the network are in time. They do nothing at run time.
 ///
-/// Between: the answer is that of the only execution of the command, and this happened with the delivery of one of its
-/// copies in a step after the call. It met the objects that the device then held by its law, and the device holds what
-/// it left.
+/// Between: the answer is that of the only execution of the command. This happened when one of its transmissions was
+/// delivered to the device, in a step after the submit. The execution found the objects that the device then held by
+/// its law, and the device holds what it left.
 ///
-/// Refused: where the status is not OK, this execution changed nothing, and the status is the first that applies.
+/// Refused: if the status is not OK, this execution changed nothing, and the status is the first that applies.
 ///
-/// OK: where the status is OK, and the device's objects were a tree at first, whose texts and numbers are of their
-/// types: what is read of the answer is what the object with the command's number answered, and the device holds what
-/// the request made of this object, the others being as they were. The answer is read by the class of the object, or is
-/// to a method of OcaRoot or OcaWorker.
+/// OK: this needs two more premises. The device's objects were a tree at first, with texts and numbers of their types.
+/// The answer is read by the object's class, or is to a method of OcaRoot or OcaWorker. If the status is OK, what is
+/// read is what the object with the command's number answered. The device then holds what the request made of this
+/// object, and the others as they were.
 ///
-/// In a panel's words: what is read of the answer to a get method is what the object read, with its limits, at a moment
-/// between the call and the answer. Where a set method is answered with OK, the object was set to the value by this
-/// call, once, between the call and the answer, and reads as the value with the limits that it had. A command without
-/// an answer was executed at most once: that is [`law_once_in_time`].
+/// Reads: what is read of an OK answer to a get method is what the object read, with its limits, at a moment between
+/// the submit and the answer. Sets: if a set method is answered OK, the execution set the object to the value, once.
+/// The object then reads as the value, with the limits that it had. A command without an answer was executed at most
+/// once, by [`law_once_in_time`].
 ///
-/// Class: the class of the object with a number never changes in a schedule. So what was answered to
-/// GetClassIdentification stays true. It does nothing at run time.
+/// Class: the class of the object with a number never changes in a schedule. So the answer to GetClassIdentification
+/// stays true.
 pub fn law_of_what_is_said()
     ensures between { OfEachAnswer IsOfOneExecutionSince }
     ensures refused { OfEachAnswer RefusalsChangeNothing }

@@ -32,8 +32,8 @@ pub struct Transcript {
     pub log: Vec<Outcome>,
 }
 
-/// Runs a schedule as [`run_pair_with_sizes`] does, with reply windows of this size and sessions of at most 16 peers;
-/// the refusals are the same.
+/// Runs a schedule as [`run_pair_with_sizes`] does, with reply windows of `window` commands and sessions of at most 16
+/// peers. The refusals are the same.
 pub fn run_pair(
     alloc: Global,
     tree: Tree,
@@ -51,13 +51,14 @@ pub fn run_pair(
     run_pair_with_sizes(alloc, tree, Sizes { window, peers }, span, starts, steps)
 }
 
-/// Runs a schedule over a device at 127.0.0.1:65000 with these objects and these sizes, and a link of this span for
-/// each start, made at moment 0.
+/// Runs the steps of a schedule over a device and some links, and returns what each step did. The device is at
+/// 127.0.0.1:65000 and has these objects and sizes. There is a link with this span for each of `starts`, made at moment
+/// 0.
 ///
-/// Refusals: `SamePeer`, where two starts have one peer or one has the device's, is looked for first, before memory is
-/// taken. Then the steps are taken in order: `BadStep` is the number of the first one that names a link or a datagram
-/// that is not there, or that is an `Other` from a link's peer; `NoMemory` comes where memory is refused. A refusal
-/// returns nothing of the run.
+/// Refusals, after which nothing of the run is returned. `SamePeer` if two starts have the same peer, or one has the
+/// device's; this is checked first. `BadStep` with the number, from 0, of the first step that is bad. A step is bad if
+/// it names a link or a datagram that is not there, or is an `Other` from a link's peer. `NoMemory` if memory was
+/// refused before such a step.
 pub fn run_pair_with_sizes(
     alloc: Global,
     tree: Tree,

@@ -37,12 +37,12 @@ pub enum Probed {
     NotHeard,
 }
 
-/// Asks a device whether it answers the commands of the end's port. It sends a command that reads the class of the
-/// root, under this handle, and up to four keep-alives, with five receives after each, until the answer comes. At a
-/// socket that takes a second at most. `device` is to be the peer of the end.
+/// Asks a device whether it answers commands from the end's port. It sends a command that reads the class of the root,
+/// under this handle, and up to four keep-alives, with five receives after each, until the answer comes. At a socket
+/// that takes at most a second. `device` must be the peer that the end watches.
 ///
 /// `Answering` if the command is answered, whatever the status. Otherwise `NotAnswering` if the end has heard its peer,
-/// also before this call: then the panel must use another port. `NotHeard` if it has not. Nothing is changed on the
+/// even before this call: then the panel must use another port. `NotHeard` if it has not. Nothing is changed on the
 /// device. The handle is used up: a link over the same end must begin above it.
 pub fn probe<E: End>(end: &mut Watched<E>, device: Peer, handle: Handle) -> Probed
     ensures { Probes device handle.0 end.old.end_state end.new result }

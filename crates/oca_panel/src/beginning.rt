@@ -14,11 +14,11 @@ use oca_types::{Class, Handle, Method, Ono, Params};
 impl<E: End> Panel<E> {
     ghost use Rattle.oca_panel.specs.Beginnings.{BeginsAsking};
 
-    /// Submits what is asked of an object of the class, sends it at once, and returns its handle. It is not sent if the
-    /// link is found lost at that.
+    /// Submits a request to an object of this class, sends it at once, and returns its handle. If the link becomes lost
+    /// in this call, the command is not sent.
     ///
-    /// Refusals, which change and send nothing: `NoValue` if no method of the class asks it, or its parameters are too
-    /// long; `NotSubmitted` with the link's reason ([`begin`](Panel::begin)).
+    /// Refusals, which change and send nothing: `NoValue` if the class has no method for the request, or its parameters
+    /// have more than 1,445 bytes. `NotSubmitted` with the link's reason ([`begin`](Panel::begin)).
     pub fn begin_request(
         &mut self,
         ono: Ono,
@@ -46,9 +46,9 @@ impl<E: End> Panel<E> {
     }
 }
 
-/// Reads the answer to a method, by the class of its object, from the outcome of its command. Faults: `Refused` with
-/// the status if the status is not OK. `Unreadable` if the status is OK and the parameters are no answer to the method.
-/// `NotSubmitted` if the link refused the command. `Lost` and `Unanswered` if the outcome is that.
+/// Reads the answer to a method of an object of this class from the outcome of its command. Faults: `Refused` with the
+/// status if the status is not OK. `Unreadable` if the status is OK and the parameters are no answer to the method.
+/// `NotSubmitted` with the reason if the link refused the command. `Lost` and `Unanswered` if the outcome is so.
 pub fn answer_of(class: Class, method: Method, outcome: &Outcome) -> Result<Answer, Trouble>
     ensures { result ≡ model_answered class method outcome.now }
 {

@@ -129,10 +129,12 @@ impl<T: Copy + Default> InFlight<T> {
     }
 
     /// Begins a command as [`Panel::begin`] does, and adds it at the end of the queue, with an item that the caller
-    /// gets back when the command is finished. Returns its handle. Refusals, which change neither the queue nor the
-    /// panel: `SpanFull` if 32 commands are in flight, or the next handle is not within the span. `Lost` if the link is
-    /// lost or late. `HandlesSpent` after the handle 4294967295. `TooLong` if the parameters have more than 1,445
-    /// bytes.
+    /// gets back when the command is finished. Returns its handle.
+    ///
+    /// Refusals, which change neither the queue nor the panel: `SpanFull` if 32 commands are in flight. Then those of
+    /// [`Panel::begin`]: `Lost` if the link is lost or late, `HandlesSpent` after the handle 4294967295. `SpanFull` if
+    /// the next handle is not below the lowest one in flight plus the span, `TooLong` if the parameters have more than
+    /// 1,445 bytes.
     pub fn begin_behind<E: End>(
         &mut self,
         panel: &mut Panel<E>,
@@ -156,8 +158,8 @@ impl<T: Copy + Default> InFlight<T> {
     /// Takes the first command out of the queue and waits for its answer, for the panel's `wait` milliseconds. Returns
     /// its item, and its outcome as [`Panel::finish`] does. `None` if no command is in flight: then nothing is changed.
     ///
-    /// A command that comes out `Unanswered` stays in flight at the panel: [`Panel::answered`] tells when its answer
-    /// has come.
+    /// A command with the outcome `Unanswered` stays in flight at the panel. [`Panel::answered`] returns its handle
+    /// once its answer has come.
     pub fn finish_first<E: End>(&mut self, panel: &mut Panel<E>) -> Option<(T, Outcome)>
         ensures { FinishesFirst result self.old self.new panel.old panel.new }
     {

@@ -29,12 +29,12 @@ pub struct OwnPort {
 impl OwnPort {
     ghost use Rattle.oca_panel.specs.OwnPorts.{IsPortByClock, first_handle_at, other_port, port_at};
 
-    /// The ports and the first handle for the present time of day, or for the beginning of 1970 if the clock can't be
-    /// read.
+    /// The ports and the first handle for the present time of day, by the system's clock. If the clock can't be read,
+    /// they are those for the beginning of 1970.
     ///
-    /// The handle rises by 100,000 a second, faster than commands are answered, so that a session that is used again
-    /// goes on rising. It starts again from 0 when it reaches 2,147,483,648, about every six hours. The port is then
-    /// the other one, whose session is forgotten by then, since it was silent for a whole turn.
+    /// The handle rises by 100,000 a second, faster than commands are answered, so a session that is used again goes on
+    /// with higher handles. It starts again from 0 when it reaches 2,147,483,648, about every six hours. The port is
+    /// then the other one. Its session is forgotten by then, since it was silent for about six hours.
     pub fn now<C: Clock>(clock: &C) -> OwnPort
         ensures clock { IsPortByClock result }
         ensures below { result.first_handle.0 < 2147483648 }
@@ -45,8 +45,8 @@ impl OwnPort {
         }
     }
 
-    /// The ports and the first handle for so many seconds and microseconds after the beginning of 1970. `microseconds`
-    /// may be any number; a million of them are a second.
+    /// The ports and the first handle for the time of day that is `seconds` and `microseconds` after the beginning of
+    /// 1970. `microseconds` may be any number; a million of them are a second.
     ///
     /// `port` is 65001 or 65002, and `other` is the other of the two. `first_handle` is below 2,147,483,648. It rises
     /// by 100,000 a second, and starts again from 0 about every six hours, when `port` changes.
@@ -89,8 +89,9 @@ fn handles_in(seconds: u64, microseconds: u32) -> u128
     u128::from(seconds) * 100_000 + u128::from(microseconds / 10)
 }
 
-/// Law: while the clock goes on, the handles of a port rise, or the port was not used for more than 21,474 seconds. A
-/// device forgets a session after 120 seconds. It does nothing at run time.
+/// Law: take two runs at the same port, the second at a later time of day. Its first handle is higher, or the port was
+/// not used for more than 21,474 seconds between. A device forgets a session after 120 seconds. It does nothing at run
+/// time.
 pub fn law_of_turns()
     ensures { HandlesRiseOrRest }
 {}

@@ -81,12 +81,12 @@ impl<E: End> Panel<E> {
     /// A panel for the device at this address, over an end, with a new link that is made at the end's present moment.
     /// Nothing is sent.
     ///
-    /// `first` is the handle of the first command ([`OwnPort`](crate::OwnPort) chooses one). On a port that this device
-    /// has heard before, `first` must be above the handles used there before. Those used before a pause of more than
-    /// two minutes in which nothing was sent from the port do not count. `span` is how far above the lowest handle in
-    /// flight the next one may lie, and so how many commands can be in flight. A command waits for its answer for
+    /// `first` is the handle of the first command ([`OwnPort`](crate::OwnPort) chooses one). If the device has heard
+    /// the end's port before, `first` must be above the handles that were used there. Handles from before a pause of
+    /// more than two minutes, in which nothing was sent from the port, do not count. The next handle lies below the
+    /// lowest one in flight plus `span`, so at most `span` commands are in flight. A command waits for its answer for
     /// `wait` milliseconds ([`wait_while`](oca_control::wait_while)), whatever else comes to the end meanwhile. If the
-    /// device is silent the link is lost after 5 to 10.25 seconds.
+    /// device is silent, the link is lost after 5 to 10.25 seconds.
     pub fn open(device: Peer, end: E, first: Handle, span: Span, wait: u32) -> Panel<E>
         ensures { IsOpened device first.0 (span_size span) wait (E.state end) result }
     {
@@ -94,8 +94,8 @@ impl<E: End> Panel<E> {
         Panel::new(link, end, wait)
     }
 
-    /// A panel over a link that exists already, by which no command was waited for. A command waits for its answer for
-    /// `wait` milliseconds. Nothing is sent.
+    /// A panel over a link that exists already. [`unanswered`](Panel::unanswered) is `false` at first. A command waits
+    /// for its answer for `wait` milliseconds. Nothing is sent.
     pub fn new(link: Link, end: E, wait: u32) -> Panel<E>
         ensures { result ≡ record { link = link; end_state = E.state end; wait = wait; unanswered = false } }
     {
@@ -107,21 +107,21 @@ impl<E: End> Panel<E> {
         }
     }
 
-    /// The panel's end, to look at.
+    /// A reference to the panel's end.
     pub fn end(&self) -> &E
         ensures { E.state result.now ≡ self.now.end_state }
     {
         &self.end
     }
 
-    /// The panel's link, to look at.
+    /// A reference to the panel's link.
     pub fn link(&self) -> &Link
         ensures { result.now ≡ self.now.link }
     {
         &self.link
     }
 
-    /// Gives the end back, and drops the panel with its link: nothing more is sent of its commands.
+    /// Returns the end, and drops the panel with its link: no command of it is sent any more.
     pub fn into_end(self) -> E
         ensures { E.state result ≡ self.end_state }
     {
@@ -135,7 +135,7 @@ impl<E: End> Panel<E> {
     }
 
     /// Takes one turn: receives once, at a socket for at most 50 ms, and sends what is due, keep-alives too. `true` if
-    /// the loop may go on. `false` if the end is closed, or the link was found lost or late.
+    /// the loop may go on. `false` if the end is closed, or the link is lost or late.
     pub fn turn(&mut self) -> bool
         ensures { TurnsOnce self.old self.new result }
     {
@@ -143,18 +143,18 @@ impl<E: End> Panel<E> {
         report.turns == 1 && !report.lost
     }
 
-    /// The earliest moment, in milliseconds and not before the link's own, at which a turn has something to send, a
-    /// keep-alive included: a loop may wait until then. `None` if that moment lies beyond 64 bits. At a lost link it is
-    /// the link's own moment, though nothing is sent any more: so end the loop once [`is_lost`](Panel::is_lost) is
-    /// true.
+    /// The earliest moment at which a turn has something to send, a keep-alive included: a loop may wait until then. It
+    /// is in milliseconds of the end's clock, and not before the latest moment that the link was given. `None` if that
+    /// moment lies beyond 64 bits. For a lost link it is the latest moment that the link was given, though nothing is
+    /// sent any more. So end the loop once [`is_lost`](Panel::is_lost) is true.
     pub fn next_due(&self) -> Option<u64>
         ensures { MatchOption result (NeverIsDue self.now.link) (λ t. IsNextDue self.now.link t) }
     {
         self.link.next_due()
     }
 
-    /// The moment, in milliseconds, at which the last well-formed datagram came from the device. Until one came, the
-    /// moment at which the link was made.
+    /// The moment, in milliseconds of the end's clock, at which the last well-formed datagram came from the device.
+    /// Before the first one it is the moment at which the link was made.
     pub fn last_heard(&self) -> u64
         ensures { result ≡ self.now.link.heard }
     {
@@ -170,8 +170,8 @@ impl<E: End> Panel<E> {
         self.link.is_lost() || is_late(&self.link, now)
     }
 
-    /// The lowest handle whose answer came and was not taken yet; `None` if there is none. So a program finds the
-    /// answer to a command that a call gave up: [`try_finish`](Panel::try_finish) takes it.
+    /// The lowest handle whose answer came and was not taken yet; [`try_finish`](Panel::try_finish) takes it. `None` if
+    /// there is none. So a program finds the answer to a command for which it stopped waiting.
     pub fn answered(&self) -> Option<Handle>
         ensures { option_map (λ h. h.0) result ≡ first_answered self.now.link.untaken }
     {
@@ -195,10 +195,11 @@ impl<E: End> Panel<E> {
 
     /// Submits one command, sends it at once, and waits for its answer, for the panel's `wait` milliseconds.
     ///
-    /// `Answered` with the answer, whatever its status. `Refused` if the link refuses the command
-    /// ([`begin`](Panel::begin)): then nothing is changed or sent. `Lost` if the link is lost or late. `Unanswered` if
-    /// no answer comes in that time: the command then stays in flight, under the handle that
-    /// [`next_handle`](Panel::next_handle) told before, and takes room in the span until its answer is taken.
+    /// `Answered` with the answer, whatever its status. `Refused` with the reason if the link refuses the command
+    /// ([`begin`](Panel::begin)): then nothing is changed or sent. That includes a link that is lost or late already.
+    /// `Lost` if the link is lost, or found late, during the wait. `Unanswered` if no answer comes in that time. The
+    /// command then stays in flight, under the handle that [`next_handle`](Panel::next_handle) returned before. It
+    /// takes room in the span until its answer is taken.
     pub fn ask(&mut self, request: Request<'_>) -> Outcome
         ensures { AsksIn (request_of request.entry) self.old self.new result }
     {
@@ -209,19 +210,24 @@ impl<E: End> Panel<E> {
     }
 
     /// Submits a command and sends it at once, and returns its handle, for [`finish`](Panel::finish) or
-    /// [`InFlight::push`](crate::InFlight::push). It is not sent if the link is found lost at that. Refusals, which
-    /// change and send nothing: `Lost` if the link is lost or late, `HandlesSpent` after the handle 4294967295. Then
-    /// `SpanFull` if the next handle is not within the span, `TooLong` if the parameters have more than 1,445 bytes.
+    /// [`InFlight::push`](crate::InFlight::push). If the link becomes lost in this call, the command is not sent.
+    ///
+    /// Refusals, the first that applies, which change and send nothing: `Lost` if the link is lost or late.
+    /// `HandlesSpent` after the handle 4294967295. `SpanFull` if the next handle is not below the lowest one in flight
+    /// plus the span. `TooLong` if the parameters have more than 1,445 bytes.
     pub fn begin(&mut self, request: Request<'_>) -> Result<Handle, ControlFault>
         ensures { BeginsIn (request_of request.entry) result self.old self.new }
     {
         begin(&mut self.link, &mut self.end, request)
     }
 
-    /// Waits for the answer under this handle, for the panel's `wait` milliseconds, and takes it. `Answered` with the
-    /// answer, whatever its status. `Lost` if the link is lost or late. `Unanswered` if no answer comes in that time,
-    /// and for a handle that no command has. After `Unanswered` the command stays in flight and can be waited for
-    /// again.
+    /// Waits for the answer under this handle, for the panel's `wait` milliseconds, and takes it.
+    ///
+    /// `Answered` with the answer, whatever its status: its command is then removed. `Lost` as soon as the link is
+    /// lost, or found late, and no answer is there. `Unanswered` if no answer comes in that time, and for a handle that
+    /// no command has. After `Unanswered` the command stays in flight, is still sent, and can be waited for again.
+    /// After `Lost` and `Unanswered` the command may have been carried out, or may still be, and
+    /// [`unanswered`](Panel::unanswered) is `true` from then on.
     pub fn finish(&mut self, handle: Handle) -> Outcome
         ensures { FinishesIn handle.0 self.old self.new result }
     {
@@ -230,9 +236,9 @@ impl<E: End> Panel<E> {
         outcome
     }
 
-    /// The outcome of the command under this handle, if it is known without a turn: `Answered` with its answer, which
-    /// is then taken, or `Lost` if the link is lost. It does not wait. `None` if neither is so: then nothing is
-    /// changed.
+    /// The outcome of the command under this handle, if it is known without a turn. It does not wait. `Answered` with
+    /// the answer, which is then taken. `Lost` if the link is lost and no answer is there;
+    /// [`unanswered`](Panel::unanswered) is then `true`. `None` if neither is so: then nothing is changed.
     pub fn try_finish(&mut self, handle: Handle) -> Option<Outcome>
         ensures { MaySettle result handle.0 self.old self.new }
     {

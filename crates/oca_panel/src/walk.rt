@@ -103,7 +103,8 @@ impl Walk {
     ghost use Rattle.std.specs.Prelude.{◌≡◌, length, nat_lt, IfOk};
     ghost use Rattle.oca_panel.specs.Walks.{StepsTo, StepsToPlace, begun_walk};
 
-    /// A walk that begins at the root block. Nothing is asked. Refusal: `NoMemory`, if memory was refused.
+    /// A walk that begins at the root block. Nothing is asked of the device. Refusal: `NoMemory`, if memory was
+    /// refused.
     pub fn new(alloc: Global) -> Result<Walk, NoMemory>
         ensures { IfOk result (λ walk. walk ≡ begun_walk) }
     {
@@ -123,25 +124,28 @@ impl Walk {
 
     /// Visits the next place: asks the object there for its class and its role, and a block for its members, which are
     /// visited next. It waits for each answer for the panel's `wait` milliseconds. An object that was visited before is
-    /// not asked ([`Found::Again`]). What an object doesn't answer is in the [`Visit`] with its reason. `None` if no
-    /// place is left, or 4,096 were visited: then nothing is asked. Refusal: `NoMemory`, if memory was refused; after
-    /// it the walk may leave objects out.
+    /// not asked ([`Found::Again`]). If the object does not answer a question, the [`Visit`] has the reason in its
+    /// place.
+    ///
+    /// `None` if no place is left, or 4,096 places were visited: then nothing is asked. Refusal: `NoMemory`, if memory
+    /// was refused; after it the walk may leave objects out.
     pub fn next<E: End>(&mut self, panel: &mut Panel<E>) -> Result<Option<Visit>, NoMemory>
         ensures { IfOk result (λ found. StepsTo self.old panel.old panel.new found self.new) }
     {
         step(&mut self.waiting, &mut self.visited, panel)
     }
 
-    /// Visits the next place as [`next`](Walk::next) does, but asks its object also if the object was visited before: a
-    /// block that contains itself is then visited 4,096 times. `None` if no place is left, or 4,096 were visited: then
-    /// nothing is asked. Refusal: `NoMemory`, if memory was refused; after it the walk may leave objects out.
+    /// Visits the next place as [`next`](Walk::next) does, but asks its object again even if it was visited before. A
+    /// block that contains itself is then visited 4,096 times. `None` if no place is left, or 4,096 places were
+    /// visited: then nothing is asked. Refusal: `NoMemory`, if memory was refused; after it the walk may leave objects
+    /// out.
     pub fn next_place<E: End>(&mut self, panel: &mut Panel<E>) -> Result<Option<Visit>, NoMemory>
         ensures { IfOk result (λ found. StepsToPlace self.old panel.old panel.new found self.new) }
     {
         step_to_place(&mut self.waiting, &mut self.visited, panel)
     }
 
-    /// Whether places are left to visit, as after 4,096 places.
+    /// Whether places are left to visit. It is `true` after a walk that ended at 4,096 places and had more.
     pub fn is_unfinished(&self) -> bool
         ensures { result ≡ nat_lt 0 (length self.now.waiting) }
     {

@@ -46,7 +46,7 @@ impl<E: End> fmt::Debug for Watched<E> {
 impl<E: End> Watched<E> {
     ghost use Rattle.std.specs.Prelude.{◌≡◌, None};
 
-    /// An end that notes when it hears this peer, and has not heard the peer so far.
+    /// An end over another end, which notes when it hears `peer`. It has not heard the peer so far.
     pub fn new(end: E, peer: Peer) -> Watched<E>
         ensures { result ≡ record { end_state = E.state end; peer = peer; heard = None } }
     {
@@ -57,7 +57,7 @@ impl<E: End> Watched<E> {
         }
     }
 
-    /// The end inside, to look at.
+    /// A reference to the end inside.
     pub fn end(&self) -> &E
         ensures { E.state result.now ≡ self.now.end_state }
     {
@@ -65,14 +65,15 @@ impl<E: End> Watched<E> {
     }
 
     /// The moment, in milliseconds of the end's clock, at which the last datagram came from the peer. `None` if none
-    /// came since the making or the last [`forget`](Watched::forget).
+    /// came since the end was made, or since the last [`forget`](Watched::forget).
     pub fn heard(&self) -> Option<u64>
         ensures { result ≡ self.now.heard }
     {
         self.heard
     }
 
-    /// Notes that the peer was not heard so far. The end stays as it is.
+    /// Resets the note: [`heard`](Watched::heard) is then `None` until the peer is heard again. The end inside stays as
+    /// it is.
     pub fn forget(&mut self)
         ensures { self.new ≡ record self.old { heard = None } }
     {

@@ -16,8 +16,8 @@ impl<'a> Datagram<'a> {
     ghost use Rattle.oca_pdu.specs.Datagrams.{datagram_messages, messages_left};
     ghost use Rattle.oca_pdu.specs.Limits.{IsWithinLimits};
 
-    /// The messages of the datagram, in order. Their parameters are slices of the datagram. There are at most 146, of
-    /// which at most 86 are commands and at most 122 are commands or keep-alives.
+    /// The messages of the datagram, in order. Their parameters are slices of the datagram. There are at most 146
+    /// messages. At most 86 of them are commands, and at most 122 are commands or keep-alives.
     pub fn messages(&self) -> Messages<'a>
         ensures all { messages_left result ≡ datagram_messages self.now }
         ensures limits { IsWithinLimits (messages_left result) }

@@ -29,7 +29,7 @@ pub enum PduFaultKind {
 }
 
 impl PduFaultKind {
-    /// The number of the fault: 1 to 9 (*profile*).
+    /// The number of the fault (*profile*): 1 to 9.
     pub fn number(self) -> u8
         ensures { result ≡ fault_number self }
     {

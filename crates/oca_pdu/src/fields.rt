@@ -7,7 +7,7 @@ ghost use Rattle.oca_pdu.specs.Reading.{least_size, message_in, content_of, keep
 use crate::message::{COMMAND_BYTES, Content, Form, Kind, Message, RESPONSE_BYTES};
 use oca_types::{Command, Handle, MethodId, Ono};
 
-/// The number in two bytes, the highest first. There must be exactly two bytes (a premise).
+/// Reads a number of two bytes, the highest byte first. There must be exactly two bytes (a premise).
 pub fn u16_in(bytes: &[u8]) -> u16
     requires { length bytes.now ≡ 2 }
     ensures { result ≡ from_be_bytes w16 bytes.now }
@@ -15,7 +15,7 @@ pub fn u16_in(bytes: &[u8]) -> u16
     u16::from_be_bytes([bytes[0], bytes[1]])
 }
 
-/// The number in four bytes, the highest first. There must be exactly four bytes (a premise).
+/// Reads a number of four bytes, the highest byte first. There must be exactly four bytes (a premise).
 pub fn u32_in(bytes: &[u8]) -> u32
     requires { length bytes.now ≡ 4 }
     ensures { result ≡ from_be_bytes w32 bytes.now }
@@ -33,7 +33,8 @@ pub fn least(kind: Kind) -> usize
     }
 }
 
-/// What a PDU of this PduType holds. `None` for any type but 0, 1, 3 and 4.
+/// What kind of messages a PDU of this PduType holds (AES70-3): 0 and 1 commands, 3 responses, 4 keep-alives. `None`
+/// for every other type.
 pub fn content(pdu_type: u8) -> Option<Content>
     ensures { result ≡ content_of pdu_type }
 {
@@ -46,8 +47,8 @@ pub fn content(pdu_type: u8) -> Option<Content>
     }
 }
 
-/// The message of this kind that is all of the bytes. There must be at least as many bytes as [`least`] says (a
-/// premise).
+/// Reads one message, a command or a response, from all of these bytes. There must be at least as many bytes as
+/// [`least`] says (a premise). The parameters of the message are a slice of the bytes.
 pub fn read_message(kind: Kind, bytes: &[u8]) -> Message<'_>
     requires { least_size kind ≤ length bytes.now }
     ensures { msg_of result ≡ message_in kind bytes.now }
@@ -79,8 +80,8 @@ pub fn read_message(kind: Kind, bytes: &[u8]) -> Message<'_>
     }
 }
 
-/// The heartbeat of a keep-alive, which is all of the bytes: two are seconds, four are milliseconds. They must be those
-/// of a well-formed keep-alive (a premise).
+/// Reads the heartbeat of a keep-alive from all of its bytes: two bytes are seconds, four bytes are milliseconds. The
+/// bytes must be those of a well-formed keep-alive (a premise).
 pub fn read_form(bytes: &[u8]) -> Form
     requires { IsTrue (is_ok (keep_alive_at 0 bytes.now)) }
     ensures { keep_alive_at 0 bytes.now ≡ Ok (msg_of (Message.KeepAlive result) ∷ []) }

@@ -35,8 +35,9 @@ fn put(packet: &mut Packet, bytes: &[u8])
     }
 }
 
-/// Appends a PDU of one command (AES70-3) to the packet: of type 1 if `respond` asks for a response, else of type 0.
-/// Refusal: `TooLong` if the packet would have more than 1,472 bytes; then the packet is unchanged.
+/// Appends a PDU of one command (AES70-3) to the packet. It is of type 1 if `respond` is true, which asks for a
+/// response, otherwise of type 0. Refusal: `TooLong` if the packet would have more than 1,472 bytes; then the packet is
+/// unchanged.
 pub fn write_command(
     packet: &mut Packet,
     respond: bool,
@@ -102,8 +103,8 @@ pub fn write_response(packet: &mut Packet, handle: Handle, reply: &Reply) -> Res
     Ok(())
 }
 
-/// Replaces all that the packet held by a PDU of one response (AES70-3). The response always fits, since a reply has at
-/// most 1,452 bytes of parameters. If the packet had as many bytes before, none is cleared first.
+/// Replaces all that the packet held by a PDU of one response (AES70-3). It always fits, since a reply has at most
+/// 1,452 bytes of parameters.
 #[inline(always)]
 pub fn replace_response(packet: &mut Packet, handle: Handle, reply: &Reply)
     ensures bytes { packet.new.items ≡ pdu_encoding (Responses (response_with handle reply.now ∷ [])) }
@@ -180,8 +181,8 @@ fn raise_header(pdu: &mut [u8], size: u32)
     pdu[8..10].copy_from_slice(&count.to_be_bytes());
 }
 
-/// Whether the PDU that the packet holds is one of responses (AES70-3), so that [`extend_response`] may add one;
-/// `false` for an empty packet. Only the first PDU of the packet is looked at.
+/// Whether the first PDU of the packet is one of responses (AES70-3), so that [`extend_response`] may add one. `false`
+/// for an empty packet. The PDUs after the first are not looked at.
 #[inline(always)]
 pub fn holds_responses(packet: &Packet) -> bool
     ensures { (p : Pdu) → packet.now.items ≡ pdu_encoding p → result ≡ is_of_responses p }

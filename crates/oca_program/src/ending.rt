@@ -11,8 +11,8 @@ use clap::Error;
 use oca_script::{Printer, ReplayFault, Sink, WriteFailed};
 use std::alloc::Global;
 
-/// The exit status of a run that ended so. A failure is printed, and gives the status of its fault: 2 for what was
-/// asked wrongly, 1 for what could not be done.
+/// Returns the exit status of a run. After a failure it also prints the failure to `faults`. The status is then that of
+/// the fault: 2 for what was asked wrongly, 1 for what could not be done.
 pub fn status_of<F: Sink>(ended: Result<u8, Failure>, faults: &mut Printer<F>) -> u8
     ensures status { result ≡ run_status (fault_in ended) }
     ensures fault { PrintsFault (fault_in ended) faults.old faults.new }
@@ -23,9 +23,9 @@ pub fn status_of<F: Sink>(ended: Result<u8, Failure>, faults: &mut Printer<F>) -
     }
 }
 
-/// How a run ends whose words were not matched. If they ask for it, the text of `--help` or `--version` is printed, and
-/// the exit status is 0. Failures: `BadWords` if they ask for neither, `NoMemory` if memory was refused, `Write` if a
-/// write failed.
+/// Ends a run whose command line did not match. If the command line asks for `--help` or `--version`, the text is
+/// printed, and the exit status is 0. Failures: `BadWords` if it asks for neither. `NoMemory` if memory was refused.
+/// `Write` if a write failed.
 pub fn helped<W: Sink>(
     alloc: Global,
     error: &Error,
@@ -39,15 +39,15 @@ pub fn helped<W: Sink>(
     }
 }
 
-/// Prints a text, and writes all that the printer holds. Returns the exit status 0. Failure: `Write` if a write failed:
-/// then a first part of it was written.
+/// Prints a text, and writes all that the printer holds. Returns the exit status 0. Failure: `Write` if a write failed;
+/// then a first part of the text was written.
 pub fn print_text<W: Sink>(text: &[u8], printer: &mut Printer<W>) -> Result<u8, Failure>
     ensures { PrintsText text.now (fault_in result) printer.old printer.new }
 {
     written(print_all(text, printer))
 }
 
-/// How a run ends that only had to write: with the exit status 0 if that was done. Failure: `Write` if a write failed.
+/// The end of a run that only had to write: exit status 0 if the write was done. Failure: `Write` if it failed.
 pub fn written(done: Result<(), WriteFailed>) -> Result<u8, Failure>
     ensures { fault_in result ≡ when_written done }
 {
@@ -57,8 +57,8 @@ pub fn written(done: Result<(), WriteFailed>) -> Result<u8, Failure>
     }
 }
 
-/// How a run ends that only had to replay a script: with the exit status 0 if the script came to its end. Failures:
-/// `Line`, `Read`, `Write` or `TooMuch`, as the replay's fault is.
+/// The end of a run that only had to replay a script: exit status 0 if the script came to its end. Failures: `Line`,
+/// `Read`, `Write` or `TooMuch`, as the fault of the replay is.
 pub fn replayed(done: Result<(), ReplayFault>) -> Result<u8, Failure>
     ensures { fault_in result ≡ when_replayed done }
 {

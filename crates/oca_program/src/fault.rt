@@ -66,7 +66,7 @@ pub struct Failure {
 }
 
 impl Failure {
-    /// The failure of this fault, with a note that says more.
+    /// A failure with this fault and this note.
     pub fn noted(fault: RunFault, note: String) -> Failure
         ensures fault { result.fault ≡ fault }
         ensures note { result.note ≡ Some note }
@@ -77,7 +77,7 @@ impl Failure {
         }
     }
 
-    /// The failure of this fault, with this note, which is copied; without a note if there is no memory for the copy.
+    /// A failure with this fault and a copy of this note. If there is no memory for the copy, it has no note.
     pub fn told(alloc: Global, fault: RunFault, note: &str) -> Failure
         ensures { result.fault ≡ fault }
     {
@@ -88,9 +88,9 @@ impl Failure {
     }
 }
 
-/// Prints why a run fails, and writes all that the printer holds. First comes a line that begins with `note: `, if more
-/// is known; a note of more than 1,000 bytes is left out. The last line is the fault's own. Returns the exit status, 1
-/// or 2, also if that can't be written.
+/// Prints why a run failed, and writes all that the printer holds. If the failure has a note of at most 1,000 bytes, a
+/// line `note: ` with it comes first. The last line is the fault's own. Returns the exit status, 1 or 2, even if the
+/// lines can't be written.
 pub fn report<F: Sink>(failure: &Failure, faults: &mut Printer<F>) -> u8
     ensures status { result ≡ fault_status failure.now.fault }
     ensures lines { (end : Result Unit Failed) × WritesOut end faults.old faults.new (failure_text failure.now) }
@@ -99,8 +99,8 @@ pub fn report<F: Sink>(failure: &Failure, faults: &mut Printer<F>) -> u8
     failure.fault.status()
 }
 
-/// Prints a line that begins with `note: ` and has the first line of the text, and writes all that the printer holds. A
-/// line of more than 1,000 bytes is left out. A failed write is no fault.
+/// Prints a line `note: ` with the first line of the text, and writes all that the printer holds. If that first line
+/// has more than 1,000 bytes, nothing is printed. A failed write is ignored.
 pub fn print_note<F: Sink>(note: &str, faults: &mut Printer<F>)
     ensures { (written : Result Unit Failed) × WritesOut written faults.old faults.new (note_text note.now) }
 {

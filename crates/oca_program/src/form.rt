@@ -37,7 +37,7 @@ pub enum Form {
 }
 
 impl Form {
-    /// Whether a text is of this form.
+    /// Whether a text has this form.
     pub fn takes(self, text: &[u8]) -> bool
         ensures { result ≡ has_form self text.now }
     {
@@ -58,8 +58,8 @@ impl Form {
         }
     }
 
-    /// The number that a text of this form writes. `None` if the text is not of this form, or this is no form of a
-    /// number.
+    /// The number that a text of this form stands for. `None` if the text does not have this form, or the form is not
+    /// one of numbers.
     pub fn number(self, text: &[u8]) -> Option<u64>
         ensures value { result ≡ number_by self text.now }
         ensures within { IfSome result (IsInForm self) }
@@ -123,7 +123,8 @@ pub(crate) fn own(text: &[u8]) -> Option<u32>
     }
 }
 
-/// Whether an option is given whose value is not of its form; `false` if it is not given.
+/// Whether the command line has this option with a value that does not have the option's form. `false` if it does not
+/// have the option.
 pub fn breaks(words: &ArgMatches<'_>, row: &OptionRow) -> bool
     ensures { result ≡ breaks_form words.now (row_fields row.now) }
 {
@@ -133,15 +134,16 @@ pub fn breaks(words: &ArgMatches<'_>, row: &OptionRow) -> bool
     }
 }
 
-/// The first of these options that is given with a value that is not of its form. `None` if there is none.
+/// The first of these options that the command line has with a value that does not have the option's form. `None` if
+/// there is none.
 pub fn first_broken<'r>(words: &ArgMatches<'_>, rows: &'r [OptionRow]) -> Option<&'r OptionRow>
     ensures { option_copied result ≡ find (λ row. breaks_form words.now (row_fields row)) rows.now }
 {
     rows.iter().find(|row| breaks(words, row))
 }
 
-/// Checks that each of these options that is given has its form. Failure: `BadWords` if one has not, with a note that
-/// names the first such option, its value and its form, if there is memory for the note.
+/// Checks that each of these options that the command line has, has its form. Failure: `BadWords` if one does not. Its
+/// note names the first such option, its value and its form, if there is memory for the note.
 pub fn check(alloc: Global, words: &ArgMatches<'_>, rows: &[OptionRow]) -> Result<(), Failure>
     ensures ok { is_ok result ≡ fits words.now (map row_fields rows.now) }
     ensures err { IfErr result (λ failure. failure.fault ≡ BadWords) }

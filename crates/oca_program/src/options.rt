@@ -18,8 +18,8 @@ use oca_types::Peer;
 use std::alloc::{AllocError, Global};
 
 impl OptionRow {
-    /// The number that the words give for this option. `None` if the option is not given, or its text is not of the
-    /// option's form.
+    /// The number that the command line gives for this option. `None` if it does not have the option, or the text does
+    /// not have the option's form.
     pub fn number(&self, words: &ArgMatches<'_>) -> Option<u64>
         ensures value { result ≡ number_said words.now (row_fields self.now) }
         ensures within { IfSome result (IsInForm self.now.form) }
@@ -27,22 +27,23 @@ impl OptionRow {
         self.form.number(text_of(words, self.name)?.as_bytes())
     }
 
-    /// The address of a socket that the words give for this option, as a number with the first byte highest: that of
-    /// one host, 1.0.0.0 to 223.255.255.255, or 0.0.0.0. `None` if the option is not given, or not of this form.
+    /// The address for a socket of this machine that the command line gives for this option, as a number with the first
+    /// byte highest. It is 0.0.0.0, or 1.0.0.0 to 223.255.255.255. `None` if the command line does not have the option,
+    /// or not in this form.
     pub fn own(&self, words: &ArgMatches<'_>) -> Option<u32>
         ensures { result ≡ own_said words.now (row_fields self.now) }
     {
         own(text_of(words, self.name)?.as_bytes())
     }
 
-    /// The text that the words give for this option. `None` if it is not given.
+    /// The text that the command line gives for this option. `None` if it does not have the option.
     pub fn text<'a>(&self, words: &ArgMatches<'a>) -> Option<&'a str>
         ensures { option_map (λ t. t.now) result ≡ text_said words.now (row_fields self.now) }
     {
         text_of(words, self.name)
     }
 
-    /// Whether the words have this flag.
+    /// Whether the command line has this flag.
     pub fn is_set(&self, words: &ArgMatches<'_>) -> bool
         ensures { result ≡ has_flag words.now (row_fields self.now) }
     {
@@ -53,7 +54,7 @@ impl OptionRow {
     }
 }
 
-/// The text that the words give for an option. `None` if the option is not given.
+/// The text that the command line gives for the option `name`. `None` if it does not have the option.
 #[tactic(auto, unfolding(crate::specs::Options::given))]
 pub fn text_of<'a>(words: &ArgMatches<'a>, name: &str) -> Option<&'a str>
     ensures { option_map (λ t. t.now) result ≡ given words.now name.now }
@@ -61,8 +62,8 @@ pub fn text_of<'a>(words: &ArgMatches<'a>, name: &str) -> Option<&'a str>
     words.get_str(name)
 }
 
-/// The number, of 1 to `most` decimal digits and at most `largest`, that an option gives. `None` if the option is not
-/// given, or not of this form.
+/// The number that the command line gives for the option `name`, of 1 to `most` decimal digits and at most `largest`.
+/// `None` if it does not have the option, or not in this form.
 pub fn number_in(words: &ArgMatches<'_>, name: &str, most: usize, largest: u64) -> Option<u64>
     ensures value { result ≡ read_as (number_of most largest) (given words.now name.now) }
     ensures bound { IfSome result (λ n. n ≤ largest) }
@@ -70,8 +71,9 @@ pub fn number_in(words: &ArgMatches<'_>, name: &str, most: usize, largest: u64) 
     number(text_of(words, name)?.as_bytes(), most, largest)
 }
 
-/// The number, of 1 to `most` decimal digits and at most `largest`, that an option gives, or `other` (at most
-/// `largest`, a premise) if the option is not given. `None` if the option is not of this form.
+/// The number that the command line gives for the option `name`, of 1 to `most` decimal digits and at most `largest`.
+/// It is `other` if the command line does not have the option; `other` must be at most `largest` (a premise). `None` if
+/// the option does not have this form.
 pub fn number_or(
     words: &ArgMatches<'_>,
     name: &str,
@@ -89,8 +91,8 @@ pub fn number_or(
     }
 }
 
-/// The number, of 1 to `most` decimal digits and at most `largest`, that an option gives, or `Some(None)` if the option
-/// is not given. `None` if the option is not of this form.
+/// The number that the command line gives for the option `name`, of 1 to `most` decimal digits and at most `largest`.
+/// `Some(None)` if the command line does not have the option. `None` if the option does not have this form.
 pub fn number_if(
     words: &ArgMatches<'_>,
     name: &str,
@@ -109,23 +111,25 @@ pub fn number_if(
     }
 }
 
-/// The peer that an option gives as `a.b.c.d:port`. `None` if the option is not given, or not of this form.
+/// The peer that the command line gives for the option `name` as `a.b.c.d:port`. `None` if it does not have the option,
+/// or not in this form.
 pub fn peer_in(words: &ArgMatches<'_>, name: &str) -> Option<Peer>
     ensures { result ≡ read_as peer_of (given words.now name.now) }
 {
     peer(text_of(words, name)?.as_bytes())
 }
 
-/// The device that an option gives as `a.b.c.d:port`: the address of one host, 1.0.0.0 to 223.255.255.255, and a port
-/// that is not 0. `None` if the option is not given, or not of this form.
+/// The device that the command line gives for the option `name` as `a.b.c.d:port`. The address is 1.0.0.0 to
+/// 223.255.255.255, and the port is not 0. `None` if the command line does not have the option, or not in this form.
 pub fn host_in(words: &ArgMatches<'_>, name: &str) -> Option<Peer>
     ensures { result ≡ read_as host_of (given words.now name.now) }
 {
     host(text_of(words, name)?.as_bytes())
 }
 
-/// The address of a socket that an option gives, as a number with the first byte highest: that of one host, 1.0.0.0 to
-/// 223.255.255.255, or 0.0.0.0. It is `other` if the option is not given. `None` if the option is not of this form.
+/// The address for a socket of this machine that the command line gives for the option `name`, as a number with the
+/// first byte highest. It is 0.0.0.0, or 1.0.0.0 to 223.255.255.255; `other` if the command line does not have the
+/// option. `None` if the option does not have this form.
 pub fn own_or(words: &ArgMatches<'_>, name: &str, other: u32) -> Option<u32>
     ensures { result ≡ read_or other own_of (given words.now name.now) }
 {
@@ -135,8 +139,8 @@ pub fn own_or(words: &ArgMatches<'_>, name: &str, other: u32) -> Option<u32>
     }
 }
 
-/// The text of `--help` or `--version`, if words that were not matched ask for one. Failures: `BadWords` if they ask
-/// for neither, with a note, if there is memory for it. `NoMemory` if memory was refused.
+/// The text of `--help` or `--version`, if a command line that did not match asks for one. Failures: `BadWords` if it
+/// asks for neither; the failure has a note if there is memory for it. `NoMemory` if memory was refused.
 pub fn help_or_failure(alloc: Global, error: &Error) -> Result<String, Failure>
     ensures text { IfOk result (λ _. asks_for_text (kind_of error.now) ≡ true) }
     ensures failure { IfErr result (λ failure. failure.fault ≡ words_fault (kind_of error.now)) }

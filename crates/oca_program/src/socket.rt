@@ -13,9 +13,9 @@ use std::io;
 use std::net::Net;
 use std::rt::Clock;
 
-/// An end bound at the address `ip` (the first byte highest) and a port; at port 0 the system chooses one. Failures:
-/// `NoMemory` if memory was refused, to the program or to the system. Otherwise `Socket` if the system refused the
-/// socket. The system's reason is the failure's note, if there is one and memory for it.
+/// An end bound at the address `ip` (an IPv4 address as a number, the first byte highest) and a port; at port 0 the
+/// system chooses one. Failures: `NoMemory` if memory was refused, to the program or to the system. Otherwise `Socket`
+/// if the system refused the socket. The system's reason is the failure's note, if there is a reason and memory for it.
 pub fn bind<N: Net + Clock>(
     alloc: Global,
     system: &N,
@@ -32,11 +32,13 @@ pub fn bind<N: Net + Clock>(
     }
 }
 
-/// An end for a controller of this device, at a port; at port 0 the system chooses one. It is bound at the address `ip`
-/// (the first byte highest), or, if that is 0, at the one from which the system reaches the device. So all
-/// transmissions of a command leave from one address or not at all. Failures: `NoMemory` if memory was refused, to the
-/// program or to the system. Otherwise `Socket` if the system refused the socket or has no route to the device. The
-/// system's reason is the failure's note, if there is one and memory for it.
+/// An end for a controller of this device, at a port; at port 0 the system chooses one. It is bound at the address
+/// `ip`, an IPv4 address as a number, the first byte highest. If `ip` is 0, it is bound at the address from which the
+/// system reaches the device. So all transmissions of a command leave from one address or not at all.
+///
+/// Failures: `NoMemory` if memory was refused, to the program or to the system. Otherwise `Socket` if the system
+/// refused the socket or has no route to the device. The system's reason is the failure's note, if there is a reason
+/// and memory for it.
 pub fn bind_towards<N: Net + Clock>(
     alloc: Global,
     system: &N,
@@ -83,8 +85,8 @@ fn fault_for(kind: io::ErrorKind) -> RunFault
     }
 }
 
-/// Prints the note of how many sends failed and why the last of them did, and writes all that the printer holds.
-/// Nothing is printed if `last` is `None` or there is no memory for the note; a failed write is no fault.
+/// Prints the note of how many sends failed (`failed`), and why the last of them did. Writes all that the printer
+/// holds. Nothing is printed if `last` is `None`, or if there is no memory for the note. A failed write is ignored.
 pub fn note_failed_sends<F: Sink>(
     alloc: Global,
     failed: u64,

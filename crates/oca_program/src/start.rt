@@ -4,8 +4,8 @@ use std::alloc::Global;
 use std::env::{self, Env};
 use std::io;
 
-/// The words of the command line, the program's name first. Failures: `NoMemory` if memory was refused, `BadWords` if a
-/// word is not UTF-8.
+/// The arguments of the command line, the program's name first. Failures: `NoMemory` if memory was refused, `BadWords`
+/// if an argument is not UTF-8.
 pub fn words_of<R: Env + AllocGlobal>(rt: &R) -> Result<Vec<String>, Failure> {
     let args = match env::args(rt) {
         Ok(args) => args,

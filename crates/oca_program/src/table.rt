@@ -55,7 +55,7 @@ fn command<'a>(alloc: Global, row: &CommandRow) -> Result<Command<'a>, AllocErro
     with_options(alloc, begun, row.options)
 }
 
-/// The program of a row, with a version and without commands. `AllocError` if memory was refused.
+/// The `clap` program of this row, with a version and without commands. Refusal: `AllocError`, if memory was refused.
 pub fn program<'a>(alloc: Global, row: &CommandRow) -> Result<Command<'a>, AllocError>
     ensures { IfOk result (TakesApp (bare_program (command_fields row.now))) }
 {
@@ -65,8 +65,8 @@ pub fn program<'a>(alloc: Global, row: &CommandRow) -> Result<Command<'a>, Alloc
     }
 }
 
-/// The program of a row, with a version and with the commands of these rows, one of which must be given. `AllocError`
-/// if memory was refused.
+/// The `clap` program of this row, with a version and with the commands of these rows. The command line must name one
+/// of the commands. Refusal: `AllocError`, if memory was refused.
 pub fn program_with_commands<'a>(
     alloc: Global,
     row: &CommandRow,

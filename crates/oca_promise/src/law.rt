@@ -10,17 +10,23 @@ ghost use Rattle.oca_promise.specs.Flights.{EverySetInFlightKeeps, EveryReadingI
 use oca_pair::law_of_what_is_said;
 use oca_pdu::law_reading;
 
-/// What a panel's calls say of the device, over every network in which they are made: what the panel's end delivered is
-/// what the device of that network sent to this link, and the premises of
-/// [`law_of_what_is_said`](oca_pair::law_of_what_is_said) hold.
+/// Laws: what a panel's calls return is true of the device, in every network in which the calls are made. In such a
+/// network, what the panel's end delivered is what the network's device sent to this link. The premises of
+/// [`law_of_what_is_said`](oca_pair::law_of_what_is_said) hold in it: the link and the network are in time. For all but
+/// the first three, the device's objects were a tree at first, with texts and numbers of their types. They do nothing
+/// at run time.
 ///
-/// Once: each answer is that of the only execution of the command that the call asked, and this lies between the call
+/// Once: each answer is that of the only execution of the command of the call, and this execution lies between the call
 /// and its return. In time: no call sends while its link is late, if no stranger's datagram was delivered. Refused: a
-/// refusal changed no object. Set: what `set` confirms was set, if the object is of the value's class. Get: what `get`
-/// returns is what the object held at a moment between. Reading likewise, if the object is of the class that was given;
-/// members, if it is a block; lock, unlock, class, role and label. Describes: what a walk tells of an object, its class
-/// and its role, are the object's. Over an end that does not tell, deliveries and answer are some that fit the call. It
-/// does nothing at run time.
+/// call that was refused with a status changed no object.
+///
+/// Set: if `set` returns Ok, the object was set to the value, if it is of the value's class. Get: what `get` returns is
+/// what the object held at a moment during the call. Reading: the same of `reading_of`, with the limits, if the object
+/// is of the class that was given. Members: the numbers are those of the block's members, if the object is a block.
+/// Lock and unlock: the object was locked for this peer, or its lock was released. Class, role and label: they are the
+/// object's. Describes: what a walk returns of an object, its class and its role, is the object's.
+///
+/// If the end does not record what it delivers, all this holds of some deliveries and an answer that fit the call.
 pub fn law_of_calls()
     ensures once { EveryAnsweredCallKeeps IsOfOneExecutionSince }
     ensures in_time { EveryCallIsInTime }
@@ -41,16 +47,19 @@ pub fn law_of_calls()
     law_reading();
 }
 
-/// What a panel says of a device by commands in flight, over every network in which they are: one call begins a command
-/// and returns its handle, other calls are made, and a later one takes the answer under that handle. The calls between
-/// begin commands, wait for them, look them up, or take turns. The premises are those of [`law_of_calls`].
+/// Laws: what a panel returns of commands in flight is true of the device, in every network in which they are made. One
+/// call begins a command and returns its handle, other calls follow, and a later call takes the answer under that
+/// handle. The calls between begin commands, wait for them, look them up, or take turns. The premises are those of
+/// [`law_of_calls`]. They do nothing at run time.
 ///
-/// Once: each answer is that of the only execution of the command that was begun under this handle, and this lies
+/// Once: each answer is that of the only execution of the command that was begun under this handle. This execution lies
 /// between the begin and the taking of the answer. In time: none of these calls sends while the link is late. Refused:
-/// a refusal changed no object. Set: what was confirmed was set, if the object is of the value's class. Reading: what
-/// was read is how the object read at a moment between, if it is of the class that was given. Answer: what is read of
-/// the answer to any method is what the object answered, and the object was left as the request makes it, if the object
-/// is of the class that was given or every class answers the method alike. It does nothing at run time.
+/// a command that was refused with a status changed no object.
+///
+/// Set: if the command to set is answered OK, the object was set to the value, if it is of the value's class. Reading:
+/// what was read is how the object read at a moment between, if it is of the class that was given. Answer: what is read
+/// of the answer to any method is what the object answered, and the object was left as the request makes it. That holds
+/// if the object is of the class that was given, or every class answers the method alike.
 pub fn law_of_flights()
     ensures once { EveryAnsweredFlightKeeps IsOfOneExecutionSince }
     ensures in_time { EveryFlightIsInTime }

@@ -21,15 +21,16 @@ pub trait Source {
     // Whether it is known that a read does not wait: since there are bytes, or the end is reached, or it never waits.
     ghost ready: { Self → Bool } = { λ _. true };
 
-    /// Waits until a read does not wait, or until there is something at the descriptor `beside`, for at most so many
-    /// milliseconds. It reads nothing. `true` if a read does not wait: there are bytes, or the end is reached. `false`
-    /// otherwise.
+    /// Waits for at most `milliseconds` until a read would not wait, or until the descriptor `beside` can be read
+    /// (`None`: no descriptor). It reads nothing. `true` if a read would not wait: there are bytes, or the end is
+    /// reached. `false` otherwise.
     fn await_input(&mut self, beside: Option<RawFd>, milliseconds: u64) -> bool
         ensures ready { ready self.new ≡ result }
         ensures source { input (remaining self.new) (failed self.new) ≡ input (remaining self.old) (failed self.old) };
 
-    /// Puts the next bytes at the front of the buffer and returns how many there are: 0 at the end, or if the buffer
-    /// has no room. `ReadFailed` if reading failed: what the buffer then holds is not known.
+    /// Puts the next bytes at the front of the buffer, and returns how many there are. 0 means that the end is reached,
+    /// or that the buffer has no room. Refusal: `ReadFailed` if reading failed; what the buffer then holds is not
+    /// known.
     fn read(&mut self, buf: &mut [u8]) -> Result<usize, ReadFailed>
         ensures within { ReadsAtMost result buf.new }
         ensures bytes { ReadConsumes (remaining self.old) (remaining self.new) result buf.new }
@@ -44,8 +45,8 @@ pub trait Sink {
     // Whether a write has failed.
     ghost failed: { Self → Bool };
 
-    /// Takes bytes from the front, and returns how many it took: at least one, unless there are none. `WriteFailed` if
-    /// it took none since writing failed.
+    /// Writes a first part of the bytes, and returns how many bytes these are: at least one, unless `bytes` is empty.
+    /// Refusal: `WriteFailed` if writing failed; then no byte was written.
     fn write(&mut self, bytes: &[u8]) -> Result<usize, WriteFailed>
         ensures within { WritesAtMost result bytes.now }
         ensures some { IfOk result (λ n. 0 < length bytes.now → 0 < n) }
@@ -64,7 +65,8 @@ pub struct FromReader<R> {
 }
 
 impl<R: Read> FromReader<R> {
-    /// A source of this reader, of which no read has failed. Each read is taken not to wait, as with files and memory.
+    /// A source over this reader, without a failed read. It assumes that no read waits, which is so for files and
+    /// memory.
     pub fn new(reader: R) -> FromReader<R>
         ensures reader { result.reader ≡ reader }
         ensures unfailed { result.failed ≡ false }
@@ -79,8 +81,8 @@ impl<R: Read> FromReader<R> {
         }
     }
 
-    /// A source of this reader, of which no read has failed. A read may wait: so the source asks the system about the
-    /// reader's descriptor.
+    /// A source over this reader, without a failed read. A read may wait, so the source asks the system whether the
+    /// reader's descriptor is ready.
     pub fn awaited(reader: R) -> FromReader<R>
     where
         R: AsRawFd,
@@ -171,7 +173,7 @@ pub struct ToWriter<W> {
 }
 
 impl<W: Write> ToWriter<W> {
-    /// A sink of this writer, to which no write has failed.
+    /// A sink over this writer, without a failed write.
     pub fn new(writer: W) -> ToWriter<W>
         ensures writer { result.writer ≡ writer }
         ensures unfailed { result.failed ≡ false }

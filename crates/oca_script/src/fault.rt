@@ -65,7 +65,7 @@ pub enum ReplayFault {
 }
 
 impl ReplayFault {
-    /// The number of the fault: 1 of a line, 2 of a read, 3 of a write, 4 of too much input.
+    /// The number of the fault (*profile*): 1 a bad line, 2 a failed read, 3 a failed write, 4 too much input.
     pub fn number(self) -> u8
         ensures { result ≡ script_fault_number self }
     {

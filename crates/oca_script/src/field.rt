@@ -10,8 +10,8 @@ use oca_types::Peer;
 /// Whatever digit follows a number of at most this, the result has 64 bits.
 const MOST_TENTH: u64 = (u64::MAX - 9) / 10;
 
-/// The number that one to `most` decimal digits write; leading zeros count as digits. `None` if the text is anything
-/// else, or the number is above `largest`.
+/// The number that a text of 1 to `most` decimal digits stands for; leading zeros count as digits. `None` if the text
+/// is anything else, or the number is above `largest`.
 #[tactic(auto, unfolding(crate::specs::Fields::number_of, crate::specs::Fields::at_most), using(crate::proofs::FieldLemmas::number_rules))]
 pub fn number(digits: &[u8], most: usize, largest: u64) -> Option<u64>
     ensures value { result ≡ number_of most largest digits.now }
@@ -35,9 +35,9 @@ pub fn number(digits: &[u8], most: usize, largest: u64) -> Option<u64>
     if value <= largest { Some(value) } else { None }
 }
 
-/// The number that stands before the first byte `end`, and what stands after that byte. The number has one to `most`
-/// decimal digits. `end` must be no digit (a premise). `None` if there is no byte `end`, what stands before it is no
-/// such number, or the number is above `largest`.
+/// The number before the first byte `end` of a text, and the text after that byte. The number has 1 to `most` decimal
+/// digits. `end` must not be a digit (a premise). `None` if the text has no byte `end`, or the text before it is
+/// anything else, or the number is above `largest`.
 #[tactic(auto, using(crate::proofs::NumberLemmas::number_before_rules))]
 pub fn number_before(text: &[u8], end: u8, most: usize, largest: u64) -> Option<(u64, &[u8])>
     requires { (end < 48) ⊎ (57 < end) }
@@ -99,8 +99,8 @@ fn octet_before(text: &[u8], end: u8) -> Option<(u64, &[u8])>
     Some((three, &text[4..]))
 }
 
-/// The moment, in milliseconds, that one to twenty decimal digits write. `None` if the text is anything else, or the
-/// number does not fit in 64 bits.
+/// The moment, in milliseconds, that a text of 1 to 20 decimal digits stands for. `None` if the text is anything else,
+/// or the number does not fit in 64 bits.
 pub fn moment(text: &[u8]) -> Option<u64>
     ensures { result ≡ moment_of text.now }
 {
@@ -119,8 +119,8 @@ pub fn split_at_byte(text: &[u8], separator: u8) -> Option<(&[u8], &[u8])>
     }
 }
 
-/// The first field of a text, up to the first space, and the text after that space. If there is no space the whole text
-/// is the field, and `None` stands for the rest.
+/// Splits a text at its first space: returns the field before it, and the text after it. If there is no space, the
+/// whole text is the field, and the rest is `None`.
 #[tactic(auto, using(crate::proofs::FieldLemmas::field_rules))]
 pub fn first_field(text: &[u8]) -> (&[u8], Option<&[u8]>)
     ensures value { fields text.now ≡ result.0.now ∷ fields_after (option_copied result.1) }
@@ -133,8 +133,8 @@ pub fn first_field(text: &[u8]) -> (&[u8], Option<&[u8]>)
     }
 }
 
-/// The IPv4 address `a.b.c.d` as a number, the first byte highest: four decimal numbers of at most 255, of one to three
-/// digits each. `None` if the text is anything else.
+/// Reads an IPv4 address `a.b.c.d` and returns it as a number, the first byte highest. The four decimal numbers are at
+/// most 255 and have 1 to 3 digits each. `None` if the text is anything else.
 #[tactic(auto, unfolding(crate::specs::Fields::address_of))]
 pub fn address(text: &[u8]) -> Option<u32>
     ensures { result ≡ address_of text.now }
@@ -163,8 +163,8 @@ fn address_before(text: &[u8], end: u8) -> Option<(u64, &[u8])>
     Some((((a * 256 + b) * 256 + c) * 256 + d, rest))
 }
 
-/// The peer `a.b.c.d:port`: four decimal numbers of at most 255, of one to three digits each, and a port of at most
-/// 65,535, of one to five digits. `None` if the text is anything else.
+/// Reads a peer `a.b.c.d:port`. The four decimal numbers are at most 255 and have 1 to 3 digits each; the port is at
+/// most 65,535 and has 1 to 5 digits. `None` if the text is anything else.
 #[tactic(auto, unfolding(crate::specs::Fields::peer_of))]
 pub fn peer(text: &[u8]) -> Option<Peer>
     ensures { result ≡ peer_of text.now }
@@ -177,8 +177,8 @@ pub fn peer(text: &[u8]) -> Option<Peer>
     })
 }
 
-/// The peer `a.b.c.d:port` that stands before the first space, and what stands after that space. `None` if there is no
-/// space, or what stands before it is no peer.
+/// Reads the peer `a.b.c.d:port` before the first space of a text, and returns it and the text after that space. `None`
+/// if there is no space, or the text before it is no peer ([`peer`]).
 #[tactic(auto, using(crate::proofs::AddressLemmas::peer_rules))]
 pub fn peer_before(text: &[u8]) -> Option<(Peer, &[u8])>
     ensures value { read_view result ≡ read_before peer_of 32 text.now }
@@ -193,8 +193,8 @@ pub fn peer_before(text: &[u8]) -> Option<(Peer, &[u8])>
     Some((peer, rest))
 }
 
-/// The bytes that a field writes: `-` stands for none; otherwise there are hexadecimal digits of either case, two a
-/// byte and at least two. They are put at the front of `room`, which must have a byte for each two of the text (a
+/// The bytes that a field stands for: `-` for no bytes, otherwise two hexadecimal digits of either case for each byte,
+/// at least one byte. They are put at the front of `room`, which must have at least half as many bytes as the text (a
 /// premise). `None` if the text is anything else; then discard what `room` holds.
 #[tactic(auto, unfolding(crate::specs::Fields::hex_of), using(crate::proofs::HexLemmas::hex_field_rules))]
 pub fn hex_bytes<'a>(text: &[u8], room: &'a mut [u8]) -> Option<&'a [u8]>

@@ -32,9 +32,9 @@ pub trait Language {
     // From a state a request leads to a state, and prints a text.
     ghost serves: { Self.State → Self.Request → Self.State → List ℕ → Type 0 };
 
-    /// Serves what a line asks for, and prints its text. The line has at most 4,096 bytes (a premise); lines that are
-    /// skipped or are not ASCII do not come here. `Line` with the fault of its fields: then nothing is done or printed.
-    /// `Write` if a write failed.
+    /// Serves one line of a script, and prints its text. The line has at most 4,096 bytes (a premise). It is called for
+    /// no line that is empty, begins with `#` or is not ASCII. Refusals: `Line` with the fault of its fields; then
+    /// nothing is done or printed. `Write` if a write failed.
     fn serve_line<W: Sink>(
         state: &mut Self::State,
         room: &mut Self::Room,
@@ -44,9 +44,9 @@ pub trait Language {
         requires { length line.now ≤ longest_line }
         ensures { ServesLine (asked (fields line.now)) serves state.old state.new result printer.old printer.new };
 
-    /// Is called before each read, when nothing is held. It drives what is in flight until a read does not wait, or
-    /// nothing is in flight, and prints what comes of it; then nothing is held again. It reads nothing. Without
-    /// anything in flight it does nothing. `WriteFailed` if a write failed.
+    /// Is called before each read, when the printer holds nothing. It drives the commands in flight, and prints their
+    /// outcomes, until a read does not wait or no command is in flight. Then the printer again holds nothing. It reads
+    /// nothing from the source. If nothing is in flight, it does nothing. Refusal: `WriteFailed`, if a write failed.
     fn before_read<R: Source, W: Sink>(
         state: &mut Self::State,
         reader: &mut R,

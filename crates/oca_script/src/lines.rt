@@ -166,16 +166,18 @@ fn serve_piece<L: Language, W: Sink>(
     keep(progress, rest)
 }
 
-/// Serves the lines of a script, by the rules of a language, until the source's end or a fault. What the printer held
-/// is written first, then the text of the requests before the first bad line. Before each read the language's
-/// `before_read` is called: a read that may wait begins only if nothing is in flight. (The form of a script is the
+/// Serves the lines of a script, by the rules of a language, until the end of the source or a fault. What the printer
+/// held is written first, then the text of the requests before the first bad line. Before each read the language's
+/// `before_read` is called, so a read that may wait begins only if nothing is in flight. (The form of a script is the
 /// profile's.)
 ///
 /// Faults: `Line` if a line is bad, with the number of the first such line, counted from 1, and its fault. `TooMuch` if
-/// the script has more than 16,777,216 bytes, and no line within them is bad. After these two the requests before were
-/// served and their text was written. `Read` and `Write` only if a read or a write failed in this call, of ends that
-/// had not failed before. Then some first requests were served and their text was written; at `Write` only a first part
-/// of it.
+/// the script has more than 16,777,216 bytes, and no line within them is bad. After these two, all requests before were
+/// served and their text was written.
+///
+/// `Read` if a read failed in this call, of a source that had not failed before. `Write` if a write failed in this
+/// call, of a sink that had not failed before. After these two, only some first requests were served. At `Read` all
+/// their text was written, at `Write` only a first part of it.
 pub fn serve_lines<L: Language, R: Source, W: Sink>(
     state: &mut L::State,
     room: &mut L::Room,

@@ -44,7 +44,7 @@ impl<W: Sink> Printer<W> {
         }
     }
 
-    /// The sink. What the printer holds has not been handed to it.
+    /// The sink. The bytes that the printer still holds are not yet in it.
     pub fn sink(&self) -> &W
         ensures contents { W.contents result.now ≡ self.now.contents }
         ensures failed { W.failed result.now ≡ self.now.failed }
@@ -52,8 +52,8 @@ impl<W: Sink> Printer<W> {
         &self.sink
     }
 
-    /// Hands all that is held to the sink; then nothing is held. `WriteFailed` if a write failed: then a first part of
-    /// it was written, and what is still held is not known.
+    /// Writes all held bytes to the sink; then nothing is held. Refusal: `WriteFailed` if a write failed. Then a first
+    /// part of them was written, and what is still held is not known.
     pub fn flush(&mut self) -> Result<(), WriteFailed>
         ensures prints { Prints result self.old self.new [] }
         ensures empty { OnOk result (self.new.held ≡ []) }
@@ -61,9 +61,9 @@ impl<W: Sink> Printer<W> {
         write_held(&mut self.sink, &mut self.held)
     }
 
-    /// Makes room for so many bytes, at most 8,192 (a premise): if fewer are free, all that is held is handed to the
-    /// sink. `WriteFailed` if a write failed: then a first part of what was held was written, and what is still held is
-    /// not known.
+    /// Makes room for `room` more bytes, at most 8,192 (a premise): if fewer are free, all held bytes are written to
+    /// the sink. Refusal: `WriteFailed` if a write failed. Then a first part of the held bytes was written, and what is
+    /// still held is not known.
     pub fn make_room(&mut self, room: usize) -> Result<(), WriteFailed>
         requires { room ≤ 8192 }
         ensures prints { Prints result self.old self.new [] }
@@ -72,15 +72,16 @@ impl<W: Sink> Printer<W> {
         free(&mut self.sink, &mut self.held, room)
     }
 
-    /// Prints the bytes, of any number: they are then held, or handed to the sink after what was held. `WriteFailed` if
-    /// a write failed: then a first part of both was written, and what is still held is not known.
+    /// Prints the bytes, of any number: they are held, or written to the sink after what was held. Refusal:
+    /// `WriteFailed` if a write failed. Then a first part of both was written, and what is still held is not known.
     pub fn print(&mut self, bytes: &[u8]) -> Result<(), WriteFailed>
         ensures { Prints result self.old self.new bytes.now }
     {
         hold_or_write(&mut self.sink, &mut self.held, bytes)
     }
 
-    /// Holds the bytes. There must be room for them (a premise; [`make_room`](Printer::make_room)).
+    /// Holds the bytes after those that are held, and writes nothing. There must be room for them (a premise;
+    /// [`make_room`](Printer::make_room)).
     #[inline]
     pub fn put(&mut self, bytes: &[u8])
         requires { length self.old.held + length bytes.now ≤ 8192 }
@@ -89,7 +90,7 @@ impl<W: Sink> Printer<W> {
         self.held.put(bytes);
     }
 
-    /// Holds the number in decimal digits. There must be room for 20 bytes (a premise).
+    /// Holds the number in decimal digits, and writes nothing. There must be room for 20 bytes (a premise).
     pub fn put_number(&mut self, n: u64)
         requires { length self.old.held ≤ 8172 }
         ensures value { self.new ≡ output self.old.contents (self.old.held ++ decimal n) self.old.failed }
@@ -98,8 +99,8 @@ impl<W: Sink> Printer<W> {
         put_decimal(&mut self.held, n);
     }
 
-    /// Holds the bytes in lower case hexadecimal digits, or `-` for none. There must be room for two digits a byte, and
-    /// one byte more (a premise).
+    /// Holds the bytes in lower case hexadecimal digits, two a byte, or `-` for no bytes. There must be room for two
+    /// digits a byte, and one byte more (a premise).
     pub fn put_hex(&mut self, bytes: &[u8])
         requires { length self.old.held + 2 * length bytes.now + 1 ≤ 8192 }
         ensures value { self.new ≡ output self.old.contents (self.old.held ++ hex_text bytes.now) self.old.failed }
@@ -109,7 +110,8 @@ impl<W: Sink> Printer<W> {
     }
 }
 
-/// Writes all of the bytes to the sink. `WriteFailed` if a write failed: then a first part of them was written.
+/// Writes all of the bytes to the sink. Refusal: `WriteFailed` if a write failed; then a first part of them was
+/// written.
 pub fn write_bytes<W: Sink>(sink: &mut W, bytes: &[u8]) -> Result<(), WriteFailed>
     ensures { WritesBytes result (output (W.contents sink.old) [] (W.failed sink.old))
         (output (W.contents sink.new) [] (W.failed sink.new)) bytes.now }

@@ -20,7 +20,7 @@ pub struct Cell {
 }
 
 impl Cell {
-    /// A cell that holds this command, but for its handle, and its reply. The command has at most 1,445 bytes of
+    /// A cell that holds this command without its handle, and its reply. The command must have at most 1,445 bytes of
     /// parameters (a premise).
     pub fn new(command: &Command<'_>, reply: &Reply) -> Cell
         requires { length command.now.params.now ≤ most_command_parameter_bytes }
@@ -42,8 +42,8 @@ impl Cell {
         cell
     }
 
-    /// Replaces the command and the reply that the cell holds. The command has at most 1,445 bytes of parameters (a
-    /// premise). If both have as many bytes as those before, no byte is cleared first.
+    /// Replaces the command and the reply that the cell holds; the handle is not kept. The command must have at most
+    /// 1,445 bytes of parameters (a premise).
     pub fn set(&mut self, command: &Command<'_>, reply: &Reply)
         requires { length command.now.params.now ≤ most_command_parameter_bytes }
         ensures { entry_in command.now.handle self.new ≡ record { command = fields_of command.now; reply = reply.now } }

@@ -70,8 +70,8 @@ impl Sessions {
     ghost use Rattle.oca_session.specs.Table.{with_heartbeat, with_entry, with_accepted, Hears, IsKnownAfter, AgreesAt};
     ghost use Rattle.oca_session.specs.Sound.{IsTable};
 
-    /// A table without sessions, at the moment 0, with room for 16 sessions. Each will have a reply window of this
-    /// size. It takes all the memory that the sessions will need. Refusal: `NoMemory`, if memory was refused.
+    /// A table without sessions, at the moment 0, with room for 16 sessions, each with a reply window of `window`
+    /// commands. It takes all the memory that the sessions will need. Refusal: `NoMemory`, if memory was refused.
     pub fn new(alloc: Global, window: Window) -> Result<Sessions, NoMemory>
         ensures { IfOk result (λ t. t ≡ record {
           sizes = record { window = window_size window; peers = 16 };
@@ -111,7 +111,7 @@ impl Sessions {
         }
     }
 
-    /// How many sessions there are: at most as many as were chosen.
+    /// How many sessions there are: 0 to the number of peers that the table was made for, at most 64.
     pub fn len(&self) -> usize
         ensures len { result ≡ length self.now.sessions }
         ensures sound { IsTable self.now }
@@ -136,7 +136,7 @@ impl Sessions {
         }
     }
 
-    /// Whether the peer has a session, since it was heard and is not forgotten.
+    /// Whether the peer has a session. It has one from when it was heard first until it is forgotten.
     #[tactic(auto, using(crate::proofs::Tables::known_by_place))]
     pub fn is_known(&self, peer: Peer) -> bool
         ensures { result ≡ is_some (session_of peer self.now.sessions) }
@@ -144,12 +144,12 @@ impl Sessions {
         index_of(&self.slots[..self.count], self.recent, peer).is_some()
     }
 
-    /// Goes on to the moment `now`, in milliseconds; an earlier one counts as the present moment. Each session whose
-    /// silence passes 120,000 ms is then forgotten.
+    /// Moves the table's clock on to `now`, in milliseconds; an earlier moment counts as the present one. Each session
+    /// whose peer was not heard for more than 120,000 ms is then forgotten.
     ///
-    /// Returns the peers whose silence passes three of their heartbeats, in order of opening, the forgotten ones among
-    /// them. Only the first 16 are returned, which are all if at most 16 sessions were chosen
-    /// ([`advance_into`](Sessions::advance_into) returns all of more). A peer is returned again at each later call
+    /// Returns the peers that were not heard for more than three of their heartbeats, in order of opening, the
+    /// forgotten ones among them. Only the first 16 are returned, which are all if the table has room for at most 16
+    /// sessions; [`advance_into`](Sessions::advance_into) returns all. A peer is returned again at each later call
     /// while it is silent.
     pub fn advance(&mut self, now: u64) -> ArrayVec<Peer, 16>
         ensures lapsed { result.items ≡ take 16 (lapsed (present self.old now) self.old.sessions) }
@@ -168,9 +168,9 @@ impl Sessions {
         peers
     }
 
-    /// Goes on to the moment `now`, in milliseconds; an earlier one counts as the present moment. Each session whose
-    /// silence passes 120,000 ms is then forgotten. All peers whose silence passes three of their heartbeats, the
-    /// forgotten ones among them, replace what `peers` held, in order of opening.
+    /// Moves the table's clock on to `now`, in milliseconds; an earlier moment counts as the present one. Each session
+    /// whose peer was not heard for more than 120,000 ms is then forgotten. `peers` becomes all peers that were not
+    /// heard for more than three of their heartbeats, in order of opening, the forgotten ones among them.
     pub fn advance_into(&mut self, now: u64, peers: &mut ArrayVec<Peer, MOST_PEERS>)
         ensures lapsed { peers.new.items ≡ lapsed (present self.old now) self.old.sessions }
         ensures staying { self.new ≡ with_moment_and_sessions self.old (present self.old now)
@@ -200,10 +200,10 @@ impl Sessions {
         self.recent = self.recent.min(self.count.saturating_sub(1));
     }
 
-    /// Notes that a peer was heard at the moment `now`, in milliseconds; an earlier one counts as the present moment.
-    /// `Known` if the peer has a session: its silence ends. `Opened` if a session was opened for it, the last in order,
-    /// with an empty window and a heartbeat of 5,000 ms. `NoRoom` if there are as many sessions as were chosen: then
-    /// only the present moment is changed.
+    /// Notes that a peer was heard at the moment `now`, in milliseconds; an earlier moment counts as the present one.
+    /// `Known` if the peer has a session: it then counts as heard now. `Opened` if a session was opened for it, the
+    /// last in order, with an empty window and a heartbeat of 5,000 ms. `NoRoom` if the table has no room for another
+    /// session: then only the present moment is changed.
     pub fn hear(&mut self, peer: Peer, now: u64) -> Admission
         ensures hears { Hears peer (present self.old now) self.old result self.new }
         ensures known { IsKnownAfter result peer self.new.sessions }
@@ -228,8 +228,8 @@ impl Sessions {
         Admission::Opened
     }
 
-    /// Sets the heartbeat of a known peer, in milliseconds: to 250 if it is below that, and to 30,000 if it is above
-    /// that. The peer must be known (a premise; [`is_known`](Sessions::is_known)).
+    /// Sets the heartbeat of a known peer, in milliseconds: to 250 if `ms` is below that, and to 30,000 if `ms` is
+    /// above that. The peer must be known (a premise; [`is_known`](Sessions::is_known)).
     pub fn beat(&mut self, peer: Peer, ms: u64)
         requires { IsSome (session_of peer self.old.sessions) }
         ensures heartbeat { self.new ≡ with_sessions self.old
@@ -244,14 +244,14 @@ impl Sessions {
         self.quiet_until = self.quiet_until.min(slot.quiet_until());
     }
 
-    /// The present moment, in milliseconds: the latest that the table was told.
+    /// The present moment, in milliseconds: the latest that the table was given.
     pub fn moment(&self) -> u64
         ensures { result ≡ self.now.moment }
     {
         self.moment
     }
 
-    /// From which moment on, in milliseconds, a session is forgotten, if no peer is heard until then. `None` if there
+    /// The first moment, in milliseconds, at which a session is forgotten if no peer is heard before. `None` if there
     /// is no session, or that moment lies beyond 64 bits.
     pub fn forgotten_from(&self) -> Option<u64>
         ensures { HoldsFrom (forgets self.now.sessions) result }
@@ -259,8 +259,8 @@ impl Sessions {
         forgotten_from(&self.slots[..self.count])
     }
 
-    /// From which moment on, in milliseconds, the silence of a peer passes three of its heartbeats, if the peer is not
-    /// heard until then. `None` if the peer has no session, or that moment lies beyond 64 bits.
+    /// The first moment, in milliseconds, at which the peer was silent for more than three of its heartbeats, if it is
+    /// not heard before. `None` if the peer has no session, or that moment lies beyond 64 bits.
     pub fn lapsed_from(&self, peer: Peer) -> Option<u64>
         ensures { HoldsFrom (lapses peer self.now.sessions) result }
     {
@@ -270,11 +270,11 @@ impl Sessions {
         }
     }
 
-    /// What the reply window of a known peer says of a command; it retains the last accepted commands of the session,
+    /// Judges a command of a known peer by the reply window, which retains the last accepted commands of the session,
     /// as many as its size. `Kept` with its reply if the command is a duplicate: a retained command has its handle and
     /// asks the same (target, DefLevel, MethodIndex, ParamCount and parameter bytes). `Reused` if a retained command
-    /// has its handle and asks something else. `Old` if no retained command has its handle, and the handle is at or
-    /// below one that the window pushed out. `Fresh` otherwise. Nothing is changed. The peer must be known (a premise;
+    /// has its handle and asks something else. `Old` if no retained command has its handle, and the handle is not above
+    /// one that the window pushed out. `Fresh` otherwise. Nothing is changed. The peer must be known (a premise;
     /// [`is_known`](Sessions::is_known)).
     pub fn judge(&self, peer: Peer, command: &Command<'_>) -> Judged<'_>
         requires { IsSome (session_of peer self.now.sessions) }

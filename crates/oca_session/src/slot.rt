@@ -52,8 +52,8 @@ impl Model for Slot {
 }
 
 impl Slot {
-    /// A slot that no session has had yet, with an empty window of this size, 1 to 64 (a premise). It takes the memory
-    /// for the window. `AllocError` if memory was refused.
+    /// A slot that no session has had yet, with an empty window of `size` commands, 1 to 64 (a premise). It takes the
+    /// memory for the window. Refusal: `AllocError`, if memory was refused.
     pub fn spare(alloc: Global, size: usize) -> Result<Slot, AllocError>
         requires { (0 < size) × (size ≤ 64) }
         ensures { IfOk result (λ s. s ≡ opened_session size (record { ip = 0; port = 0 }) 0) }
@@ -93,37 +93,38 @@ impl Slot {
         self.key == key_of(peer)
     }
 
-    /// Whether the silence of the peer passes three of its heartbeats at a moment, in milliseconds.
+    /// Whether, at this moment in milliseconds, the peer was not heard for more than three of its heartbeats.
     pub fn is_lapsed(&self, moment: u64) -> bool
         ensures { result ≡ is_lapsed moment self.now }
     {
         3 * u64::from(self.heartbeat) < moment.saturating_sub(self.heard)
     }
 
-    /// The latest moment, in milliseconds, up to which the peer's silence does not pass three of its heartbeats, if the
-    /// peer is not heard until then.
+    /// The latest moment, in milliseconds, at which the peer is not yet silent for more than three of its heartbeats,
+    /// if it is not heard before.
     pub fn quiet_until(&self) -> u64
         ensures { result ≡ latest_of self.now }
     {
         self.heard.saturating_add(3 * u64::from(self.heartbeat))
     }
 
-    /// Whether the session stays at a moment, in milliseconds: its peer's silence does not pass 120,000 ms.
+    /// Whether, at this moment in milliseconds, the session is still kept: its peer was heard at most 120,000 ms ago.
     pub fn stays(&self, moment: u64) -> bool
         ensures { result ≡ stays moment self.now }
     {
         moment.saturating_sub(self.heard) <= LONGEST_SILENCE
     }
 
-    /// From which moment on, in milliseconds, the silence passes three heartbeats. `None` if that moment lies beyond 64
-    /// bits.
+    /// The first moment, in milliseconds, at which the peer was silent for more than three of its heartbeats. `None` if
+    /// that moment lies beyond 64 bits.
     pub fn lapsed_from(&self) -> Option<u64>
         ensures { HoldsFrom (λ t. is_lapsed t self.now) result }
     {
         passes_from(self.heard, 3 * u64::from(self.heartbeat))
     }
 
-    /// From which moment on, in milliseconds, the silence passes 120,000 ms. `None` if that moment lies beyond 64 bits.
+    /// The first moment, in milliseconds, at which the peer was silent for more than 120,000 ms. `None` if that moment
+    /// lies beyond 64 bits.
     pub fn forgotten_from(&self) -> Option<u64>
         ensures { HoldsFrom (λ t. not (stays t self.now)) result }
     {
@@ -144,10 +145,10 @@ impl Slot {
         self.heartbeat = ms.min(GREATEST_HEARTBEAT).max(LEAST_HEARTBEAT) as u32;
     }
 
-    /// What the session's window says of a command. `Kept` with its reply if the command is a duplicate: a retained
+    /// Judges a command by the session's window. `Kept` with its reply if the command is a duplicate: a retained
     /// command has its handle and asks the same (target, DefLevel, MethodIndex, ParamCount and parameter bytes).
     /// `Reused` if a retained command has its handle and asks something else. `Old` if no retained command has its
-    /// handle, and the handle is at or below one that the window pushed out. `Fresh` otherwise. Nothing is changed.
+    /// handle, and the handle is not above one that the window pushed out. `Fresh` otherwise. Nothing is changed.
     pub fn judge(&self, command: &Command<'_>) -> Judged<'_>
         ensures exact { as_judgement result ≡ judgement_by_window self.now.retained (fields_of command.now) }
         ensures accepted { (w : ℕ) (A : List Entry) → AgreesWithAccepted w A self.now.retained →

@@ -77,8 +77,8 @@ impl Model for ReplyWindow {
 }
 
 impl ReplyWindow {
-    /// An empty window of this size, 1 to 64 (a premise). It takes the memory for all that it will retain. `AllocError`
-    /// if memory was refused.
+    /// An empty window of `size` commands, 1 to 64 (a premise). It takes the memory for all that it will retain.
+    /// Refusal: `AllocError`, if memory was refused.
     pub fn new(alloc: Global, size: usize) -> Result<ReplyWindow, AllocError>
         requires { (0 < size) × (size ≤ 64) }
         ensures { IfOk result (λ k. k ≡ retained_of size []) }
@@ -103,10 +103,10 @@ impl ReplyWindow {
         self.above = 0;
     }
 
-    /// What the window says of a command. `Kept` with its reply if the command is a duplicate: a retained command has
-    /// its handle and asks the same (target, DefLevel, MethodIndex, ParamCount and parameter bytes). `Reused` if a
-    /// retained command has its handle and asks something else. `Old` if no retained command has its handle, and the
-    /// handle is at or below one that the window pushed out. `Fresh` otherwise. Nothing is changed.
+    /// Judges a command by the window. `Kept` with its reply if the command is a duplicate: a retained command has its
+    /// handle and asks the same (target, DefLevel, MethodIndex, ParamCount and parameter bytes). `Reused` if a retained
+    /// command has its handle and asks something else. `Old` if no retained command has its handle, and the handle is
+    /// not above one that the window pushed out. `Fresh` otherwise. Nothing is changed.
     pub fn judge(&self, command: &Command<'_>) -> Judged<'_>
         ensures exact { as_judgement result ≡ judgement_by_window self.now (fields_of command.now) }
         ensures accepted { (w : ℕ) (A : List Entry) → AgreesWithAccepted w A self.now →

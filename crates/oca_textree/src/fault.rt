@@ -6,8 +6,8 @@ use oca_script::ObjectFault;
 use oca_tree::{AddFault, StartFault};
 use thiserror::Error;
 
-/// The fault of a line of which the tree refuses the object. `NoSuchBlock` becomes `Container`, `TooDeep` `Depth`,
-/// `BadText` `Text`, and `BadRange` `Range`; the others keep their names.
+/// The fault of a line whose object the tree refuses. `NoSuchBlock` becomes `Container`, `TooDeep` becomes `Depth`,
+/// `BadText` becomes `Text`, and `BadRange` becomes `Range`. The others keep their names.
 pub fn fault_of(fault: AddFault) -> ObjectFault
     ensures { result ≡ object_fault_of fault }
 {
@@ -23,8 +23,8 @@ pub fn fault_of(fault: AddFault) -> ObjectFault
     }
 }
 
-/// The fault of a line of which the tree refuses the object with what was stored of it. `BadLabel` becomes `Text`,
-/// `BadFlags` becomes `Value`, and the fault in `Add` what [`fault_of`] makes of it.
+/// The fault of a line whose object the tree refuses together with what was stored of it. `BadLabel` becomes `Text`,
+/// `BadFlags` becomes `Value`, and a fault in `Add` becomes what [`fault_of`] returns for it.
 pub fn fault_of_stored(fault: StartFault) -> ObjectFault
     ensures { result ≡ stored_fault_of fault }
 {

@@ -4,13 +4,14 @@ ghost use Rattle.oca_textree.specs.Made.{MadeIsReadBack, ListedIsReadBack};
 
 use oca_tree::Tree;
 
-/// Law: objects that [`print_tree`](crate::print_tree) prints are read back by
-/// [`tree_from_text`](crate::tree_from_text) as the same, but for their locks and for whose hardware refuses.
-/// It holds of the objects that a builder's calls added or a text listed, and that commands, the local front panel and the release of locks changed after that.
+/// Laws: the text that [`print_tree`](crate::print_tree) prints of some objects is read back by
+/// [`tree_from_text`](crate::tree_from_text). It gives the same objects in three cases.
 ///
-/// It holds too of all other objects of which each has a role, and texts and numbers as its types say, and the first is
-/// a lockable block with the role `root`. What a text lists is read back as it is, since it has neither. It does
-/// nothing at run time.
+/// First, objects that a builder's calls added or a text listed, and that later commands, the local front panel and the
+/// release of locks changed. They are read back without their locks, and as if no hardware refused. Second, objects
+/// that a text listed: they are read back exactly as they are. Third, any other objects, if the first is a lockable
+/// block with the role `root`, each has a role, and texts and numbers are within their types. They are read back as in
+/// the first case. It does nothing at run time.
 pub fn law_of_texts(tree: &Tree)
     ensures made { MadeIsReadBack tree.now }
     ensures listed { ListedIsReadBack tree.now }

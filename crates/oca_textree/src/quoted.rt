@@ -14,7 +14,7 @@ use std::str::from_utf8;
 /// The most digits of a text of 64 bytes.
 const MOST_DIGITS: usize = 128;
 
-/// Whether the next field stands in quotes: there is one, and it begins with a quote.
+/// Whether the next field of the rest of a line begins with a quote. `false` if no field is left.
 pub fn is_quoted(rest: Option<&[u8]>) -> bool
     ensures { result ≡ stands_quoted (option_copied rest.entry) }
 {
@@ -59,10 +59,11 @@ fn text_of_digits(digits: &[u8]) -> Option<Text>
     short_text_of(bytes)
 }
 
-/// The text that a field says: of a field in quotes (`quoted`) the bytes themselves, which come without the quotes;
-/// otherwise what its hexadecimal digits say, or the empty text for `-`. `None` if these are no such digits, if the
-/// text is not UTF-8 of at most 64 bytes, or if a character in quotes is printed as an escape; a backslash may be
-/// there.
+/// The text for which a field stands. If it stood in quotes (`quoted`), `bytes` are the text itself, without the
+/// quotes. Otherwise they are its bytes in hexadecimal digits, or `-` for the empty text.
+///
+/// `None` if `bytes` are no such digits, or the text is not UTF-8 of at most 64 bytes. `None` also if a text in quotes
+/// has a character that is printed as an escape other than a backslash.
 pub fn field_text(quoted: bool, bytes: &[u8]) -> Option<Text>
     ensures { result ≡ field_text_of quoted bytes.now }
 {
@@ -75,9 +76,9 @@ pub fn field_text(quoted: bool, bytes: &[u8]) -> Option<Text>
     }
 }
 
-/// Reads the text that the next field says, and returns it and what is left of the line. Refusals: `Form` if no field
-/// is left, or a quote is left open or followed by anything but a space. `Text` if the field says no text of at most 64
-/// bytes ([`field_text`]).
+/// Reads the text for which the next field stands, and returns it and the rest of the line. Refusals: `Form` if no
+/// field is left, or a quote is not closed or is followed by anything but a space. `Text` if the field stands for no
+/// text of at most 64 bytes ([`field_text`]).
 #[tactic(auto, unfolding(crate::specs::Stored::text_in_field))]
 pub fn text_at(rest: Option<&[u8]>) -> Result<(Text, Option<&[u8]>), ObjectFault>
     ensures { text_view result ≡ next_text (option_copied rest.entry) }

@@ -126,10 +126,10 @@ fn positions<'a>(
     }
 }
 
-/// Reads the end of a line that says what was stored: whether the object is enabled, and its label. Refusals, the first
-/// from the left: `Form` if no field is left, or a quote is left open or followed by anything but a space. `Value` if
-/// the word is neither `on` nor `off`. `Text` if the field says no text of at most 64 bytes. `Form` also if something
-/// is left.
+/// Reads the end of a line: whether the object is enabled (`on` or `off`), and its label. Refusals, the first from the
+/// left: `Form` if no field is left, or a quote is not closed or is followed by anything but a space. `Value` if the
+/// word is neither `on` nor `off`. `Text` if the label is no text of at most 64 bytes. `Form` also if anything is left
+/// after the label.
 #[tactic(auto, unfolding(crate::specs::Stored::start_at))]
 pub fn start_of(rest: Option<&[u8]>) -> Result<(bool, Text), ObjectFault>
     ensures { result ≡ start_at (option_copied rest.entry) }
@@ -291,10 +291,10 @@ fn add_of_class(
     add(builder, container, ono, kind, None, rest)
 }
 
-/// Adds the object that the fields of a line list, all that was stored of it included, after all others. Refusal: the
-/// first fault from the left of a field that can't be read; if all can be read, why the tree refuses the object
-/// ([`ObjectFault`] says when each comes). The builder is then unchanged. The builder must have room for 4,096 objects
-/// (a premise).
+/// Adds the object that the fields of a line list, with all that was stored of it, after all others. The builder must
+/// have room for 4,096 objects (a premise). Refusal, which leaves the builder unchanged: the fault of the first field,
+/// from the left, that can't be read. If all can be read, the reason for which the tree refuses the object.
+/// [`ObjectFault`] says when each comes.
 #[tactic(auto, using(crate::proofs::OrderLemmas::placed_rules))]
 pub fn add_stored(builder: &mut TreeBuilder, line: &[u8]) -> Result<(), ObjectFault>
     requires { builder.old.room ≡ 4096 }

@@ -23,9 +23,10 @@ use std::alloc::Global;
 /// For how many objects there is room, the root counted.
 const MOST_OBJECTS: u16 = 4096;
 
-/// The tree of a text: the root, of which the first line may say what was stored, and the objects of its lines in
-/// order. (The text's form is the profile's; [`crate`] has it.) Refusals: `Line` if a line has a fault, with the number
-/// of the first such line, counted from 1, and its first fault. `NoMemory` if the memory for 4,096 objects was refused.
+/// Reads the objects of a device from a text. The root comes first, and the first line may have what was stored of it.
+/// Then come the objects of the lines, in order. (The text's form is the profile's; [`crate`] describes it.) Refusals:
+/// `Line` if a line has a fault, with the number of the first such line, counted from 1, and its first fault.
+/// `NoMemory` if the memory for 4,096 objects was refused.
 #[tactic(auto, unfolding(crate::specs::Texts::objects_of_text))]
 pub fn tree_from_text(alloc: Global, text: &[u8]) -> Result<Tree, TreeFault>
     ensures ok { IfOk result (λ tree. objects_of_text text.now ≡ ok tree) }

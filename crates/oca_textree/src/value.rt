@@ -72,7 +72,7 @@ pub fn truth(word: &[u8]) -> Option<bool>
     }
 }
 
-/// Whether an object can be locked, by the word that says so: `lockable` or `no-lock`. `None` for any other word.
+/// Whether an object can be locked, by its word: `lockable` is true, `no-lock` is false. `None` for any other word.
 #[tactic(auto, unfolding(crate::specs::Lines::one_of))]
 pub fn lockable(word: &[u8]) -> Option<bool>
     ensures { result ≡ one_of (codes "lockable") true (codes "no-lock") false word.now }
@@ -190,12 +190,13 @@ fn place(name: &[u8], names: &[&str]) -> Option<u16>
     }
 }
 
-/// Reads the positions of a switch, whose names are put into `names`, and the current position, counted from 0. Returns
-/// that and what is left of the line. `names` must be empty before (a premise).
+/// Reads the positions of a switch: their names, which are put into `names`, and the name of the current position.
+/// Returns the index of the current position, counted from 0, and the rest of the line. `names` must be empty before (a
+/// premise).
 ///
-/// Refusals, the first from the left: `Form` if no field is left, or a quote is left open or followed by anything but a
-/// space. `Text` if a name is no text of a position, `Range` at a seventeenth name, `Value` if the current position is
-/// none of the names. After a refusal discard `names`.
+/// Refusals, the first from the left: `Form` if no field is left, or a quote is not closed or is followed by anything
+/// but a space. `Text` if a name is no text of a position, `Range` at a seventeenth name. `Value` if the current
+/// position is none of the names. After a refusal discard `names`.
 #[tactic(auto, unfolding(crate::specs::Lines::positions_of))]
 pub fn positions<'a>(
     rest: Option<&'a [u8]>,
@@ -362,10 +363,10 @@ fn uint64_at(rest: Option<&[u8]>) -> Read<'_>
     Ok((kind, read.rest))
 }
 
-/// Reads what an object of this class is, and returns that and what is left of its line. The class is not that of a
-/// switch (a premise). Refusals, the first from the left: `Form` if no field is left, or a quote is left open or
-/// followed by anything but a space. `Value` if the word is none of the class. `Number` if an integer is not of its
-/// form, or not of the class's type.
+/// Reads the value of an object of this class, with its limits for an integer, and returns it and the rest of the line.
+/// A block has no value: nothing is read. The class must not be that of a switch (a premise). Refusals, the first from
+/// the left: `Form` if no field is left, or a quote is not closed or is followed by anything but a space. `Value` if
+/// the word is none of the class. `Number` if an integer is not of its form, or not within the class's type.
 #[tactic(auto, unfolding(crate::specs::Lines::value_at, oca_tree::specs::Building::value_of))]
 pub fn kind_at(class: Class, rest: Option<&[u8]>) -> Read<'_>
     requires { class ≡ Class.Switch → ⊥ }

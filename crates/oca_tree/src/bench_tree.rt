@@ -119,9 +119,10 @@ fn desk(alloc: Global, room: Room) -> Result<TreeBuilder, AddFault>
     Ok(builder)
 }
 
-/// The bench device: under the root the block 4096, `desk`, and in it six objects. They are the mute 4097, the polarity
-/// 4098, the switch 4099 with the positions Line, Mic and Off, the Int16 4100 (0, from -600 to 600), the Boolean 4101
-/// and the Uint8 4102 (10, from 0 to 100). All but 4102 can be locked. Refusal: `NoMemory`, if memory was refused.
+/// The bench device: under the root the block 4096, `desk`, and in it six objects. These are the mute 4097, the
+/// polarity 4098, and the switch 4099 with the positions Line, Mic and Off. Then the Int16 4100 (0, from -600 to 600),
+/// the Boolean 4101 and the Uint8 4102 (10, from 0 to 100). All but 4102 can be locked. Refusal: `NoMemory`, if memory
+/// was refused.
 pub fn bench(alloc: Global) -> Result<Tree, AddFault>
     ensures ok { IfOk result (λ tree. tree ≡ bench_objects) }
     ensures err { IfErr result (λ e. e ≡ NoMemory) }
@@ -167,10 +168,10 @@ fn add_strip(builder: &mut TreeBuilder, first: u32) -> Result<(), AddFault>
     Ok(())
 }
 
-/// The bench device, and after its own objects so many channel strips under the root, from 4103 on. A strip is a block
-/// `strip` with a mute, a polarity and an Int16 `trim` (0, from -600 to 600); all can be locked. It has room for these
-/// objects alone; without channels it is [`bench`]. Refusals: `Full` for more than 1,022 channels, which are more than
-/// 4,096 objects. `NoMemory`, if memory was refused.
+/// The bench device, and after its own objects `channels` channel strips under the root, numbered from 4103 on. A strip
+/// is a block `strip` with a mute, a polarity and an Int16 `trim` (0, from -600 to 600). All objects of a strip can be
+/// locked. It has room for these objects alone. With 0 channels the objects are those of [`bench`]. Refusals: `Full`
+/// for more than 1,022 channels, since that would be more than 4,096 objects. `NoMemory` if memory was refused.
 pub fn bench_with_channels(alloc: Global, channels: u16) -> Result<Tree, AddFault>
     ensures ok { IfOk result (λ tree. tree ≡ bench_with channels) }
     ensures most { 1022 < channels → IsErrOf result Full }

@@ -468,7 +468,7 @@ impl TreeBuilder {
     }
 
     /// A builder that holds the root alone, a lockable block of the number 100 with the role `root`, and has room for
-    /// so many objects, the root counted. It takes the memory for them. Refusal: `NoMemory`, if memory was refused.
+    /// `room` objects, the root counted. It takes the memory for them. Refusal: `NoMemory`, if memory was refused.
     pub fn with_room(alloc: Global, room: Room) -> Result<TreeBuilder, AddFault>
         ensures ok { IfOk result (λ builder. builder ≡ record { room = room_size room; list = root ∷ [] }) }
         ensures err { IfErr result (λ e. e ≡ NoMemory) }
@@ -476,9 +476,9 @@ impl TreeBuilder {
         TreeBuilder::holding(alloc, room, root_object())
     }
 
-    /// A builder as [`with_room`](TreeBuilder::with_room) makes it, with what was stored of the root. Refusals, the
-    /// first that applies: `BadLabel` if the label has more than 64 bytes, `BadFlags` if there are any flags of
-    /// positions, `Add(NoMemory)` if memory was refused.
+    /// A builder as [`with_room`](TreeBuilder::with_room) makes it, whose root has the label that was stored and is
+    /// enabled or disabled as stored. Refusals, the first that applies: `BadLabel` if the label has more than 64 bytes.
+    /// `BadFlags` if there are any flags of positions, since a block has none. `Add(NoMemory)` if memory was refused.
     pub fn with_root(
         alloc: Global,
         room: Room,
@@ -511,7 +511,8 @@ impl TreeBuilder {
     /// another object, `Reserved` if the number is below 4096, `Taken` if another object has the number. `NoSuchBlock`
     /// if the container is no block of the tree, `TooDeep` at depth 9 (the root is at depth 1). `BadText` if the role
     /// is empty, or the role or a position's name has more than 64 bytes. `BadRange` if the setting is outside its
-    /// limits, or a switch has no or more than 16 positions. `NoMemory` does not come.
+    /// limits. `BadRange` also if a switch has no or more than 16 positions, or its position is not one of them.
+    /// `NoMemory` never comes.
     pub fn add(&mut self, container: Ono, ono: Ono, spec: &Spec<'_>) -> Result<(), AddFault>
         ensures { Adds result self.old self.new container.0 ono.0 spec.now }
     {
@@ -524,8 +525,8 @@ impl TreeBuilder {
     /// positions are. It is unlocked. It takes no memory.
     ///
     /// Refusals, the first that applies; the builder is then unchanged: `Add` with the reason for which
-    /// [`add`](TreeBuilder::add) refuses the object. `BadLabel` if the label has more than 64 bytes. `BadFlags` if the
-    /// flags are not as many as the positions, of which only a switch has any.
+    /// [`add`](TreeBuilder::add) refuses the object. `BadLabel` if the label has more than 64 bytes. `BadFlags` if
+    /// there are flags, and not one for each position; only a switch has positions.
     pub fn add_with(
         &mut self,
         container: Ono,

@@ -13,7 +13,7 @@ impl Room {
     ghost use Rattle.std.specs.Prelude.{◌≡◌, ◌≤◌, ◌↔◌, IsSome, IfSome};
     ghost use Rattle.oca_tree.specs.Room.{room_size};
 
-    /// Room for so many objects, the root counted. `None` unless the number is 1 to 4,096.
+    /// Room for `size` objects, the root counted. `None` unless `size` is 1 to 4,096.
     pub fn new(size: u16) -> Option<Room>
         ensures variant { IsSome result ↔ ((1 ≤ size) × (size ≤ 4096)) }
         ensures value { IfSome result (λ room. room_size room ≡ size) }
@@ -24,7 +24,7 @@ impl Room {
         }
     }
 
-    /// For how many objects there is room, the root counted: 1 to 4,096.
+    /// How many objects there is room for, the root counted: 1 to 4,096.
     pub fn get(self) -> u16
         ensures value { result ≡ room_size self }
         ensures least { 1 ≤ result }

@@ -156,10 +156,12 @@ impl Tree {
         }
     }
 
-    /// Sets the object with this number at the local front panel, as the set method of its class does for a peer that
-    /// neither a lock nor the object's hardware refuses. Refusals, the first of [`SetFault`] that applies: `NoObject`
-    /// if no object has the number, `NoSetting` of a block, `OtherKind` of another class's value. `OutOfRange` of a
-    /// position that is not there or disabled, and of a number outside its limits. A refusal changes no object.
+    /// Sets the object with this number at the local front panel. It acts as the set method of the object's class,
+    /// except that neither a lock nor the object's hardware refuses it.
+    ///
+    /// Refusals, the first of [`SetFault`] that applies: `NoObject` if no object has the number. `NoSetting` if the
+    /// object is a block. `OtherKind` if the value is of another class. `OutOfRange` if a switch has no such position
+    /// or the position is disabled, or a number is outside its limits. A refusal changes no object.
     pub fn set(&mut self, ono: Ono, value: Value) -> Result<(), SetFault>
         ensures tree { self.new ≡ after_set self.old ono.0 value }
         ensures refused { OnErr result (self.new ≡ self.old) }
@@ -168,9 +170,11 @@ impl Tree {
         set(&mut self.objects, &mut self.marks, ono, value)
     }
 
-    /// Gives the object with this number a label of at most 64 bytes at the local front panel, as SetLabel of OcaWorker
-    /// does for a peer that neither a lock nor the object's hardware refuses (AES70-2). Refusals, the first that
-    /// applies: `NoObject` if no object has the number, `BadLabel` of a longer label. A refusal changes no object.
+    /// Gives the object with this number a label of at most 64 bytes at the local front panel. It acts as SetLabel of
+    /// OcaWorker (AES70-2), except that neither a lock nor the object's hardware refuses it.
+    ///
+    /// Refusals, the first that applies: `NoObject` if no object has the number, `BadLabel` if the label is longer. A
+    /// refusal changes no object.
     pub fn set_label(&mut self, ono: Ono, label: &str) -> Result<(), FrontFault>
         ensures tree { self.new ≡ after_change self.old ono.0 (ToLabel label.now) }
         ensures refused { OnErr result (self.new ≡ self.old) }
@@ -179,9 +183,9 @@ impl Tree {
         set_label(&mut self.objects, &mut self.marks, ono, label)
     }
 
-    /// Enables or disables the object with this number at the local front panel, as SetEnabled of OcaWorker does for a
-    /// peer that neither a lock nor the object's hardware refuses (AES70-2). Refusal: `NoObject` if no object has the
-    /// number; then no object is changed.
+    /// Enables or disables the object with this number at the local front panel. It acts as SetEnabled of OcaWorker
+    /// (AES70-2), except that neither a lock nor the object's hardware refuses it. Refusal: `NoObject` if no object has
+    /// the number; then no object is changed.
     pub fn set_enabled(&mut self, ono: Ono, enabled: bool) -> Result<(), FrontFault>
         ensures tree { self.new ≡ after_change self.old ono.0 (ToEnabled enabled) }
         ensures refused { OnErr result (self.new ≡ self.old) }
@@ -200,9 +204,9 @@ impl Tree {
         unlock(&mut self.objects, &mut self.marks, ono)
     }
 
-    /// Says at the local front panel whether the hardware of the object with this number refuses to be changed. While
-    /// it does, each command that is executed, whose method writes to the object and that no other status refuses is
-    /// answered `ProcessingFailed`, and changes nothing. Refusal: `NoObject` if no object has the number; then nothing
+    /// Sets, at the local front panel, whether the hardware of the object with this number refuses to be changed
+    /// (*profile*). If it does, each command that would write to the object, and that no other status refuses, is
+    /// answered `ProcessingFailed` and changes nothing. Refusal: `NoObject` if no object has the number; then nothing
     /// is changed.
     pub fn set_failing(&mut self, ono: Ono, failing: bool) -> Result<(), FrontFault>
         ensures tree { self.new ≡ after_change self.old ono.0 (ToFailing failing) }
@@ -212,7 +216,8 @@ impl Tree {
         set_failing(&mut self.objects, &mut self.marks, ono, failing)
     }
 
-    /// Releases every lock of the peer; without any, nothing is changed. If no object is locked it looks at none.
+    /// Releases every lock of the peer. If it holds none, nothing is changed. If no object of the tree is locked, no
+    /// object is looked at.
     pub fn release(&mut self, peer: Peer)
         ensures { self.new ≡ released self.old peer }
     {
@@ -221,9 +226,9 @@ impl Tree {
         }
     }
 
-    /// How many objects there are, the root counted: 1 to 4,096. With it comes what holds of every tree: distinct
-    /// numbers, blocks that stand before what they contain, settings in their ranges, and locks of lockable objects
-    /// alone.
+    /// How many objects there are, the root counted: 1 to 4,096. Its contract also says what holds of every tree. The
+    /// numbers are distinct, blocks stand before what they contain, settings are within their limits, and only lockable
+    /// objects are locked.
     pub fn len(&self) -> usize
         ensures len { result ≡ length self.now }
         ensures sound { IsTree self.now }
@@ -252,8 +257,8 @@ impl Tree {
         }
     }
 
-    /// What the objects are, one after another in order of adding: those that [`object_at`](Tree::object_at) gives for
-    /// 0, 1 and so on.
+    /// An iterator over the objects in order of adding: the results of [`object_at`](Tree::object_at) for 0, 1 and so
+    /// on.
     pub fn objects(&self) -> ObjectInfos<'_>
         ensures { infos_left result ≡ map info_of self.now }
     {
@@ -280,14 +285,14 @@ impl Tree {
     }
 
     /// Whether the hardware of the object with this number refuses to be changed, as [`set_failing`](Tree::set_failing)
-    /// said last; `false` if that call said nothing yet. `None` if no object has the number.
+    /// set it last; `false` if it was never set. `None` if no object has the number.
     pub fn is_failing(&self, ono: Ono) -> Option<bool>
         ensures { result ≡ failing_at self.now ono.0 }
     {
         failing_in(&self.objects, ono)
     }
 
-    /// How many objects are locked: 0 to 4,096. It looks at no object.
+    /// How many objects are locked: 0 to 4,096. The tree keeps this count, so no object is looked at.
     pub fn lock_count(&self) -> usize
         ensures { result ≡ lock_count self.now }
     {
@@ -302,8 +307,8 @@ impl Tree {
         class_in(&self.objects, ono)
     }
 
-    /// How the object with this number is set; an integer has its limits with it. `None` for a block, and if no object
-    /// has the number.
+    /// How the object with this number is set; with the least and the greatest value if it is an integer. `None` for a
+    /// block, and if no object has the number.
     pub fn setting_of(&self, ono: Ono) -> Option<Setting>
         ensures { result ≡ setting_at self.now ono.0 }
     {
@@ -334,8 +339,9 @@ impl Tree {
         lockable_in(&self.objects, ono)
     }
 
-    /// Whether the objects are those of another tree, in the same order and with the same values, labels, flags and
-    /// roles; only their locks, and whose hardware refuses, may differ. (`true` is proved to mean this.)
+    /// Whether the other tree has the same objects, in the same order and with the same values, labels, flags and
+    /// roles. Their locks, and whose hardware refuses, may differ. `true` is proved to mean this; of `false` nothing is
+    /// proved.
     pub fn is_but_for_locks(&self, other: &Tree) -> bool
         ensures { IsTrue result → (all_unlocked self.now ≡ all_unlocked other.now) }
     {

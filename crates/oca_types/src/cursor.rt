@@ -73,7 +73,7 @@ impl<'a> Cursor<'a> {
 
     /// Takes a value of one length, an integer of 8 to 64 bits or a Boolean (AES70-3): the cursor then stands after it.
     /// A Boolean is false if its byte is 0, and true of any other byte. Refusal: `Short` if fewer bytes are left than
-    /// the value has, and the cursor is unchanged.
+    /// the value has; the cursor is then unchanged.
     pub fn take<F: Field>(&mut self) -> Result<F, ReadFault>
         ensures found { IfOk result (λ v. Takes F.codec.IsEncoding v (bytes_left self.old) (bytes_left self.new)) }
         ensures only { TakesEach F.codec.IsEncoding (bytes_left self.old) result (bytes_left self.new) }
@@ -85,8 +85,8 @@ impl<'a> Cursor<'a> {
         Ok(F::from_front(front))
     }
 
-    /// Takes a Uint8 (AES70-3): the cursor then stands after it. Refusal: `Short` if fewer than 1 byte is left, and the
-    /// cursor is unchanged.
+    /// Takes a Uint8 (AES70-3): the cursor then stands after it. Refusal: `Short` if fewer than 1 byte is left; the
+    /// cursor is then unchanged.
     pub fn take_u8(&mut self) -> Result<u8, ReadFault>
         ensures found { IfOk result (λ v. Takes (IsUnsignedEncoding w8) v (bytes_left self.old) (bytes_left self.new)) }
         ensures only { TakesEach (IsUnsignedEncoding w8) (bytes_left self.old) result (bytes_left self.new) }
@@ -97,8 +97,8 @@ impl<'a> Cursor<'a> {
         self.take::<u8>()
     }
 
-    /// Takes a Uint16 (AES70-3): the cursor then stands after it. Refusal: `Short` if fewer than 2 bytes are left, and the
-    /// cursor is unchanged.
+    /// Takes a Uint16 (AES70-3): the cursor then stands after it. Refusal: `Short` if fewer than 2 bytes are left; the
+    /// cursor is then unchanged.
     pub fn take_u16(&mut self) -> Result<u16, ReadFault>
         ensures found { IfOk result
             (λ v. Takes (IsUnsignedEncoding w16) v (bytes_left self.old) (bytes_left self.new)) }
@@ -110,8 +110,8 @@ impl<'a> Cursor<'a> {
         self.take::<u16>()
     }
 
-    /// Takes a Uint32 (AES70-3): the cursor then stands after it. Refusal: `Short` if fewer than 4 bytes are left, and the
-    /// cursor is unchanged.
+    /// Takes a Uint32 (AES70-3): the cursor then stands after it. Refusal: `Short` if fewer than 4 bytes are left; the
+    /// cursor is then unchanged.
     pub fn take_u32(&mut self) -> Result<u32, ReadFault>
         ensures found { IfOk result
             (λ v. Takes (IsUnsignedEncoding w32) v (bytes_left self.old) (bytes_left self.new)) }
@@ -123,8 +123,8 @@ impl<'a> Cursor<'a> {
         self.take::<u32>()
     }
 
-    /// Takes a Uint64 (AES70-3): the cursor then stands after it. Refusal: `Short` if fewer than 8 bytes are left, and the
-    /// cursor is unchanged.
+    /// Takes a Uint64 (AES70-3): the cursor then stands after it. Refusal: `Short` if fewer than 8 bytes are left; the
+    /// cursor is then unchanged.
     pub fn take_u64(&mut self) -> Result<u64, ReadFault>
         ensures found { IfOk result
             (λ v. Takes (IsUnsignedEncoding w64) v (bytes_left self.old) (bytes_left self.new)) }
@@ -136,8 +136,8 @@ impl<'a> Cursor<'a> {
         self.take::<u64>()
     }
 
-    /// Takes an Int8 (AES70-3): the cursor then stands after it. Refusal: `Short` if fewer than 1 byte is left, and the
-    /// cursor is unchanged.
+    /// Takes an Int8 (AES70-3): the cursor then stands after it. Refusal: `Short` if fewer than 1 byte is left; the
+    /// cursor is then unchanged.
     pub fn take_i8(&mut self) -> Result<i8, ReadFault>
         ensures found { IfOk result (λ v. Takes (IsSignedEncoding w8) v (bytes_left self.old) (bytes_left self.new)) }
         ensures only { TakesEach (IsSignedEncoding w8) (bytes_left self.old) result (bytes_left self.new) }
@@ -148,8 +148,8 @@ impl<'a> Cursor<'a> {
         self.take::<i8>()
     }
 
-    /// Takes an Int16 (AES70-3): the cursor then stands after it. Refusal: `Short` if fewer than 2 bytes are left, and the
-    /// cursor is unchanged.
+    /// Takes an Int16 (AES70-3): the cursor then stands after it. Refusal: `Short` if fewer than 2 bytes are left; the
+    /// cursor is then unchanged.
     pub fn take_i16(&mut self) -> Result<i16, ReadFault>
         ensures found { IfOk result (λ v. Takes (IsSignedEncoding w16) v (bytes_left self.old) (bytes_left self.new)) }
         ensures only { TakesEach (IsSignedEncoding w16) (bytes_left self.old) result (bytes_left self.new) }
@@ -160,8 +160,8 @@ impl<'a> Cursor<'a> {
         self.take::<i16>()
     }
 
-    /// Takes an Int32 (AES70-3): the cursor then stands after it. Refusal: `Short` if fewer than 4 bytes are left, and the
-    /// cursor is unchanged.
+    /// Takes an Int32 (AES70-3): the cursor then stands after it. Refusal: `Short` if fewer than 4 bytes are left; the
+    /// cursor is then unchanged.
     pub fn take_i32(&mut self) -> Result<i32, ReadFault>
         ensures found { IfOk result (λ v. Takes (IsSignedEncoding w32) v (bytes_left self.old) (bytes_left self.new)) }
         ensures only { TakesEach (IsSignedEncoding w32) (bytes_left self.old) result (bytes_left self.new) }
@@ -172,8 +172,8 @@ impl<'a> Cursor<'a> {
         self.take::<i32>()
     }
 
-    /// Takes an Int64 (AES70-3): the cursor then stands after it. Refusal: `Short` if fewer than 8 bytes are left, and the
-    /// cursor is unchanged.
+    /// Takes an Int64 (AES70-3): the cursor then stands after it. Refusal: `Short` if fewer than 8 bytes are left; the
+    /// cursor is then unchanged.
     pub fn take_i64(&mut self) -> Result<i64, ReadFault>
         ensures found { IfOk result (λ v. Takes (IsSignedEncoding w64) v (bytes_left self.old) (bytes_left self.new)) }
         ensures only { TakesEach (IsSignedEncoding w64) (bytes_left self.old) result (bytes_left self.new) }
@@ -185,7 +185,7 @@ impl<'a> Cursor<'a> {
     }
 
     /// Takes an OcaBoolean (AES70-3), false if its byte is 0 and true of any other byte (*profile*): the cursor then
-    /// stands after it. Refusal: `Short` if no byte is left, and the cursor is unchanged.
+    /// stands after it. Refusal: `Short` if no byte is left; the cursor is then unchanged.
     pub fn take_bool(&mut self) -> Result<bool, ReadFault>
         ensures found { IfOk result (λ v. Takes IsBoolEncoding v (bytes_left self.old) (bytes_left self.new)) }
         ensures only { TakesEach IsBoolEncoding (bytes_left self.old) result (bytes_left self.new) }
@@ -196,10 +196,10 @@ impl<'a> Cursor<'a> {
         self.take::<bool>()
     }
 
-    /// Takes an OcaString of at most 64 bytes: a Uint16 with the number of its Unicode scalar values, then its UTF-8
-    /// (AES70-3; past ASCII the count is the profile's). The cursor then stands after it. Refusals, each of which
-    /// leaves the cursor unchanged: `Short` if the bytes end before the text does. `NotUtf8` if what stands there is
-    /// not so many characters of UTF-8. `TooLong` if the text has more than 64 bytes.
+    /// Takes an OcaString of at most 64 bytes (AES70-3): a Uint16 with the number of its Unicode scalar values, then
+    /// its UTF-8. (That each scalar value outside ASCII counts as one is the profile's.) The cursor then stands after
+    /// it. Refusals, which leave the cursor unchanged: `Short` if the bytes end before the text does. `NotUtf8` if the
+    /// bytes are not that number of characters in UTF-8. `TooLong` if the text has more than 64 bytes.
     pub fn take_text(&mut self) -> Result<Text, ReadFault>
         ensures found { IfOk result (λ text. Takes IsTextEncoding text (bytes_left self.old) (bytes_left self.new)) }
         ensures only { (text front rest : List ℕ) → IsTextEncoding text front → bytes_left self.old ≡ front ++ rest →

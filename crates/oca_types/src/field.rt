@@ -22,7 +22,7 @@ pub trait Field: Copy {
     /// How many bytes an encoding has.
     const SIZE: usize;
 
-    /// The value that these bytes encode (AES70-3), of which there must be exactly `SIZE` (a premise).
+    /// The value that these bytes encode (AES70-3). There must be exactly `SIZE` bytes (a premise).
     fn from_front(front: &[u8]) -> Self
         requires { length front.now ≡ SIZE }
         ensures { result ≡ codec.value_in front.now };

@@ -24,10 +24,12 @@ pub struct Ready {
     pub beside: bool,
 }
 
-/// Waits at most so many milliseconds until one of the descriptors has something, and tells which. A file and the null
-/// device always have. Where there is neither, it waits that long. A signal may end the wait early; then neither has.
-/// The system's error where it can't wait, as where a program may have no descriptors open. More than 2,147,483,647 ms
-/// (some 24 days) counts as so many.
+/// Waits at most `milliseconds` until `input` or `beside` is ready, and returns which of them are. A descriptor is
+/// ready if a read of it would not wait, or if the system reports its end or an error. A descriptor of a file or of the
+/// null device always is. `None` is a descriptor that is not waited for; if both are `None`, the call waits for the
+/// whole time. If a signal ends the wait early, neither is ready. More than 2,147,483,647 ms (some 24 days) counts as
+/// 2,147,483,647 ms. Err with the system's reason if the system refuses to wait, for example if the program may have no
+/// descriptors open.
 pub fn wait_for(input: Option<RawFd>, beside: Option<RawFd>, milliseconds: u64) -> io::Result<Ready>
     ensures input { IfOk result (λ ready. input ≡ None → ready.input ≡ false) }
     ensures beside { IfOk result (λ ready. beside ≡ None → ready.beside ≡ false) }
@@ -44,13 +46,13 @@ pub fn wait_for(input: Option<RawFd>, beside: Option<RawFd>, milliseconds: u64) 
     })
 }
 
-/// Whether this descriptor is a terminal. `false` also where it is not open.
+/// Whether this descriptor is a terminal. `false` also if the descriptor is not open.
 pub fn is_terminal(descriptor: RawFd) -> bool {
     libc::isatty(descriptor) == 1
 }
 
-/// Whether the program is in the foreground of this terminal. In the background a read of it stops the program. `false`
-/// also where the descriptor is no terminal.
+/// Whether the program is in the foreground of this terminal. If it is in the background, the system stops it when it
+/// reads from the terminal. `false` also if the descriptor is no terminal.
 pub fn is_in_foreground(terminal: RawFd) -> bool {
     libc::tcgetpgrp(terminal) == libc::getpgrp()
 }

@@ -27,7 +27,7 @@ pub enum Ask {
 }
 
 impl Ask {
-    /// The request that asks this; it only reads.
+    /// The request that asks this question; it only reads.
     pub fn request(self) -> Request
         ensures { result ≡ request_of_ask self }
     {
@@ -43,7 +43,8 @@ impl Ask {
         }
     }
 
-    /// The method by which this is asked.
+    /// The method by which this question is asked. The value is asked by the get method of a setting, whichever class
+    /// the object has.
     pub fn method(self) -> Method
         ensures { result ≡ method_of_ask self }
     {
@@ -60,8 +61,8 @@ impl Ask {
     }
 }
 
-/// The class by whose methods an object is asked: its own class. For `None`, a class that is not of this profile, it is
-/// OcaBlock: the methods of OcaRoot are those of all classes.
+/// The class by whose methods an object is asked: its own class. If that is not of this profile (`None`), it is
+/// OcaBlock, whose methods of OcaRoot all classes have.
 pub fn class_for(class: Option<Class>) -> Class
     ensures { result ≡ class_for class }
 {

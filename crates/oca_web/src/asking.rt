@@ -7,8 +7,9 @@ use oca_net::End;
 use oca_panel::Panel;
 use oca_types::{Class, Handle, Ono};
 
-/// Whether a question may be asked under the handle `next`, if `lowest` is the lowest handle in flight. `true` if none
-/// is in flight, or `next` lies above `lowest` by less than half of the span: the other half is left for orders.
+/// Whether a question may be asked under the handle `next`, if `lowest` is the lowest handle in flight. `true` if no
+/// command is in flight (`None`), or `next` lies above `lowest` by less than half of the span. The other half is left
+/// for orders.
 pub fn leaves_half(lowest: Option<u32>, next: u32, span: u8) -> bool
     ensures { result ≡ leaves_half lowest next span }
 {
@@ -18,8 +19,8 @@ pub fn leaves_half(lowest: Option<u32>, next: u32, span: u8) -> bool
     }
 }
 
-/// Asks an object of this class, unless `may` is false, and returns the handle of the command. It only reads. `None` if
-/// `may` is false, or the panel refuses the command: then nothing is changed or sent.
+/// Asks an object of this class one question, unless `may` is false, and returns the handle of the command. It only
+/// reads. `None` if `may` is false, or the panel refuses the command: then nothing is changed or sent.
 pub fn ask_one<E: End>(
     panel: &mut Panel<E>,
     ono: Ono,

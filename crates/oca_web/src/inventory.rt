@@ -47,8 +47,9 @@ impl Inventory {
     ghost use Rattle.std.specs.Prelude.{slice_get};
     ghost use Rattle.oca_web.specs.Walking.{BeginsAnew, KeepsWalk};
 
-    /// An inventory of a device of which nothing is known: the walk begins at the root. `now` is the present moment, in
-    /// milliseconds. Nothing is asked. Refusal: `NoMemory`, if memory was refused.
+    /// An inventory of a device of which nothing is known: the walk begins at the root. `now` is the present moment of
+    /// the program's clock, in milliseconds. Nothing is asked of the device. Refusal: `NoMemory`, if memory was
+    /// refused.
     pub fn new(alloc: Global, now: u64) -> Result<Inventory, NoMemory> {
         let mut inventory = Inventory {
             alloc,
@@ -66,8 +67,8 @@ impl Inventory {
     }
 
     /// Forgets the objects, and begins another walk. Questions in flight stay in flight, but their answers are not
-    /// learned. Refusal: `NoMemory`, if memory was refused, and the objects are then forgotten all the same. `NoMemory`
-    /// also after the walk 2^64 - 1: then nothing is changed.
+    /// used. Refusal: `NoMemory` if memory was refused; the objects are then forgotten all the same. `NoMemory` also if
+    /// this is the walk 2^64 - 1: then nothing is changed.
     pub fn begin_anew(&mut self) -> Result<(), NoMemory>
         ensures { BeginsAnew self.old self.new }
     {
@@ -127,7 +128,7 @@ impl Inventory {
         self.epoch
     }
 
-    /// Whether the walk is over: all that was to be asked of it was asked and answered.
+    /// Whether the walk is over: everything that it had to ask was asked and answered.
     pub fn is_walked(&self) -> bool
         ensures { result ≡ self.now.walked }
     {
@@ -257,10 +258,10 @@ impl Inventory {
         self.read_again(now)
     }
 
-    /// The question that is to be asked now (`now` is in milliseconds), so that what is known of an object stays new.
-    /// Its object counts as read again at `now`. An object is due 5,000 ms after it was read again last; one that a
-    /// page shows, after 100 ms, and a block that a page shows, after 1,000 ms. `None` if no page is open, or nothing
-    /// is due in this round.
+    /// The question to ask at `now`, in milliseconds of the program's clock, so that what is known of an object stays
+    /// up to date. Its object then counts as read again at `now`. An object is due 5,000 ms after it was read again
+    /// last. If a page shows it, it is due after 100 ms, and a block then after 1,000 ms. `None` if no page is open, or
+    /// nothing is due in this round.
     pub fn read_again(&mut self, now: u64) -> Option<Question>
         ensures reads { AsksAgain now result self.old self.new }
         ensures walk { KeepsWalk self.old self.new }
@@ -281,9 +282,9 @@ impl Inventory {
         }
     }
 
-    /// Learns the answer to a question that was submitted at `moment`, in milliseconds, or later. The answer to a
-    /// question of an earlier walk changes nothing. Refusal: `NoMemory`, if memory was refused: what is known may then
-    /// lack something.
+    /// Notes the answer to a question that was submitted at `moment`, in milliseconds of the program's clock, or later.
+    /// The answer to a question of an earlier walk changes nothing. Refusal: `NoMemory`, if memory was refused; what is
+    /// known may then lack something.
     #[tactic(auto, using(crate::proofs::AgeLemmas::moment_rules))]
     pub fn learn(
         &mut self,
@@ -425,10 +426,10 @@ impl Inventory {
         lists_left(objects, objects, block, members.as_slice())
     }
 
-    /// Learns how an order ended: whose lock is on its object, and what the object is set to. The object's value, if it
-    /// has one, or its label after an order for that, is asked again. An answer to the same question that is still in
-    /// flight is not learned, since it may be older than the order. An order for an object that is not known changes
-    /// nothing. Refusal: `NoMemory`, if memory was refused: the object may then not be asked again.
+    /// Notes how an order ended: whose lock is on its object, and what the object is set to. The object's value, if it
+    /// has one, is asked again; after an order for a label, the label is. An answer to the same question that is still
+    /// in flight is not used, since it may be older than the order. An order for an object that is not known changes
+    /// nothing. Refusal: `NoMemory`, if memory was refused; the object may then not be asked again.
     pub fn learn_order(&mut self, order: Order, done: Result<(), Trouble>) -> Result<(), NoMemory>
         ensures { KeepsWalk self.old self.new }
     {

@@ -19,7 +19,7 @@ pub enum Lock {
 }
 
 impl Lock {
-    /// The lock's name, as the page is told it: `free`, `own` or `other`.
+    /// The lock's name in the answers to the page: `free`, `own` or `other`.
     pub fn name(self) -> &'static str {
         match self {
             Lock::Free => "free",
@@ -45,7 +45,7 @@ pub struct Shown {
 }
 
 impl Shown {
-    /// What is shown of an object of which nothing was read yet: no reading, no trouble, no lock, and enabled.
+    /// What is shown of an object before anything was read of it: no reading, no trouble, no lock, and enabled.
     pub fn unread() -> Shown {
         Shown {
             reading: None,
@@ -95,7 +95,7 @@ pub struct Object {
 }
 
 impl Object {
-    /// An object of which only its number, its container and its class are known. `None` is a class that is not of this
+    /// A new object: only its number, its container and its class are known. The class is `None` if it is not of this
     /// profile.
     pub fn new(ono: Ono, container: Ono, class: Option<Class>) -> Object {
         Object {
@@ -131,8 +131,8 @@ pub fn limits_of(reading: Reading) -> Option<(Value, Value)> {
     }
 }
 
-/// The reading of an object after it is set to this value: the value, with the same limits. If the value is of another
-/// class, the reading stays as it was.
+/// The reading of an object after it was set to this value: the value, with the same limits. If the value is of another
+/// class, the reading is returned as it is.
 pub fn reading_with(reading: Reading, value: Value) -> Reading
     ensures { (value_without_limits result ≡ value) ⊎ (result ≡ reading) }
 {
@@ -158,7 +158,7 @@ pub fn word_in(reading: Reading) -> Text {
     word_of(reading.value())
 }
 
-/// The name of a class, as the page is told it, such as `mute`. `unknown` for `None`, a class that is not of this
+/// The name of a class in the answers to the page, such as `mute`. `unknown` for `None`, a class that is not of this
 /// profile.
 pub fn class_name(class: Option<Class>) -> &'static str
     ensures { result.now ≡ name_of_class class }
@@ -181,7 +181,7 @@ pub fn class_name(class: Option<Class>) -> &'static str
     }
 }
 
-/// Whether this is the name of a class of this profile, as [`class_name`] gives it; `unknown` is none.
+/// Whether this is the name of a class of this profile, as [`class_name`] gives it; `false` for `unknown`.
 pub fn is_class_name(name: &str) -> bool {
     matches!(
         name,

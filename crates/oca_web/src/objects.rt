@@ -78,7 +78,7 @@ impl Objects {
         }
     }
 
-    /// Gives the object at this place its role. It counts as a change. `place` is counted from 0; a place after the
+    /// Gives the object at this place its role, which counts as a change. `place` is counted from 0; a place after the
     /// last object changes nothing.
     pub fn put_role(&mut self, place: usize, role: Text)
         ensures { Changes place self.old self.new }
@@ -91,8 +91,8 @@ impl Objects {
         self.list[place].changed = self.changes;
     }
 
-    /// Gives the object at this place its label. It counts as a change, unless it is the same as before. `place` is
-    /// counted from 0; a place after the last object changes nothing.
+    /// Gives the object at this place its label, which counts as a change unless the label is the same as before.
+    /// `place` is counted from 0; a place after the last object changes nothing.
     pub fn put_label(&mut self, place: usize, label: Text)
         ensures { Changes place self.old self.new }
     {
@@ -104,8 +104,8 @@ impl Objects {
         self.list[place].changed = self.changes;
     }
 
-    /// Notes whether the object at this place can be locked. It counts as a change. `place` is counted from 0; a place
-    /// after the last object changes nothing.
+    /// Notes whether the object at this place can be locked, which counts as a change. `place` is counted from 0; a
+    /// place after the last object changes nothing.
     pub fn put_lockable(&mut self, place: usize, lockable: bool)
         ensures { Changes place self.old self.new }
     {
@@ -117,8 +117,8 @@ impl Objects {
         self.list[place].changed = self.changes;
     }
 
-    /// Gives the positions of the switch at this place their names. It counts as a change. `place` is counted from 0; a
-    /// place after the last object changes nothing.
+    /// Gives the positions of the switch at this place their names, which counts as a change. `place` is counted from
+    /// 0; a place after the last object changes nothing.
     pub fn put_names(&mut self, place: usize, names: Names)
         ensures { Changes place self.old self.new }
     {
@@ -130,8 +130,8 @@ impl Objects {
         self.list[place].changed = self.changes;
     }
 
-    /// Notes which positions of the switch at this place are enabled. It counts as a change, unless it is the same as
-    /// before. `place` is counted from 0; a place after the last object changes nothing.
+    /// Notes which positions of the switch at this place are enabled, which counts as a change unless they are the same
+    /// as before. `place` is counted from 0; a place after the last object changes nothing.
     pub fn put_flags(&mut self, place: usize, flags: Flags)
         ensures { Changes place self.old self.new }
     {
@@ -153,8 +153,8 @@ impl Objects {
         }
     }
 
-    /// Replaces what is shown of the object at this place. It counts as a change, unless it is the same as before but
-    /// for the moment of its reading. `place` is counted from 0; a place after the last object changes nothing.
+    /// Replaces what is shown of the object at this place. It counts as a change, unless only the moment of the reading
+    /// differs. `place` is counted from 0; a place after the last object changes nothing.
     pub fn show(&mut self, place: usize, shown: Shown)
         ensures { ShowsAt place shown self.old self.new }
     {

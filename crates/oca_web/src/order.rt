@@ -33,7 +33,7 @@ pub enum Action {
 }
 
 impl Action {
-    /// The class by whose methods this is asked: that of the value, or OcaBlock for a lock and a label.
+    /// The class by whose methods this is ordered: that of the value, or OcaBlock for a lock and a label.
     pub fn class(self) -> Class
         ensures { result ≡ class_asked self }
     {
@@ -43,7 +43,7 @@ impl Action {
         }
     }
 
-    /// The request that asks for this.
+    /// The request that carries out this action.
     pub fn request(self) -> Request
         ensures { AsksOrdered self result }
     {

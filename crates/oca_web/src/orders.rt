@@ -41,7 +41,7 @@ impl Orders {
     ghost use Rattle.oca_web.specs.Orders.{result_of, has_waiting, not_done, with_all, with_lost, with_order, with_passed, with_result};
     ghost use Rattle.oca_web.specs.Orders.{with_unsent, without_waiting};
 
-    /// No orders, and no ticket used.
+    /// A list without orders, in which no ticket is used.
     pub fn new() -> Orders
         ensures { result ≡ no_orders }
     {
@@ -60,9 +60,9 @@ impl Orders {
         self.tickets.saturating_add(1)
     }
 
-    /// Adds an order after all others and returns its ticket. `last` is the moment, in milliseconds, after which it
-    /// must not be submitted. `None` if 256 orders wait already, or no ticket is left below 2^64: then nothing is
-    /// changed.
+    /// Adds an order after all others and returns its ticket. `last` is the moment, in milliseconds of the program's
+    /// clock, after which it must not be submitted. `None` if 256 orders wait already, or no ticket is left below 2^64:
+    /// then nothing is changed.
     pub fn add(&mut self, ono: Ono, action: Action, last: u64) -> Option<u64>
         ensures { AddsTicket ono action last self.old result self.new }
     {
@@ -80,7 +80,8 @@ impl Orders {
         Some(ticket)
     }
 
-    /// Whether so many more orders can be added: at most 256 would then wait, and each gets a ticket, below 2^64 - 1.
+    /// Whether `count` more orders can be added. Then at most 256 would wait, and each would get a ticket below 2^64 -
+    /// 1.
     pub fn has_room(&self, count: usize) -> bool
         ensures { result ≡ has_room_for count self.now }
     {
@@ -88,9 +89,9 @@ impl Orders {
             && (count as u64) < u64::MAX - self.tickets
     }
 
-    /// Adds many orders after all others, in their order, and returns the ticket of the first; the others have the
-    /// tickets after it. `last` is the moment, in milliseconds, after which they must not be submitted. `None` if there
-    /// is no room for all of them ([`has_room`](Orders::has_room)): then nothing is changed.
+    /// Adds these orders after all others, in their order, and returns the ticket of the first; the others have the
+    /// tickets after it. `last` is the moment, in milliseconds of the program's clock, after which they must not be
+    /// submitted. `None` if there is no room for all of them ([`has_room`](Orders::has_room)): then nothing is changed.
     pub fn add_all(&mut self, wanted: &[Wanted], last: u64) -> Option<u64>
         ensures { AddsAll wanted.now last self.old result self.new }
     {
@@ -281,8 +282,8 @@ impl Orders {
         self.drop_late(now);
     }
 
-    /// How the last orders ended, in the order of their tickets: at most 512. Of more, the lowest tickets are
-    /// forgotten.
+    /// How the last orders ended, in the order of their tickets: at most 512. If there were more, those with the lowest
+    /// tickets are left out.
     pub fn results(&self) -> &[OrderResult]
         ensures { result.now ≡ self.now.results }
     {

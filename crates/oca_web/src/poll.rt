@@ -104,8 +104,8 @@ impl Poll {
     ghost use Rattle.std.specs.Option.{option_map};
     ghost use Rattle.oca_web.specs.Polling.{OpensPage, ReadsAgain, has_open_page, page_asked, pause_of, shows};
 
-    /// A poll without a round and without a page. `now` is the present moment, in milliseconds: the first round begins
-    /// 25 ms later at the earliest.
+    /// A poll without a round and without a page. `now` is the present moment, in milliseconds of the program's clock.
+    /// The first round begins 25 ms later at the earliest.
     pub fn new(now: u64) -> Poll {
         Poll {
             pages: ArrayVec::new(),
@@ -117,9 +117,9 @@ impl Poll {
         }
     }
 
-    /// Notes that a page asked for values at the moment `now`, in milliseconds, and shows `visible` objects (at most
-    /// 512) from the place `first` on. It counts as open for 2,500 ms. At most 128 pages are kept: of more, the one
-    /// that asked longest ago is replaced.
+    /// Notes that a page asked for values at the moment `now`, in milliseconds of the program's clock. The page shows
+    /// `visible` objects (at most 512) from the place `first` on, and counts as open for 2,500 ms. At most 128 pages
+    /// are kept: if there are more, the one that asked longest ago is replaced.
     pub fn open(&mut self, now: u64, first: usize, visible: usize)
         ensures { OpensPage now (page_asked now first visible) self.old.pages.items self.new.pages.items }
     {
@@ -132,7 +132,8 @@ impl Poll {
         keep_page(&mut self.pages, page, place);
     }
 
-    /// Whether a page is open at the moment `now`, in milliseconds: it asked for values less than 2,500 ms before.
+    /// Whether a page is open at the moment `now`, in milliseconds of the program's clock: it asked for values less
+    /// than 2,500 ms before.
     pub fn is_open(&self, now: u64) -> bool
         ensures { result ≡ has_open_page now self.now.pages.items }
     {
@@ -154,9 +155,9 @@ impl Poll {
         self.at = self.end;
     }
 
-    /// The moment, in milliseconds, from which the next round may begin; it may already be past. `now` is the present
-    /// moment, in milliseconds. `None` if no page is open at `now`, or a round is not over: that round goes on when an
-    /// answer comes.
+    /// The moment from which the next round may begin; it may already be past. It is in milliseconds of the program's
+    /// clock, as is `now`, the present moment. `None` if no page is open at `now`. `None` also if a round is not over:
+    /// it goes on when an answer comes.
     pub fn next_moment(&self, now: u64) -> Option<u64> {
         if self.is_open(now) && self.at >= self.end {
             Some(self.begun.saturating_add(ROUND_MS))
@@ -190,9 +191,9 @@ impl Poll {
         self.end = self.front.saturating_add(hidden_in(passed, objects));
     }
 
-    /// What is to be read next: the place of an object, counted from 0, and what is asked of it. `now` is the present
-    /// moment, in milliseconds. It begins a round if one is due. `None` if no page is open, the round is over, or it is
-    /// not yet time for the next one.
+    /// What to read next: the place of an object, counted from 0, and the question to ask. `now` is the present moment,
+    /// in milliseconds of the program's clock. If a round is due, it begins. `None` if no page is open, the round is
+    /// over, or the next one is not due yet.
     pub fn next(&mut self, now: u64, objects: &[Object]) -> Option<(usize, Ask)>
         ensures reads { ReadsAgain now result objects.now self.old.pages.items }
         ensures pages { self.new.pages ≡ self.old.pages }

@@ -45,7 +45,7 @@ impl Site {
     ghost use Rattle.oca_web.specs.Sites.{AnswersOrFails, IsActionFor, IsSetting, IsTurnedAway, KeepsOrders, PostsMany, PostsOne};
     ghost use Rattle.oca_web.specs.Sites.{PostsOrder, TakesOrder, TakesOrders};
 
-    /// The service over a view, on these terms. No request was answered so far.
+    /// A service that answers requests from this view, on these terms. No request was answered so far.
     pub fn new(alloc: Global, view: View, terms: Terms) -> Site
         ensures view { result.view ≡ view }
         ensures terms { result.terms ≡ terms }
@@ -60,13 +60,13 @@ impl Site {
         }
     }
 
-    /// The view, to be changed.
+    /// A reference to the view, by which the program changes it.
     pub fn view(&mut self) -> &mut View {
         &mut self.view
     }
 
-    /// Sets whether the requests from now on may have waited while the program was suspended. If so, orders that give
-    /// no last moment are told as not sent.
+    /// Sets whether the next requests may have waited while the program was suspended. If so, orders that give no last
+    /// moment are answered as not sent.
     pub fn doubt(&mut self, doubts: bool)
         ensures doubts { self.new.doubts ≡ doubts }
         ensures view { self.new.view ≡ self.old.view }

@@ -7,9 +7,9 @@ use arrayvec::ArrayVec;
 use oca_net::End;
 use oca_panel::{Panel, Trouble, done_in};
 
-/// Submits the order that is next, and returns whether it did. The program's clock, by which the orders have their last
-/// moments, is `ahead` milliseconds ahead of the end's. `false` if no order is ready, its last moment has passed, or
-/// the link refuses its command: then nothing is changed or sent.
+/// Submits the next order, and returns whether it did. `ahead` says by how many milliseconds the program's clock, in
+/// which orders have their last moments, is ahead of the end's. `false` if no order is ready, its last moment has
+/// passed, or the link refuses its command: then nothing is changed or sent.
 pub fn submit_first<E: End>(orders: &mut Orders, panel: &mut Panel<E>, ahead: u64) -> bool
     ensures { SubmitsFirst ahead result orders.old panel.old orders.new panel.new }
 {
@@ -29,10 +29,11 @@ pub fn submit_first<E: End>(orders: &mut Orders, panel: &mut Panel<E>, ahead: u6
     }
 }
 
-/// Submits the orders that wait, in the order in which they came, each once, until 32 are in flight, the link takes
-/// none (it is lost or late, its span is full, or its handles are used up), or the last moment of the next order has
-/// passed. What then waits stays, and is tried first at the next call. The program's clock, by which the orders have
-/// their last moments, is `ahead` milliseconds ahead of the end's.
+/// Submits the orders that wait, in the order in which they came, each once. It stops if 32 orders are in flight, or an
+/// order for the same object is in flight. It stops if the last moment of the next order has passed. It also stops if
+/// the link takes no command: it is lost or late, its span is full, or its handles are used up. The orders that still
+/// wait then stay, and are tried first at the next call. `ahead` says by how many milliseconds the program's clock, in
+/// which orders have their last moments, is ahead of the end's.
 #[tactic(auto, using(crate::proofs::StepLemmas::submit_rules))]
 pub fn submit_orders<E: End>(orders: &mut Orders, panel: &mut Panel<E>, ahead: u64)
     ensures submits { SubmitsOrders ahead orders.old panel.old orders.new panel.new }
@@ -45,9 +46,10 @@ pub fn submit_orders<E: End>(orders: &mut Orders, panel: &mut Panel<E>, ahead: u
     }
 }
 
-/// Takes the outcome of the order in flight at the place `at`, counted from 0, if its command was answered or the link
-/// is lost, and notes it under the order's ticket. Returns the order and its outcome; it is in flight no longer. It
-/// does not wait. `None` if neither is so, or no order stands there: then nothing is changed.
+/// Takes the outcome of one order in flight, if its command was answered or the link is lost, and notes it under the
+/// order's ticket. `at` is the order's place among those in flight, counted from 0. Returns the order and its outcome;
+/// it is in flight no longer. It does not wait. `None` if the outcome is not known, or no order stands there: then
+/// nothing is changed.
 pub fn settle_at<E: End>(
     orders: &mut Orders,
     panel: &mut Panel<E>,
@@ -82,7 +84,8 @@ impl Default for Settled {
 }
 
 /// Takes the outcome of each order in flight whose command was answered, or of all if the link is lost, and notes it
-/// under the order's ticket. Returns them, at most 32; the others stay in flight. It does not wait.
+/// under the order's ticket. Returns these orders with their outcomes, at most 32; the others stay in flight. It does
+/// not wait.
 #[tactic(auto, using(crate::proofs::StepLemmas::one_settled))]
 pub fn settle_orders<E: End>(orders: &mut Orders, panel: &mut Panel<E>) -> ArrayVec<Settled, 32>
     ensures { SettlesOrders orders.old panel.old orders.new panel.new }
@@ -100,8 +103,8 @@ pub fn settle_orders<E: End>(orders: &mut Orders, panel: &mut Panel<E>) -> Array
     all
 }
 
-/// If the link is lost or late, notes that those in flight are lost, which may have been carried out, and that those
-/// that wait were never sent. Returns whether it is; else nothing is changed.
+/// Returns whether the link is lost or late. If it is, the orders in flight are noted as lost, which may have been
+/// carried out. Those that wait are noted as not sent. If it is not, nothing is changed.
 pub fn lose_orders<E: End>(orders: &mut Orders, panel: &Panel<E>) -> bool
     ensures { LosesOrders result panel.now orders.old orders.new }
 {

@@ -79,8 +79,8 @@ impl View {
     ghost use Rattle.oca_web.specs.Walking.{BeginsAnew, KeepsWalk, StaysOver};
 
     /// A view of the device at this address, of which nothing is known, over a panel with this span and this first
-    /// handle. `now` is the end's present moment, in milliseconds. Nothing is sent. Refusal: `NoMemory`, if memory was
-    /// refused.
+    /// handle. `now` is the end's present moment, in milliseconds; the program's clock begins there. Nothing is sent.
+    /// Refusal: `NoMemory`, if memory was refused.
     pub fn new(
         alloc: Global,
         device: Peer,
@@ -128,15 +128,14 @@ impl View {
         &self.inventory
     }
 
-    /// The device's address, and the span of its links (how far above the lowest handle in flight the next one may
-    /// lie).
+    /// The device's address, and the span of its links: a new handle lies below the lowest one in flight plus the span.
     pub fn reach(&self) -> Reach
         ensures { result ≡ self.now.reach }
     {
         self.reach
     }
 
-    /// How the link to the device is, with moments in milliseconds.
+    /// How the link to the device is. Its moments are in milliseconds of the program's clock.
     pub fn news(&self) -> LinkNews
         ensures { result ≡ self.now.news }
     {
@@ -174,7 +173,7 @@ impl View {
         u64::from(self.next_handle.saturating_sub(self.first_handle))
     }
 
-    /// Whether half of the handles above the first handle of this end are used. Then nothing more is submitted over
+    /// Whether half of the handles from the first handle of this end on are used. Then nothing more is submitted over
     /// this end.
     pub fn is_spent(&self) -> bool
         ensures { result ≡ half_spent self.now.first_handle self.now.next_handle }
@@ -183,8 +182,8 @@ impl View {
         2 * u64::from(used) >= u64::from(u32::MAX - self.first_handle)
     }
 
-    /// Whether the panel must go on over another end, at another port: half of the handles are used, and nothing is in
-    /// flight. Then call [`View::take_end`].
+    /// Whether the panel must go on over another end, at another port: half of the handles are used
+    /// ([`is_spent`](View::is_spent)), and nothing is in flight. Then call [`View::take_end`].
     pub fn wants_end(&self) -> bool
         ensures { result ≡ (half_spent self.now.first_handle self.now.next_handle
             && (length self.now.orders.in_flight == 0) && (length self.now.inventory.asked.items == 0)) }
@@ -192,9 +191,9 @@ impl View {
         self.is_spent() && self.orders.in_flight() == 0 && self.inventory.in_flight() == 0
     }
 
-    /// Notes that the panel goes on over another end, whose present moment is `moment`, with a new link whose first
-    /// handle is `first`. `last` is the last moment of the end before, and `sent` is how many datagrams that end sent.
-    /// Moments are in milliseconds.
+    /// Notes that the panel goes on over another end, with a new link whose first handle is `first`. `moment` is the
+    /// present moment of the new end. `last` is the last moment of the end before, and `sent` is how many datagrams
+    /// that end sent. Each moment is in milliseconds of its end's clock.
     ///
     /// Returns whether the program was suspended for more than 2,000 ms before `last`, as [`View::note`] does. Then the
     /// orders that wait are noted as not sent; otherwise they stay. What is known of the device stays.
@@ -217,7 +216,7 @@ impl View {
         stood_still
     }
 
-    /// How many milliseconds the program's clock is ahead of the clock of the end; 0 over the first end.
+    /// By how many milliseconds the program's clock is ahead of the clock of the end; 0 over the first end.
     pub fn ahead(&self) -> u64
         ensures { result ≡ self.now.ahead }
     {
@@ -232,8 +231,8 @@ impl View {
         self.inventory.open(now, first, visible);
     }
 
-    /// Notes the present moment of the end, in milliseconds, and how many datagrams the end sent until then. The
-    /// program's clock, which never goes back, then reads that moment.
+    /// Notes the present moment of the end, in milliseconds of the end's clock, and how many datagrams the end sent
+    /// until then. The program's clock, which never goes back, moves on accordingly.
     ///
     /// `true` if the program was suspended: more than 2,000 ms passed since the last note. Then the orders that wait
     /// are noted as not sent, and the age of other requests that came meanwhile is not known. `false` otherwise: then
@@ -259,8 +258,9 @@ impl View {
         self.inventory.class_of(ono).is_some()
     }
 
-    /// The value of an object for which this word stands. Refusals: `NoObject` if no object with this number is known.
-    /// `NoValue` if its class is unknown or has no value, or the word stands for no value of the class.
+    /// The value for which a word stands, of the object with this number. Refusals: `NoObject` if no object with this
+    /// number is known. `NoValue` if its class is unknown or has no value, or the word stands for no value of the
+    /// class.
     pub fn value_named(&self, ono: Ono, word: &str) -> Result<Value, NoOrder>
         ensures { IfOk result (IsForWord word.now) }
     {
@@ -278,9 +278,9 @@ impl View {
         self.orders.next_ticket()
     }
 
-    /// Adds an order after all others and returns its ticket. `last` is the moment, in milliseconds, after which it
-    /// must not be submitted. `None` if 256 orders wait already, or no ticket is left below 2^64: then nothing is
-    /// changed.
+    /// Adds an order after all others and returns its ticket. `last` is the moment, in milliseconds of the program's
+    /// clock, after which it must not be submitted. `None` if 256 orders wait already, or no ticket is left below 2^64:
+    /// then nothing is changed.
     pub fn order(&mut self, ono: Ono, action: Action, last: u64) -> Option<u64>
         ensures orders { AddsTicket ono action last self.old.orders result self.new.orders }
         ensures rest { self.new ≡ record self.old { orders = self.new.orders } }
@@ -288,16 +288,17 @@ impl View {
         self.orders.add(ono, action, last)
     }
 
-    /// Whether so many more orders can be added: at most 256 would then wait, and each gets a ticket, below 2^64 - 1.
+    /// Whether `count` more orders can be added. Then at most 256 would wait, and each would get a ticket below 2^64 -
+    /// 1.
     pub fn has_room(&self, count: usize) -> bool
         ensures { result ≡ has_room_for count self.now.orders }
     {
         self.orders.has_room(count)
     }
 
-    /// Adds many orders after all others, in their order, and returns the ticket of the first; the others have the
-    /// tickets after it. `last` is the moment, in milliseconds, after which they must not be submitted. `None` if there
-    /// is no room for all of them ([`has_room`](View::has_room)): then nothing is changed.
+    /// Adds these orders after all others, in their order, and returns the ticket of the first; the others have the
+    /// tickets after it. `last` is the moment, in milliseconds of the program's clock, after which they must not be
+    /// submitted. `None` if there is no room for all of them ([`has_room`](View::has_room)): then nothing is changed.
     pub fn order_all(&mut self, wanted: &[Wanted], last: u64) -> Option<u64>
         ensures orders { AddsAll wanted.now last self.old.orders result self.new.orders }
         ensures rest { self.new ≡ record self.old { orders = self.new.orders } }
@@ -306,7 +307,7 @@ impl View {
     }
 
     /// Takes one turn of the panel: receives once, at a socket for at most 50 ms, and sends what is due. Then it takes
-    /// the answers that came, and notes what they say. Refusal: `NoMemory`, if memory was refused: what is known may
+    /// the answers that came, and notes what they say. Refusal: `NoMemory`, if memory was refused; what is known may
     /// then lack something.
     #[tactic(auto, using(crate::proofs::WalkLemmas::keeps_stays, crate::proofs::WalkLemmas::stays_on, crate::proofs::StepLemmas::answer_rules))]
     pub fn take_turn<E: End>(&mut self, panel: &mut Panel<E>) -> Result<(), NoMemory>
@@ -321,11 +322,11 @@ impl View {
         Ok(())
     }
 
-    /// Does what is to be done after a turn. Another walk begins if what was found is stale. If the link is lost or
-    /// late, all orders are noted as lost, and a new link and a new walk begin. Then orders are submitted, each in time
-    /// or else not at all, and then questions, as far as there is room. Nothing is submitted once half of the handles
-    /// are used. Refusal: `NoMemory`, if memory was refused: what comes after that is left out, and what is known may
-    /// lack something.
+    /// Does what must be done after a turn. If what was found is no longer right, another walk begins. If the link is
+    /// lost or late, all orders are noted as lost, and a new link and a new walk begin. Then the orders that wait are
+    /// submitted, except those whose last moment has passed. Then questions are submitted, as far as there is room.
+    /// Nothing is submitted once half of the handles are used. Refusal: `NoMemory`, if memory was refused; what comes
+    /// after that is left out, and what is known may lack something.
     #[tactic(auto, using(crate::proofs::WalkLemmas::walk_rules))]
     pub fn go_on<E: End>(&mut self, panel: &mut Panel<E>) -> Result<(), NoMemory>
         ensures orders { Continues self.old.reach self.old.first_handle self.old.next_handle self.old.ahead
@@ -528,9 +529,9 @@ impl View {
             && leaves_half(lowest, self.next_handle, self.reach.span.get())
     }
 
-    /// The moment, in milliseconds, at which there is something to be read again; it may already be past. What the link
-    /// is due to send is not counted. `None` if no page is open, or a walk or a round is not over: they go on when an
-    /// answer comes.
+    /// The moment, in milliseconds of the program's clock, from which something must be read again; it may already be
+    /// past. What the link has to send is not counted. `None` if no page is open, or a walk or a round is not over:
+    /// they go on when an answer comes.
     pub fn next_moment(&self) -> Option<u64> {
         self.inventory.next_moment(self.news.now)
     }

@@ -6,10 +6,10 @@ use std::rt::Clock;
 
 /// An end that says where it is bound, and why a send of it failed.
 pub trait BoundEnd: End {
-    /// Where it is bound.
+    /// The address and the port at which the end is bound.
     fn local(&self) -> Peer;
 
-    /// Why the last send that failed did so, where one has.
+    /// Why the last send that failed did so. `None` if no send has failed.
     fn last_failed_send(&self) -> Option<io::Error>;
 }
 

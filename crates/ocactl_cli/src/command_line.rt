@@ -309,7 +309,7 @@ const PROGRAM: CommandRow = CommandRow {
     options: &[],
 };
 
-/// The program with all its commands, as `clap` takes it. `AllocError` if memory was refused.
+/// The program `ocactl` with all its commands, for `clap`. Refusal: `AllocError`, if memory was refused.
 #[tactic(auto, unfolding(crate::specs::CommandLine::own_app))]
 pub fn program<'a>(alloc: Global) -> Result<Command<'a>, AllocError>
     ensures { IfOk result (TakesApp own_app) }
@@ -317,7 +317,7 @@ pub fn program<'a>(alloc: Global) -> Result<Command<'a>, AllocError>
     program_with_commands(alloc, &PROGRAM, &rows())
 }
 
-/// The options of a command of this name, none where there is no such command.
+/// The options of the command with this name. Empty if there is no such command.
 pub fn options_of(name: &str) -> &'static [OptionRow] {
     match rows().iter().find(|row| row.name == name) {
         Some(row) => row.options,

@@ -296,9 +296,13 @@ fn print_unless_failed<W: Sink>(
     }
 }
 
-/// Sends the commands that the source has to give over the session, and prints the outcome of each, in the order of
-/// their lines. While there is no input, those in flight are driven; at the end they are waited for. Faults: the first
-/// bad line, too much input, a failed read or write.
+/// Sends the commands that the lines of the source ask for over the session. Prints the outcome of each, in the order
+/// of their lines. While no input has come, it drives the commands in flight; at the end it waits for their outcomes.
+///
+/// Faults: `Line` if a line is bad, with the number of the first such line, counted from 1, and its fault. `TooMuch` if
+/// the source has more than 16,777,216 bytes. After these two the commands of the lines before were handled, and their
+/// outcomes are printed. `Read` if a read failed, `Write` if a write failed. After `Write` commands in flight may be
+/// carried out or not.
 pub fn send_all<E: End, R: Source, W: Sink>(
     session: &mut Session<E>,
     reader: &mut R,

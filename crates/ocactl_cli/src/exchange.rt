@@ -12,8 +12,8 @@ use oca_script::{Printer, Sink, WriteFailed};
 use oca_types::Request;
 use ocactl_replay::line::{Line, print_line};
 
-/// The exit status for a command: 0 if it was answered with OK, 4 with another status, 3 if no answer came or the link
-/// is lost or refuses it.
+/// The exit status for the outcome of a command. 0 if it was answered with OK, 4 if it was answered with another
+/// status. 3 if no answer came, or the link is lost or refuses the command.
 pub fn outcome_status(outcome: &Outcome) -> u8
     ensures { result ≡ outcome_status outcome.now }
 {
@@ -23,7 +23,8 @@ pub fn outcome_status(outcome: &Outcome) -> u8
     }
 }
 
-/// Prints a command's outcome, as one line. `WriteFailed` if the write failed.
+/// Prints the outcome of a command as one line. Refusal: `WriteFailed` if a write failed; then a first part of the line
+/// was written.
 pub fn print_outcome<W: Sink>(
     outcome: &Outcome,
     printer: &mut Printer<W>,
@@ -38,10 +39,10 @@ pub fn print_outcome<W: Sink>(
     }
 }
 
-/// Asks for one command over the end, waits for its answer, at most so many turns of up to 50 ms each, writes its
-/// outcome and flushes the printer. Returns the exit status ([`outcome_status`]). A link that is lost or late, or that
-/// refuses the command, sends nothing. An unanswered command stays in flight. `WriteFailed` if the write failed: the
-/// command may have been carried out all the same.
+/// Sends one command over the end and waits for its answer, for at most `turns` turns of up to 50 ms each. Prints its
+/// outcome, and writes all that the printer holds. Returns the exit status ([`outcome_status`]). If the link is lost or
+/// late, or refuses the command, nothing is sent. A command without an answer stays in flight. Refusal: `WriteFailed`
+/// if a write failed; the command may have been carried out all the same.
 pub fn ask_once<E: End, W: Sink>(
     link: &mut Link,
     end: &mut E,

@@ -21,10 +21,12 @@ use std::alloc::Global;
 /// How many bytes of the input are read at a time.
 const PIECE: usize = 4096;
 
-/// Locks the objects one after another, keeps those locks until the input ends, and takes them off. Prints the outcome
-/// of each, first of the locks, then of those taken off. Returns the exit status, the more severe of both. Where no
-/// object was locked, nothing is awaited. Where a write fails, or there is no memory to list the objects, the locks
-/// that were taken by then are left to lapse.
+/// Locks the objects one after another, keeps those locks until the input ends, and then releases them. Prints the
+/// outcome of each lock, and later of each release. Returns the exit status, the more severe of both. If no object was
+/// locked, the input is not read.
+///
+/// Failures: `Write` if a write failed, `NoMemory` if there was no memory to list the objects. Locks that are held then
+/// are not released: the device releases them once it does not hear this program for long enough.
 pub fn hold<E: End, R: Source, W: Sink>(
     alloc: Global,
     panel: &mut Panel<E>,

@@ -14,8 +14,8 @@ use std::alloc::{AllocError, Global};
 use std::convert::AsStr;
 
 /// Matches the words of a command line, the program's name first, with the options and commands of the program. The
-/// words of `set` must come with their blanks ([`with_blanks`]). `Err` for words that do not match, for `--help` and
-/// `--version`, which print a text, and if memory was refused.
+/// words of the command `set` must come with their blanks ([`with_blanks`]). Err if the words do not match, ask for a
+/// help text or the version, or memory was refused; the error says which.
 pub fn matches_of<'a, S: AsStr>(alloc: Global, words: &'a [S]) -> Result<ArgMatches<'a>, Error>
     ensures { MatchingGives own_app (map S.text words.entry.now) result }
 {
@@ -32,8 +32,8 @@ pub fn is_set<S: AsStr>(words: &[S]) -> bool
     }
 }
 
-/// The words, with a blank in front of each that begins as a negative number or with a blank, so that none is taken for
-/// an option. `AllocError` if memory was refused.
+/// A copy of the words, with a blank before each word that begins as a negative number or with a blank. So no word is
+/// taken for an option. Refusal: `AllocError`, if memory was refused.
 pub fn with_blanks<S: AsStr>(alloc: Global, words: &[S]) -> Result<Vec<String>, AllocError>
     ensures { IfOk result (λ texts. map string_bytes texts.items ≡ map blank_before (map S.text words.now)) }
 {
@@ -88,7 +88,7 @@ fn takes_blank(word: &str) -> bool
     }
 }
 
-/// The word from which [`with_blanks`] made this word.
+/// The word without the blank that [`with_blanks`] put before it; the word itself if it begins with no blank.
 pub fn without_blank(word: &str) -> &str
     ensures { result.now ≡ blank_taken word.now }
 {
@@ -98,7 +98,8 @@ pub fn without_blank(word: &str) -> &str
     }
 }
 
-/// Each word of `set` is got back as it was given.
+/// Law: for each word, [`without_blank`] of what [`with_blanks`] makes of it is the word again. It does nothing at run
+/// time.
 pub fn law_of_blanks()
     ensures { BlanksLoseNothing }
 {}

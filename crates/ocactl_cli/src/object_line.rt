@@ -35,8 +35,9 @@ pub enum ObjectLine {
     Failed(Trouble),
 }
 
-/// Prints the line of an object, and flushes it. Returns the exit status for what the line shows: 0 for a value or
-/// `ok`, else as [`status_of`]. `WriteFailed` if the write failed.
+/// Prints the line of an object, and writes all that the printer holds. Returns the exit status for what the line
+/// shows: 0 for a value or `ok`, otherwise that of [`status_of`]. Refusal: `WriteFailed` if a write failed; then a
+/// first part of the text was written.
 pub fn report_object<W: Sink>(
     ono: Ono,
     line: &ObjectLine,
@@ -61,7 +62,7 @@ fn write_object<W: Sink>(
     printer.flush()
 }
 
-/// Holds the line of an object in the printer, which must have room for it.
+/// Holds the line of an object in the printer, and writes nothing. There must be room for 700 bytes (a premise).
 pub fn put_object<W: Sink>(ono: Ono, line: &ObjectLine, printer: &mut Printer<W>)
     requires { length printer.old.held + 700 ≤ 8192 }
     ensures { printer.new ≡ output printer.old.contents (printer.old.held ++ line_of_object ono.0 line.now)
@@ -150,8 +151,10 @@ fn put_status<W: Sink>(status: u8, printer: &mut Printer<W>)
     }
 }
 
-/// Holds the line of an object in a tree: its number, the fields of its class's identifier (at most 16), the number of
-/// its container, and its role (at most 64 bytes) as a text is printed. The printer must have room for 1,100 bytes.
+/// Holds the line of an object in a tree in the printer, and writes nothing. The line has the object's number, the
+/// fields of its class's identifier, the number of its container, and its role. The role is printed as
+/// [`Escaped`](oca_script::Escaped) does. There must be at most 16 fields, a role of at most 64 bytes, and room for
+/// 1,100 bytes (premises).
 pub fn put_place<W: Sink>(
     ono: u32,
     fields: &[u16],
@@ -230,8 +233,9 @@ fn object_status(line: &ObjectLine) -> u8
     }
 }
 
-/// The exit status for an object that is not as it was asked for: 4 for an answer with another status than OK, or one
-/// of which nothing is made; 2 for a word that is for no value; 3 where no answer came.
+/// The exit status for an object with which something failed. 4 if the device refused, the answer is not readable, or
+/// the object has no value. 2 if a word stands for no value. 3 if the command was not submitted, the link is lost, or
+/// no answer came.
 pub fn status_of(trouble: Trouble) -> u8
     ensures { result ≡ trouble_status trouble }
 {
@@ -242,7 +246,7 @@ pub fn status_of(trouble: Trouble) -> u8
     }
 }
 
-/// The more severe of the exit statuses of two objects: 3 before 2 before 4 before 0.
+/// The more severe of two exit statuses. 3 is the most severe, then 2, then 4, then 0.
 pub fn max_severity(a: u8, b: u8) -> u8
     ensures { result ≡ max_severity a b }
 {

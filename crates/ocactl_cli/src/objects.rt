@@ -30,8 +30,8 @@ pub struct Pair {
 }
 
 /// Reads the objects one after another, and prints the value of each. Returns the exit status: 0 if all were read, 4 if
-/// an object refused or has no value, 3 if no answer came; of several the most severe. `WriteFailed` if a write to the
-/// output failed: the objects whose lines come before were asked.
+/// an object refused or has no value, 3 if no answer came. Of several it is the most severe ([`max_severity`]).
+/// Refusal: `WriteFailed` if a write failed; the objects whose lines come before were asked.
 pub fn get_all<E: End, W: Sink>(
     panel: &mut Panel<E>,
     onos: &[Ono],
@@ -91,11 +91,13 @@ fn position_of<E: End>(panel: &mut Panel<E>, ono: Ono, position: u16) -> ObjectL
     }
 }
 
-/// Sets the objects, at most `ahead` commands in flight at once, and prints the value of each, in the order of the
-/// pairs. If the word of a pair is for no value of its object, or the object's class can't be read, nothing is set, and
-/// this is printed of each such object. Returns the exit status: 0 if all were set, 4 if an object refused, 2 for a
-/// word that is for no value, 3 if no answer came; of several the most severe. Failures: `Write`, and then what is in
-/// flight may be carried out or not; `NoMemory`.
+/// Sets the objects, with at most `ahead` commands in flight at once. Prints the outcome of each, in the order of the
+/// pairs. First it looks for the value of each pair. If a word stands for no value of its object, or an object's class
+/// can't be read, nothing is set. Then only the lines of these objects are printed.
+///
+/// Returns the exit status: 0 if all were set, 4 if an object refused, 2 if a word stands for no value, 3 if no answer
+/// came. Of several it is the most severe ([`max_severity`]). Failures: `Write` if a write failed; then commands in
+/// flight may be carried out or not. `NoMemory` if memory was refused.
 pub fn set_all<E: End, W: Sink>(
     alloc: Global,
     panel: &mut Panel<E>,
@@ -214,11 +216,13 @@ fn report_missing<W: Sink>(
     })
 }
 
-/// Locks the objects one after another (`locks`), or takes their locks off, and prints the outcome of each. An object
-/// whose command would be submitted more than 15,000 ms after that of the object before is left out: `not sent`.
-/// Returns the exit status: 0 if all was done, 4 if an object refused, 3 if no answer came or an object was left out;
-/// of several the most severe. `WriteFailed` if a write to the output failed: the objects whose lines come before were
-/// asked.
+/// Locks the objects one after another if `locks` is true, otherwise releases their locks, and prints the outcome of
+/// each. An object whose command would be submitted more than 15,000 ms after the command before it is left out: `not
+/// sent`.
+///
+/// Returns the exit status: 0 if all was done, 4 if an object refused, 3 if no answer came or an object was left out.
+/// Of several it is the most severe ([`max_severity`]). Refusal: `WriteFailed` if a write failed; the objects whose
+/// lines come before were asked.
 pub fn lock_all<E: End, W: Sink>(
     panel: &mut Panel<E>,
     onos: &[Ono],
@@ -242,10 +246,12 @@ pub fn lock_all<E: End, W: Sink>(
     Ok(status)
 }
 
-/// Locks an object (`locks`), or takes its lock off, and prints its outcome, unless more than 15,000 ms have passed
-/// since the moment `since`: then it sends nothing, and prints that. `since` becomes the present moment if the command
-/// may be submitted. Returns the exit status: 0, 4 for a refusal, 3 if no answer came or nothing was sent.
-/// `WriteFailed` if the line was not written: the command was sent all the same.
+/// Locks an object if `locks` is true, otherwise releases its lock, and prints its outcome. If more than 15,000 ms have
+/// passed since the moment `since`, in milliseconds of the end's clock, nothing is sent, and `not sent` is printed.
+/// Otherwise `since` becomes the present moment.
+///
+/// Returns the exit status: 0 if it was done, 4 if the device refused, 3 if no answer came or nothing was sent.
+/// Refusal: `WriteFailed` if the line was not written; a command that was sent may be carried out all the same.
 pub fn lock_one<E: End, W: Sink>(
     panel: &mut Panel<E>,
     ono: Ono,

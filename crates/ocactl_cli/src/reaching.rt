@@ -28,12 +28,16 @@ pub struct LinkStart {
     pub now: u64,
 }
 
-/// How the link to a device begins, and its socket: at the port that the words give, else at the program's own. Where that is in
-/// use, it is at one of the system's choice, unless no other port may be taken: then neither of the program's two may
-/// be in use, and the fault names it.
+/// Binds the socket for a device, and returns how the link begins and the socket. If the command line gives a port, it
+/// is bound there. Otherwise it is bound at the program's own port, one of two that take turns. If that port is in use,
+/// the system chooses another one. With `own_alone` it does not: then neither of the program's two ports may be in use.
 ///
-/// At the program's own port the device is asked first whether it answers commands from there. Where it is heard and
-/// does not, the other of the two is taken, and a note says so.
+/// At the program's own port, unless the command line gives a first handle, the device is first asked whether it
+/// answers commands from there. If it is heard and does not answer, the other of the two ports is used if it can be
+/// bound, and a note is printed.
+///
+/// Failures: `Socket` if the system refuses the socket, for example since its port is in use, or has no route to the
+/// device. `NoMemory` if memory was refused. The note has the system's reason and the port, if there is memory for it.
 #[inline(never)]
 pub fn reached<'a, N: Net + Clock, F: Sink>(
     alloc: Global,

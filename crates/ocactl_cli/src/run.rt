@@ -43,20 +43,23 @@ use std::net::Net;
 use std::os::fd::AsRawFd;
 use std::rt::Clock;
 
-/// Runs the program on the words of its command line, its name first, and returns its exit status: 0 if all was done,
-/// also for a help text or the version; 2 if the words or a line are invalid; 1 if something could not be done. The
-/// commands have these further statuses; of several, 3 comes before 2 and 2 before 4:
+/// Runs the program `ocactl` on the words of its command line, its name first, and returns its exit status. It is 0 if
+/// all was done, also for a help text or the version. It is 2 if the words or a line are invalid, and 1 if something
+/// could not be done. The commands have further statuses. If several apply, 3 comes before 2, and 2 before 4:
 ///
-/// - `replay` runs a link over the script that the source has to give. - `send` sends a command and prints its answer:
-/// 4 for an answer whose status is not OK, 3 if the link is lost or no answer came. - `run` sends the commands that the
-/// source has to give, and prints for each, in the order of their lines, its answer or why there is none: 3 if one got
-/// none. - `tree`, `get`, `set`, `lock` and `unlock` print a line for each object: 4 if one was refused, 3 if an answer
-/// did not come or the link took no command. If `set` finds no value for a word, or can't read a class, it sets nothing
-/// and prints the lines of these objects only: 2 for such a word. `lock --hold` reads the source until it ends, and
-/// then releases the locks.
+/// - `replay` runs a link over the script of the source.
+/// - `send` sends a command and prints its answer: 4 if the answer's status is not OK, 3 if the link is lost or no
+///   answer came.
+/// - `run` sends the commands that the source lists. It prints for each, in the order of their lines, its answer or why
+///   there is none: 3 if one got none.
+/// - `tree`, `get`, `set`, `lock` and `unlock` print a line for each object: 4 if one was refused, 3 if an answer did
+///   not come or the link took no command.
+/// - If `set` finds no value for a word, or can't read a class, it sets nothing and prints only the lines of these
+///   objects: 2 for such a word.
+/// - `lock --hold` reads the source until it ends, and then releases the locks.
 ///
-/// A fault is printed on `faults` as one line, after a line that begins with `note: ` if more is known; such a line
-/// also says why a send failed if no answer came.
+/// A fault is printed on `faults` as one line, after a line that begins with `note: ` if more is known. If no answer
+/// came, such a line also says why a send failed.
 pub fn run<N: Net + Clock, S: AsStr, R: Source, W: Sink, F: Sink>(
     alloc: Global,
     system: &N,

@@ -80,8 +80,9 @@ impl<E: End> Session<E> {
     ghost use Rattle.std.specs.Prelude.{◌≡◌, ◌-◌, ◌<◌, [], true, false, length};
     ghost use Rattle.oca_types.specs.Sizes.{span_size};
 
-    /// A session with no command in flight, in which as many may be as a span has. `socket` is the end's descriptor,
-    /// for which is waited beside input; where there is none, it is not waited for input.
+    /// A session over a link and an end, with no command in flight; at most `ahead` may be. `socket` is the end's
+    /// descriptor: a wait for input ends when a datagram comes there. If it is `None`, the session does not wait for
+    /// input at all.
     pub fn new(link: Link, end: E, ahead: Span, socket: Option<RawFd>) -> Session<E>
         ensures { result ≡ record {
           link = link;
@@ -105,14 +106,14 @@ impl<E: End> Session<E> {
         }
     }
 
-    /// How many commands are in flight, 0 to 32.
+    /// How many commands are in flight: 0 to 32.
     pub fn in_flight(&self) -> usize
         ensures { result ≡ length self.now.in_flight }
     {
         self.in_flight.len()
     }
 
-    /// How many commands may still be in flight when one more is submitted.
+    /// How many commands may still be in flight so that one more can be submitted: 0 to 31.
     pub fn left(&self) -> usize
         ensures value { result ≡ self.now.ahead - 1 }
         ensures most { result < 32 }
@@ -135,29 +136,29 @@ impl<E: End> Session<E> {
         self.panel.is_lost()
     }
 
-    /// Whether a command got no answer so far.
+    /// Whether a command got no answer, at any time since the session was made.
     pub fn unanswered(&self) -> bool
         ensures { result ≡ self.now.unanswered }
     {
         self.refused || self.panel.unanswered()
     }
 
-    /// Notes that a command got no answer ([`unanswered`](Session::unanswered)).
+    /// Notes that a command got no answer: [`unanswered`](Session::unanswered) is then `true`.
     pub fn refuse(&mut self)
         ensures { self.new ≡ record self.old { unanswered = true } }
     {
         self.refused = true;
     }
 
-    /// Before a read: no line is at hand.
+    /// Notes that a read follows, so that no line was read and not yet submitted.
     pub fn await_line(&mut self)
         ensures { self.new ≡ record self.old { at_hand = None } }
     {
         self.at_hand = None;
     }
 
-    /// Takes a line up. The first one behind a read is at hand since the end's present moment; the others are since
-    /// then, or since the line before them was submitted.
+    /// Notes that a line is now handled. The first line after a read counts as read at the end's present moment. Each
+    /// other line counts as read then too, or when the line before it was submitted.
     pub fn take_up(&mut self)
         ensures { TakesUp self.old self.new }
     {
@@ -165,8 +166,9 @@ impl<E: End> Session<E> {
         self.at_hand = Some(since(self.at_hand, now));
     }
 
-    /// Submits the command of a line and sends it at once. Refusals, which change nothing: `Lost` where the line was at
-    /// hand for more than 15,000 ms by the end's clock, and those of the link.
+    /// Submits the command of a line and sends it at once, and returns its handle. Fewer than 32 commands must be in
+    /// flight (a premise). Refusals, which change nothing: `Lost` if the line was read more than 15,000 ms ago, by the
+    /// end's clock ([`take_up`](Session::take_up)). Otherwise those of [`Panel::begin`].
     pub fn submit(&mut self, request: Request<'_>) -> Result<Handle, ControlFault>
         requires { length self.old.in_flight < 32 }
         ensures { Submitted (request_of request.entry) result self.old self.new }
@@ -185,7 +187,7 @@ impl<E: End> Session<E> {
         }
     }
 
-    /// Whether there is nothing to do: no command is in flight, and none was submitted yet or the link is lost.
+    /// Whether there is nothing to do: no command is in flight, and either none was submitted yet or the link is lost.
     pub fn is_over(&self) -> bool
         ensures value { result ≡ is_over self.now }
         ensures none { result ≡ true → NoneInFlight self.now }
@@ -200,7 +202,8 @@ impl<E: End> Session<E> {
         self.socket
     }
 
-    /// How many milliseconds may be waited before the next turn; none where the end has no descriptor.
+    /// How many milliseconds the program may wait before the next turn, at most an hour. 0 if the end has no
+    /// descriptor.
     pub fn wait_time(&self) -> u64
         ensures { IsWaitTime self.now result }
     {
@@ -208,15 +211,16 @@ impl<E: End> Session<E> {
         time_beside(self.socket, due, present(&self.panel))
     }
 
-    /// Takes a turn, and returns whether the link was found lost, or late.
+    /// Takes one turn, and returns whether the link is lost or late: receives once, at a socket for at most 50 ms, and
+    /// sends what is due.
     pub fn turn(&mut self) -> bool
         ensures { TakesOne self.old self.new }
     {
         self.panel.turn_with_report().lost
     }
 
-    /// Takes the outcome of the first command in flight, if it is known without a turn: then that command is no longer
-    /// in flight. `None` if it is not known, or none is in flight: that changes nothing.
+    /// Takes the outcome of the first command in flight, if it is known without a turn: that command is then no longer
+    /// in flight. `None` if it is not known, or no command is in flight: then nothing is changed.
     pub fn take_first(&mut self) -> Option<Outcome>
         ensures { TakesFirst result self.old self.new }
     {
@@ -226,9 +230,9 @@ impl<E: End> Session<E> {
         Some(outcome)
     }
 
-    /// Waits for the outcome of the first command in flight, at most as long as the panel waits for a command. That
-    /// command is then no longer one of the session's. There must be one in flight. After `Unanswered` the link still
-    /// sends it; after `Lost` it does not.
+    /// Waits for the outcome of the first command in flight, as long as the panel waits for a command. That command is
+    /// then no longer one of the session's. At least one command must be in flight (a premise). After `Unanswered` the
+    /// link still sends it; after `Lost` it does not.
     pub fn await_first(&mut self) -> Outcome
         requires { 0 < length self.old.in_flight }
         ensures { AwaitsFirst self.old self.new result }
@@ -241,8 +245,8 @@ impl<E: End> Session<E> {
 }
 
 impl<E: BoundEnd> Session<Watched<E>> {
-    /// Prints why no answer comes, where the link is lost or late now: what is known of that. A device that was not heard
-    /// is asked first whether it is there.
+    /// If the link is lost or late now, prints what is known of the reason, as [`note_no_answer`] does. A device that
+    /// was never heard is first asked whether it is there. If the link is neither, nothing is done.
     #[tactic(auto, using(crate::proofs::BesideLemmas::still_waits))]
     pub fn note_silence<N: Net, F: Sink>(
         &mut self,

@@ -38,9 +38,10 @@ impl Default for Assignment {
     }
 }
 
-/// Sets objects, at most `ahead` commands in flight at once, and prints the outcome of each, in the order of the
-/// assignments. Returns the exit status: 0 if all were set, 4 if an object refused, 3 if no answer came; of several the
-/// most severe. `WriteFailed` if a write to the output failed: what is in flight then may be carried out or not.
+/// Sets objects, with at most `ahead` commands in flight at once, and prints the outcome of each, in the order of the
+/// assignments. The printer must hold nothing before (a premise). Returns the exit status: 0 if all were set, 4 if an
+/// object refused, 3 if no answer came. Of several it is the most severe. Refusal: `WriteFailed` if a write failed;
+/// then commands in flight may be carried out or not.
 pub fn set_assignments<E: End, W: Sink>(
     panel: &mut Panel<E>,
     assignments: &[Assignment],

@@ -37,7 +37,7 @@ pub enum Task {
 }
 
 impl Task {
-    /// Whether it takes locks or takes them off, so that it matters from which port it is asked.
+    /// Whether the task takes or releases locks. If so, it matters from which port the device is asked.
     pub fn locks(&self) -> bool
         ensures { result ≡ is_locking self.now }
     {
@@ -45,15 +45,15 @@ impl Task {
     }
 }
 
-/// Whether a command is one for objects.
+/// Whether this is the name of a command for objects: `tree`, `get`, `set`, `lock` or `unlock`.
 pub fn is_task(name: &str) -> bool
     ensures { result ≡ is_object_command name.now }
 {
     name == "tree" || name == "get" || name == "set" || name == "lock" || name == "unlock"
 }
 
-/// How many times 50 ms a command waits for its answer: 200 unless the words give another number, 0 to 4,294,967,295.
-/// `None` if their value is no such number.
+/// For how many turns of 50 ms a command waits for its answer: 200, unless the options give another number, 0 to
+/// 4,294,967,295. `None` if the option's value is no such number.
 pub fn turns_of(words: &ArgMatches<'_>) -> Option<u32>
     ensures { result ≡ given_turns words.now }
 {
@@ -63,8 +63,9 @@ pub fn turns_of(words: &ArgMatches<'_>) -> Option<u32>
     }
 }
 
-/// What the words of a command for objects ask for; for `set`, with at most `ahead` commands in flight at once.
-/// Refusals: `BadWords` if a word has not its form, with a note that names it; `NoMemory`.
+/// The task that the options of a command for objects ask for; for `set`, with at most `ahead` commands in flight at
+/// once. Refusals: `BadWords` if a word does not have its form; the note names that word. `NoMemory` if memory was
+/// refused.
 pub fn task_of(
     alloc: Global,
     name: &str,

@@ -21,9 +21,10 @@ use std::alloc::Global;
 /// Room for the lines of a place.
 const ROOM: usize = 2000;
 
-/// Visits the places of a device from the root block on, each block's members behind it in their order, and prints a
-/// line for each. What an object refuses is printed in its place, and the walk goes on. Returns the exit status. At
-/// most 4,096 places are visited.
+/// Visits the places of a device from the root block on, after each block its members in their order, and prints a line
+/// for each. If an object refuses a question, that is printed in its place, and the walk goes on. At most 4,096 places
+/// are visited; if more are left, a last line says so. Returns the exit status, the most severe of all lines
+/// ([`max_severity`]). Failures: `Write` if a write failed, `NoMemory` if memory was refused.
 pub fn walk<E: End, W: Sink>(
     alloc: Global,
     panel: &mut Panel<E>,

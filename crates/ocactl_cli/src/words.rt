@@ -40,7 +40,7 @@ pub struct Linking {
 }
 
 impl Linking {
-    /// A new link to the device, made at moment 0, with the first handle and the span that the words give.
+    /// A new link to the device, made at moment 0, with the first handle and the span of the command line.
     pub fn link(&self) -> Link
         ensures { result ≡ new_link self.now.device self.now.first_handle 0 (span_size self.now.span) }
     {
@@ -59,8 +59,8 @@ pub struct Reach {
 }
 
 impl Reach {
-    /// A new link to the device, made at the moment `now` in milliseconds, with the first handle that the words give,
-    /// else `first_handle`.
+    /// A new link to the device, made at the moment `now`, in milliseconds. Its first command gets the first handle of
+    /// the command line, or `first_handle` if the command line gives none.
     pub fn link(&self, first_handle: u32, now: u64) -> Link
         ensures { result ≡ new_link
             self.now.device (first_handle_for self.now.first_handle first_handle) now (span_size self.now.span) }
@@ -84,7 +84,7 @@ pub struct Sending {
 }
 
 impl Sending {
-    /// The command that the words ask to send.
+    /// The command that the command line asks to send.
     pub fn command(&self) -> Request<'_>
         ensures { request_of result ≡ record {
           target = self.now.target.0;
@@ -116,8 +116,8 @@ pub enum Asked {
     Do(Reach, u32, Task),
 }
 
-/// What a command with these options asks for. Refusals: `BadWords` where it is none, or where a value is not of its
-/// form, which a note then names; `NoMemory`.
+/// What the command with this name and these options asks for. Refusals: `BadWords` if there is no such command, or a
+/// value does not have its form; the note then names the value. `NoMemory` if memory was refused.
 pub fn asked_for(alloc: Global, name: &str, options: &ArgMatches<'_>) -> Result<Asked, Failure>
     ensures asks { IfOk result (OptionsAsk name.now options.now) }
     ensures refused { IfErr result (λ failure. IsRefusal failure.fault) }

@@ -29,7 +29,8 @@ pub enum Line<'a> {
     NoAnswer,
 }
 
-/// Prints a line. `WriteFailed` if a write failed.
+/// Prints a line, as PROTOCOL.md lists it. A packet that is due must have at most 1,472 bytes (a premise). Refusal:
+/// `WriteFailed` if a write failed; then a first part of the text was written.
 pub fn print_line<W: Sink>(printer: &mut Printer<W>, line: Line<'_>) -> Result<(), WriteFailed>
     requires { LineWithin line }
     ensures { Prints result printer.old printer.new (reply_line_text line.entry) }

@@ -26,7 +26,7 @@ pub struct LinkRoom {
 }
 
 impl LinkRoom {
-    /// Empty room.
+    /// Memory for one packet and for the parameters of one command, which are empty.
     pub fn new() -> LinkRoom {
         LinkRoom {
             packet: Packet::new(),
@@ -150,14 +150,22 @@ fn take<W: Sink>(
     }
 }
 
-/// Replays the script that the source has to give on the link, and writes what that prints.
+/// Replays a script on the link, and reads the source to its end. It makes the call of the link that each line asks
+/// for, and prints its result after what the printer held. The script's form is the profile's.
 ///
-/// Moments N are in milliseconds. A line `N submit ONO LEVEL INDEX COUNT HEX` submits a command, and prints its handle
-/// or why it is refused; `N due` prints what is to be sent; `N from P HEX` is a datagram of the peer P, and prints what
-/// became of it; `take H` takes the answer under the handle H, and prints it. Faults: `Line` with the number of the
-/// first bad line, counted from 1; `TooMuch` beyond 16,777,216 bytes; `Read` and `Write` where a read or a write of
-/// ends that had not failed before failed in this call, and nowhere else. What the lines before printed is written in
-/// each case, as far as the writes went. (The script's form is the profile's.)
+/// Moments N are in milliseconds, and bytes are in hexadecimal digits. These are the lines:
+///
+/// - `N submit ONO LEVEL INDEX COUNT HEX` submits a command, and prints its handle or why it is refused.
+/// - `N due` prints what is to be sent.
+/// - `N from P HEX` is a datagram of the peer P, and prints what became of it.
+/// - `take H` takes the answer under the handle H, and prints it.
+///
+/// Faults: `Line` if a line is bad, with the number of the first such line, counted from 1, and its fault. `TooMuch` if
+/// the script has more than 16,777,216 bytes, and no line within them is bad. `Read` if a read failed in this call, of
+/// a source that had not failed before. `Write` if a write failed in this call, of a sink that had not failed before.
+///
+/// After `Line` and `TooMuch` all lines before were replayed and their text was written. After `Read` and `Write` some
+/// first lines were; at `Write` only a first part of their text was written.
 pub fn replay<R: Source, W: Sink>(
     link: &mut Link,
     reader: &mut R,

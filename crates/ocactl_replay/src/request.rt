@@ -213,8 +213,9 @@ fn timed<'a>(
     Err(LineFault::Form)
 }
 
-/// What the fields of a line ask for. Bytes are put at the front of `room`. Refusal: the fault of the first field, from
-/// the left, that has not its form ([`LineFault`]); what `room` then holds is not said.
+/// Reads which call of the link a line of a script asks for. The line must have at most 4,096 bytes (a premise). The
+/// bytes of the line's last field are put at the front of `room`. Refusal: the fault of the first field, from the left,
+/// that does not have its form ([`LineFault`]); then discard what `room` holds.
 pub fn call_by<'a>(line: &[u8], room: &'a mut [u8; PARAMS_ROOM]) -> Result<Call<'a>, LineFault>
     requires { length line.now ≤ 4096 }
     ensures { call_asked result ≡ asked_call (fields line.now) }
@@ -226,9 +227,9 @@ pub fn call_by<'a>(line: &[u8], room: &'a mut [u8; PARAMS_ROOM]) -> Result<Call<
     timed(first, rest, room)
 }
 
-/// What the fields of the line of a command ask for. The bytes of its parameters are put at the front of `room`.
-/// Refusal: the fault of the first field, from the left, that has not its form ([`LineFault`]); what `room` then holds
-/// is not said.
+/// Reads the command that a line `ONO LEVEL INDEX COUNT HEX` asks for. The line must have at most 4,096 bytes (a
+/// premise). The bytes of the command's parameters are put at the front of `room`. Refusal: the fault of the first
+/// field, from the left, that does not have its form ([`LineFault`]); then discard what `room` holds.
 pub fn command_by<'a>(
     line: &[u8],
     room: &'a mut [u8; PARAMS_ROOM],

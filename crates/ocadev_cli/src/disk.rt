@@ -21,26 +21,27 @@ pub trait Disk {
     /// What the disk says of itself.
     ghost state: { Self → DiskState };
 
-    /// Writes the objects to a new file, beside the old one. The system's error if it refuses.
+    /// Writes the objects to a new file, beside the old one. Err with the system's error if the system refuses.
     fn write_new(&mut self, tree: &Tree) -> io::Result<()>
         ensures { Tries WritesNew (is_ok result) tree.now (state self.old) (state self.new) };
 
-    /// Waits until the new file is on the disk. The system's error if it refuses.
+    /// Waits until the new file is on the disk. Err with the system's error if the system refuses.
     fn sync_new(&mut self) -> io::Result<()>
         ensures { Tries SyncsNew (is_ok result) (state self.old).tree (state self.old) (state self.new) };
 
-    /// Puts the new file in the place of the old one. The system's error if it refuses: then the old file is still
-    /// there.
+    /// Puts the new file in the place of the old one. Err with the system's error if the system refuses: then the old
+    /// file is still there.
     fn replace(&mut self) -> io::Result<()>
         ensures { Tries Replaces (is_ok result) (state self.old).tree (state self.old) (state self.new) };
 
-    /// Waits until the folder of the file is on the disk. The system's error if it refuses.
+    /// Waits until the folder of the file is on the disk. Err with the system's error if the system refuses.
     fn sync_folder(&mut self) -> io::Result<()>
         ensures { Tries SyncsFolder (is_ok result) (state self.old).tree (state self.old) (state self.new) };
 }
 
-/// Writes the objects to a new file, brings this file to the disk, puts it in the place of the old one, and brings the
-/// folder to the disk. Refusal: the system's error at the first of these four steps that fails; none after it is tried.
+/// Stores the objects in four steps. It writes them to a new file, and waits until this is on the disk. Then it puts
+/// the new file in the place of the old one, and waits until the folder is on the disk. Err with the system's error at
+/// the first step that fails; the steps after it are not tried.
 #[tactic(auto, using(crate::proofs::StoringLemmas::all_tried))]
 pub fn write_over<D: Disk>(disk: &mut D, tree: &Tree) -> io::Result<()>
     ensures { StoresBy (is_ok result) tree.now (D.state disk.old) (D.state disk.new) }
@@ -115,9 +116,9 @@ pub struct FileDisk<'l, 'p, 'n, L: Files> {
 }
 
 impl<'l, 'p, 'n, L: Files> FileDisk<'l, 'p, 'n, L> {
-    /// The file at `path`, and the new file at `fresh` that takes its place. A new file gets the mode and the owner of
-    /// the plain file that was at `path` last; before one was seen, those of `attributes`, if these are given. Nothing
-    /// is read or written.
+    /// The disk with the file at `path`, and with the new file at `fresh` that will take its place. A new file gets the
+    /// mode and the owner of the plain file that was last seen at `path`. Before one was seen, it gets those of
+    /// `attributes`, if these are given. Nothing is read or written.
     pub fn new(
         alloc: Global,
         files: &'l L,
@@ -185,8 +186,7 @@ impl<'l, 'p, 'n, L: Files> Disk for FileDisk<'l, 'p, 'n, L> {
     }
 }
 
-/// The mode and the owner of the plain file at this path. `None` if there is no plain file, or the system does not
-/// tell.
+/// The mode and the owner of the plain file at this path. `None` if there is no plain file, or the system does not say.
 pub fn plain_attributes<F: Files>(files: &F, path: &str) -> Option<Attributes> {
     match fs::symlink_metadata(files, path) {
         Ok(found) if found.is_file() => Some(Attributes::of(&found)),
@@ -216,7 +216,7 @@ fn make_alike<F: Files, O: OpenFile>(
     file.set_permissions(Permissions::from_mode(attributes.mode))
 }
 
-/// The last line of a file that lists so many objects, with its line feed. `None` if memory was refused.
+/// The last line of a file that lists `count` objects, with its line feed. `None` if memory was refused.
 pub fn end_line(alloc: Global, count: usize) -> Option<String> {
     format!(in alloc; "# end of {count} objects\n").ok()
 }

@@ -30,8 +30,9 @@ pub enum Effect {
     Refused(u8),
 }
 
-/// What a command of this method did whose response has this status: `Refused` with the status if it is not OK (0),
-/// `Locked` for LockTotal and LockReadonly, `Unlocked` for Unlock. `None` if nothing is printed of it.
+/// The effect to print of a command with this method whose response has this status. `Refused` with the status if it is
+/// not OK (0), `Locked` for LockTotal and LockReadonly, `Unlocked` for Unlock. `None` for any other command that was
+/// answered OK: nothing is printed of it.
 pub fn effect_of(method: MethodId, status: u8) -> Option<Effect>
     ensures { result ≡ effect_of method status }
 {
@@ -50,8 +51,8 @@ pub fn effect_of(method: MethodId, status: u8) -> Option<Effect>
     None
 }
 
-/// Appends the statuses of the responses in a packet to `statuses`, as far as there is room: 1,472 in all. If the bytes
-/// are no datagram, nothing is changed.
+/// Appends the statuses of the responses in a packet to `statuses`, as long as there is room: 1,472 in all. If the
+/// bytes are no datagram, nothing is changed.
 pub fn keep_statuses(statuses: &mut Packet, bytes: &[u8])
     ensures { KeepsStatuses (read_or_none (read_datagram bytes.now)) statuses.old.items statuses.new.items }
 {
@@ -99,9 +100,10 @@ fn is_new(turn: &Report) -> bool
     turn.executed != 0 && turn.kept == 0 && turn.old == 0 && turn.reused == 0
 }
 
-/// Prints what the commands of a turn's datagram locked and unlocked, and which were refused, in their order, by the
-/// statuses of its responses. Nothing is printed of commands that ask for no response, nor if some command of the
-/// datagram was not executed in this turn. `WriteFailed` if a write failed: then a first part of the text was written.
+/// Prints which objects the commands of a turn's datagram locked and unlocked, and which commands were refused, in
+/// their order. `statuses` are the statuses of its responses. Nothing is printed of commands that ask for no response.
+/// Nothing is printed either if some command of the datagram was not executed in this turn. Refusal: `WriteFailed` if a
+/// write failed; then a first part of the text was written.
 pub fn print_effects<F: Sink>(
     turn: &Report,
     bytes: &[u8],

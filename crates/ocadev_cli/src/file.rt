@@ -22,7 +22,7 @@ impl<R: Drop> Drop for TextFile<R> {
 }
 
 impl<R: Read> TextFile<R> {
-    /// A source of this reader, of which no read has failed.
+    /// A source over this reader, without a failed read.
     pub fn new(reader: R) -> TextFile<R>
         ensures reader { result.reader ≡ reader }
         ensures unfailed { result.reason ≡ None }

@@ -117,9 +117,9 @@ fn noted(alloc: Global, fault: RunFault, path: &str, reason: io::Error) -> Failu
     }
 }
 
-/// The objects that a source lists, which is read to its end. Refusals: `Read` if a read failed, `TooMuch` if the
-/// source has more than 16,777,216 bytes, `NoMemory` if memory was refused, `Object` with the first line that has a
-/// fault.
+/// Reads a source to its end, and returns the objects that its text lists. Refusals: `Read` if a read failed, `TooMuch`
+/// if the source has more than 16,777,216 bytes, `NoMemory` if memory was refused. `Object` with the first line that
+/// has a fault.
 pub fn listed_in<R: Source>(alloc: Global, source: &mut R) -> Result<Tree, RunFault>
     ensures { ListsFrom result (input (R.remaining source.old) (R.failed source.old))
         (input (R.remaining source.new) (R.failed source.new)) }

@@ -20,8 +20,8 @@ const LISTENING_ROOM: usize = 130;
 /// Room for a short word and a number.
 const COUNT_ROOM: usize = 50;
 
-/// Prints the counts of a report as one line, and writes all that the printer holds. `WriteFailed` if a write failed:
-/// then a first part of the text was written.
+/// Prints the counts of a report as one line, and writes all that the printer holds. Refusal: `WriteFailed` if a write
+/// failed; then a first part of the text was written.
 pub fn print_report<W: Sink>(report: &Report, printer: &mut Printer<W>) -> Result<(), WriteFailed>
     ensures { WritesOut result printer.old printer.new (report_text report.now) }
 {
@@ -41,8 +41,8 @@ fn put_report<W: Sink>(report: &Report, printer: &mut Printer<W>)
 }
 
 /// Prints the counts of a report so far as one line that begins with `note: `, and writes all that the printer holds.
-/// The line also has how many sessions there are and how many locks are held. `WriteFailed` if a write failed: then a
-/// first part of the text was written.
+/// The line also has the number of sessions (`sessions`) and of held locks (`locks`). Refusal: `WriteFailed` if a write
+/// failed; then a first part of the text was written.
 pub fn print_stats<F: Sink>(
     report: &Report,
     sessions: u64,

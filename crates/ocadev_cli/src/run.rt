@@ -49,10 +49,10 @@ const EVERY_ADDRESS: &str =
 /// Of how many bytes for datagrams that have not left a host that does not answer holds less than half.
 const ENOUGH_GRANTED: u32 = 500_000;
 
-/// Runs the program on the words of its command line, its name first, and returns its exit status. It is 0 if all was
-/// done, 2 if the words or a line of the script are bad, and 1 if something else could not be done. A fault is printed
-/// on `faults` as one line, after a line that begins with `note: ` if more is known. Where the device listens is
-/// printed there too.
+/// Runs the program `ocadev` on the words of its command line, its name first, and returns its exit status. It is 0 if
+/// all was done, 2 if the words or a line of the script are bad, and 1 if something else could not be done. A fault is
+/// printed on `faults` as one line, after a line that begins with `note: ` if more is known. Where the device listens
+/// is printed there too.
 pub fn run<N: Net + Clock + Files<File = File>, S: AsStr, R: Source, W: Sink, F: Sink>(
     alloc: Global,
     system: &N,

@@ -19,7 +19,8 @@ use oca_script::{Printer, Sink, WriteFailed};
 /// How many rounds of 2^32 - 1 turns are 2^64 - 1 turns.
 const ROUNDS: u64 = 4_294_967_297;
 
-/// Serves an end for 2^64 - 1 turns, which no run comes to, or until it is closed. Returns what was done.
+/// Serves an end until it is closed, or for 2^64 - 1 turns, which no run reaches. Returns how often each thing was
+/// done.
 pub fn serve_on<E: End>(device: &mut Device, end: &mut E, outbox: &mut Outbox) -> Report
     ensures served { ServesOn device.old device.new (E.state end.old) (E.state end.new) result }
     ensures turns { result.turns ≤ last_u64 }
@@ -37,7 +38,7 @@ pub fn serve_on<E: End>(device: &mut Device, end: &mut E, outbox: &mut Outbox) -
     report
 }
 
-/// Serves an end for so many turns, or until it is closed. Returns what was done.
+/// Serves an end for `turns` turns, or until it is closed. Returns how often each thing was done.
 pub fn serve_turns<E: End>(
     device: &mut Device,
     end: &mut E,
@@ -53,9 +54,9 @@ pub fn serve_turns<E: End>(
     sum(none, round)
 }
 
-/// Serves an end for so many turns (`None`: for 2^64 - 1), or until it is closed, and keeps the objects in a store.
-/// Returns what was done. An answer to a datagram that wrote to an object waits until the store holds the objects; if
-/// storing fails, it is dropped, as if the network had lost it.
+/// Serves an end for `turns` turns (`None`: for 2^64 - 1), or until it is closed, and keeps the objects in a store.
+/// Returns how often each thing was done. The answers to a datagram that wrote to an object wait until the store holds
+/// the objects. If storing fails, they are dropped, as if the network had lost them.
 pub fn serve_kept<E: End, S: Store>(
     device: &mut Device,
     end: &mut E,
@@ -129,8 +130,8 @@ pub struct Tracing {
 }
 
 impl Tracing {
-    /// What is printed while an end is served: a line for each datagram if `verbose`, and every `stats` seconds the
-    /// report so far (`None`: never).
+    /// What to print while an end is served: a line for each datagram if `verbose`, and the report so far every `stats`
+    /// seconds (`None`: never).
     pub fn new(verbose: bool, stats: Option<u32>) -> Tracing
         ensures verbose { result.verbose ≡ verbose }
         ensures every { result.every ≡ stats_interval stats }
@@ -161,8 +162,8 @@ impl Tracing {
     }
 }
 
-/// Serves an end for so many turns, or until it is closed, and prints a line for each datagram and the report so far,
-/// as `tracing` says. Returns what was done. A failed write of these lines is no fault.
+/// Serves an end for `turns` turns, or until it is closed, and prints a line for each datagram and the report so far,
+/// as `tracing` says. Returns how often each thing was done. A failed write of these lines is ignored.
 pub fn serve_traced<E: End, F: Sink>(
     device: &mut Device,
     end: &mut Watched<E>,
@@ -209,8 +210,8 @@ fn print_progress<E: End, F: Sink>(
 }
 
 /// Prints the report so far as one line that begins with `note: `, and writes all that the printer holds. The line also
-/// has how many sessions there are and how many locks are held. `WriteFailed` if a write failed: then a first part of
-/// the text was written.
+/// has the number of sessions and of held locks. Refusal: `WriteFailed` if a write failed; then a first part of the
+/// text was written.
 pub fn print_progress_report<F: Sink>(
     report: &Report,
     device: &Device,

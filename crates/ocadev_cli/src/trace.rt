@@ -46,7 +46,8 @@ impl<E: Drop> Drop for Watched<E> {
 impl<E: End> Watched<E> {
     ghost use Rattle.std.specs.Prelude.{◌≡◌, []};
 
-    /// An end that remembers what it heard last and what was sent since, and has heard nothing so far.
+    /// An end over another end, which remembers what it heard last and what was sent since. It has heard nothing so
+    /// far.
     pub fn new(end: E) -> Watched<E>
         ensures { result.end ≡ end }
     {
@@ -126,9 +127,10 @@ impl<E: End> End for Watched<E> {
 }
 
 /// Prints a line for the datagram of a turn, and writes all that the printer holds. The line has the sender, what
-/// became of the datagram, the objects that it wrote to and how many answers could not be sent, and what its commands
-/// locked, unlocked and were refused. For a datagram of more than 1,472 bytes the line is `oversize`. Nothing is
-/// printed if no datagram came. `WriteFailed` if a write failed: then a first part of the text was written.
+/// became of the datagram, the objects that it wrote to, and how many answers could not be sent. It also has what its
+/// commands locked and unlocked, and which were refused. For a datagram of more than 1,472 bytes the line is
+/// `oversize`. Nothing is printed if no datagram came. Refusal: `WriteFailed` if a write failed; then a first part of
+/// the text was written.
 pub fn print_turn<E: End, F: Sink>(
     watched: &Watched<E>,
     turn: &Report,
@@ -149,8 +151,8 @@ pub fn print_turn<E: End, F: Sink>(
 }
 
 /// Prints the line of [`print_turn`] for what was heard in a turn. If that is a datagram, `bytes` are its bytes and
-/// `statuses` the statuses of its responses. Nothing is printed if no datagram came. `WriteFailed` if a write failed:
-/// then a first part of the text was written.
+/// `statuses` the statuses of its responses. Nothing is printed if no datagram came. Refusal: `WriteFailed` if a write
+/// failed; then a first part of the text was written.
 pub fn print_heard<F: Sink>(
     heard: Heard,
     bytes: &[u8],

@@ -246,8 +246,8 @@ fn command<'a>(alloc: Global) -> Result<Command<'a>, AllocError>
     program_with_commands(alloc, &PROGRAM, &rows())
 }
 
-/// Matches the words, the program's name first, with the commands and options that the program takes. `Err` if the
-/// words are bad, ask for a help text or the version, or memory was refused: the error says which.
+/// Matches the words of the command line, the program's name first, with the commands and options that the program
+/// takes. Err if the words are bad, ask for a help text or the version, or memory was refused; the error says which.
 pub fn matches_of<'a, S: AsStr>(alloc: Global, words: &'a [S]) -> Result<ArgMatches<'a>, Error>
     ensures { MatchingGives command_line (map S.text words.entry.now) result }
 {
@@ -335,8 +335,8 @@ fn peers(options: &ArgMatches<'_>) -> Peers
     }
 }
 
-/// The sizes of the device: reply windows of 32 commands and sessions of 16 peers, unless the options give others, 1 to
-/// 64.
+/// The sizes of the device: for how many commands of a peer it keeps replies, and how many peers have a session, both 1
+/// to 64. They are 32 commands and 16 peers, unless the options say otherwise.
 pub fn sizes(options: &ArgMatches<'_>) -> Sizes
     ensures { sizes_of result ≡ sizes_in options.now }
 {
@@ -356,8 +356,8 @@ fn channels(options: &ArgMatches<'_>) -> u16
     }
 }
 
-/// Where the objects of the device come from: a file if one is named, otherwise the bench device with a number of
-/// channel strips, 0 unless it is given.
+/// The source of the device's objects: a file if the options name one. Otherwise it is the bench device with the number
+/// of channel strips in the options, 0 if they give none.
 pub fn objects_of<'a>(options: &ArgMatches<'a>) -> Objects<'a>
     ensures { object_source result ≡ objects_in options.now }
 {
@@ -367,7 +367,7 @@ pub fn objects_of<'a>(options: &ArgMatches<'a>) -> Objects<'a>
     }
 }
 
-/// The port where the device is served; 0, a port of the system's choice, unless it is given.
+/// The port at which the device is served. It is 0, a port of the system's choice, unless the options give one.
 pub fn port(options: &ArgMatches<'_>) -> u16
     ensures { result ≡ serve_port options.now }
 {
@@ -377,7 +377,8 @@ pub fn port(options: &ArgMatches<'_>) -> u16
     }
 }
 
-/// The address where the device is served, as a number with the first byte highest: 127.0.0.1 unless it is given.
+/// The address at which the device is served, as a number with the first byte highest. It is 127.0.0.1, unless the
+/// options give one.
 pub fn ip(options: &ArgMatches<'_>) -> u32
     ensures { result ≡ ip_in options.now }
 {
@@ -387,7 +388,7 @@ pub fn ip(options: &ArgMatches<'_>) -> u32
     }
 }
 
-/// For how many turns to serve. `None` if no number is given: then without an end.
+/// For how many turns the device is served. `None` if the options give no number: then without end.
 pub fn turns(options: &ArgMatches<'_>) -> Option<u32>
     ensures { result ≡ turns_in options.now }
 {
@@ -397,7 +398,7 @@ pub fn turns(options: &ArgMatches<'_>) -> Option<u32>
     }
 }
 
-/// Every how many seconds to print the report so far. `None` if no number is given: then never.
+/// Every how many seconds the report so far is printed. `None` if the options give no number: then never.
 pub fn stats(options: &ArgMatches<'_>) -> Option<u32>
     ensures { result ≡ number_said options.now stats_row }
 {

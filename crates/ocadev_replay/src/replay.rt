@@ -116,14 +116,18 @@ fn datagram<W: Sink>(
     print_packets(outbox, printer)
 }
 
-/// Replays the script that the source has to give on the device, and writes what that prints, after what the printer
-/// held.
+/// Replays a script on the device: reads the source to its end, does what each line asks, and prints the answers after
+/// what the printer held. The script's form is the profile's.
 ///
 /// A line `N P HEX` is a datagram of the peer P at the moment N in milliseconds, and a line `N quiet` a clock reading.
-/// The outbox is emptied before each datagram, and what it held at first does not matter. Faults: `Line` with the
-/// number of the first bad line, counted from 1; `TooMuch` beyond 16,777,216 bytes; `Read` and `Write` where a read or
-/// a write of ends that had not failed before failed in this call, and nowhere else. What the lines before printed is
-/// written in each case, as far as the writes went. Takes no memory. (The script's form is the profile's.)
+/// The outbox is emptied before each datagram, and what it held at first does not matter. The call takes no memory.
+///
+/// Faults: `Line` if a line is bad, with the number of the first such line, counted from 1, and its fault. `TooMuch` if
+/// the script has more than 16,777,216 bytes, and no line within them is bad. `Read` if a read failed in this call, of
+/// a source that had not failed before. `Write` if a write failed in this call, of a sink that had not failed before.
+///
+/// After `Line` and `TooMuch` all lines before were replayed and their text was written. After `Read` and `Write` some
+/// first lines were; at `Write` only a first part of their text was written.
 pub fn replay<R: Source, W: Sink>(
     device: &mut Device,
     outbox: &mut Outbox,

@@ -132,8 +132,9 @@ fn fault_after_peer(rest: &[u8]) -> LineFault
     }
 }
 
-/// What the fields of a line ask for. The bytes of a datagram are put at the front of `room`. Refusal: the fault of the
-/// first field, from the left, that has not its form ([`LineFault`]); what `room` then holds is not said.
+/// Reads what a line of a script asks for. The line must have at most 4,096 bytes (a premise). The bytes of a datagram
+/// are put at the front of `room`. Refusal: the fault of the first field, from the left, that does not have its form
+/// ([`LineFault`]); then discard what `room` holds.
 pub fn asked_by<'a>(
     line: &[u8],
     room: &'a mut [u8; DATAGRAM_ROOM],

@@ -196,7 +196,8 @@ pub struct Clients {
 }
 
 impl Clients {
-    /// No connections. The first one gets the token after `tokens`, and each later one the next.
+    /// A list without connections. The tokens by which they are waited for begin above `tokens`, and each new
+    /// connection gets the next one.
     pub fn new(alloc: Global, tokens: usize) -> Clients {
         Clients {
             alloc,
@@ -206,10 +207,13 @@ impl Clients {
         }
     }
 
-    /// Takes a connection in, at the moment `now`, in milliseconds. If there are 128, another one is closed for it: the
-    /// oldest on which no request was let in so far, or else the first that rests. If none gives way, or the system or
-    /// memory refuses something, the new connection is closed. `doubts` says that it may have come while the program
-    /// was suspended.
+    /// Adds a new connection at the moment `now`, in milliseconds of the program's clock. `doubts` says that it may
+    /// have come while the program was suspended.
+    ///
+    /// At most 128 connections are kept. If there are 128 already, one of them is closed first. It is the oldest one on
+    /// which no request was let in so far. If there is none, it is the first that rests: no request is begun on it, and
+    /// nothing moved on it for more than 1,000 ms. If there is none either, the new connection is closed. It is also
+    /// closed if the system can't wait for it, or memory was refused.
     pub fn add(
         &mut self,
         stream: TcpStream,
@@ -313,8 +317,8 @@ impl Clients {
         }
     }
 
-    /// Notes that the program was suspended: what waits on the connections may have come meanwhile. Each connection
-    /// counts as ready.
+    /// Notes that the program was suspended: requests that wait on the connections may have come meanwhile. Each
+    /// connection counts as ready.
     pub fn doubt(&mut self) {
         for place in 0..self.clients.len() {
             if let Some(client) = self.clients.get_mut(place) {
@@ -324,8 +328,9 @@ impl Clients {
         }
     }
 
-    /// Serves each connection that is ready, and closes those that ended or are late at the moment `now`, in
-    /// milliseconds.
+    /// Reads, answers and writes on each connection that is ready, and closes those that ended or are late at the
+    /// moment `now`, in milliseconds of the program's clock. A connection is late if nothing moved on it for more than
+    /// 30,000 ms. It is also late if a request is not whole, or an answer is not taken, for more than 5,000 ms.
     pub fn serve(&mut self, site: &mut Site, now: u64) {
         self.more = false;
         let mut place = 0usize;
@@ -358,7 +363,7 @@ impl Clients {
         client.is_late(now)
     }
 
-    /// Whether a connection may have more to do at once, so that the loop must not wait.
+    /// Whether a connection may have more to do at once: then the loop must not wait.
     pub fn has_more(&self) -> bool {
         self.more
     }

@@ -8,9 +8,9 @@ use std::rt::Files;
 /// The most bytes that are read of a file.
 const MOST_BYTES: usize = 65_536;
 
-/// The bytes at the front of the file at a path: all if there are fewer than 65,536, else at least so many and at most
-/// 66,047. Failure: `Read` if the file can't be read or memory was refused, with the reason as its note if there is
-/// memory for the note.
+/// The first bytes of the file at a path: all if there are fewer than 65,536, otherwise at least 65,536 and at most
+/// 66,047. Failure: `Read` if the file can't be read or memory was refused. The reason is its note, if there is memory
+/// for it.
 pub fn bytes_of<F: Files>(alloc: Global, files: &F, path: &str) -> Result<Vec<u8>, Failure> {
     match fs::open(files, path) {
         Ok(mut file) => match bytes_in(alloc, &mut file) {
@@ -44,8 +44,8 @@ fn unread(alloc: Global, path: &str, reason: io::Error) -> Failure {
     }
 }
 
-/// The failure `BadWords` of a file, whose note names the path, the line (counted from 1) and the reason, if there is
-/// memory for the note.
+/// The failure `BadWords` for a line of a file. Its note names the path, the line (counted from 1) and the reason, if
+/// there is memory for the note.
 pub fn refused(alloc: Global, path: &str, line: usize, reason: &str) -> Failure {
     match format!(in alloc; "{path}: line {line}: {reason}") {
         Ok(note) => Failure::noted(RunFault::BadWords, note),

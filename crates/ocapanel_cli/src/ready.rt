@@ -32,7 +32,7 @@ impl<E: End + Drop> Drop for Ready<E> {
 impl<E: End> Ready<E> {
     ghost use Rattle.std.specs.Prelude.{◌≡◌};
 
-    /// An end that never waits, over this end. No datagram was sent and nothing received so far.
+    /// An end over another end, which never waits. It has sent and received no datagram so far.
     pub fn new(end: E) -> Ready<E>
         ensures { result ≡ E.state end }
     {
@@ -43,14 +43,14 @@ impl<E: End> Ready<E> {
         }
     }
 
-    /// The end inside, to look at.
+    /// A reference to the end inside.
     pub fn end(&self) -> &E
         ensures { E.state result.now ≡ self.now }
     {
         &self.end
     }
 
-    /// How many datagrams were sent, failed sends included.
+    /// How many datagrams were handed to the end inside to be sent, failed sends included.
     pub fn sent(&self) -> u64 {
         self.sent
     }

@@ -10,9 +10,9 @@ use std::net::Net;
 use std::random::RandomSource;
 use std::rt::{Clock, Files};
 
-/// Runs the program on the words of its command line, its name first, and returns its exit status. It is 0 after a help
-/// text, 2 if the words are bad, and 1 if something could not be done. A fault is printed on `faults` as one line,
-/// after a line that begins with `note: ` if more is known.
+/// Runs the program `ocapanel` on the words of its command line, its name first, and returns its exit status. It is 0
+/// after a help text, 2 if the words are bad, and 1 if something could not be done. A fault is printed on `faults` as
+/// one line, after a line that begins with `note: ` if more is known.
 pub fn run<R: Net + RandomSource + Files, N: Net + Clock, S: AsStr, W: Sink, F: Sink>(
     alloc: Global,
     rt: &R,

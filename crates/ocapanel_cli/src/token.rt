@@ -84,8 +84,8 @@ fn made<R: RandomSource>(alloc: Global, rt: &R) -> Result<String, Failure> {
     }
 }
 
-/// A number of 64 bits from the system's random numbers. Failure: `Socket` with the reason as its note if the system
-/// gave none; `NoMemory` if there was no memory for the note.
+/// A random number of 64 bits from the system. Failures: `Socket` if the system gave none, with the reason as its note.
+/// `NoMemory` if it gave none, and there was no memory for the note.
 pub fn random_number<R: RandomSource>(alloc: Global, rt: &R) -> Result<u64, Failure> {
     let mut bytes = [0u8; 8];
     match rt.fill_bytes(&mut bytes) {
@@ -98,7 +98,8 @@ pub fn random_number<R: RandomSource>(alloc: Global, rt: &R) -> Result<u64, Fail
 }
 
 /// The token in the two forms in which browsers send it to a panel at this port: as a cookie and as a query. The
-/// cookie's name has the port in it, since all ports of a host share its cookies. `AllocError` if memory was refused.
+/// cookie's name has the port in it, since all ports of a host share its cookies. Refusal: `AllocError`, if memory was
+/// refused.
 pub fn key_of(alloc: Global, token: &str, port: u16) -> Result<Key, AllocError> {
     Ok(Key {
         cookie: format!(in alloc; "ocapanel-{port}={token}")?,

@@ -15,9 +15,9 @@ const MOST_NAME: usize = 16;
 /// What is said where memory is refused.
 const NO_MEMORY: &str = "no memory";
 
-/// The units of values that the file at a path gives; none without a path. Failures: `Read` if the file can't be read.
-/// `BadWords` if it is not UTF-8, a line is not of its form, or memory was refused; the note names the first such line,
-/// if there is memory for it.
+/// The units of values that the file at a path lists; none if no path is given. Failures: `Read` if the file can't be
+/// read. `BadWords` if it is not UTF-8, a line does not have its form, or memory was refused. The note names the first
+/// such line, if there is memory for it.
 pub fn units_of<F: Files>(
     alloc: Global,
     files: &F,

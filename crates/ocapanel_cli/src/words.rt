@@ -193,9 +193,9 @@ fn elsewhere(words: &ArgMatches<'_>) -> &'static str {
     }
 }
 
-/// What the words ask for, the program's name first: to serve, or the text of `--help` or `--version`. Failures:
-/// `BadWords` if the words are not of their form, with a note that says more, if there is memory for it. `NoMemory` if
-/// memory was refused.
+/// What the command line asks for, the program's name first: to serve, or the text of `--help` or `--version`.
+/// Failures: `BadWords` if the words do not have their form, with a note that says more, if there is memory for it.
+/// `NoMemory` if memory was refused.
 pub fn asked_for<S: AsStr>(alloc: Global, words: &[S]) -> Result<Asked, Failure> {
     match matches_of(alloc, words) {
         Ok(matches) => match serving_of(&matches) {

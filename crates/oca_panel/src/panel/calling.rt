@@ -7,9 +7,9 @@ use oca_types::{Packet, Peer};
 impl<E: End> Panel<E> {
     ghost use Rattle.oca_panel.specs.Calls.{CallsBeside};
 
-    /// Sends a device a keep-alive of five seconds beside the link, and receives once, at a socket for at most 50 ms.
-    /// Returns what was heard; the link does not take it, also if it is an answer. So a device that returns keep-alives
-    /// but answers no command shows that it is there. A send that fails is not told.
+    /// Sends a device a keep-alive with a heartbeat of five seconds, beside the link, and receives once, at a socket
+    /// for at most 50 ms. Returns what was heard. The link does not get it, even if it is an answer. So a device that
+    /// returns keep-alives but answers no command is found to be there. If the send fails, that is not reported.
     pub fn call(&mut self, device: Peer) -> Heard
         ensures { CallsBeside device result self.old self.new }
     {

@@ -10,8 +10,8 @@ impl<E: End> Panel<E> {
     ghost use Rattle.oca_panel.specs.Renewals.{IsFoundLost, IsRenewed, TurnsWith};
 
     /// Replaces the link by a new one over the same end, made at the end's present moment as [`Panel::open`] makes one.
-    /// Use it if the link is lost. Of the old link's commands nothing more is sent, and their answers are not taken.
-    /// `first` must lie above their handles.
+    /// Use it if the link is lost or late. Commands of the old link are not sent again, and their answers are not
+    /// taken. The handle `first` must be above all handles of the old link.
     pub fn renew(&mut self, device: Peer, first: Handle, span: Span)
         ensures { IsRenewed device first.0 (span_size span) self.old self.new }
     {
@@ -19,7 +19,8 @@ impl<E: End> Panel<E> {
     }
 
     /// Takes one turn as [`Panel::turn`] does: receives once, at a socket for at most 50 ms, and sends what is due.
-    /// Returns what was done. Its `turns` are 0 if the end is closed; `lost` says that the link was found lost or late.
+    /// Returns how often each thing was done. `turns` is 0 if the end is closed. `lost` is true if the link is lost or
+    /// late.
     pub fn turn_with_report(&mut self) -> DriveReport
         ensures { TurnsWith result self.old self.new }
     {

@@ -7,9 +7,9 @@ impl Walk {
     ghost use Rattle.oca_panel.specs.Walks.{places_of};
     ghost use Rattle.oca_panel.specs.WalksApart.{TakesPlace};
 
-    /// Takes the next place of the walk, and returns whether its object was visited before. The object counts as
-    /// visited from then on. Nothing is asked. `None` if no place is left, or 4,096 were visited: then nothing is
-    /// changed. Refusal: `NoMemory`, if memory was refused; after it the walk may leave objects out.
+    /// Takes the next place of the walk, and returns it and whether its object was visited before. The object counts as
+    /// visited from then on. Nothing is asked of the device. `None` if no place is left, or 4,096 places were visited:
+    /// then nothing is changed. Refusal: `NoMemory`, if memory was refused; after it the walk may leave objects out.
     pub fn take_place(&mut self) -> Result<Option<(Place, bool)>, NoMemory>
         ensures { IfOk result (λ taken. TakesPlace self.old taken self.new) }
     {
@@ -26,8 +26,8 @@ impl Walk {
         }
     }
 
-    /// Puts the members of a block before all places that wait, in their order. Nothing is asked. Refusal: `NoMemory`,
-    /// if memory was refused; after it the walk may leave objects out.
+    /// Adds the members of a block to the places of the walk, before all others and in their order. Nothing is asked of
+    /// the device. Refusal: `NoMemory`, if memory was refused; after it the walk may leave objects out.
     pub fn put_members(&mut self, container: Ono, members: &[u32]) -> Result<(), NoMemory>
         ensures { IfOk result
             (λ u. self.new ≡ record self.old { waiting = self.old.waiting ++ places_of container members.now }) }
