@@ -14,12 +14,11 @@ use crate::reason::{is_interrupted, is_signal, reason_of, says_none_came};
 use crate::socket::{Socket, address_towards};
 use oca_types::{MOST_BYTES, Packet, Peer};
 use std::alloc::Global;
-use std::fmt;
-use std::io;
 use std::marker::Model;
 use std::net::Net;
 use std::os::fd::{AsFd, AsRawFd, BorrowedFd, RawFd};
 use std::rt::Clock;
+use std::{fmt, io};
 use thiserror::Error;
 
 /// One more than the largest datagram, so that a larger one is seen to be larger.
