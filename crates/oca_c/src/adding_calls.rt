@@ -15,8 +15,8 @@ use std::alloc::Global;
 /// `lockable` says whether it can be locked. Returns `Done`; otherwise the first of these that applies, and nothing is
 /// changed. `Closed` if the struct is closed, `Started` after the start, `BadText` if the role is not UTF-8. Then
 /// `Full` if there is no room for another object, `Reserved` if the number is below 4,096, `Taken` if an object has the
-/// number. Then `NoSuchBlock` if the container is no block of the tree, `TooDeep` at depth 9, `BadText` if the role is
-/// empty or has more than 64 bytes.
+/// number. Then `NoSuchBlock` if the container is no block of the tree, `TooDeep` if the object would stand at depth 9
+/// (block 100 is at depth 1). Then `BadText` if the role is empty or has more than 64 bytes.
 #[unsafe(no_mangle)]
 pub extern "C" fn oca_device_add_block(
     alloc: Global,
@@ -38,8 +38,8 @@ pub extern "C" fn oca_device_add_block(
 /// says whether it can be locked. `muted` is its first state. Returns `Done`; otherwise the first of these that
 /// applies, and nothing is changed. `Closed` if the struct is closed, `Started` after the start, `BadText` if the role
 /// is not UTF-8. Then `Full` if there is no room for another object, `Reserved` if the number is below 4,096, `Taken`
-/// if an object has the number. Then `NoSuchBlock` if the container is no block of the tree, `TooDeep` at depth 9,
-/// `BadText` if the role is empty or has more than 64 bytes.
+/// if an object has the number. Then `NoSuchBlock` if the container is no block of the tree, `TooDeep` if the object
+/// would stand at depth 9 (block 100 is at depth 1). Then `BadText` if the role is empty or has more than 64 bytes.
 #[unsafe(no_mangle)]
 pub extern "C" fn oca_device_add_mute(
     alloc: Global,
@@ -76,7 +76,8 @@ pub extern "C" fn oca_device_add_mute(
 /// these that applies, and nothing is changed. `Closed` if the struct is closed, `Started` after the start, `BadText`
 /// if the role is not UTF-8. Then `Full` if there is no room for another object, `Reserved` if the number is below
 /// 4,096, `Taken` if an object has the number. Then `NoSuchBlock` if the container is no block of the tree, `TooDeep`
-/// at depth 9, `BadText` if the role is empty or has more than 64 bytes.
+/// if the object would stand at depth 9 (block 100 is at depth 1). Then `BadText` if the role is empty or has more than
+/// 64 bytes.
 #[unsafe(no_mangle)]
 pub extern "C" fn oca_device_add_polarity(
     alloc: Global,
@@ -115,8 +116,9 @@ pub extern "C" fn oca_device_add_polarity(
 /// nothing is changed. `Closed` if the struct is closed, `Started` after the start, `BadRange` if there are more than
 /// 16 names. `BadText` if a name has more than 64 bytes, or the role or a name is not UTF-8. Then `Full` if there is no
 /// room for another object, `Reserved` if the number is below 4,096, `Taken` if an object has the number. Then
-/// `NoSuchBlock` if the container is no block of the tree, `TooDeep` at depth 9, `BadText` if the role is empty or has
-/// more than 64 bytes. Last `BadRange` if there is no name, or none for the position.
+/// `NoSuchBlock` if the container is no block of the tree, `TooDeep` if the object would stand at depth 9 (block 100 is
+/// at depth 1). Then `BadText` if the role is empty or has more than 64 bytes. Last `BadRange` if there is no name, or
+/// none for the position.
 #[unsafe(no_mangle)]
 pub extern "C" fn oca_device_add_switch(
     alloc: Global,
@@ -146,7 +148,8 @@ pub extern "C" fn oca_device_add_switch(
 /// these that applies, and nothing is changed. `Closed` if the struct is closed, `Started` after the start, `BadText`
 /// if the role is not UTF-8. Then `Full` if there is no room for another object, `Reserved` if the number is below
 /// 4,096, `Taken` if an object has the number. Then `NoSuchBlock` if the container is no block of the tree, `TooDeep`
-/// at depth 9, `BadText` if the role is empty or has more than 64 bytes.
+/// if the object would stand at depth 9 (block 100 is at depth 1). Then `BadText` if the role is empty or has more than
+/// 64 bytes.
 #[unsafe(no_mangle)]
 pub extern "C" fn oca_device_add_boolean(
     alloc: Global,
@@ -178,8 +181,8 @@ pub extern "C" fn oca_device_add_boolean(
 /// Returns `Done`; otherwise the first of these that applies, and nothing is changed. `Closed` if the struct is closed,
 /// `Started` after the start, `BadText` if the role is not UTF-8. Then `Full` if there is no room for another object,
 /// `Reserved` if the number is below 4,096, `Taken` if an object has the number. Then `NoSuchBlock` if the container is
-/// no block of the tree, `TooDeep` at depth 9, `BadText` if the role is empty or has more than 64 bytes. Last
-/// `BadRange` if the setting is outside its limits.
+/// no block of the tree, `TooDeep` if the object would stand at depth 9 (block 100 is at depth 1). Then `BadText` if
+/// the role is empty or has more than 64 bytes. Last `BadRange` if the setting is outside its limits.
 #[unsafe(no_mangle)]
 pub extern "C" fn oca_device_add_int8(
     alloc: Global,
@@ -210,8 +213,8 @@ pub extern "C" fn oca_device_add_int8(
 /// Returns `Done`; otherwise the first of these that applies, and nothing is changed. `Closed` if the struct is closed,
 /// `Started` after the start, `BadText` if the role is not UTF-8. Then `Full` if there is no room for another object,
 /// `Reserved` if the number is below 4,096, `Taken` if an object has the number. Then `NoSuchBlock` if the container is
-/// no block of the tree, `TooDeep` at depth 9, `BadText` if the role is empty or has more than 64 bytes. Last
-/// `BadRange` if the setting is outside its limits.
+/// no block of the tree, `TooDeep` if the object would stand at depth 9 (block 100 is at depth 1). Then `BadText` if
+/// the role is empty or has more than 64 bytes. Last `BadRange` if the setting is outside its limits.
 #[unsafe(no_mangle)]
 pub extern "C" fn oca_device_add_int16(
     alloc: Global,
@@ -242,8 +245,8 @@ pub extern "C" fn oca_device_add_int16(
 /// Returns `Done`; otherwise the first of these that applies, and nothing is changed. `Closed` if the struct is closed,
 /// `Started` after the start, `BadText` if the role is not UTF-8. Then `Full` if there is no room for another object,
 /// `Reserved` if the number is below 4,096, `Taken` if an object has the number. Then `NoSuchBlock` if the container is
-/// no block of the tree, `TooDeep` at depth 9, `BadText` if the role is empty or has more than 64 bytes. Last
-/// `BadRange` if the setting is outside its limits.
+/// no block of the tree, `TooDeep` if the object would stand at depth 9 (block 100 is at depth 1). Then `BadText` if
+/// the role is empty or has more than 64 bytes. Last `BadRange` if the setting is outside its limits.
 #[unsafe(no_mangle)]
 pub extern "C" fn oca_device_add_int32(
     alloc: Global,
@@ -274,8 +277,8 @@ pub extern "C" fn oca_device_add_int32(
 /// Returns `Done`; otherwise the first of these that applies, and nothing is changed. `Closed` if the struct is closed,
 /// `Started` after the start, `BadText` if the role is not UTF-8. Then `Full` if there is no room for another object,
 /// `Reserved` if the number is below 4,096, `Taken` if an object has the number. Then `NoSuchBlock` if the container is
-/// no block of the tree, `TooDeep` at depth 9, `BadText` if the role is empty or has more than 64 bytes. Last
-/// `BadRange` if the setting is outside its limits.
+/// no block of the tree, `TooDeep` if the object would stand at depth 9 (block 100 is at depth 1). Then `BadText` if
+/// the role is empty or has more than 64 bytes. Last `BadRange` if the setting is outside its limits.
 #[unsafe(no_mangle)]
 pub extern "C" fn oca_device_add_int64(
     alloc: Global,
@@ -306,8 +309,8 @@ pub extern "C" fn oca_device_add_int64(
 /// Returns `Done`; otherwise the first of these that applies, and nothing is changed. `Closed` if the struct is closed,
 /// `Started` after the start, `BadText` if the role is not UTF-8. Then `Full` if there is no room for another object,
 /// `Reserved` if the number is below 4,096, `Taken` if an object has the number. Then `NoSuchBlock` if the container is
-/// no block of the tree, `TooDeep` at depth 9, `BadText` if the role is empty or has more than 64 bytes. Last
-/// `BadRange` if the setting is outside its limits.
+/// no block of the tree, `TooDeep` if the object would stand at depth 9 (block 100 is at depth 1). Then `BadText` if
+/// the role is empty or has more than 64 bytes. Last `BadRange` if the setting is outside its limits.
 #[unsafe(no_mangle)]
 pub extern "C" fn oca_device_add_uint8(
     alloc: Global,
@@ -338,8 +341,8 @@ pub extern "C" fn oca_device_add_uint8(
 /// Returns `Done`; otherwise the first of these that applies, and nothing is changed. `Closed` if the struct is closed,
 /// `Started` after the start, `BadText` if the role is not UTF-8. Then `Full` if there is no room for another object,
 /// `Reserved` if the number is below 4,096, `Taken` if an object has the number. Then `NoSuchBlock` if the container is
-/// no block of the tree, `TooDeep` at depth 9, `BadText` if the role is empty or has more than 64 bytes. Last
-/// `BadRange` if the setting is outside its limits.
+/// no block of the tree, `TooDeep` if the object would stand at depth 9 (block 100 is at depth 1). Then `BadText` if
+/// the role is empty or has more than 64 bytes. Last `BadRange` if the setting is outside its limits.
 #[unsafe(no_mangle)]
 pub extern "C" fn oca_device_add_uint16(
     alloc: Global,
@@ -371,8 +374,8 @@ pub extern "C" fn oca_device_add_uint16(
 /// Returns `Done`; otherwise the first of these that applies, and nothing is changed. `Closed` if the struct is closed,
 /// `Started` after the start, `BadText` if the role is not UTF-8. Then `Full` if there is no room for another object,
 /// `Reserved` if the number is below 4,096, `Taken` if an object has the number. Then `NoSuchBlock` if the container is
-/// no block of the tree, `TooDeep` at depth 9, `BadText` if the role is empty or has more than 64 bytes. Last
-/// `BadRange` if the setting is outside its limits.
+/// no block of the tree, `TooDeep` if the object would stand at depth 9 (block 100 is at depth 1). Then `BadText` if
+/// the role is empty or has more than 64 bytes. Last `BadRange` if the setting is outside its limits.
 #[unsafe(no_mangle)]
 pub extern "C" fn oca_device_add_uint32(
     alloc: Global,
@@ -404,8 +407,8 @@ pub extern "C" fn oca_device_add_uint32(
 /// Returns `Done`; otherwise the first of these that applies, and nothing is changed. `Closed` if the struct is closed,
 /// `Started` after the start, `BadText` if the role is not UTF-8. Then `Full` if there is no room for another object,
 /// `Reserved` if the number is below 4,096, `Taken` if an object has the number. Then `NoSuchBlock` if the container is
-/// no block of the tree, `TooDeep` at depth 9, `BadText` if the role is empty or has more than 64 bytes. Last
-/// `BadRange` if the setting is outside its limits.
+/// no block of the tree, `TooDeep` if the object would stand at depth 9 (block 100 is at depth 1). Then `BadText` if
+/// the role is empty or has more than 64 bytes. Last `BadRange` if the setting is outside its limits.
 #[unsafe(no_mangle)]
 pub extern "C" fn oca_device_add_uint64(
     alloc: Global,

@@ -19,11 +19,15 @@ use oca_control::Link;
 use oca_types::{Handle, MethodId, Ono, Peer, Span};
 use std::alloc::Global;
 
-/// Opens a link to the device at the address `ip` (an IPv4 address as a number, the first byte highest) and a port.
-/// `now` is the moment, in milliseconds of the caller's clock. Its first command gets the handle `first_handle`. Each
-/// later handle is one higher, and lies below the lowest handle in flight plus the span, 1 to 32. It takes the memory
-/// for the link. Returns `Done`; otherwise the first of these that applies, and nothing is changed. `Open` if the
-/// struct is open already. `BadSize` if the span is outside its range. `NoMemory` if memory was refused.
+/// Opens a link to the device at the address `ip` (an IPv4 address as a number, the first byte highest) and the port
+/// `port`, and takes the memory for the link. `now` is the moment, in milliseconds of the caller's clock. The link's
+/// first command gets the handle `first_handle`, and each later command the next one. A command is refused while its
+/// handle would be `span` (1 to 32) or more above the lowest handle in flight.
+///
+/// `first_handle` must be above every handle that the device heard from the same address and port before, unless
+/// nothing was sent from there for more than two minutes since. Returns `Done`; otherwise the first of these that
+/// applies, and nothing is changed. `Open` if the struct is open already. `BadSize` if the span is outside its range.
+/// `NoMemory` if memory was refused.
 #[unsafe(no_mangle)]
 pub extern "C" fn oca_link_open(
     alloc: Global,

@@ -63,8 +63,8 @@ pub extern "C" fn oca_device_open_with(
 /// has more than 16 positions. Then `BadText` if the role, the label or a name has more than 64 bytes or is not UTF-8,
 /// `NoValue` if the reading is none that an object can have. Then `Full` if there is no room for another object,
 /// `Reserved` if the number is below 4,096, `Taken` if an object has the number. Then `NoSuchBlock` if the container is
-/// no block of the tree, `TooDeep` at depth 9, `BadText` if the role is empty. Last `BadRange` if the setting is
-/// outside its limits, or a switch has no position.
+/// no block of the tree, `TooDeep` if the object would stand at depth 9 (block 100 is at depth 1). Then `BadText` if
+/// the role is empty. Last `BadRange` if the setting is outside its limits, or a switch has no position.
 #[unsafe(no_mangle)]
 pub extern "C" fn oca_device_add(
     alloc: Global,

@@ -509,10 +509,10 @@ impl TreeBuilder {
     ///
     /// Refusals, the first of [`AddFault`] that applies; the builder is then unchanged. `Full` if there is no room for
     /// another object, `Reserved` if the number is below 4096, `Taken` if another object has the number. `NoSuchBlock`
-    /// if the container is no block of the tree, `TooDeep` at depth 9 (the root is at depth 1). `BadText` if the role
-    /// is empty, or the role or a position's name has more than 64 bytes. `BadRange` if the setting is outside its
-    /// limits. `BadRange` also if a switch has no or more than 16 positions, or its position is not one of them.
-    /// `NoMemory` never comes.
+    /// if the container is no block of the tree, `TooDeep` if the object would stand at depth 9 (the root is at depth
+    /// 1). `BadText` if the role is empty, or the role or a position's name has more than 64 bytes. `BadRange` if the
+    /// setting is outside its limits. `BadRange` also if a switch has no or more than 16 positions, or its position is
+    /// not one of them. `NoMemory` never comes.
     pub fn add(&mut self, container: Ono, ono: Ono, spec: &Spec<'_>) -> Result<(), AddFault>
         ensures { Adds result self.old self.new container.0 ono.0 spec.now }
     {
