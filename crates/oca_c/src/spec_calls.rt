@@ -24,7 +24,7 @@ use oca_tree::{Room, TreeBuilder};
 use std::alloc::Global;
 
 /// Opens a device that has its root alone (the block 100), with room for `room` objects, the root counted: 1 to 4,096.
-/// The root has the label of the struct, and is enabled as the struct says. It takes the memory for the objects.
+/// The root has the label of the struct, and is enabled as the struct says. The call takes the memory for the objects.
 /// Returns `Done`; otherwise the first of these that applies, and nothing is changed. `Open` if the struct is open
 /// already. `BadSize` if `room` is outside its range, or the struct is of another version. `BadText` if the label has
 /// more than 64 bytes or is not UTF-8. `NoMemory` if memory was refused.
@@ -89,9 +89,9 @@ pub extern "C" fn oca_device_add(
 }
 
 /// Writes the description of the object at this index, by which it can be added again; indices count from 0 at the
-/// root, in order of adding. Its lock is not written. Returns `Done`; otherwise the first of these that applies, and
-/// nothing is changed or written. `Closed` if the struct is closed, `NotStarted` before the start, `BadSize` if `spec`
-/// does not say its size, `Nothing` after the last object.
+/// root, in order of adding. The object's lock is not written. Returns `Done`; otherwise the first of these that
+/// applies, and nothing is changed or written. `Closed` if the struct is closed, `NotStarted` before the start,
+/// `BadSize` if `spec` does not say its size, `Nothing` after the last object.
 #[unsafe(no_mangle)]
 pub extern "C" fn oca_device_spec(
     alloc: Global,
@@ -116,10 +116,10 @@ pub extern "C" fn oca_device_spec(
     answer.number()
 }
 
-/// Writes the description of the object with this number, by which it can be added again. Its lock is not written.
-/// Returns `Done`; otherwise the first of these that applies, and nothing is changed or written. `Closed` if the struct
-/// is closed, `NotStarted` before the start, `BadSize` if `spec` does not say its size, `Nothing` if there is no such
-/// object.
+/// Writes the description of the object with this number, by which it can be added again. The object's lock is not
+/// written. Returns `Done`; otherwise the first of these that applies, and nothing is changed or written. `Closed` if
+/// the struct is closed, `NotStarted` before the start, `BadSize` if `spec` does not say its size, `Nothing` if there
+/// is no such object.
 #[unsafe(no_mangle)]
 pub extern "C" fn oca_device_spec_of(
     alloc: Global,

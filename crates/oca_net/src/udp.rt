@@ -142,8 +142,8 @@ impl<'a, C: Clock> fmt::Debug for UdpEnd<'a, C> {
 
 impl<'a, C: Clock> UdpEnd<'a, C> {
     /// An end bound at the address `ip` (an IPv4 address as a number, the first byte highest) and a port; at port 0 the
-    /// system chooses one. It takes the memory for its receive buffer, then binds the socket. Refusals: `NoMemory` if
-    /// the memory for the receive buffer was refused; otherwise `Io` if the system refused the socket.
+    /// system chooses one. The call takes the memory for its receive buffer, then binds the socket. Refusals:
+    /// `NoMemory` if the memory for the receive buffer was refused; otherwise `Io` if the system refused the socket.
     ///
     /// Bind a device at the address at which it is asked, and a controller by [`bind_towards`](UdpEnd::bind_towards).
     /// Address 0 stands for all addresses of the machine: the system then chooses for each datagram from which address
@@ -272,11 +272,11 @@ impl<'a, C: Clock> UdpEnd<'a, C> {
         self.socket.send_buffer
     }
 
-    /// Receives once. It waits until the moment `moment` of the end's clock, in milliseconds, for at most an hour, and
-    /// not at all if that moment is past. `Datagram` with its sender if a datagram came, and its bytes are in `packet`.
-    /// Otherwise `packet` is empty: `Quiet` if none came, `Oversize` if one of more than 1,472 bytes came. `Failed` if
-    /// the system returned anything else, such as an error. That counts as a failure, and the call then waits until 50
-    /// ms after its beginning, or until `moment` if that is sooner.
+    /// Receives once. The call waits until the moment `moment` of the end's clock, in milliseconds, for at most an
+    /// hour, and not at all if that moment is past. `Datagram` with its sender if a datagram came, and its bytes are in
+    /// `packet`. Otherwise `packet` is empty: `Quiet` if none came, `Oversize` if one of more than 1,472 bytes came.
+    /// `Failed` if the system returned anything else, such as an error. That counts as a failure, and the call then
+    /// waits until 50 ms after its beginning, or until `moment` if that is sooner.
     #[tactic(auto, using(crate::proofs::Waiting::until_most, crate::proofs::Waiting::until_later))]
     pub fn receive_by(&mut self, packet: &mut Packet, moment: u64) -> Heard
         ensures packet { HoldsOnlyADatagram result packet.new.items }

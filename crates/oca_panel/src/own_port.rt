@@ -90,8 +90,8 @@ fn handles_in(seconds: u64, microseconds: u32) -> u128
 }
 
 /// Law: take two runs that start on the same port, the second at a later moment of the system's clock. Then the second
-/// run's first handle is higher, or the second run starts more than 21,474 seconds after the first. It does nothing at
-/// run time.
+/// run's first handle is higher, or the second run starts more than 21,474 seconds after the first. The function does
+/// nothing at run time.
 pub fn law_of_turns()
     ensures { HandlesRiseOrRest }
 {}

@@ -46,7 +46,7 @@ impl<E: End> fmt::Debug for Watched<E> {
 impl<E: End> Watched<E> {
     ghost use Rattle.std.specs.Prelude.{◌≡◌, None};
 
-    /// An end over another end, which notes when it hears `peer`. It has not heard the peer so far.
+    /// An end over another end, which notes when it hears `peer`. The new end has not heard the peer so far.
     pub fn new(end: E, peer: Peer) -> Watched<E>
         ensures { result ≡ record { end_state = E.state end; peer = peer; heard = None } }
     {

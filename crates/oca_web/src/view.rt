@@ -135,7 +135,7 @@ impl View {
         self.reach
     }
 
-    /// How the link to the device is. Its moments are in milliseconds of the program's clock.
+    /// How the link to the device is. All moments are in milliseconds of the program's clock.
     pub fn news(&self) -> LinkNews
         ensures { result ≡ self.now.news }
     {
