@@ -631,10 +631,12 @@ struct oca_link { void *at; bool is_open; };
 /* A closed one: struct oca_link link = OCA_LINK_INIT; */
 #define OCA_LINK_INIT {NULL, false}
 
-/* Opens a link to the device at this address, at the moment `now`. Its first command gets the handle `first_handle`. Each later handle is
- * one higher, and lies below the lowest handle in flight plus the span (1 to 32; 16 is usual). Otherwise the first of these that applies,
- * and then nothing is changed. OCA_OPEN if the struct is open already. OCA_BAD_SIZE if the span is outside its range. OCA_NO_MEMORY if
- * memory was refused. */
+/* Opens a link to the device at the address `ip` (an IPv4 address as a number, the first byte highest) and the port `port`. `now` is the moment,
+ * in milliseconds of the caller's clock. The link's first command gets the handle `first_handle`, and each later command the next one. A command
+ * is refused while its handle would be `span` (1 to 32; 16 is usual) or more above the lowest handle in flight. `first_handle` must be above every
+ * handle that the device heard from the same address and port before, unless nothing was sent from there for more than two minutes since.
+ * Otherwise the first of these that applies, and then nothing is changed. OCA_OPEN if the struct is open already. OCA_BAD_SIZE if the span is
+ * outside its range. OCA_NO_MEMORY if memory was refused. */
 enum oca_result oca_link_open(struct oca_link *link, uint32_t ip, uint16_t port, uint32_t first_handle, uint64_t now, uint8_t span) OCA_CHECKED;
 
 /* Closes a link and frees its memory. A closed one stays closed, and for a null pointer nothing is done. Commands in flight may still be

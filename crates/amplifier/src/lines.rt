@@ -28,8 +28,9 @@ impl<I: Read + AsRawFd + Drop> Lines<I> {
         }
     }
 
-    /// The next line, without its end and cut to 80 bytes. It does not wait. `None` if no whole line is there yet, the
-    /// line is empty, or the input is at its end. A last line without an end counts. Err with a text if a read failed.
+    /// The next line, without its end and cut to 80 bytes. The call does not wait. `None` if no whole line is there
+    /// yet, the line is empty, or the input is at its end. A last line without an end counts. Err with a text if a read
+    /// failed.
     pub fn next(&mut self) -> Result<Option<Line>, &'static str> {
         for _ in 0..=LONGEST {
             if self.is_ended || !is_ready(self.input.as_raw_fd()) {

@@ -15,8 +15,8 @@ use std::alloc::Global;
 /// `lockable` says whether it can be locked. Returns `Done`; otherwise the first of these that applies, and nothing is
 /// changed. `Closed` if the struct is closed, `Started` after the start, `BadText` if the role is not UTF-8. Then
 /// `Full` if there is no room for another object, `Reserved` if the number is below 4,096, `Taken` if an object has the
-/// number. Then `NoSuchBlock` if the container is no block of the tree, `TooDeep` at depth 9, `BadText` if the role is
-/// empty or has more than 64 bytes.
+/// number. Then `NoSuchBlock` if the container is no block of the tree, `TooDeep` if the object would stand at depth 9
+/// (block 100 is at depth 1). Then `BadText` if the role is empty or has more than 64 bytes.
 #[unsafe(no_mangle)]
 pub extern "C" fn oca_device_add_block(
     alloc: Global,
@@ -38,8 +38,8 @@ pub extern "C" fn oca_device_add_block(
 /// says whether it can be locked. `muted` is its first state. Returns `Done`; otherwise the first of these that
 /// applies, and nothing is changed. `Closed` if the struct is closed, `Started` after the start, `BadText` if the role
 /// is not UTF-8. Then `Full` if there is no room for another object, `Reserved` if the number is below 4,096, `Taken`
-/// if an object has the number. Then `NoSuchBlock` if the container is no block of the tree, `TooDeep` at depth 9,
-/// `BadText` if the role is empty or has more than 64 bytes.
+/// if an object has the number. Then `NoSuchBlock` if the container is no block of the tree, `TooDeep` if the object
+/// would stand at depth 9 (block 100 is at depth 1). Then `BadText` if the role is empty or has more than 64 bytes.
 #[unsafe(no_mangle)]
 pub extern "C" fn oca_device_add_mute(
     alloc: Global,
@@ -76,7 +76,8 @@ pub extern "C" fn oca_device_add_mute(
 /// these that applies, and nothing is changed. `Closed` if the struct is closed, `Started` after the start, `BadText`
 /// if the role is not UTF-8. Then `Full` if there is no room for another object, `Reserved` if the number is below
 /// 4,096, `Taken` if an object has the number. Then `NoSuchBlock` if the container is no block of the tree, `TooDeep`
-/// at depth 9, `BadText` if the role is empty or has more than 64 bytes.
+/// if the object would stand at depth 9 (block 100 is at depth 1). Then `BadText` if the role is empty or has more than
+/// 64 bytes.
 #[unsafe(no_mangle)]
 pub extern "C" fn oca_device_add_polarity(
     alloc: Global,
@@ -110,13 +111,14 @@ pub extern "C" fn oca_device_add_polarity(
 }
 
 /// Adds an OcaSwitch with the number `ono` to the block `container`, before the start. `role` is its role, and
-/// `lockable` says whether it can be locked. It has 1 to 16 positions with these names, all of them enabled. `position`
-/// is the one at which it stands first, counted from 0. Returns `Done`; otherwise the first of these that applies, and
-/// nothing is changed. `Closed` if the struct is closed, `Started` after the start, `BadRange` if there are more than
-/// 16 names. `BadText` if a name has more than 64 bytes, or the role or a name is not UTF-8. Then `Full` if there is no
-/// room for another object, `Reserved` if the number is below 4,096, `Taken` if an object has the number. Then
-/// `NoSuchBlock` if the container is no block of the tree, `TooDeep` at depth 9, `BadText` if the role is empty or has
-/// more than 64 bytes. Last `BadRange` if there is no name, or none for the position.
+/// `lockable` says whether it can be locked. The switch has 1 to 16 positions with these names, all of them enabled.
+/// `position` is the one at which it stands first, counted from 0. Returns `Done`; otherwise the first of these that
+/// applies, and nothing is changed. `Closed` if the struct is closed, `Started` after the start, `BadRange` if there
+/// are more than 16 names. `BadText` if a name has more than 64 bytes, or the role or a name is not UTF-8. Then `Full`
+/// if there is no room for another object, `Reserved` if the number is below 4,096, `Taken` if an object has the
+/// number. Then `NoSuchBlock` if the container is no block of the tree, `TooDeep` if the object would stand at depth 9
+/// (block 100 is at depth 1). Then `BadText` if the role is empty or has more than 64 bytes. Last `BadRange` if there
+/// is no name, or none for the position.
 #[unsafe(no_mangle)]
 pub extern "C" fn oca_device_add_switch(
     alloc: Global,
@@ -146,7 +148,8 @@ pub extern "C" fn oca_device_add_switch(
 /// these that applies, and nothing is changed. `Closed` if the struct is closed, `Started` after the start, `BadText`
 /// if the role is not UTF-8. Then `Full` if there is no room for another object, `Reserved` if the number is below
 /// 4,096, `Taken` if an object has the number. Then `NoSuchBlock` if the container is no block of the tree, `TooDeep`
-/// at depth 9, `BadText` if the role is empty or has more than 64 bytes.
+/// if the object would stand at depth 9 (block 100 is at depth 1). Then `BadText` if the role is empty or has more than
+/// 64 bytes.
 #[unsafe(no_mangle)]
 pub extern "C" fn oca_device_add_boolean(
     alloc: Global,
@@ -174,12 +177,12 @@ pub extern "C" fn oca_device_add_boolean(
 }
 
 /// Adds an OcaInt8Actuator with the number `ono` to the block `container`, before the start. `role` is its role, and
-/// `lockable` says whether it can be locked. Its first setting lies within `least` to `greatest`, as all later ones do.
-/// Returns `Done`; otherwise the first of these that applies, and nothing is changed. `Closed` if the struct is closed,
-/// `Started` after the start, `BadText` if the role is not UTF-8. Then `Full` if there is no room for another object,
-/// `Reserved` if the number is below 4,096, `Taken` if an object has the number. Then `NoSuchBlock` if the container is
-/// no block of the tree, `TooDeep` at depth 9, `BadText` if the role is empty or has more than 64 bytes. Last
-/// `BadRange` if the setting is outside its limits.
+/// `lockable` says whether it can be locked. The object's first setting lies within `least` to `greatest`, as all later
+/// ones do. Returns `Done`; otherwise the first of these that applies, and nothing is changed. `Closed` if the struct
+/// is closed, `Started` after the start, `BadText` if the role is not UTF-8. Then `Full` if there is no room for
+/// another object, `Reserved` if the number is below 4,096, `Taken` if an object has the number. Then `NoSuchBlock` if
+/// the container is no block of the tree, `TooDeep` if the object would stand at depth 9 (block 100 is at depth 1).
+/// Then `BadText` if the role is empty or has more than 64 bytes. Last `BadRange` if the setting is outside its limits.
 #[unsafe(no_mangle)]
 pub extern "C" fn oca_device_add_int8(
     alloc: Global,
@@ -206,12 +209,12 @@ pub extern "C" fn oca_device_add_int8(
 }
 
 /// Adds an OcaInt16Actuator with the number `ono` to the block `container`, before the start. `role` is its role, and
-/// `lockable` says whether it can be locked. Its first setting lies within `least` to `greatest`, as all later ones do.
-/// Returns `Done`; otherwise the first of these that applies, and nothing is changed. `Closed` if the struct is closed,
-/// `Started` after the start, `BadText` if the role is not UTF-8. Then `Full` if there is no room for another object,
-/// `Reserved` if the number is below 4,096, `Taken` if an object has the number. Then `NoSuchBlock` if the container is
-/// no block of the tree, `TooDeep` at depth 9, `BadText` if the role is empty or has more than 64 bytes. Last
-/// `BadRange` if the setting is outside its limits.
+/// `lockable` says whether it can be locked. The object's first setting lies within `least` to `greatest`, as all later
+/// ones do. Returns `Done`; otherwise the first of these that applies, and nothing is changed. `Closed` if the struct
+/// is closed, `Started` after the start, `BadText` if the role is not UTF-8. Then `Full` if there is no room for
+/// another object, `Reserved` if the number is below 4,096, `Taken` if an object has the number. Then `NoSuchBlock` if
+/// the container is no block of the tree, `TooDeep` if the object would stand at depth 9 (block 100 is at depth 1).
+/// Then `BadText` if the role is empty or has more than 64 bytes. Last `BadRange` if the setting is outside its limits.
 #[unsafe(no_mangle)]
 pub extern "C" fn oca_device_add_int16(
     alloc: Global,
@@ -238,12 +241,12 @@ pub extern "C" fn oca_device_add_int16(
 }
 
 /// Adds an OcaInt32Actuator with the number `ono` to the block `container`, before the start. `role` is its role, and
-/// `lockable` says whether it can be locked. Its first setting lies within `least` to `greatest`, as all later ones do.
-/// Returns `Done`; otherwise the first of these that applies, and nothing is changed. `Closed` if the struct is closed,
-/// `Started` after the start, `BadText` if the role is not UTF-8. Then `Full` if there is no room for another object,
-/// `Reserved` if the number is below 4,096, `Taken` if an object has the number. Then `NoSuchBlock` if the container is
-/// no block of the tree, `TooDeep` at depth 9, `BadText` if the role is empty or has more than 64 bytes. Last
-/// `BadRange` if the setting is outside its limits.
+/// `lockable` says whether it can be locked. The object's first setting lies within `least` to `greatest`, as all later
+/// ones do. Returns `Done`; otherwise the first of these that applies, and nothing is changed. `Closed` if the struct
+/// is closed, `Started` after the start, `BadText` if the role is not UTF-8. Then `Full` if there is no room for
+/// another object, `Reserved` if the number is below 4,096, `Taken` if an object has the number. Then `NoSuchBlock` if
+/// the container is no block of the tree, `TooDeep` if the object would stand at depth 9 (block 100 is at depth 1).
+/// Then `BadText` if the role is empty or has more than 64 bytes. Last `BadRange` if the setting is outside its limits.
 #[unsafe(no_mangle)]
 pub extern "C" fn oca_device_add_int32(
     alloc: Global,
@@ -270,12 +273,12 @@ pub extern "C" fn oca_device_add_int32(
 }
 
 /// Adds an OcaInt64Actuator with the number `ono` to the block `container`, before the start. `role` is its role, and
-/// `lockable` says whether it can be locked. Its first setting lies within `least` to `greatest`, as all later ones do.
-/// Returns `Done`; otherwise the first of these that applies, and nothing is changed. `Closed` if the struct is closed,
-/// `Started` after the start, `BadText` if the role is not UTF-8. Then `Full` if there is no room for another object,
-/// `Reserved` if the number is below 4,096, `Taken` if an object has the number. Then `NoSuchBlock` if the container is
-/// no block of the tree, `TooDeep` at depth 9, `BadText` if the role is empty or has more than 64 bytes. Last
-/// `BadRange` if the setting is outside its limits.
+/// `lockable` says whether it can be locked. The object's first setting lies within `least` to `greatest`, as all later
+/// ones do. Returns `Done`; otherwise the first of these that applies, and nothing is changed. `Closed` if the struct
+/// is closed, `Started` after the start, `BadText` if the role is not UTF-8. Then `Full` if there is no room for
+/// another object, `Reserved` if the number is below 4,096, `Taken` if an object has the number. Then `NoSuchBlock` if
+/// the container is no block of the tree, `TooDeep` if the object would stand at depth 9 (block 100 is at depth 1).
+/// Then `BadText` if the role is empty or has more than 64 bytes. Last `BadRange` if the setting is outside its limits.
 #[unsafe(no_mangle)]
 pub extern "C" fn oca_device_add_int64(
     alloc: Global,
@@ -302,12 +305,12 @@ pub extern "C" fn oca_device_add_int64(
 }
 
 /// Adds an OcaUint8Actuator with the number `ono` to the block `container`, before the start. `role` is its role, and
-/// `lockable` says whether it can be locked. Its first setting lies within `least` to `greatest`, as all later ones do.
-/// Returns `Done`; otherwise the first of these that applies, and nothing is changed. `Closed` if the struct is closed,
-/// `Started` after the start, `BadText` if the role is not UTF-8. Then `Full` if there is no room for another object,
-/// `Reserved` if the number is below 4,096, `Taken` if an object has the number. Then `NoSuchBlock` if the container is
-/// no block of the tree, `TooDeep` at depth 9, `BadText` if the role is empty or has more than 64 bytes. Last
-/// `BadRange` if the setting is outside its limits.
+/// `lockable` says whether it can be locked. The object's first setting lies within `least` to `greatest`, as all later
+/// ones do. Returns `Done`; otherwise the first of these that applies, and nothing is changed. `Closed` if the struct
+/// is closed, `Started` after the start, `BadText` if the role is not UTF-8. Then `Full` if there is no room for
+/// another object, `Reserved` if the number is below 4,096, `Taken` if an object has the number. Then `NoSuchBlock` if
+/// the container is no block of the tree, `TooDeep` if the object would stand at depth 9 (block 100 is at depth 1).
+/// Then `BadText` if the role is empty or has more than 64 bytes. Last `BadRange` if the setting is outside its limits.
 #[unsafe(no_mangle)]
 pub extern "C" fn oca_device_add_uint8(
     alloc: Global,
@@ -334,12 +337,12 @@ pub extern "C" fn oca_device_add_uint8(
 }
 
 /// Adds an OcaUint16Actuator with the number `ono` to the block `container`, before the start. `role` is its role, and
-/// `lockable` says whether it can be locked. Its first setting lies within `least` to `greatest`, as all later ones do.
-/// Returns `Done`; otherwise the first of these that applies, and nothing is changed. `Closed` if the struct is closed,
-/// `Started` after the start, `BadText` if the role is not UTF-8. Then `Full` if there is no room for another object,
-/// `Reserved` if the number is below 4,096, `Taken` if an object has the number. Then `NoSuchBlock` if the container is
-/// no block of the tree, `TooDeep` at depth 9, `BadText` if the role is empty or has more than 64 bytes. Last
-/// `BadRange` if the setting is outside its limits.
+/// `lockable` says whether it can be locked. The object's first setting lies within `least` to `greatest`, as all later
+/// ones do. Returns `Done`; otherwise the first of these that applies, and nothing is changed. `Closed` if the struct
+/// is closed, `Started` after the start, `BadText` if the role is not UTF-8. Then `Full` if there is no room for
+/// another object, `Reserved` if the number is below 4,096, `Taken` if an object has the number. Then `NoSuchBlock` if
+/// the container is no block of the tree, `TooDeep` if the object would stand at depth 9 (block 100 is at depth 1).
+/// Then `BadText` if the role is empty or has more than 64 bytes. Last `BadRange` if the setting is outside its limits.
 #[unsafe(no_mangle)]
 pub extern "C" fn oca_device_add_uint16(
     alloc: Global,
@@ -367,12 +370,12 @@ pub extern "C" fn oca_device_add_uint16(
 }
 
 /// Adds an OcaUint32Actuator with the number `ono` to the block `container`, before the start. `role` is its role, and
-/// `lockable` says whether it can be locked. Its first setting lies within `least` to `greatest`, as all later ones do.
-/// Returns `Done`; otherwise the first of these that applies, and nothing is changed. `Closed` if the struct is closed,
-/// `Started` after the start, `BadText` if the role is not UTF-8. Then `Full` if there is no room for another object,
-/// `Reserved` if the number is below 4,096, `Taken` if an object has the number. Then `NoSuchBlock` if the container is
-/// no block of the tree, `TooDeep` at depth 9, `BadText` if the role is empty or has more than 64 bytes. Last
-/// `BadRange` if the setting is outside its limits.
+/// `lockable` says whether it can be locked. The object's first setting lies within `least` to `greatest`, as all later
+/// ones do. Returns `Done`; otherwise the first of these that applies, and nothing is changed. `Closed` if the struct
+/// is closed, `Started` after the start, `BadText` if the role is not UTF-8. Then `Full` if there is no room for
+/// another object, `Reserved` if the number is below 4,096, `Taken` if an object has the number. Then `NoSuchBlock` if
+/// the container is no block of the tree, `TooDeep` if the object would stand at depth 9 (block 100 is at depth 1).
+/// Then `BadText` if the role is empty or has more than 64 bytes. Last `BadRange` if the setting is outside its limits.
 #[unsafe(no_mangle)]
 pub extern "C" fn oca_device_add_uint32(
     alloc: Global,
@@ -400,12 +403,12 @@ pub extern "C" fn oca_device_add_uint32(
 }
 
 /// Adds an OcaUint64Actuator with the number `ono` to the block `container`, before the start. `role` is its role, and
-/// `lockable` says whether it can be locked. Its first setting lies within `least` to `greatest`, as all later ones do.
-/// Returns `Done`; otherwise the first of these that applies, and nothing is changed. `Closed` if the struct is closed,
-/// `Started` after the start, `BadText` if the role is not UTF-8. Then `Full` if there is no room for another object,
-/// `Reserved` if the number is below 4,096, `Taken` if an object has the number. Then `NoSuchBlock` if the container is
-/// no block of the tree, `TooDeep` at depth 9, `BadText` if the role is empty or has more than 64 bytes. Last
-/// `BadRange` if the setting is outside its limits.
+/// `lockable` says whether it can be locked. The object's first setting lies within `least` to `greatest`, as all later
+/// ones do. Returns `Done`; otherwise the first of these that applies, and nothing is changed. `Closed` if the struct
+/// is closed, `Started` after the start, `BadText` if the role is not UTF-8. Then `Full` if there is no room for
+/// another object, `Reserved` if the number is below 4,096, `Taken` if an object has the number. Then `NoSuchBlock` if
+/// the container is no block of the tree, `TooDeep` if the object would stand at depth 9 (block 100 is at depth 1).
+/// Then `BadText` if the role is empty or has more than 64 bytes. Last `BadRange` if the setting is outside its limits.
 #[unsafe(no_mangle)]
 pub extern "C" fn oca_device_add_uint64(
     alloc: Global,

@@ -24,8 +24,9 @@ use oca_types::Peer;
 use std::alloc::Global;
 
 /// Opens a device that has its root alone (the block 100), with room for `room` objects, the root counted: 1 to 4,096.
-/// It takes the memory for them. Returns `Done`; otherwise the first of these that applies, and nothing is changed.
-/// `Open` if the struct is open already. `BadSize` if `room` is outside its range. `NoMemory` if memory was refused.
+/// The call takes the memory for them. Returns `Done`; otherwise the first of these that applies, and nothing is
+/// changed. `Open` if the struct is open already. `BadSize` if `room` is outside its range. `NoMemory` if memory was
+/// refused.
 #[unsafe(no_mangle)]
 pub extern "C" fn oca_device_open(alloc: Global, handle: &mut DeviceHandle, room: u16) -> u32
     ensures open { IsSome handle.old.slot.inner → (result ≡ 10) × (handle.new.slot.inner ≡ handle.old.slot.inner) }
@@ -51,11 +52,11 @@ pub extern "C" fn oca_device_close(alloc: Global, handle: &mut DeviceHandle)
     handle.close(alloc);
 }
 
-/// Starts the device, with reply windows of `window` commands and sessions of `peers` peers. Both are 1 to 64. It has
-/// room for 122 packets that answer a datagram, which always suffices. No object can be added after it. Returns `Done`;
-/// otherwise the first of these that applies. `Closed` if the struct is closed, `Started` if the device is started
-/// already, `BadSize` if a size is outside its range: then nothing is changed. `NoMemory` if memory was refused: then
-/// the objects are lost, and the struct is closed.
+/// Starts the device, with reply windows of `window` commands and sessions of `peers` peers. Each number is 1 to 64.
+/// The device has room for 122 packets that answer a datagram, which always suffices. No object can be added after it.
+/// Returns `Done`; otherwise the first of these that applies. `Closed` if the struct is closed, `Started` if the device
+/// is started already, `BadSize` if a size is outside its range: then nothing is changed. `NoMemory` if memory was
+/// refused: then the objects are lost, and the struct is closed.
 #[unsafe(no_mangle)]
 pub extern "C" fn oca_device_start(
     alloc: Global,
@@ -71,11 +72,11 @@ pub extern "C" fn oca_device_start(
     oca_device_start_within(alloc, handle, window, peers, MOST_PACKETS)
 }
 
-/// Starts the device, with reply windows of `window` commands and sessions of `peers` peers, both 1 to 64. It has room
-/// for `packets` packets that answer a datagram, 1 to 122, of some 1,480 bytes each. No object can be added after it.
-/// Returns `Done`; otherwise the first of these that applies. `Closed` if the struct is closed, `Started` if the device
-/// is started already, `BadSize` if a size is outside its range: then nothing is changed. `NoMemory` if memory was
-/// refused: then the objects are lost, and the struct is closed.
+/// Starts the device, with reply windows of `window` commands and sessions of `peers` peers, both 1 to 64. The device
+/// has room for `packets` packets that answer a datagram, 1 to 122, of some 1,480 bytes each. No object can be added
+/// after it. Returns `Done`; otherwise the first of these that applies. `Closed` if the struct is closed, `Started` if
+/// the device is started already, `BadSize` if a size is outside its range: then nothing is changed. `NoMemory` if
+/// memory was refused: then the objects are lost, and the struct is closed.
 #[unsafe(no_mangle)]
 pub extern "C" fn oca_device_start_within(
     alloc: Global,
@@ -160,10 +161,10 @@ pub extern "C" fn oca_device_tick(alloc: Global, handle: &mut DeviceHandle, now:
     answer.number()
 }
 
-/// Writes the earliest moment at which a clock reading changes the objects or the sessions. It is in milliseconds of
-/// the caller's clock, and not before the device's present moment. Returns `Done`; otherwise `Closed` if the struct is
-/// closed, `NotStarted` before the start, or `Nothing` if there is no such moment within 64 bits. Then nothing is
-/// changed or written.
+/// Writes the earliest moment at which a clock reading changes the objects or the sessions. This moment is in
+/// milliseconds of the caller's clock, and not before the device's present moment. Returns `Done`; otherwise `Closed`
+/// if the struct is closed, `NotStarted` before the start, or `Nothing` if there is no such moment within 64 bits. Then
+/// nothing is changed or written.
 #[unsafe(no_mangle)]
 pub extern "C" fn oca_device_next_lapse(
     alloc: Global,

@@ -19,11 +19,15 @@ use oca_control::Link;
 use oca_types::{Handle, MethodId, Ono, Peer, Span};
 use std::alloc::Global;
 
-/// Opens a link to the device at the address `ip` (an IPv4 address as a number, the first byte highest) and a port.
-/// `now` is the moment, in milliseconds of the caller's clock. Its first command gets the handle `first_handle`. Each
-/// later handle is one higher, and lies below the lowest handle in flight plus the span, 1 to 32. It takes the memory
-/// for the link. Returns `Done`; otherwise the first of these that applies, and nothing is changed. `Open` if the
-/// struct is open already. `BadSize` if the span is outside its range. `NoMemory` if memory was refused.
+/// Opens a link to the device at the address `ip` (an IPv4 address as a number, the first byte highest) and the port
+/// `port`, and takes the memory for the link. `now` is the moment, in milliseconds of the caller's clock. The link's
+/// first command gets the handle `first_handle`, and each later command the next one. A command is refused while its
+/// handle would be `span` (1 to 32) or more above the lowest handle in flight.
+///
+/// `first_handle` must be above every handle that the device heard from the same address and port before, unless
+/// nothing was sent from there for more than two minutes since. Returns `Done`; otherwise the first of these that
+/// applies, and nothing is changed. `Open` if the struct is open already. `BadSize` if the span is outside its range.
+/// `NoMemory` if memory was refused.
 #[unsafe(no_mangle)]
 pub extern "C" fn oca_link_open(
     alloc: Global,
@@ -63,10 +67,10 @@ pub extern "C" fn oca_link_close(alloc: Global, handle: &mut LinkHandle)
 }
 
 /// Submits a command at the moment `now`, in milliseconds of the caller's clock, and writes its handle into `command`.
-/// `count` is ParamCount. It sends nothing: `oca_link_due` returns what must be sent. Returns `Done`; otherwise the
-/// first of these that applies, and nothing is changed or written. `Closed` if the struct is closed, `Lost` if the link
-/// is lost, `HandlesSpent` after the handle 4294967295. Then `SpanFull` if the next handle is not below the lowest one
-/// in flight plus the span, `TooLong` if the parameters have more than 1,445 bytes.
+/// `count` is ParamCount. The call sends nothing: `oca_link_due` returns what must be sent. Returns `Done`; otherwise
+/// the first of these that applies, and nothing is changed or written. `Closed` if the struct is closed, `Lost` if the
+/// link is lost, `HandlesSpent` after the handle 4294967295. Then `SpanFull` if the next handle is not below the lowest
+/// one in flight plus the span, `TooLong` if the parameters have more than 1,445 bytes.
 #[unsafe(no_mangle)]
 pub extern "C" fn oca_link_submit(
     alloc: Global,
@@ -101,10 +105,10 @@ pub extern "C" fn oca_link_submit(
 }
 
 /// Puts what is due at the moment `now`, in milliseconds of the caller's clock, to the front of `out`; it must be sent
-/// to the device. Its size, 0 to 1,472 bytes, goes into `len`. `kind` becomes 0 if nothing is due, 1 for a command, 2
-/// for a keep-alive, 3 if the link is lost (`enum oca_due`). `command` becomes the handle of the command, or 0 if no
-/// command is due. Returns `Done`; otherwise `Closed` if the struct is closed, or `TooSmall` if `out` has fewer than
-/// 1,472 bytes, whatever is due. Then nothing is changed or written.
+/// to the device. The size of the packet, 0 to 1,472 bytes, goes into `len`. `kind` becomes 0 if nothing is due, 1 for
+/// a command, 2 for a keep-alive, 3 if the link is lost (`enum oca_due`). `command` becomes the handle of the command,
+/// or 0 if no command is due. Returns `Done`; otherwise `Closed` if the struct is closed, or `TooSmall` if `out` has
+/// fewer than 1,472 bytes, whatever is due. Then nothing is changed or written.
 #[unsafe(no_mangle)]
 pub extern "C" fn oca_link_due(
     alloc: Global,
@@ -196,9 +200,9 @@ pub extern "C" fn oca_link_take(
     number
 }
 
-/// Writes the earliest moment at which something is due or the link is lost. It is in milliseconds of the caller's
-/// clock, and not before the latest moment that the link was given. Returns `Done`; otherwise `Closed` if the struct is
-/// closed, or `Nothing` if that moment lies beyond 64 bits. Then nothing is changed or written.
+/// Writes the earliest moment at which something is due or the link is lost. This moment is in milliseconds of the
+/// caller's clock, and not before the latest moment that the link was given. Returns `Done`; otherwise `Closed` if the
+/// struct is closed, or `Nothing` if that moment lies beyond 64 bits. Then nothing is changed or written.
 #[unsafe(no_mangle)]
 pub extern "C" fn oca_link_next_due(alloc: Global, handle: &mut LinkHandle, moment: &mut u64) -> u32
     ensures closed { RefusesClosed handle.old.slot.inner handle.new.slot.inner result }
@@ -236,8 +240,8 @@ pub extern "C" fn oca_link_answered(
     number
 }
 
-/// Writes whether the command under a handle was submitted and has no answer yet. It writes false for a handle that no
-/// command has. Returns `Done`; otherwise `Closed` if the struct is closed. Then nothing is changed or written.
+/// Writes whether the command under a handle was submitted and has no answer yet. The call writes false for a handle
+/// that no command has. Returns `Done`; otherwise `Closed` if the struct is closed. Then nothing is changed or written.
 #[unsafe(no_mangle)]
 pub extern "C" fn oca_link_in_flight(
     alloc: Global,
@@ -320,7 +324,7 @@ pub extern "C" fn oca_link_is_lost(alloc: Global, handle: &mut LinkHandle, lost:
 }
 
 /// Writes whether the link is late at the moment `now`, in milliseconds of the caller's clock: a command is unanswered
-/// that was submitted more than 15,000 ms before. It does not matter whether it was sent. Returns `Done`; otherwise
+/// that was submitted more than 15,000 ms before. Whether it was sent does not matter. Returns `Done`; otherwise
 /// `Closed` if the struct is closed. Then nothing is changed or written.
 #[unsafe(no_mangle)]
 pub extern "C" fn oca_link_is_late(

@@ -36,11 +36,11 @@ pub extern "C" fn oca_device_objects(
     answer.number()
 }
 
-/// Writes what the object at this index is; indices count from 0 at the root, in order of adding. To `out` go its
-/// number, its container's number (0 for the root), the number of its class (1 to 13, `enum oca_class`) and the size of
-/// its role in bytes. Its role goes to `role`. Each is written as far as there is room. Returns `Done`; otherwise
-/// `Closed` if the struct is closed, `NotStarted` before the start, or `Nothing` after the last object. Then nothing is
-/// changed or written.
+/// Writes what the object at this index is; indices count from 0 at the root, in order of adding. To `out` go the
+/// object's number, its container's number (0 for the root), the number of its class (1 to 13, `enum oca_class`) and
+/// the size of its role in bytes. The object's role goes to `role`. Each is written as far as there is room. Returns
+/// `Done`; otherwise `Closed` if the struct is closed, `NotStarted` before the start, or `Nothing` after the last
+/// object. Then nothing is changed or written.
 #[unsafe(no_mangle)]
 pub extern "C" fn oca_device_object_words(
     alloc: Global,

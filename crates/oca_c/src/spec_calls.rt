@@ -24,7 +24,7 @@ use oca_tree::{Room, TreeBuilder};
 use std::alloc::Global;
 
 /// Opens a device that has its root alone (the block 100), with room for `room` objects, the root counted: 1 to 4,096.
-/// The root has the label of the struct, and is enabled as the struct says. It takes the memory for the objects.
+/// The root has the label of the struct, and is enabled as the struct says. The call takes the memory for the objects.
 /// Returns `Done`; otherwise the first of these that applies, and nothing is changed. `Open` if the struct is open
 /// already. `BadSize` if `room` is outside its range, or the struct is of another version. `BadText` if the label has
 /// more than 64 bytes or is not UTF-8. `NoMemory` if memory was refused.
@@ -63,8 +63,8 @@ pub extern "C" fn oca_device_open_with(
 /// has more than 16 positions. Then `BadText` if the role, the label or a name has more than 64 bytes or is not UTF-8,
 /// `NoValue` if the reading is none that an object can have. Then `Full` if there is no room for another object,
 /// `Reserved` if the number is below 4,096, `Taken` if an object has the number. Then `NoSuchBlock` if the container is
-/// no block of the tree, `TooDeep` at depth 9, `BadText` if the role is empty. Last `BadRange` if the setting is
-/// outside its limits, or a switch has no position.
+/// no block of the tree, `TooDeep` if the object would stand at depth 9 (block 100 is at depth 1). Then `BadText` if
+/// the role is empty. Last `BadRange` if the setting is outside its limits, or a switch has no position.
 #[unsafe(no_mangle)]
 pub extern "C" fn oca_device_add(
     alloc: Global,
@@ -89,9 +89,9 @@ pub extern "C" fn oca_device_add(
 }
 
 /// Writes the description of the object at this index, by which it can be added again; indices count from 0 at the
-/// root, in order of adding. Its lock is not written. Returns `Done`; otherwise the first of these that applies, and
-/// nothing is changed or written. `Closed` if the struct is closed, `NotStarted` before the start, `BadSize` if `spec`
-/// does not say its size, `Nothing` after the last object.
+/// root, in order of adding. The object's lock is not written. Returns `Done`; otherwise the first of these that
+/// applies, and nothing is changed or written. `Closed` if the struct is closed, `NotStarted` before the start,
+/// `BadSize` if `spec` does not say its size, `Nothing` after the last object.
 #[unsafe(no_mangle)]
 pub extern "C" fn oca_device_spec(
     alloc: Global,
@@ -116,10 +116,10 @@ pub extern "C" fn oca_device_spec(
     answer.number()
 }
 
-/// Writes the description of the object with this number, by which it can be added again. Its lock is not written.
-/// Returns `Done`; otherwise the first of these that applies, and nothing is changed or written. `Closed` if the struct
-/// is closed, `NotStarted` before the start, `BadSize` if `spec` does not say its size, `Nothing` if there is no such
-/// object.
+/// Writes the description of the object with this number, by which it can be added again. The object's lock is not
+/// written. Returns `Done`; otherwise the first of these that applies, and nothing is changed or written. `Closed` if
+/// the struct is closed, `NotStarted` before the start, `BadSize` if `spec` does not say its size, `Nothing` if there
+/// is no such object.
 #[unsafe(no_mangle)]
 pub extern "C" fn oca_device_spec_of(
     alloc: Global,

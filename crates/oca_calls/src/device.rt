@@ -142,10 +142,10 @@ impl DeviceBehind {
         add_spec(builder, container, ono, words)
     }
 
-    /// Starts the device with the objects that were added. It has reply windows of `window` commands, sessions of
-    /// `peers` peers, and room for `packets` packets that answer a datagram. Returns `Done`. `Started` if it is started
-    /// already, or `BadSize` unless the window and the peers are 1 to 64 and the packets 1 to 122: then nothing is
-    /// changed. `NoMemory` if memory was refused: then the objects are lost.
+    /// Starts the device with the objects that were added. The device has reply windows of `window` commands, sessions
+    /// of `peers` peers, and room for `packets` packets that answer a datagram. Returns `Done`. `Started` if it is
+    /// started already, or `BadSize` unless the window and the peers are 1 to 64 and the packets 1 to 122: then nothing
+    /// is changed. `NoMemory` if memory was refused: then the objects are lost.
     pub fn start(&mut self, alloc: Global, window: u8, peers: u8, packets: usize) -> Answer
         ensures starts { (B : Store) → Builds self.old B → Starts result self.old self.new window peers packets B.list }
         ensures started { self.old.builder ≡ None → (result ≡ Started) × (self.new ≡ self.old) }
@@ -209,10 +209,10 @@ impl DeviceBehind {
     }
 
     /// Handles a datagram that came from a peer at the moment `now`, in milliseconds of the caller's clock, as
-    /// [`Device::datagram_within`](oca_device::Device::datagram_within) does. Its commands are executed, and sessions,
-    /// locks and the list of what was written change accordingly. The answers replace the packets of the last datagram,
-    /// as many as there is room for ([`left_out`](DeviceBehind::left_out)). A moment earlier than one already seen
-    /// counts as that one.
+    /// [`Device::datagram_within`](oca_device::Device::datagram_within) does. The datagram's commands are executed, and
+    /// sessions, locks and the list of what was written change accordingly. The answers replace the packets of the last
+    /// datagram, as many as there is room for ([`left_out`](DeviceBehind::left_out)). A moment earlier than one already
+    /// seen counts as that one.
     ///
     /// The words of the verdict ([`words_of`](crate::words::words_of)) go to the front of `out`, as many as it has room
     /// for. Returns `Done`. `NotStarted` before the start: then nothing is changed or written.
@@ -256,9 +256,9 @@ impl DeviceBehind {
         Answer::Done
     }
 
-    /// Writes the earliest moment at which [`tick`](DeviceBehind::tick) would change the objects or the sessions. It is
-    /// in milliseconds of the caller's clock, and not before the device's present moment. Returns `Done`. `Nothing` if
-    /// there is no such moment within 64 bits, or `NotStarted` before the start: then nothing is written.
+    /// Writes the earliest moment at which [`tick`](DeviceBehind::tick) would change the objects or the sessions. This
+    /// moment is in milliseconds of the caller's clock, and not before the device's present moment. Returns `Done`.
+    /// `Nothing` if there is no such moment within 64 bits, or `NotStarted` before the start: then nothing is written.
     pub fn next_lapse(&self, moment: &mut u64) -> Answer
         ensures writes { (w : DeviceSizes) (T : List Object) (E : List Event) → RunsBehind w self.now T E →
             WritesNextLapse w (state_after w T E) moment.new (answer_number result) }

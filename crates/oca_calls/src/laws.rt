@@ -6,7 +6,7 @@ ghost use Rattle.oca_calls.specs.Storings.{WaitsAsKept};
 use oca_tree::law_of_copies;
 
 /// Law: take the struct that describes an object of a device. An object that is added by this struct is the same
-/// object, except that it is not locked and that its hardware does not refuse. It does nothing at run time.
+/// object, except that it is not locked and that its hardware does not refuse. The function does nothing at run time.
 pub fn law_of_specs()
     ensures { WrittenMakesAgain }
 {
@@ -14,14 +14,14 @@ pub fn law_of_specs()
 }
 
 /// Law: the answers to a datagram wait in the same cases as in a device that keeps its objects in a store
-/// ([`serve_keeping`](oca_device::serve_keeping)). It does nothing at run time.
+/// ([`serve_keeping`](oca_device::serve_keeping)). The function does nothing at run time.
 #[tactic(auto, using(crate::proofs::Waits::waits_as_kept))]
 pub fn law_of_waits()
     ensures { WaitsAsKept }
 {}
 
 /// Law: take the word that is written for a value. Read as the word of the value's class, it stands for this value
-/// again. It does nothing at run time.
+/// again. The function does nothing at run time.
 #[tactic(auto, using(crate::proofs::WordsAgain::read_back))]
 pub fn law_of_words()
     ensures { WordsAreReadBack }

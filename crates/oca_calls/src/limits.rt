@@ -97,8 +97,10 @@ fn uint64_in(value: Option<Value>) -> Option<u64>
     }
 }
 
-/// The reading that these words hold. `None` if the value is none ([`ValueWords::value`]). `None` also if it is an
-/// integer and one of its limits is no value of its class. The limits of other values are not looked at.
+/// The reading that these words hold. `None` if [`ValueWords::value`] gives none for the value. `None` also if the
+/// value is an integer, and its least or greatest is no value of the same class. For values of other classes the limits
+/// in the words are ignored; a switch's reading has the position as its least and as its greatest. Whether an integer
+/// lies within its limits is not checked.
 pub fn reading_of(words: &ReadingWords) -> Option<Reading>
     ensures { AreReadingOf words.now result }
 {

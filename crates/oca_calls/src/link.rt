@@ -66,10 +66,11 @@ impl LinkBehind {
         }
     }
 
-    /// Puts what is due at the moment `now`, in milliseconds of the caller's clock, to the front of `out`. Its size, 0
-    /// to 1,472 bytes, goes into `len`. `kind` becomes 0 if nothing is due, 1 for a command, 2 for a keep-alive, 3 if
-    /// the link is lost. `handle` becomes the handle of the command, or 0 if no command is due. Returns the number of
-    /// `Done`. The number of `TooSmall` if `out` has fewer than 1,472 bytes: then nothing is changed or written.
+    /// Puts what is due at the moment `now`, in milliseconds of the caller's clock, to the front of `out`. The size of
+    /// the packet, 0 to 1,472 bytes, goes into `len`. `kind` becomes 0 if nothing is due, 1 for a command, 2 for a
+    /// keep-alive, 3 if the link is lost. `handle` becomes the handle of the command, or 0 if no command is due.
+    /// Returns the number of `Done`. The number of `TooSmall` if `out` has fewer than 1,472 bytes: then nothing is
+    /// changed or written.
     pub fn due(
         &mut self,
         now: u64,
@@ -158,9 +159,9 @@ impl LinkBehind {
         }
     }
 
-    /// Writes the earliest moment at which something is due or the link is lost. It is in milliseconds of the caller's
-    /// clock, and not before the latest moment that the link was given. Returns the number of `Done`. The number of
-    /// `Nothing` if the moment lies beyond 64 bits: then nothing is written.
+    /// Writes the earliest moment at which something is due or the link is lost. This moment is in milliseconds of the
+    /// caller's clock, and not before the latest moment that the link was given. Returns the number of `Done`. The
+    /// number of `Nothing` if the moment lies beyond 64 bits: then nothing is written.
     pub fn next_due(&self, moment: &mut u64) -> u32
         ensures writes { WritesNextDue result moment.new self.now.link }
         ensures unwritten { (result ≡ 0) ⊎ (moment.new ≡ moment.old) }
@@ -189,8 +190,8 @@ impl LinkBehind {
         }
     }
 
-    /// Writes whether the command under a handle was submitted and has no answer yet. It writes false for a handle that
-    /// no command has. Returns the number of `Done`.
+    /// Writes whether the command under a handle was submitted and has no answer yet. The call writes false for a
+    /// handle that no command has. Returns the number of `Done`.
     pub fn is_in_flight(&self, handle: u32, in_flight: &mut bool) -> u32
         ensures { (result ≡ 0) × (in_flight.new ≡ list_any (waits handle) self.now.link.untaken) }
     {
@@ -231,7 +232,7 @@ impl LinkBehind {
     }
 
     /// Writes whether the link is late at the moment `now`, in milliseconds of the caller's clock: a command is
-    /// unanswered that was submitted more than 15,000 ms before. It does not matter whether it was sent. Returns the
+    /// unanswered that was submitted more than 15,000 ms before. Whether it was sent does not matter. Returns the
     /// number of `Done`.
     pub fn is_late(&self, now: u64, late: &mut bool) -> u32
         ensures { (result ≡ 0) × (late.new ≡ late_at now self.now.link) }

@@ -22,8 +22,9 @@ impl Unstored {
         }
     }
 
-    /// The state after a datagram that wrote to an object or not (`wrote`), and that held `duplicates` duplicates. Its
-    /// answers wait if it wrote. They also wait if it held a duplicate while something that was written is not stored.
+    /// The state after a datagram that wrote to an object or not (`wrote`), and that held `duplicates` duplicates. The
+    /// answers wait if the datagram wrote. The answers also wait if the datagram held a duplicate while something that
+    /// was written is not stored.
     pub fn after(self, wrote: bool, duplicates: u32) -> Unstored
         ensures { result ≡ unstored_after self wrote duplicates }
     {

@@ -61,8 +61,8 @@ pub fn begin<E: End>(
     Ok(handle)
 }
 
-/// Waits for the answer under this handle, and takes it. It looks for the answer first, and then takes at most `turns`
-/// turns ([`turn`]). Each turn receives once, at a socket for at most 50 ms, even if the end is closed.
+/// Waits for the answer under this handle, and takes it. The call looks for the answer first, and then takes at most
+/// `turns` turns ([`turn`]). Each turn receives once, at a socket for at most 50 ms, even if the end is closed.
 ///
 /// `Answered` as soon as the answer is there. `Lost` as soon as the link is lost, or a turn found it late, and no
 /// answer is there. `Unanswered` after `turns` turns, and then also for a handle that no command has. After

@@ -23,8 +23,8 @@ use oca_types::{Packet, Peer};
 /// The loop ends after `turns` turns, or after a turn in which `due` returns `Lost`. It also ends if the end is closed,
 /// which does not count as a turn.
 ///
-/// It does not check whether the link is late: after a pause of the program it may send a command more than 15 s after
-/// its submit. Use [`turn`](crate::turn) unless the program checks that itself.
+/// The call does not check whether the link is late: after a pause of the program it may send a command more than 15 s
+/// after its submit. Use [`turn`](crate::turn) unless the program checks that itself.
 pub fn drive<E: End>(link: &mut Link, end: &mut E, turns: u32) -> DriveReport
     ensures driven { DrivesEnd link.old link.new (E.state end.old) (E.state end.new) result }
     ensures turns { result.turns ≤ turns }

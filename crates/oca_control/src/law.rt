@@ -11,8 +11,8 @@ ghost use Rattle.oca_control.specs.Histories.{EveryHistoryIsLawful, EveryLinkAgr
 use oca_pdu::law_one_list_of_messages;
 
 /// Law: what a link returns follows from the list of its calls alone, whatever this list is. With the clauses of
-/// [`Link`](crate::Link) this is a promise of every run of a link. The premise is a span of at least 1. It does nothing
-/// at run time.
+/// [`Link`](crate::Link) this is a promise of every run of a link. The premise is a span of at least 1. The function
+/// does nothing at run time.
 ///
 /// Handles: each accepted command gets its own handle, and these rise by one from the first. The next handle is at most
 /// one in flight plus the span. A submit is refused in exactly four cases. The link is lost. No handle of 32 bits is
@@ -25,10 +25,10 @@ use oca_pdu::law_one_list_of_messages;
 /// `due` finds a handle that was sent 20 times.
 ///
 /// Answers: a take of a handle in flight returns the first answer to it that came in a well-formed datagram of the
-/// device since its submit. It returns none if none came. It cannot tell whether the answer is to a command that an
-/// earlier link of this address and port had under this handle. `datagram` returns by the sender whether it is a
-/// stranger, and by the bytes whether they are well-formed. Otherwise it returns how many commands in flight got their
-/// first answer in it. Bytes have only one content.
+/// device since its submit. A take returns none if no answer came. It cannot tell whether the answer is to a command
+/// that an earlier link of this address and port had under this handle. `datagram` returns by the sender whether it is
+/// a stranger, and by the bytes whether they are well-formed. Otherwise it returns how many commands in flight got
+/// their first answer in it. Bytes have only one content.
 ///
 /// State: `last_heard` is the clock at the last well-formed datagram of the device, and before the first one that of
 /// the opening. `is_lost` is true if `due` returned so. `answered` is the lowest handle in flight to which an answer
@@ -44,7 +44,7 @@ pub fn law_of_histories()
 
 /// Law: one answer that comes is enough. Take a well-formed datagram of the device with a response to a command in
 /// flight, whatever else is in the datagram. From then on the link holds an answer to this command, until a take of its
-/// handle returns it: the first that came. It does nothing at run time.
+/// handle returns it: the first that came. The function does nothing at run time.
 pub fn law_of_answering()
     ensures { EveryAnswerIsKept }
 {}
@@ -57,7 +57,7 @@ pub fn law_of_answering()
 /// it does not return `Send`. It sends the command within `ms` of its submit, and again less than `250 + ms` after each
 /// transmission. It does so until an answer came, the command was taken, or the link is lost. One of these comes within
 /// `ms + 20 * (250 + ms)` of the submit. With `ms` of 250 the link sends a command again in less than 500 ms, and has
-/// its answer or is lost after at most 10,250 ms. It does nothing at run time.
+/// its answer or is lost after at most 10,250 ms. The function does nothing at run time.
 pub fn law_of_sending()
     ensures due { EveryDueCommandIsSent }
     ensures in_time { EveryCommandIsSentInTime }
@@ -79,7 +79,7 @@ pub fn law_of_sending()
 ///
 /// For an end that records what it delivers, the first premise is a fact of the end's state: its receives return within
 /// `ms` of one another. An end in memory meets it if its script does. An end at a socket meets it as long as the
-/// program comes back to receive in time. It does nothing at run time.
+/// program comes back to receive in time. The function does nothing at run time.
 pub fn law_of_running()
     ensures calls { EveryCallRuns }
     ensures goes_on { EveryRunGoesOn }
@@ -93,11 +93,11 @@ pub fn law_of_running()
 
 /// Law: no transmission of a command is too late. The premise is that [`due`](crate::Link::due) is never called at a
 /// moment at which the link is late ([`is_late`](crate::is_late)). Then each transmission of a command leaves at most
-/// 15,000 ms after the submit of the command, by the link's clock. It holds for every list of calls of a link.
+/// 15,000 ms after the submit of the command, by the link's clock. The law holds for every list of calls of a link.
 ///
 /// [`send_in_time`](crate::send_in_time), [`turn`](crate::turn), [`begin`](crate::begin), [`ask`](crate::ask) and the
 /// waits make only such calls. A link that is late at a moment is late at each later one, if nothing is called between.
-/// It does nothing at run time.
+/// The function does nothing at run time.
 pub fn law_copies_in_time()
     ensures copies { EveryCopyIsInTime }
     ensures steps { EveryStepIsInTime }

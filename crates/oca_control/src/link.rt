@@ -76,8 +76,8 @@ impl Model for Link {
 
 impl Link {
     /// A link to the device at this address. `now` is the moment of its making, in milliseconds of the caller's clock.
-    /// Its first command gets the handle `first_handle`. Each later handle is one higher, and lies below the lowest
-    /// handle in flight plus the span.
+    /// The link's first command gets the handle `first_handle`. Each later handle is one higher, and lies below the
+    /// lowest handle in flight plus the span.
     ///
     /// A device remembers what it executed for an address and port until it has heard nothing from there for 120
     /// seconds. So the first handle must be above all handles that an earlier link used from this address and port in
@@ -228,9 +228,9 @@ impl Link {
         self.table.take(handle)
     }
 
-    /// The earliest moment at which [`due`](Link::due) returns anything but `Nothing`: a loop may wait until then. It
-    /// is in milliseconds of the caller's clock, and not before the latest moment that the link was given. For a lost
-    /// link it is that latest moment. `None` if the moment lies beyond 64 bits.
+    /// The earliest moment at which [`due`](Link::due) returns anything but `Nothing`: a loop may wait until then. This
+    /// moment is in milliseconds of the caller's clock, and not before the latest moment that the link was given. For a
+    /// lost link it is that latest moment. `None` if the moment lies beyond 64 bits.
     pub fn next_due(&self) -> Option<u64>
         ensures { MatchOption result (NeverIsDue self.now) (λ t. IsNextDue self.now t) }
     {

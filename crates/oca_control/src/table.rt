@@ -85,7 +85,7 @@ impl Table {
         self.next += 1;
     }
 
-    /// Puts the due command with the lowest handle into the packet, which must be empty (a premise). It counts a
+    /// Puts the due command with the lowest handle into the packet, which must be empty (a premise). The call counts a
     /// transmission at the moment `now`, in milliseconds, and returns `Send` with the handle. `Lost` if that command
     /// was sent 20 times: then the packet stays empty, and nothing is changed. `None` if no command is due: then
     /// nothing is changed.

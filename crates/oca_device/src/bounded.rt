@@ -44,8 +44,8 @@ impl Model for BoundedOutbox {
 impl BoundedOutbox {
     ghost use Rattle.oca_device.specs.Outboxes.{bytes_of_packets, first_packets};
 
-    /// An empty outbox with room for `room` packets, of at most 1,472 bytes each. It takes all the memory that it will
-    /// need, some 1,480 bytes a packet. Refusal: `NoMemory`, if memory was refused.
+    /// An empty outbox with room for `room` packets, of at most 1,472 bytes each. The call takes all the memory that it
+    /// will need, some 1,480 bytes a packet. Refusal: `NoMemory`, if memory was refused.
     pub fn with_room(alloc: Global, room: usize) -> Result<BoundedOutbox, NoMemory>
         ensures { IfOk result (λ outbox. outbox ≡ first_packets room []) }
     {

@@ -93,8 +93,8 @@ impl Device {
     ghost use Rattle.oca_device.specs.PrivateServing.{IsShort, commands_in, commands_of, all_commands};
 
     /// A device of these objects, with reply windows of this size and sessions of at most 16 peers, before any event.
-    /// It takes all the memory that its sessions will need. Refusal: `NoMemory`, if memory was refused; the objects are
-    /// then lost.
+    /// The call takes all the memory that its sessions will need. Refusal: `NoMemory`, if memory was refused; the
+    /// objects are then lost.
     pub fn new(alloc: Global, tree: Tree, window: Window) -> Result<Device, NoMemory>
         ensures { IfOk result (λ device. Represents (record {
           window = window_size window;
@@ -112,8 +112,8 @@ impl Device {
     }
 
     /// A device of these objects, with reply windows of 1 to 64 commands and sessions of 1 to 64 peers, as `sizes`
-    /// says, before any event. It takes all the memory that its sessions will need. Refusal: `NoMemory`, if memory was
-    /// refused; the objects are then lost.
+    /// says, before any event. The call takes all the memory that its sessions will need. Refusal: `NoMemory`, if
+    /// memory was refused; the objects are then lost.
     pub fn with_sizes(alloc: Global, tree: Tree, sizes: Sizes) -> Result<Device, NoMemory>
         ensures { IfOk result (λ device. Represents (sizes_of sizes) device tree []) }
     {
@@ -201,8 +201,8 @@ impl Device {
         self.move_clock(now);
     }
 
-    /// Sets an object at the local front panel. It acts as the set method of the object's class, except that neither a
-    /// lock nor the object's hardware refuses it. Neither the clock nor a session is changed.
+    /// Sets an object at the local front panel. The call acts as the set method of the object's class, except that
+    /// neither a lock nor the object's hardware refuses it. Neither the clock nor a session is changed.
     ///
     /// Refusals, the first of [`SetFault`] that applies: `NoObject` if no object has the number. `NoSetting` if the
     /// object is a block. `OtherKind` if the value is of another class. `OutOfRange` if a switch has no such position
@@ -218,7 +218,7 @@ impl Device {
         self.tree.set(ono, value)
     }
 
-    /// Gives an object a label of at most 64 bytes at the local front panel. It acts as SetLabel of OcaWorker
+    /// Gives an object a label of at most 64 bytes at the local front panel. The call acts as SetLabel of OcaWorker
     /// (AES70-2), except that neither a lock nor the object's hardware refuses it. Neither the clock nor a session is
     /// changed.
     ///
@@ -235,9 +235,9 @@ impl Device {
         self.tree.set_label(ono, label)
     }
 
-    /// Enables or disables an object at the local front panel. It acts as SetEnabled of OcaWorker (AES70-2), except
-    /// that neither a lock nor the object's hardware refuses it. Neither the clock nor a session is changed. Refusal:
-    /// `NoObject` if no object has the number; then nothing is changed.
+    /// Enables or disables an object at the local front panel. The call acts as SetEnabled of OcaWorker (AES70-2),
+    /// except that neither a lock nor the object's hardware refuses it. Neither the clock nor a session is changed.
+    /// Refusal: `NoObject` if no object has the number; then nothing is changed.
     pub fn set_enabled(&mut self, ono: Ono, enabled: bool) -> Result<(), FrontFault>
         ensures represents { (w : DeviceSizes) (T : List Object) (E : List Event) → Represents w self.old T E →
             Represents w self.new T (Local ono.0 (ToEnabled enabled) ∷ E) }
@@ -337,8 +337,9 @@ impl Device {
     }
 
     /// The earliest moment at which [`Device::tick`] would change the device: release a lock of a silent peer, or
-    /// forget a session. It is in milliseconds of the caller's clock, and not before the device's present moment. An
-    /// event loop may wait until then. `None` if there is no such moment within 64 bits, as without sessions.
+    /// forget a session. This moment is in milliseconds of the caller's clock, and not before the device's present
+    /// moment. An event loop may wait until then. `None` if there is no such moment within 64 bits, as without
+    /// sessions.
     pub fn next_lapse(&self) -> Option<u64>
         ensures { (w : DeviceSizes) (T : List Object) (E : List Event) → Represents w self.now T E →
             let s = state_after w T E in MatchOption result (NeverLapses w s) (λ t. IsNextLapse w s t) }

@@ -61,8 +61,8 @@ impl Keeping {
     ghost use Rattle.std.specs.Prelude.{false};
 
     /// The state of a device that starts: no answer waits, and everything counts as stored. The caller must make sure
-    /// that the store holds the device's objects. It takes the memory for 366 packets, some 1,480 bytes each. Refusal:
-    /// `NoMemory`, if memory was refused.
+    /// that the store holds the device's objects. The call takes the memory for 366 packets, some 1,480 bytes each.
+    /// Refusal: `NoMemory`, if memory was refused.
     pub fn new(alloc: Global) -> Result<Keeping, NoMemory>
         ensures { IfOk result (λ keeping. (keeping.is_behind ≡ false) × (keeping.held ≡ [])) }
     {

@@ -5,8 +5,8 @@ ghost use Rattle.oca_device.specs.LawByEvents.{EveryDeviceStandsByEvents, Someth
 use oca_pdu::{law_one_list_of_messages, law_reading};
 
 /// Law: the datagrams, clock readings and local changes that a device has taken determine what it is and what it
-/// answers. With the clauses of [`Device`](crate::Device) this is a promise of every run of a device. It does nothing
-/// at run time.
+/// answers. With the clauses of [`Device`](crate::Device) this is a promise of every run of a device. The function does
+/// nothing at run time.
 ///
 /// A well-formed datagram is admitted if its peer was last heard at most 120,000 ms ago, or if there is room for
 /// another session. The objects are those after executing each accepted command once, in order of arrival, with the
@@ -26,8 +26,8 @@ pub fn law_by_events()
 
 /// Law: the answers to a datagram are grouped into PDUs in exactly one way (`Groups`). All groups together, in order,
 /// are the answers in order. Each group is one keep-alive, or responses in a PDU of at most 1,472 bytes. Of two
-/// neighbouring groups of responses, the first has no room for the first response of the second. It does nothing at run
-/// time.
+/// neighbouring groups of responses, the first has no room for the first response of the second. The function does
+/// nothing at run time.
 pub fn law_of_groups()
     ensures { AnswersHaveOneGrouping }
 {}

@@ -33,8 +33,8 @@ impl Model for Outbox {
 impl Outbox {
     ghost use Rattle.oca_device.specs.Outboxes.{bytes_of_packets};
 
-    /// An empty outbox with room for 122 packets, the most that answer one datagram. It takes the memory for them, some
-    /// 180 kB. Refusal: `NoMemory`, if memory was refused.
+    /// An empty outbox with room for 122 packets, the most that answer one datagram. The call takes the memory for
+    /// them, some 180 kB. Refusal: `NoMemory`, if memory was refused.
     pub fn new(alloc: Global) -> Result<Outbox, NoMemory>
         ensures { IfOk result (λ outbox. outbox ≡ []) }
     {

@@ -121,9 +121,9 @@ fn set_in<'a>(class: Class, count: u8, params: &[u8]) -> Result<Asked<'a>, Value
 }
 
 impl<'a> Asked<'a> {
-    /// Reads a command by its method and its parameters, as a device understands it; `count` is ParamCount. It does not
-    /// check that the class has the method. The class determines only the type of the value of a set method. A list of
-    /// names or flags has at most 16 entries, and a text at most 64 bytes. Texts are not copied.
+    /// Reads a command by its method and its parameters, as a device understands it; `count` is ParamCount. The call
+    /// does not check that the class has the method. The class determines only the type of the value of a set method. A
+    /// list of names or flags has at most 16 entries, and a text at most 64 bytes. Texts are not copied.
     ///
     /// Refusals: `Malformed` (the status ParameterError) if `count` is not the method's, or the bytes are not exactly
     /// such parameters. `Malformed` also for the value of a block. `Unlisted` (ParameterOutOfRange) if a set method

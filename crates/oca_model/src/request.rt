@@ -189,8 +189,8 @@ impl Request {
     }
 
     /// Reads a command by its method and its parameters, as a device understands it, and copies its texts; `count` is
-    /// ParamCount. It does not check that the class has the method. The class determines only the type of the value of
-    /// a set method. A list of names or flags has at most 16 entries, and a text at most 64 bytes.
+    /// ParamCount. The call does not check that the class has the method. The class determines only the type of the
+    /// value of a set method. A list of names or flags has at most 16 entries, and a text at most 64 bytes.
     ///
     /// Refusals: `Malformed` (the status ParameterError) if `count` is not the method's, or the bytes are not exactly
     /// such parameters. `Malformed` also for the value of a block. `Unlisted` (ParameterOutOfRange) if a set method

@@ -9,6 +9,7 @@ use crate::count::step;
 use crate::end::{End, Heard};
 use oca_types::{NoMemory, Packet, Peer};
 use std::alloc::Global;
+use std::fmt;
 use std::marker::Model;
 
 /// An entry of the script of a [`MemoryEnd`]. Moments are in milliseconds.
@@ -63,6 +64,16 @@ impl Model for MemoryEnd {
 
     ghost invariant = { λ a. (a.next ≤ length a.script.items) × (length a.taken.items ≤ a.room)
         × (a.room ≤ vec_capacity a.taken) };
+}
+
+impl fmt::Debug for MemoryEnd {
+    /// How many receives of the script are done, and how many datagrams were taken.
+    fn fmt<W: fmt::Write>(&self, f: &mut fmt::Formatter<W>) -> fmt::Result {
+        f.debug_struct("MemoryEnd")
+            .field("next", &self.next)
+            .field("taken", &self.taken.len())
+            .finish()
+    }
 }
 
 impl MemoryEnd {

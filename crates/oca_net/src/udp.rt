@@ -14,11 +14,11 @@ use crate::reason::{is_interrupted, is_signal, reason_of, says_none_came};
 use crate::socket::{Socket, address_towards};
 use oca_types::{MOST_BYTES, Packet, Peer};
 use std::alloc::Global;
-use std::io;
 use std::marker::Model;
 use std::net::Net;
 use std::os::fd::{AsFd, AsRawFd, BorrowedFd, RawFd};
 use std::rt::Clock;
+use std::{fmt, io};
 use thiserror::Error;
 
 /// One more than the largest datagram, so that a larger one is seen to be larger.
@@ -128,10 +128,22 @@ impl<'a, C: Clock> Model for UdpEnd<'a, C> {
     } };
 }
 
+impl<'a, C: Clock> fmt::Debug for UdpEnd<'a, C> {
+    /// The end's address, how many datagrams it took and how many receives there were, and how many of both failed.
+    fn fmt<W: fmt::Write>(&self, f: &mut fmt::Formatter<W>) -> fmt::Result {
+        f.debug_struct("UdpEnd")
+            .field("local", &self.local)
+            .field("sends", &self.sends)
+            .field("receives", &self.receives)
+            .field("failures", &self.failures)
+            .finish()
+    }
+}
+
 impl<'a, C: Clock> UdpEnd<'a, C> {
     /// An end bound at the address `ip` (an IPv4 address as a number, the first byte highest) and a port; at port 0 the
-    /// system chooses one. It takes the memory for its receive buffer, then binds the socket. Refusals: `NoMemory` if
-    /// the memory for the receive buffer was refused; otherwise `Io` if the system refused the socket.
+    /// system chooses one. The call takes the memory for its receive buffer, then binds the socket. Refusals:
+    /// `NoMemory` if the memory for the receive buffer was refused; otherwise `Io` if the system refused the socket.
     ///
     /// Bind a device at the address at which it is asked, and a controller by [`bind_towards`](UdpEnd::bind_towards).
     /// Address 0 stands for all addresses of the machine: the system then chooses for each datagram from which address
@@ -260,11 +272,11 @@ impl<'a, C: Clock> UdpEnd<'a, C> {
         self.socket.send_buffer
     }
 
-    /// Receives once. It waits until the moment `moment` of the end's clock, in milliseconds, for at most an hour, and
-    /// not at all if that moment is past. `Datagram` with its sender if a datagram came, and its bytes are in `packet`.
-    /// Otherwise `packet` is empty: `Quiet` if none came, `Oversize` if one of more than 1,472 bytes came. `Failed` if
-    /// the system returned anything else, such as an error. That counts as a failure, and the call then waits until 50
-    /// ms after its beginning, or until `moment` if that is sooner.
+    /// Receives once. The call waits until the moment `moment` of the end's clock, in milliseconds, for at most an
+    /// hour, and not at all if that moment is past. `Datagram` with its sender if a datagram came, and its bytes are in
+    /// `packet`. Otherwise `packet` is empty: `Quiet` if none came, `Oversize` if one of more than 1,472 bytes came.
+    /// `Failed` if the system returned anything else, such as an error. That counts as a failure, and the call then
+    /// waits until 50 ms after its beginning, or until `moment` if that is sooner.
     #[tactic(auto, using(crate::proofs::Waiting::until_most, crate::proofs::Waiting::until_later))]
     pub fn receive_by(&mut self, packet: &mut Packet, moment: u64) -> Heard
         ensures packet { HoldsOnlyADatagram result packet.new.items }

@@ -24,7 +24,7 @@ use oca_tree::law_of_typed_requests;
 ///
 /// What is executed is what the device's law by events says of what happened. If the peer kept its session, it is the
 /// only execution for the peer under that handle. A peer keeps its session if each of its datagrams that the device
-/// admitted came at most 120,000 ms after the one before it. It does nothing at run time.
+/// admitted came at most 120,000 ms after the one before it. The function does nothing at run time.
 pub fn law_answers()
     ensures answers { EveryScheduleAnswersItsCommands }
     ensures happened { TheseHappened }
@@ -44,7 +44,7 @@ pub fn law_answers()
 /// Third, for all sizes: a datagram finds room if its peer is known when it comes, or fewer peers are known than there
 /// is room for. A peer is known for 120,000 ms after each of its admitted datagrams. So a datagram finds room if few
 /// enough peers sent well-formed datagrams in the last 120,000 ms, its own peer counted. Few enough are at most as many
-/// as there is room for. They do nothing at run time.
+/// as there is room for. The function does nothing at run time.
 pub fn law_never_old()
     ensures answered { NoUntakenCommandIsTooOld }
     ensures once { EveryCommandIsExecutedOnce }
@@ -60,7 +60,7 @@ pub fn law_never_old()
 ///
 /// If the link still held the command before that, it then holds the command's answer. Otherwise the answer was taken
 /// earlier. The answer is the reply of an execution of that very command for that link's peer. If the peer kept its
-/// session till the end, the answer is the reply that this datagram carried. It does nothing at run time.
+/// session till the end, the answer is the reply that this datagram carried. The function does nothing at run time.
 pub fn law_round_trip()
     ensures { EveryRoundTripBringsTheAnswer }
 {
@@ -78,7 +78,7 @@ pub fn law_round_trip()
 ///
 /// While it waits, one transmission that arrives at the device and the one response that comes back are enough. That is
 /// a round trip of [`law_round_trip`], under its premises. What the device, the other links and the network do is left
-/// open, and so is what is lost, duplicated or reordered. It does nothing at run time.
+/// open, and so is what is lost, duplicated or reordered. The function does nothing at run time.
 pub fn law_getting_through()
     ensures { EveryCommandGetsThrough }
 {
@@ -97,8 +97,8 @@ pub fn law_getting_through()
 /// So each answer that the link holds or returned is that of the only execution under its handle. And if a transmission
 /// of an executed command comes to the device, the session in which the command was executed is not forgotten.
 ///
-/// A schedule has one device from its beginning to its end. So nothing is proved of a device that is started again.
-/// They do nothing at run time.
+/// A schedule has one device from its beginning to its end. So nothing is proved of a device that is started again. The
+/// function does nothing at run time.
 pub fn law_once_in_time()
     ensures once { EveryCommandInTimeIsExecutedOnce }
     ensures answers { EveryAnswerInTimeIsOfOneExecution }
@@ -109,7 +109,8 @@ pub fn law_once_in_time()
 
 /// Laws over every schedule and for all sizes: what the answer to a command says of the device. A link submits a
 /// command under a handle in a step, and holds its answer at the end of the schedule, or returned it before. The
-/// premises are those of [`law_once_in_time`]: the link and the network are in time. They do nothing at run time.
+/// premises are those of [`law_once_in_time`]: the link and the network are in time. The function does nothing at run
+/// time.
 ///
 /// Between: the answer is that of the only execution of the command. This happened when one of its transmissions was
 /// delivered to the device, in a step after the submit. The execution found the objects that the device then held by

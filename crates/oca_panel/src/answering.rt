@@ -129,7 +129,7 @@ fn submit(link: &mut Link, now: u64) -> Option<Handle>
 }
 
 /// Sends a device a keep-alive with a heartbeat of five seconds, which the device returns. `true` if the end took the
-/// datagram; `false` if sending failed. It receives nothing.
+/// datagram; `false` if sending failed. The call receives nothing.
 pub fn keep_alive<E: End>(end: &mut E, device: Peer) -> bool
     ensures { SendsKeepAlive device (E.state end.old) (E.state end.new) }
 {

@@ -6,6 +6,7 @@ use arrayvec::ArrayVec;
 use oca_control::{ControlFault, Outcome};
 use oca_net::End;
 use oca_types::{Handle, Request};
+use std::fmt;
 use std::marker::Model;
 
 /// The most commands that can be in flight: the largest span.
@@ -67,6 +68,15 @@ impl<T: Copy + Default> Drop for InFlight<T> {
     /// Forgets the commands; the panel goes on with them.
     fn drop(self) {
         let InFlight { commands: _ } = self;
+    }
+}
+
+impl<T: Copy + Default> fmt::Debug for InFlight<T> {
+    /// How many commands are in flight.
+    fn fmt<W: fmt::Write>(&self, f: &mut fmt::Formatter<W>) -> fmt::Result {
+        f.debug_struct("InFlight")
+            .field("commands", &self.commands.len())
+            .finish()
     }
 }
 

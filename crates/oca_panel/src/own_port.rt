@@ -89,9 +89,9 @@ fn handles_in(seconds: u64, microseconds: u32) -> u128
     u128::from(seconds) * 100_000 + u128::from(microseconds / 10)
 }
 
-/// Law: take two runs at the same port, the second at a later time of day. Its first handle is higher, or the port was
-/// not used for more than 21,474 seconds between. A device forgets a session after 120 seconds. It does nothing at run
-/// time.
+/// Law: take two runs that start on the same port, the second at a later moment of the system's clock. Then the second
+/// run's first handle is higher, or the second run starts more than 21,474 seconds after the first. The function does
+/// nothing at run time.
 pub fn law_of_turns()
     ensures { HandlesRiseOrRest }
 {}

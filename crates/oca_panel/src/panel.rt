@@ -7,6 +7,7 @@ ghost use Rattle.oca_panel.specs.Panels.{is_lost_or_unanswered};
 use oca_control::{ControlFault, Link, Outcome, begin, is_late, turn, wait_for, wait_while};
 use oca_net::End;
 use oca_types::{Handle, Peer, Request, Span};
+use std::fmt;
 use std::marker::Model;
 
 mod calling;
@@ -55,6 +56,17 @@ impl<E: End + Drop> Drop for Panel<E> {
             wait: _,
             unanswered: _,
         } = self;
+    }
+}
+
+impl<E: End> fmt::Debug for Panel<E> {
+    /// The link, for how many milliseconds a command waits for its answer, and whether one got none.
+    fn fmt<W: fmt::Write>(&self, f: &mut fmt::Formatter<W>) -> fmt::Result {
+        f.debug_struct("Panel")
+            .field("link", &self.link)
+            .field("wait", &self.wait)
+            .field("unanswered", &self.unanswered)
+            .finish()
     }
 }
 
@@ -131,10 +143,10 @@ impl<E: End> Panel<E> {
         report.turns == 1 && !report.lost
     }
 
-    /// The earliest moment at which a turn has something to send, a keep-alive included: a loop may wait until then. It
-    /// is in milliseconds of the end's clock, and not before the latest moment that the link was given. `None` if that
-    /// moment lies beyond 64 bits. For a lost link it is the latest moment that the link was given, though nothing is
-    /// sent any more. So end the loop once [`is_lost`](Panel::is_lost) is true.
+    /// The earliest moment at which a turn has something to send, a keep-alive included: a loop may wait until then.
+    /// This moment is in milliseconds of the end's clock, and not before the latest moment that the link was given.
+    /// `None` if that moment lies beyond 64 bits. For a lost link it is the latest moment that the link was given,
+    /// though nothing is sent any more. So end the loop once [`is_lost`](Panel::is_lost) is true.
     pub fn next_due(&self) -> Option<u64>
         ensures { MatchOption result (NeverIsDue self.now.link) (λ t. IsNextDue self.now.link t) }
     {
@@ -174,7 +186,7 @@ impl<E: End> Panel<E> {
     }
 
     /// Whether a wait for a command of this panel ended with `Lost` or `Unanswered`, at any time since the panel was
-    /// made. It stays `true` also if the answer comes later.
+    /// made. The result stays `true` also if the answer comes later.
     pub fn unanswered(&self) -> bool
         ensures { result ≡ self.now.unanswered }
     {
@@ -186,8 +198,8 @@ impl<E: End> Panel<E> {
     /// `Answered` with the answer, whatever its status. `Refused` with the reason if the link refuses the command
     /// ([`begin`](Panel::begin)): then nothing is changed or sent. That includes a link that is lost or late already.
     /// `Lost` if the link is lost, or found late, during the wait. `Unanswered` if no answer comes in that time. The
-    /// command then stays in flight, under the handle that [`next_handle`](Panel::next_handle) returned before. It
-    /// takes room in the span until its answer is taken.
+    /// command then stays in flight, under the handle that [`next_handle`](Panel::next_handle) returned before. The
+    /// command takes room in the span until its answer is taken.
     pub fn ask(&mut self, request: Request<'_>) -> Outcome
         ensures { AsksIn (request_of request.entry) self.old self.new result }
     {
@@ -224,8 +236,8 @@ impl<E: End> Panel<E> {
         outcome
     }
 
-    /// The outcome of the command under this handle, if it is known without a turn. It does not wait. `Answered` with
-    /// the answer, which is then taken. `Lost` if the link is lost and no answer is there;
+    /// The outcome of the command under this handle, if it is known without a turn. The call does not wait. `Answered`
+    /// with the answer, which is then taken. `Lost` if the link is lost and no answer is there;
     /// [`unanswered`](Panel::unanswered) is then `true`. `None` if neither is so: then nothing is changed.
     pub fn try_finish(&mut self, handle: Handle) -> Option<Outcome>
         ensures { MaySettle result handle.0 self.old self.new }

@@ -11,6 +11,7 @@ use oca_model::{ClassFields, class_with};
 use oca_net::End;
 use oca_types::{Class, NoMemory, Ono, Text};
 use std::alloc::Global;
+use std::fmt;
 use std::marker::Model;
 
 mod apart;
@@ -88,6 +89,16 @@ impl Model for Walk {
     ghost view = { λ w. record { waiting = w.waiting.items; visited = w.visited.items } };
 }
 
+impl fmt::Debug for Walk {
+    /// How many objects were asked, and how many are waiting to be.
+    fn fmt<W: fmt::Write>(&self, f: &mut fmt::Formatter<W>) -> fmt::Result {
+        f.debug_struct("Walk")
+            .field("visited", &self.visited.len())
+            .field("waiting", &self.waiting.len())
+            .finish()
+    }
+}
+
 impl Walk {
     ghost use Rattle.std.specs.Prelude.{◌≡◌, length, nat_lt, IfOk};
     ghost use Rattle.oca_panel.specs.Walks.{StepsTo, StepsToPlace, begun_walk};
@@ -112,9 +123,9 @@ impl Walk {
     }
 
     /// Visits the next place: asks the object there for its class and its role, and a block for its members, which are
-    /// visited next. It waits for each answer for the panel's `wait` milliseconds. An object that was visited before is
-    /// not asked ([`Found::Again`]). If the object does not answer a question, the [`Visit`] has the reason in its
-    /// place.
+    /// visited next. The call waits for each answer for the panel's `wait` milliseconds. An object that was visited
+    /// before is not asked ([`Found::Again`]). If the object does not answer a question, the [`Visit`] has the reason
+    /// in its place.
     ///
     /// `None` if no place is left, or 4,096 places were visited: then nothing is asked. Refusal: `NoMemory`, if memory
     /// was refused; after it the walk may leave objects out.

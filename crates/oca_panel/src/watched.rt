@@ -4,6 +4,7 @@ ghost use Rattle.oca_panel.specs.Watching.{heard_after};
 
 use oca_net::{End, Heard};
 use oca_types::{Packet, Peer};
+use std::fmt;
 use std::marker::Model;
 
 /// An end, and the moment of the last datagram that it delivered from a peer, in milliseconds.
@@ -32,10 +33,20 @@ impl<E: End + Drop> Drop for Watched<E> {
     }
 }
 
+impl<E: End> fmt::Debug for Watched<E> {
+    /// The peer that is watched, and when it was last heard.
+    fn fmt<W: fmt::Write>(&self, f: &mut fmt::Formatter<W>) -> fmt::Result {
+        f.debug_struct("Watched")
+            .field("peer", &self.peer)
+            .field("heard", &self.heard)
+            .finish()
+    }
+}
+
 impl<E: End> Watched<E> {
     ghost use Rattle.std.specs.Prelude.{◌≡◌, None};
 
-    /// An end over another end, which notes when it hears `peer`. It has not heard the peer so far.
+    /// An end over another end, which notes when it hears `peer`. The new end has not heard the peer so far.
     pub fn new(end: E, peer: Peer) -> Watched<E>
         ensures { result ≡ record { end_state = E.state end; peer = peer; heard = None } }
     {

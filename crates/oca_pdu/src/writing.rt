@@ -35,7 +35,7 @@ fn put(packet: &mut Packet, bytes: &[u8])
     }
 }
 
-/// Appends a PDU of one command (AES70-3) to the packet. It is of type 1 if `respond` is true, which asks for a
+/// Appends a PDU of one command (AES70-3) to the packet. The PDU is of type 1 if `respond` is true, which asks for a
 /// response, otherwise of type 0. Refusal: `TooLong` if the packet would have more than 1,472 bytes; then the packet is
 /// unchanged.
 pub fn write_command(
@@ -103,8 +103,8 @@ pub fn write_response(packet: &mut Packet, handle: Handle, reply: &Reply) -> Res
     Ok(())
 }
 
-/// Replaces all that the packet held by a PDU of one response (AES70-3). It always fits, since a reply has at most
-/// 1,452 bytes of parameters.
+/// Replaces all that the packet held by a PDU of one response (AES70-3). The response always fits, since a reply has at
+/// most 1,452 bytes of parameters.
 #[inline(always)]
 pub fn replace_response(packet: &mut Packet, handle: Handle, reply: &Reply)
     ensures bytes { packet.new.items ≡ pdu_encoding (Responses (response_with handle reply.now ∷ [])) }

@@ -142,7 +142,7 @@ pub fn first_broken<'r>(words: &ArgMatches<'_>, rows: &'r [OptionRow]) -> Option
     rows.iter().find(|row| breaks(words, row))
 }
 
-/// Checks that each of these options that the command line has, has its form. Failure: `BadWords` if one does not. Its
+/// Checks that each of these options that the command line has, has its form. Failure: `BadWords` if one does not. The
 /// note names the first such option, its value and its form, if there is memory for the note.
 pub fn check(alloc: Global, words: &ArgMatches<'_>, rows: &[OptionRow]) -> Result<(), Failure>
     ensures ok { is_ok result ≡ fits words.now (map row_fields rows.now) }

@@ -13,8 +13,8 @@ use oca_pdu::law_reading;
 /// Laws: what a panel's calls return is true of the device, in every network in which the calls are made. In such a
 /// network, what the panel's end delivered is what the network's device sent to this link. The premises of
 /// [`law_of_what_is_said`](oca_pair::law_of_what_is_said) hold in it: the link and the network are in time. For all but
-/// the first three, the device's objects were a tree at first, with texts and numbers of their types. They do nothing
-/// at run time.
+/// the first three, the device's objects were a tree at first, with texts and numbers of their types. The function does
+/// nothing at run time.
 ///
 /// Once: each answer is that of the only execution of the command of the call, and this execution lies between the call
 /// and its return. In time: no call sends while its link is late, if no stranger's datagram was delivered. Refused: a
@@ -50,7 +50,7 @@ pub fn law_of_calls()
 /// Laws: what a panel returns of commands in flight is true of the device, in every network in which they are made. One
 /// call begins a command and returns its handle, other calls follow, and a later call takes the answer under that
 /// handle. The calls between begin commands, wait for them, look them up, or take turns. The premises are those of
-/// [`law_of_calls`]. They do nothing at run time.
+/// [`law_of_calls`]. The function does nothing at run time.
 ///
 /// Once: each answer is that of the only execution of the command that was begun under this handle. This execution lies
 /// between the begin and the taking of the answer. In time: none of these calls sends while the link is late. Refused:

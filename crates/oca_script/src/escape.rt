@@ -146,7 +146,7 @@ fn digit(value: u8) -> u8
     }
 }
 
-/// Law: each text can be read back from what is printed of it. It does nothing at run time.
+/// Law: each text can be read back from what is printed of it. The function does nothing at run time.
 pub fn law_of_escapes()
     ensures { LawOfEscapes }
 {}

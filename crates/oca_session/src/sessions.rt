@@ -71,7 +71,7 @@ impl Sessions {
     ghost use Rattle.oca_session.specs.Sound.{IsTable};
 
     /// A table without sessions, at the moment 0, with room for 16 sessions, each with a reply window of `window`
-    /// commands. It takes all the memory that the sessions will need. Refusal: `NoMemory`, if memory was refused.
+    /// commands. The call takes all the memory that the sessions will need. Refusal: `NoMemory`, if memory was refused.
     pub fn new(alloc: Global, window: Window) -> Result<Sessions, NoMemory>
         ensures { IfOk result (λ t. t ≡ record {
           sizes = record { window = window_size window; peers = 16 };
@@ -89,8 +89,8 @@ impl Sessions {
     }
 
     /// A table without sessions, at the moment 0, with room for 1 to 64 sessions, each with a reply window of 1 to 64
-    /// commands, as `sizes` says. It takes all the memory that the sessions will need. Refusal: `NoMemory`, if memory
-    /// was refused.
+    /// commands, as `sizes` says. The call takes all the memory that the sessions will need. Refusal: `NoMemory`, if
+    /// memory was refused.
     pub fn with_sizes(alloc: Global, sizes: Sizes) -> Result<Sessions, NoMemory>
         ensures { IfOk result (λ t. t ≡ record { sizes = sizes_of sizes; moment = 0; sessions = [] }) }
     {

@@ -52,8 +52,8 @@ impl Model for Slot {
 }
 
 impl Slot {
-    /// A slot that no session has had yet, with an empty window of `size` commands, 1 to 64 (a premise). It takes the
-    /// memory for the window. Refusal: `AllocError`, if memory was refused.
+    /// A slot that no session has had yet, with an empty window of `size` commands, 1 to 64 (a premise). The call takes
+    /// the memory for the window. Refusal: `AllocError`, if memory was refused.
     pub fn spare(alloc: Global, size: usize) -> Result<Slot, AllocError>
         requires { (0 < size) × (size ≤ 64) }
         ensures { IfOk result (λ s. s ≡ opened_session size (record { ip = 0; port = 0 }) 0) }

@@ -77,7 +77,7 @@ impl Model for ReplyWindow {
 }
 
 impl ReplyWindow {
-    /// An empty window of `size` commands, 1 to 64 (a premise). It takes the memory for all that it will retain.
+    /// An empty window of `size` commands, 1 to 64 (a premise). The call takes the memory for all that it will retain.
     /// Refusal: `AllocError`, if memory was refused.
     pub fn new(alloc: Global, size: usize) -> Result<ReplyWindow, AllocError>
         requires { (0 < size) × (size ≤ 64) }
@@ -93,7 +93,7 @@ impl ReplyWindow {
         })
     }
 
-    /// Empties the window for another session: no command is retained or old. Its size stays.
+    /// Empties the window for another session: no command is retained or old. The size of the window stays.
     pub fn clear(&mut self)
         ensures { self.new ≡ retained_of self.old.size [] }
     {

@@ -11,7 +11,7 @@ use oca_tree::Tree;
 /// release of locks changed. They are read back without their locks, and as if no hardware refused. Second, objects
 /// that a text listed: they are read back exactly as they are. Third, any other objects, if the first is a lockable
 /// block with the role `root`, each has a role, and texts and numbers are within their types. They are read back as in
-/// the first case. It does nothing at run time.
+/// the first case. The function does nothing at run time.
 pub fn law_of_texts(tree: &Tree)
     ensures made { MadeIsReadBack tree.now }
     ensures listed { ListedIsReadBack tree.now }

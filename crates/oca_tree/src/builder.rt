@@ -448,9 +448,18 @@ impl Model for TreeBuilder {
     ghost invariant = { λ t. IsTree t.objects.list × (t.objects.room ≤ 4096) };
 }
 
+impl fmt::Debug for TreeBuilder {
+    /// How many objects were added, the root block counted.
+    fn fmt<W: fmt::Write>(&self, f: &mut fmt::Formatter<W>) -> fmt::Result {
+        f.debug_struct("TreeBuilder")
+            .field("objects", &self.objects.len())
+            .finish()
+    }
+}
+
 impl TreeBuilder {
     /// A builder that holds the root alone, a lockable block of the number 100 with the role `root`, and has room for
-    /// 128 objects. It takes the memory for them. Refusal: `NoMemory`, if memory was refused.
+    /// 128 objects. The call takes the memory for them. Refusal: `NoMemory`, if memory was refused.
     pub fn new(alloc: Global) -> Result<TreeBuilder, AddFault>
         ensures ok { IfOk result (λ builder. builder ≡ record { room = 128; list = root ∷ [] }) }
         ensures err { IfErr result (λ e. e ≡ NoMemory) }
@@ -459,7 +468,8 @@ impl TreeBuilder {
     }
 
     /// A builder that holds the root alone, a lockable block of the number 100 with the role `root`, and has room for
-    /// `room` objects, the root counted. It takes the memory for them. Refusal: `NoMemory`, if memory was refused.
+    /// `room` objects, the root counted. The call takes the memory for them. Refusal: `NoMemory`, if memory was
+    /// refused.
     pub fn with_room(alloc: Global, room: Room) -> Result<TreeBuilder, AddFault>
         ensures ok { IfOk result (λ builder. builder ≡ record { room = room_size room; list = root ∷ [] }) }
         ensures err { IfErr result (λ e. e ≡ NoMemory) }
@@ -496,14 +506,14 @@ impl TreeBuilder {
         Ok(TreeBuilder { objects })
     }
 
-    /// Adds an object after all others: enabled, unlocked and with an empty label. It takes no memory.
+    /// Adds an object after all others: enabled, unlocked and with an empty label. The call takes no memory.
     ///
     /// Refusals, the first of [`AddFault`] that applies; the builder is then unchanged. `Full` if there is no room for
     /// another object, `Reserved` if the number is below 4096, `Taken` if another object has the number. `NoSuchBlock`
-    /// if the container is no block of the tree, `TooDeep` at depth 9 (the root is at depth 1). `BadText` if the role
-    /// is empty, or the role or a position's name has more than 64 bytes. `BadRange` if the setting is outside its
-    /// limits. `BadRange` also if a switch has no or more than 16 positions, or its position is not one of them.
-    /// `NoMemory` never comes.
+    /// if the container is no block of the tree, `TooDeep` if the object would stand at depth 9 (the root is at depth
+    /// 1). `BadText` if the role is empty, or the role or a position's name has more than 64 bytes. `BadRange` if the
+    /// setting is outside its limits. `BadRange` also if a switch has no or more than 16 positions, or its position is
+    /// not one of them. `NoMemory` never comes.
     pub fn add(&mut self, container: Ono, ono: Ono, spec: &Spec<'_>) -> Result<(), AddFault>
         ensures { Adds result self.old self.new container.0 ono.0 spec.now }
     {
@@ -513,7 +523,7 @@ impl TreeBuilder {
     }
 
     /// Adds an object after all others, with what was stored of it: its label, whether it is enabled, and which of its
-    /// positions are. It is unlocked. It takes no memory.
+    /// positions are. The object is unlocked. The call takes no memory.
     ///
     /// Refusals, the first that applies; the builder is then unchanged: `Add` with the reason for which
     /// [`add`](TreeBuilder::add) refuses the object. `BadLabel` if the label has more than 64 bytes. `BadFlags` if

@@ -27,6 +27,7 @@ use crate::setting::{SetFault, set};
 use crate::start::Start;
 use oca_model::{Reading, Value};
 use oca_types::{Class, Command, Ono, Params, Peer, Status, Text};
+use std::fmt;
 use std::marker::Model;
 
 /// What executing a command gave: the status and the ParamCount of the answer, and whether it wrote.
@@ -95,6 +96,16 @@ impl Model for Tree {
     ghost invariant = { λ t. IsTree t.objects.list × (t.marks.locks ≡ lock_count t.objects.list) };
 }
 
+impl fmt::Debug for Tree {
+    /// How many objects there are, and how many of them are locked.
+    fn fmt<W: fmt::Write>(&self, f: &mut fmt::Formatter<W>) -> fmt::Result {
+        f.debug_struct("Tree")
+            .field("objects", &self.objects.len())
+            .field("locked", &self.marks.locks)
+            .finish()
+    }
+}
+
 impl Tree {
     /// The tree of these objects.
     pub(crate) fn of(objects: Objects) -> Tree
@@ -145,8 +156,8 @@ impl Tree {
         }
     }
 
-    /// Sets the object with this number at the local front panel. It acts as the set method of the object's class,
-    /// except that neither a lock nor the object's hardware refuses it.
+    /// Sets the object with this number at the local front panel. The call acts as the set method of the object's
+    /// class, except that neither a lock nor the object's hardware refuses it.
     ///
     /// Refusals, the first of [`SetFault`] that applies: `NoObject` if no object has the number. `NoSetting` if the
     /// object is a block. `OtherKind` if the value is of another class. `OutOfRange` if a switch has no such position
@@ -159,8 +170,8 @@ impl Tree {
         set(&mut self.objects, &mut self.marks, ono, value)
     }
 
-    /// Gives the object with this number a label of at most 64 bytes at the local front panel. It acts as SetLabel of
-    /// OcaWorker (AES70-2), except that neither a lock nor the object's hardware refuses it.
+    /// Gives the object with this number a label of at most 64 bytes at the local front panel. The call acts as
+    /// SetLabel of OcaWorker (AES70-2), except that neither a lock nor the object's hardware refuses it.
     ///
     /// Refusals, the first that applies: `NoObject` if no object has the number, `BadLabel` if the label is longer. A
     /// refusal changes no object.
@@ -172,9 +183,9 @@ impl Tree {
         set_label(&mut self.objects, &mut self.marks, ono, label)
     }
 
-    /// Enables or disables the object with this number at the local front panel. It acts as SetEnabled of OcaWorker
-    /// (AES70-2), except that neither a lock nor the object's hardware refuses it. Refusal: `NoObject` if no object has
-    /// the number; then no object is changed.
+    /// Enables or disables the object with this number at the local front panel. The call acts as SetEnabled of
+    /// OcaWorker (AES70-2), except that neither a lock nor the object's hardware refuses it. Refusal: `NoObject` if no
+    /// object has the number; then no object is changed.
     pub fn set_enabled(&mut self, ono: Ono, enabled: bool) -> Result<(), FrontFault>
         ensures tree { self.new ≡ after_change self.old ono.0 (ToEnabled enabled) }
         ensures refused { OnErr result (self.new ≡ self.old) }

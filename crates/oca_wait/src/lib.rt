@@ -26,10 +26,11 @@ pub struct Ready {
 
 /// Waits at most `milliseconds` until `input` or `beside` is ready, and returns which of them are. A descriptor is
 /// ready if a read of it would not wait, or if the system reports its end or an error. A descriptor of a file or of the
-/// null device always is. `None` is a descriptor that is not waited for; if both are `None`, the call waits for the
-/// whole time. If a signal ends the wait early, neither is ready. More than 2,147,483,647 ms (some 24 days) counts as
-/// 2,147,483,647 ms. Err with the system's reason if the system refuses to wait, for example if the program may have no
-/// descriptors open.
+/// null device always is. If a signal ends the wait early, neither is ready. More than 2,147,483,647 ms (some 24 days)
+/// counts as 2,147,483,647 ms.
+///
+/// `None` stands for a descriptor that is not waited for; if both are `None`, the call waits for the whole time.
+/// Refusal: the system's error, for example if the limit on open descriptors (RLIMIT_NOFILE) is below 2.
 pub fn wait_for(input: Option<RawFd>, beside: Option<RawFd>, milliseconds: u64) -> io::Result<Ready>
     ensures input { IfOk result (λ ready. input ≡ None → ready.input ≡ false) }
     ensures beside { IfOk result (λ ready. beside ≡ None → ready.beside ≡ false) }

@@ -38,9 +38,10 @@ fn whole(status: StatusCode) -> Refusal
 /// yet.
 ///
 /// A refusal has the status to answer with, and the index of the order that is the reason, if one is. The status is 400
-/// if the body is not JSON of this form, or names no run of the program. It is 409 if the body names another run than
-/// `run`. It is 404 if an order's object is not known. It is 422 if an order's word is no value of its object, or its
-/// label is too long or has a control character. It is 503 if memory was refused for the orders.
+/// if the body is not JSON of this form, or names no run of the program. The status is 409 if the body names another
+/// run than `run`. The status is 404 if an order's object is not known. The status is 422 if an order's word is no
+/// value of its object, or its label is too long or has a control character. The status is 503 if memory was refused
+/// for the orders.
 pub fn orders_in(
     alloc: Global,
     known: &View,

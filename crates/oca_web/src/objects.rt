@@ -33,7 +33,7 @@ impl Objects {
     ghost use Rattle.std.specs.Prelude.{slice_get};
     ghost use Rattle.std.specs.Option.{option_map};
 
-    /// A list without objects, and without a change. It takes no memory yet.
+    /// A list without objects, and without a change. The call takes no memory yet.
     pub fn new(alloc: Global) -> Objects
         ensures { result ≡ record { list = []; changes = 0 } }
     {
@@ -153,8 +153,8 @@ impl Objects {
         }
     }
 
-    /// Replaces what is shown of the object at this place. It counts as a change, unless only the moment of the reading
-    /// differs. `place` is counted from 0; a place after the last object changes nothing.
+    /// Replaces what is shown of the object at this place. The new state counts as a change, unless only the moment of
+    /// the reading differs. `place` is counted from 0; a place after the last object changes nothing.
     pub fn show(&mut self, place: usize, shown: Shown)
         ensures { ShowsAt place shown self.old self.new }
     {

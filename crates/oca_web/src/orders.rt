@@ -12,7 +12,7 @@ use oca_panel::Trouble;
 use oca_types::{Handle, Ono};
 use std::marker::Model;
 
-/// The orders of the pages: those that wait, those in flight, and how the last ones ended. It takes no memory.
+/// The orders of the pages: those that wait, those in flight, and how the last ones ended. The call takes no memory.
 #[derive(Drop)]
 pub struct Orders {
     waiting: ArrayVec<Order, MOST_WAITING>,

@@ -155,9 +155,9 @@ impl Poll {
         self.at = self.end;
     }
 
-    /// The moment from which the next round may begin; it may already be past. It is in milliseconds of the program's
-    /// clock, as is `now`, the present moment. `None` if no page is open at `now`. `None` also if a round is not over:
-    /// it goes on when an answer comes.
+    /// The moment from which the next round may begin; it may already be past. This moment is in milliseconds of the
+    /// program's clock, as is `now`, the present moment. `None` if no page is open at `now`. `None` also if a round is
+    /// not over: it goes on when an answer comes.
     pub fn next_moment(&self, now: u64) -> Option<u64> {
         if self.is_open(now) && self.at >= self.end {
             Some(self.begun.saturating_add(ROUND_MS))

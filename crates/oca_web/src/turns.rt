@@ -29,11 +29,11 @@ pub fn submit_first<E: End>(orders: &mut Orders, panel: &mut Panel<E>, ahead: u6
     }
 }
 
-/// Submits the orders that wait, in the order in which they came, each once. It stops if 32 orders are in flight, or an
-/// order for the same object is in flight. It stops if the last moment of the next order has passed. It also stops if
-/// the link takes no command: it is lost or late, its span is full, or its handles are used up. The orders that still
-/// wait then stay, and are tried first at the next call. `ahead` says by how many milliseconds the program's clock, in
-/// which orders have their last moments, is ahead of the end's.
+/// Submits the orders that wait, in the order in which they came, each once. The call stops if 32 orders are in flight,
+/// or an order for the same object is in flight. The call stops if the last moment of the next order has passed. The
+/// call also stops if the link takes no command: it is lost or late, its span is full, or its handles are used up. The
+/// orders that still wait then stay, and are tried first at the next call. `ahead` says by how many milliseconds the
+/// program's clock, in which orders have their last moments, is ahead of the end's.
 #[tactic(auto, using(crate::proofs::StepLemmas::submit_rules))]
 pub fn submit_orders<E: End>(orders: &mut Orders, panel: &mut Panel<E>, ahead: u64)
     ensures submits { SubmitsOrders ahead orders.old panel.old orders.new panel.new }
@@ -48,8 +48,8 @@ pub fn submit_orders<E: End>(orders: &mut Orders, panel: &mut Panel<E>, ahead: u
 
 /// Takes the outcome of one order in flight, if its command was answered or the link is lost, and notes it under the
 /// order's ticket. `at` is the order's place among those in flight, counted from 0. Returns the order and its outcome;
-/// it is in flight no longer. It does not wait. `None` if the outcome is not known, or no order stands there: then
-/// nothing is changed.
+/// it is in flight no longer. The call does not wait. `None` if the outcome is not known, or no order stands there:
+/// then nothing is changed.
 pub fn settle_at<E: End>(
     orders: &mut Orders,
     panel: &mut Panel<E>,
@@ -84,8 +84,8 @@ impl Default for Settled {
 }
 
 /// Takes the outcome of each order in flight whose command was answered, or of all if the link is lost, and notes it
-/// under the order's ticket. Returns these orders with their outcomes, at most 32; the others stay in flight. It does
-/// not wait.
+/// under the order's ticket. Returns these orders with their outcomes, at most 32; the others stay in flight. The call
+/// does not wait.
 #[tactic(auto, using(crate::proofs::StepLemmas::one_settled))]
 pub fn settle_orders<E: End>(orders: &mut Orders, panel: &mut Panel<E>) -> ArrayVec<Settled, 32>
     ensures { SettlesOrders orders.old panel.old orders.new panel.new }

@@ -135,7 +135,7 @@ impl View {
         self.reach
     }
 
-    /// How the link to the device is. Its moments are in milliseconds of the program's clock.
+    /// How the link to the device is. All moments are in milliseconds of the program's clock.
     pub fn news(&self) -> LinkNews
         ensures { result ≡ self.now.news }
     {
@@ -231,12 +231,12 @@ impl View {
         self.inventory.open(now, first, visible);
     }
 
-    /// Notes the present moment of the end, in milliseconds of the end's clock, and how many datagrams the end sent
-    /// until then. The program's clock, which never goes back, moves on accordingly.
+    /// Notes the present moment, in milliseconds of the end's clock, and how many datagrams the end sent until then.
+    /// Moves the program's clock on to that moment; this clock never goes back.
     ///
-    /// `true` if the program was suspended: more than 2,000 ms passed since the last note. Then the orders that wait
-    /// are noted as not sent, and the age of other requests that came meanwhile is not known. `false` otherwise: then
-    /// the orders stay.
+    /// Returns `true` if the program's clock moved by more than 2,000 ms since the last note: the program was
+    /// suspended. Then all waiting orders end as not sent. HTTP requests that are read after that may have waited for
+    /// an unknown time ([`Site::doubt`](crate::Site::doubt)). Returns `false` otherwise, and then no order changes.
     pub fn note(&mut self, moment: u64, sent: u64) -> bool
         ensures now { self.new.news.now ≡ moment_noted self.old.ahead moment self.old.news.now }
         ensures stood { result ≡ stood_still self.old.news.now self.new.news.now }

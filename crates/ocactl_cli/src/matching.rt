@@ -98,8 +98,8 @@ pub fn without_blank(word: &str) -> &str
     }
 }
 
-/// Law: for each word, [`without_blank`] of what [`with_blanks`] makes of it is the word again. It does nothing at run
-/// time.
+/// Law: for each word, [`without_blank`] of what [`with_blanks`] makes of it is the word again. The function does
+/// nothing at run time.
 pub fn law_of_blanks()
     ensures { BlanksLoseNothing }
 {}

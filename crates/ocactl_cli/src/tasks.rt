@@ -63,9 +63,10 @@ pub fn turns_of(words: &ArgMatches<'_>) -> Option<u32>
     }
 }
 
-/// The task that the options of a command for objects ask for; for `set`, with at most `ahead` commands in flight at
-/// once. Refusals: `BadWords` if a word does not have its form; the note names that word. `NoMemory` if memory was
-/// refused.
+/// The task of the command `name`, which is `tree`, `get`, `set`, `lock` or `unlock`, with these matched words. `set`
+/// has at most `ahead` commands in flight at once. Refusals: `BadWords` if a word for an object is no object number, or
+/// a value of `set` is missing or has more than 64 bytes. The note then states the form of the words. `BadWords`
+/// without a note if `name` is another command. `NoMemory` if memory was refused.
 pub fn task_of(
     alloc: Global,
     name: &str,

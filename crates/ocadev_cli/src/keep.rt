@@ -282,8 +282,8 @@ pub struct Keeping<'a> {
 }
 
 impl<'a> Keeping<'a> {
-    /// The state of keeping objects in the file at this path, or of keeping them nowhere if no file is named. It takes
-    /// the memory for the answers that will wait. Refusal: `NoMemory`, if memory was refused.
+    /// The state of keeping objects in the file at this path, or of keeping them nowhere if no file is named. The call
+    /// takes the memory for the answers that will wait. Refusal: `NoMemory`, if memory was refused.
     pub fn new<F: Files>(
         alloc: Global,
         files: &F,

@@ -26,8 +26,8 @@ use std::rt::Files;
 /// The most bytes of a file that lists objects.
 const LARGEST_TEXT: usize = 16_777_216;
 
-/// A device of these objects, before any event, with these sizes, and an empty outbox. It takes all the memory that
-/// they will need. Refusal: `NoMemory`, if memory was refused; the objects are then lost.
+/// A device of these objects, before any event, with these sizes, and an empty outbox. The call takes all the memory
+/// that they will need. Refusal: `NoMemory`, if memory was refused; the objects are then lost.
 pub fn made(alloc: Global, tree: Tree, sizes: Sizes) -> Result<(Device, Outbox), RunFault>
     ensures device { IfOk result (λ made. Represents (sizes_of sizes) made.0 tree []) }
     ensures outbox { IfOk result (λ made. made.1 ≡ []) }

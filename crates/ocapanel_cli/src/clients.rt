@@ -104,7 +104,10 @@ impl Client {
         Ok(read || written)
     }
 
-    /// Reads, answers and writes what can be, with no wait. Behind an order that was taken the rest has time.
+    /// Reads, answers and writes on each connection that is ready, and closes those that ended or are late at the
+    /// moment `now`, in milliseconds of the program's clock. A connection is late if nothing moved on it for more than
+    /// 30,000 ms. It is also late if a request is not whole, or an answer is not taken, for more than 5,000 ms. A new
+    /// connection counts as one whose request is begun: it is late 5,000 ms after its beginning even if no byte came.
     fn serve(&mut self, site: &mut Site, now: u64) -> Stands {
         let ticket = site.view().next_ticket();
         site.doubt(self.doubts);
@@ -207,13 +210,15 @@ impl Clients {
         }
     }
 
-    /// Adds a new connection at the moment `now`, in milliseconds of the program's clock. `doubts` says that it may
-    /// have come while the program was suspended.
+    /// Adds a new connection at the moment `now`, in milliseconds of the program's clock, and lets `poll` wait for it.
+    /// `keys` are the random keys for the map of its request's headers. `doubts` says that the connection may have come
+    /// while the program was suspended.
     ///
-    /// At most 128 connections are kept. If there are 128 already, one of them is closed first. It is the oldest one on
-    /// which no request was let in so far. If there is none, it is the first that rests: no request is begun on it, and
-    /// nothing moved on it for more than 1,000 ms. If there is none either, the new connection is closed. It is also
-    /// closed if the system can't wait for it, or memory was refused.
+    /// At most 128 connections are kept. If there are 128, one of them is closed to make room. That is the oldest one
+    /// on which no request was admitted so far (admitted: with the right host and token). If there is no such
+    /// connection, it is the first on which no request is begun and nothing moved for more than 1,000 ms. Otherwise the
+    /// new connection is closed. The new connection is also closed if `poll` refuses it, or if memory was refused; a
+    /// connection that was closed for it stays closed.
     pub fn add(
         &mut self,
         stream: TcpStream,
