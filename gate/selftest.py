@@ -26,12 +26,13 @@ import library
 import run
 import selftest_builds
 import selftest_tools
-from selftest_builds import FakeCrate, fake_tools, is_same, memory_at, said, within, without, writes
+from selftest_builds import FakeCrate, fake_tools, is_same, laid, main_of, memory_at, of_prover, said, within, without, writes
 from selftest_tools import checks, edits, lossy, snippets
 
 import panel
 import runs
 import unreliable
+from checks import waited
 from tables import data
 
 HERE = Path(__file__).resolve().parent
@@ -61,14 +62,9 @@ def tells_what_failed(folder):
 
 def finds_what_is_left_out(folder):
     """A program that no step runs is found; one that a step runs, a module, and what says that it is no step are not."""
-    tools = folder / "tools"
-    tools.mkdir()
-    main = '\nif __name__ == "__main__":\n    pass\n'
-    for name, text in (("run_by_a_step", main), ("left_out", main), ("module", ""), ("by_hand", '"""By hand.\n\nNo step of the gate."""' + main)):
-        (tools / f"{name}.py").write_text(text)
-    (tools / "twice.py").write_text('"""Twice.\n\nIn the gate: twice.py bin\nIn the gate: twice.py bin more\n"""' + main)
+    laid(folder / "tools", DATA.tools)
     steps = [run.Step(f"1 1 python3 tools/{words}") for words in ("run_by_a_step.py bin", "twice.py bin")]
-    return run.left_out(steps, tools) == ["left_out.py", "twice.py bin more"]
+    return run.left_out(steps, folder / "tools") == ["left_out.py", "twice.py bin more"]
 
 
 def leaves_none_out(_):
@@ -120,23 +116,21 @@ def run_beside(file, crates, most, calls):
     return [key[0] for key in given], max(at_once)
 
 
-def waits_for_proofs(_):
+def waits_for_proofs(folder):
     """Beside `rt ci` the edits of a crate wait for the libraries below it and for an idle processor, and only half as many checks run as later."""
-    found, real, asked = [], edits.is_idle, []
+    found, real, asked, file = [], edits.is_idle, [], folder / "proved"
     later, free = {"z": "c", "y": "ab", "x": "a", "w": ""}, dict.fromkeys("pqrst", "")
     tells = {"w": ["a"], "x": ["b"], "y": [edits.ENDED]}
-    with tempfile.TemporaryDirectory() as folder, patch.object(edits, "is_idle", lambda _: True):
-        file = Path(folder, "proved")
-        with patch.dict(os.environ, GATE_PROVED=str(file)):
-            found += [edits.proved_beside() is None]
-            file.touch()
-            found += [edits.proved_beside() == set()]
-            found += [run_beside(file, later, 1, tells) == (["w", "x", "y", "z"], 1), edits.proved_beside() is None]
-            found += [run_beside(file, free, 4, {})[1] == 4]
-            file.write_text("")
-            found += [run_beside(file, free, 4, {})[1] == 2, edits.ENDED == run.ENDED]
-            edits.is_idle = lambda _: asked.append(1) or len(asked) > 3 and not file.write_text(f"{edits.ENDED}\n")
-            found += [run_beside(file, {"p": ""}, 1, {}) == (["p"], 1), len(asked) == 4]
+    with patch.object(edits, "is_idle", lambda _: True), patch.dict(os.environ, GATE_PROVED=str(file)):
+        found += [edits.proved_beside() is None]
+        file.touch()
+        found += [edits.proved_beside() == set()]
+        found += [run_beside(file, later, 1, tells) == (["w", "x", "y", "z"], 1), edits.proved_beside() is None]
+        found += [run_beside(file, free, 4, {})[1] == 4]
+        file.write_text("")
+        found += [run_beside(file, free, 4, {})[1] == 2, edits.ENDED == run.ENDED]
+        edits.is_idle = lambda _: asked.append(1) or len(asked) > 3 and not file.write_text(f"{edits.ENDED}\n")
+        found += [run_beside(file, {"p": ""}, 1, {}) == (["p"], 1), len(asked) == 4]
     return all(found) and real(1_000_000) and not real(0)
 
 
@@ -147,10 +141,8 @@ def is_counted(_, command, least, wanted):
 
 def knows_the_least(folder):
     """`rt ci` is to pass a check for each crate and each edit that must fail; those of other folders are none of its."""
-    for name in ("crates/a/must-fail/one.edit", "crates/b/must-fail/one.edit", "crates/b/must-fail/two.edit", "crates/b/wrong/three.edit"):
-        (folder / name).parent.mkdir(parents=True, exist_ok=True)
-        (folder / name).touch()
-    (folder / "crates.txt").write_text("# crates\na: b\n\nb: # none\n")
+    its = ("crates/a/must-fail/one.edit", "crates/b/must-fail/one.edit", "crates/b/must-fail/two.edit", "crates/b/wrong/three.edit")
+    laid(folder, {"crates.txt": "# crates\na: b\n\nb: # none\n", **dict.fromkeys(its, "")})
     return run.least_of_ci(folder) == 5
 
 
@@ -163,7 +155,7 @@ def knows_what_is_waited_for(folder):
     return found == ["a", None, None, None]
 
 
-def counts_all(_):
+def counts_all(folder):
     """The whole gate passes only where `rt ci`, its steps and their list do: each of them is made to fail alone. It calls
     `rt ci` without other words, on as many lanes as there are, for as many checks as that is to pass, and every step of
     the file, as it stands there; before, where nothing says how many lanes there are, `rt ci` takes names and CI is not
@@ -175,8 +167,8 @@ def counts_all(_):
         watched = lambda command, least, note=None: asked.append((command, least)) or places.add(writes()) or (of_ci if note else (0, 1))
         ran = lambda given, _, early: asked.append(([words(part) for part in given], early)) or [of_steps]
         left = lambda given, tools: asked.append((words(given), tools)) or missing
-        tools = SimpleNamespace(free=lambda: 99e9, processors=lambda: lanes, ci_takes_names=takes_names)
-        with tempfile.TemporaryDirectory() as memory, without("CI"), memory_at(memory), patch.object(run.kit, "toolchain", lambda: tools), \
+        tools = fake_tools(lanes, 99e9, ci_takes_names=takes_names)
+        with without("CI"), memory_at(folder / "memory"), patch.object(run.kit, "toolchain", lambda: tools), \
                 patch.multiple(run, watched=watched, run_steps=ran, left_out=left, waited_for=lambda: "a"):
             os.environ |= says
             status, told = said(run.main, [])
@@ -190,12 +182,11 @@ def knows_the_lanes(_):
     """`rt ci`, builds and edits are to run as many checks at once as there are processors and as memory holds, at least one, or as many
     as RT_JOBS says."""
     found = []
-    for processors, memory, says in ((4, 23e9, ""), (4, 9e9, ""), (2, 23e9, ""), (4, 1e9, ""), (4, 7.9e9, ""), (1, 1e9, "7"), (4, 23e9, "7"),
-                                     (1, 1e9, "0"), (4, 23e9, "0"), (4, 23e9, "many"), (1, 1e9, "\u00b2")):
+    for processors, memory, says, _ in DATA.lanes:
         with without("RT_JOBS"):
             os.environ |= {"RT_JOBS": says} if says else {}
-            found.append(kit.lanes(SimpleNamespace(processors=lambda: processors, free=lambda: memory)))
-    return found == [4, 2, 2, 1, 1, 7, 7, 1, 4, 4, 1]
+            found.append(kit.lanes(fake_tools(processors, memory)))
+    return is_same([wanted for *_, wanted in DATA.lanes], found)
 
 
 def says_what_is_missing(_):
@@ -254,21 +245,16 @@ def ends_when_told(folder, number, before=None):
     hears = lambda: (signal.signal(number, signal.SIG_DFL), before and signal.signal(before, signal.SIG_IGN))
     gate = subprocess.Popen(words, stdout=subprocess.DEVNULL, preexec_fn=hears)
     sleeps = lambda: any(f"sleep\0{seconds}\0" == text_of(it) for it in Path("/proc").glob("[0-9]*/cmdline"))
-    until = time.monotonic() + 30
-    while not (begun.exists() and sleeps()) and time.monotonic() < until:
-        time.sleep(0.05)
-    is_begun = sleeps()
+    is_begun = waited(lambda: begun.exists() and sleeps(), 30) is not None
     for it in [before] if before else []:
         gate.send_signal(it)
         time.sleep(0.1)
     gate.send_signal(number)
-    status, until = gate.wait(30), time.monotonic() + 30
-    while sleeps() and time.monotonic() < until:
-        time.sleep(0.05)
-    return is_begun and not sleeps() and status == 128 + number
+    status = gate.wait(30)
+    return is_begun and waited(lambda: not sleeps(), 30) is not None and status == 128 + number
 
 
-def builds_as_asked(_):
+def builds_as_asked(folder):
     """`library.py` compiles the library for the kind and the processor that are asked for, else for every one of that
     kind, where the crates below are built; and it tells how that ended."""
     x86, arm, found = "x86_64-unknown-linux-gnu", "aarch64-unknown-linux-gnu", []
@@ -278,14 +264,12 @@ def builds_as_asked(_):
         found.append((*(words[words.index(word) + 1] for word in ("--target", "--cpu")), *Path(to).parts[-2:]))
         return status
 
-    with tempfile.TemporaryDirectory() as folder, within(folder):
-        lower = FakeCrate(name="lower", folder=folder, rlib=f"{folder}/none", below=list)
-        crate = FakeCrate(name="oca_c", folder=folder, below=lambda: [lower], compile=compiled, stamp=lambda: "sources")
-        tools = fake_tools(1, 0, crates_below=lambda _: [crate, lower], lock=lambda _: [], files_of=lambda _: [])
-        for status, is_built, words in ((0, True, []), (0, True, [arm]), (7, True, []), (0, True, [x86, "x86-64-v3"]), (0, False, [])):
-            with patch.object(kit, "toolchain", lambda: tools), patch.object(build, "build_all", lambda *_: is_built), \
-                    patch.object(sys, "argv", ["library.py", *words]):
-                found.append(library.main())
+    lower = FakeCrate(name="lower", folder=folder, rlib=f"{folder}/none", below=list)
+    crate = FakeCrate(name="oca_c", folder=folder, below=lambda: [lower], compile=compiled, stamp=lambda: "sources")
+    tools = fake_tools(1, 0, crates_below=lambda _: [crate, lower], lock=lambda _: [], files_of=lambda _: [])
+    for status, is_built, words in ((0, True, []), (0, True, [arm]), (7, True, []), (0, True, [x86, "x86-64-v3"]), (0, False, [])):
+        with within(folder), patch.object(build, "build_all", lambda *_: is_built):
+            found.append(main_of(library, tools, *words)[0])
     made = [(x86, "x86-64"), (arm, "generic"), (x86, "x86-64"), (x86, "x86-64-v3")]
     first, second, third, fourth = [(*it, it[0], "liboca_c.a") for it in made]
     return is_same([first, 0, second, 0, third, 7, fourth, 0, 1], found)
@@ -299,12 +283,10 @@ def compares_documents(_):
     return is_same([], wrong) and is_same([(3, "", ["$ b", "c"]), (8, "sh x/y", ["e"])], blocks)
 
 
-def lists_each_edit(_):
+def lists_each_edit(folder):
     """`edits.py` leaves out no file of a folder but a text about it: what is no edit is tried, and fails."""
-    with tempfile.TemporaryDirectory() as folder:
-        for name in ("a.edit", "b.edits", "c", "README.md"):
-            Path(folder, name).touch()
-        found = [edits.Edit(it, SimpleNamespace(folder=folder)) for it in edits.listed(Path(folder))]
+    laid(folder, dict.fromkeys(("a.edit", "b.edits", "c", "README.md"), ""))
+    found = [edits.Edit(it, SimpleNamespace(folder=folder)) for it in edits.listed(folder)]
     refused = [(it.path.name, it.why == "it is no edit") for it in found]
     return refused == [("a.edit", False), ("b.edits", True), ("c", True)]
 
@@ -313,12 +295,6 @@ def names_functions(_):
     """`edits.py` gives a method the path that the prover prints: with other types than its own parameters where its `impl` is of those."""
     found = [edits.functions_of("src/m.rt", f"{head} {{\n    fn f() {{}}\n}}\n")[0].path() for head, _ in DATA.heads]
     return found == [path for _, path in DATA.heads]
-
-
-def answered(lines, texts=()):
-    """What the prover says of a copy of a crate with these texts, where these lines tell of what is not proved."""
-    told = "\n".join([*lines, "logic=not-proved" if lines else "logic=proved"]) + "\n"
-    return edits.Answer(SimpleNamespace(returncode=int(bool(lines)), stdout=told), texts)
 
 
 def judges_edits(_):
@@ -334,37 +310,36 @@ def judges_edits(_):
     return found == [list(refused) for *_, refused in DATA.said_of_edits] and all(told)
 
 
-def copies_edits(_):
+def edited(folder, texts, changes):
+    """A crate of these files, and edits of its `src/m.rt` by their names: of each what stands above it, the old text and the new one."""
+    made = {f"{name}.edit": f"{above}file: src/m.rt\nold: {old}\nnew: {new}\n" for name, (above, old, new) in changes.items()}
+    laid(folder, {**texts, **made})
+    crate = SimpleNamespace(folder=str(folder), name="a")
+    return crate, {name: edits.Edit(folder / f"{name}.edit", crate) for name in changes}
+
+
+def copies_edits(folder):
     """A further edit of a function is tried in a copy of it, with a copy of its proof and a copy as it stands, which must be proved; a further one of
     a method of a trait, or of two functions, in another check. Edits that are left are tried without copies."""
-    with tempfile.TemporaryDirectory() as folder:
-        for name, text in (("src/m.rt", DATA.source), ("proofs/m/f/Answers.antt", DATA.of_f)):
-            Path(folder, name).parent.mkdir(parents=True)
-            Path(folder, name).write_text(text)
-        crate = SimpleNamespace(folder=folder, name="a")
-        changes = {"a": ("n + 1", "n + 2"), "b": ("n + 1", "n + 3"), "c": ("T(1)", "T(2)"), "d": ("T(1)", "T(3)")}
-        for name, (old, new) in changes.items():
-            Path(folder, f"{name}.edit").write_text(f"file: src/m.rt\nold: {old}\nnew: {new}\n")
-        of = {name: edits.Edit(Path(folder, f"{name}.edit"), crate) for name in changes}
-        groups = edits.grouped(of.values(), crate, True)
-        is_grouped = [(it.placed, it.copied) for it in groups] == [([of["a"], of["c"]], [of["b"]]), ([of["d"]], [])]
-        alone = [it.edits() for it in edits.grouped(of.values(), crate)]
-        is_grouped = is_grouped and alone == [[of["a"], of["c"]], [of["b"], of["d"]]]
-        texts = groups[0].texts(crate, groups[0].copies(crate))
-        behind = DATA.source.replace("n + 1\n}\n", "n + 2\n}\n" + DATA.copies).replace("T(1)", "T(2)")
-        names = ["f_as_it_stands", "f_edited_1"]
-        proofs = {f"proofs/m/{it}/Answers.antt": DATA.of_f.replace("proofs.m.f.", f"proofs.m.{it}.") for it in names}
-        is_copied = texts == {"src/m.rt": behind, **proofs}
-        return is_grouped and is_copied and [judged_copies(crate, of, told) for told, _ in DATA.said_of_copies] == [
-            refused.split() for _, refused in DATA.said_of_copies]
+    changes = {"a": ("", "n + 1", "n + 2"), "b": ("", "n + 1", "n + 3"), "c": ("", "T(1)", "T(2)"), "d": ("", "T(1)", "T(3)")}
+    crate, of = edited(folder, {"src/m.rt": DATA.source, "proofs/m/f/Answers.antt": DATA.of_f}, changes)
+    groups = edits.grouped(of.values(), crate, True)
+    is_grouped = [(it.placed, it.copied) for it in groups] == [([of["a"], of["c"]], [of["b"]]), ([of["d"]], [])]
+    alone = [it.edits() for it in edits.grouped(of.values(), crate)]
+    is_grouped = is_grouped and alone == [[of["a"], of["c"]], [of["b"], of["d"]]]
+    texts = groups[0].texts(crate, groups[0].copies(crate))
+    behind = DATA.source.replace("n + 1\n}\n", "n + 2\n}\n" + DATA.copies).replace("T(1)", "T(2)")
+    proofs = {f"proofs/m/{it}/Answers.antt": DATA.of_f.replace("proofs.m.f.", f"proofs.m.{it}.") for it in ("f_as_it_stands", "f_edited_1")}
+    is_copied = texts == {"src/m.rt": behind, **proofs}
+    return is_grouped and is_copied and [judged_copies(crate, of, told) for told, _ in DATA.said_of_copies] == [
+        refused.split() for _, refused in DATA.said_of_copies]
 
 
 def judged_copies(crate, of, told):
     """Which of the two edits of the function are refused where the prover says so."""
     trial, asked = edits.Trial(crate, crate.folder), []
     lines = [f"fn a::m::{name}: not proved: the search did not prove a goal" for name in told.split()]
-    ran = SimpleNamespace(returncode=1, stdout="\n".join([*lines, "logic=not-proved"]) + "\n")
-    trial.checked = lambda texts, paths, without: asked.append(sorted(paths)) or edits.Answer(ran, texts)
+    trial.checked = lambda texts, paths, without: asked.append(sorted(paths)) or edits.Answer(of_prover(lines, 1), texts)
     group = edits.grouped([of["a"], of["b"]], crate, True)[0]
     left = trial.try_group(group)
     refused = [name for name in "ab" if of[name].is_refused]
@@ -372,61 +347,52 @@ def judged_copies(crate, of, told):
     return refused if is_told and asked == [["m::f", "m::f_as_it_stands", "m::f_edited_1"]] else None
 
 
-def empties_functions(_):
+def empties_functions(folder):
     """Functions that no edit touches are checked without their bodies and proofs, but for those of traits, constants,
     cycles and C; where anything else than what was changed fails then, they are checked once more with them."""
-    with tempfile.TemporaryDirectory() as folder:
-        Path(folder, "src").mkdir()
-        Path(folder, "src/m.rt").write_text(DATA.bodies)
-        Path(folder, "one.edit").write_text("file: src/m.rt\nold: other(n)\nnew: 1 + other(n)\n")
-        crate = SimpleNamespace(folder=folder, name="a")
-        edit = edits.Edit(Path(folder, "one.edit"), crate)
-        texts, empty = edits.emptied(crate, {}, edit.functions)
-        found = [texts == {"src/m.rt": DATA.empty}, [it.path() for it in empty] == ["m::other", "m::T::of"]]
-        for without_bodies, whole, is_refused, checks in DATA.said_of_empty:
-            asked, trial = [], edits.Trial(crate, folder)
+    crate, of = edited(folder, {"src/m.rt": DATA.bodies}, {"one": ("", "other(n)", "1 + other(n)")})
+    edit = of["one"]
+    texts, empty = edits.emptied(crate, {}, edit.functions)
+    found = [texts == {"src/m.rt": DATA.empty}, [it.path() for it in empty] == ["m::other", "m::T::of"]]
+    for without_bodies, whole, is_refused, checks in DATA.said_of_empty:
+        asked, trial = [], edits.Trial(crate, crate.folder)
 
-            def checked(texts, paths, without):
-                asked.append(sorted(it.path() for it in without))
-                return answered(without_bodies if without else whole, texts)
+        def checked(texts, paths, without):
+            asked.append(sorted(it.path() for it in without))
+            return edits.Answer(of_prover(without_bodies if without else whole), texts)
 
-            trial.checked = checked
-            trial.try_group(edits.Group(edit), True)
-            found.append(edit.is_refused == is_refused and asked == [["m::T::of", "m::other"], []][:checks])
-        return all(found)
+        trial.checked = checked
+        trial.try_group(edits.Group(edit), True)
+        found.append(edit.is_refused == is_refused and asked == [["m::T::of", "m::other"], []][:checks])
+    return all(found)
 
 
-def narrows_contracts(_):
+def narrows_contracts(folder):
     """Where edits name the clauses that refuse them, their functions ensure those alone, but for a function that other
     code in the check calls, and one whose proof is by hand. An edit that another clause refuses has failed."""
-    with tempfile.TemporaryDirectory() as folder:
-        for name, text in (("src/m.rt", DATA.promises), ("proofs/m/by_hand/Answers.antt", ""), ("f.edit", "n + 1"), ("g.edit", "n + f(n)"),
-                           ("h.edit", "    g(n)"), ("by_hand.edit", "n + 2")):
-            Path(folder, name).parent.mkdir(parents=True, exist_ok=True)
-            Path(folder, name).write_text(text if "/" in name else f"clause: low\nfile: src/m.rt\nold: {text}\nnew: {text} + 1\n")
-        crate = SimpleNamespace(folder=folder, name="a")
-        of = {name: edits.Edit(Path(folder, f"{name}.edit"), crate) for name in ("f", "g", "h", "by_hand")}
-        found = [not it.why for it in of.values()]
-        for names, narrow in (("f g by_hand", "g"), ("f g h", "h"), ("f by_hand", "f"), ("by_hand", "")):
-            groups = edits.grouped([of[it] for it in names.split()], crate, True)
-            texts, _ = edits.emptied(crate, groups[0].texts(crate, []), [of[it].functions[0] for it in names.split()])
-            texts, paths = edits.narrowed(crate, texts, groups[0].wanted(crate, []))
-            wanted = {name: "\n    n: u8,\n) -> u8\n" + (DATA.narrow if name == narrow else DATA.contract) for name in of}
-            starts = {name: texts["src/m.rt"].split(f"fn {name}(")[1].startswith(wanted[name]) for name in of}
-            found += [len(groups) == 1, paths == ({f"m::{narrow}"} if narrow else set()), all(starts.values())]
-        return all(found) and all(told_of_clause(crate, *row) for row in DATA.said_of_clauses)
+    changes = {"f": "n + 1", "g": "n + f(n)", "h": "    g(n)", "by_hand": "n + 2"}
+    crate, of = edited(folder, {"src/m.rt": DATA.promises, "proofs/m/by_hand/Answers.antt": ""},
+                       {name: ("clause: low\n", text, f"{text} + 1") for name, text in changes.items()})
+    found = [not it.why for it in of.values()]
+    for names, narrow in (("f g by_hand", "g"), ("f g h", "h"), ("f by_hand", "f"), ("by_hand", "")):
+        groups = edits.grouped([of[it] for it in names.split()], crate, True)
+        texts, _ = edits.emptied(crate, groups[0].texts(crate, []), [of[it].functions[0] for it in names.split()])
+        texts, paths = edits.narrowed(crate, texts, groups[0].wanted(crate, []))
+        wanted = {name: "\n    n: u8,\n) -> u8\n" + (DATA.narrow if name == narrow else DATA.contract) for name in of}
+        starts = {name: texts["src/m.rt"].split(f"fn {name}(")[1].startswith(wanted[name]) for name in of}
+        found += [len(groups) == 1, paths == ({f"m::{narrow}"} if narrow else set()), all(starts.values())]
+    return all(found) and all(told_of_clause(crate, *row) for row in DATA.said_of_clauses)
 
 
 def told_of_clause(crate, clause, narrow, whole, wanted):
     """Whether this is told of the edit of `f` that names this clause, where the prover says so of `f` with that clause alone, and with all."""
-    Path(crate.folder, "wrong").mkdir(exist_ok=True)
-    Path(crate.folder, "wrong/f.edit").write_text(f"clause: {clause}\nfile: src/m.rt\nold: n + 1\nnew: n + 3\n")
+    laid(Path(crate.folder), {"wrong/f.edit": f"clause: {clause}\nfile: src/m.rt\nold: n + 1\nnew: n + 3\n"})
     trial = edits.Trial(crate, crate.folder)
 
     def checked(texts, paths, without=()):
         is_narrow = "0 < result" not in texts["src/m.rt"].split("n + 3")[0]
         lines = [f"fn a::m::{it}: not proved: the search did not prove a goal" for it in (narrow if is_narrow else whole)]
-        return answered(lines, texts)
+        return edits.Answer(of_prover(lines), texts)
 
     trial.checked = checked
     trial.run()

@@ -23,6 +23,7 @@ import run
 sys.path.insert(0, str(run.TOP / "tools"))
 import edits
 import own_ports
+from checks import waited
 from tables import data
 
 DATA = data("gate_of_builds")
@@ -43,6 +44,26 @@ def is_same(wanted, got):
     if got != wanted:
         print(f"{got} in place of {wanted}")
     return got == wanted
+
+
+def laid(folder, texts):
+    """Files in a folder, each with its text."""
+    for name, text in texts.items():
+        Path(folder, name).parent.mkdir(parents=True, exist_ok=True)
+        Path(folder, name).write_text(text)
+
+
+def of_prover(lines, is_wrong=None):
+    """What the prover says of a crate: these lines, which tell of what is not proved, if any is; or that something is wrong without any."""
+    is_wrong = bool(lines) if is_wrong is None else is_wrong
+    told = "\n".join([*lines, "logic=not-proved" if is_wrong else "logic=proved"]) + "\n"
+    return SimpleNamespace(returncode=int(is_wrong), stdout=told)
+
+
+def main_of(program, tools, *words):
+    """What a program answers that is run with these words and this toolchain, and what it prints."""
+    with patch.object(kit, "toolchain", lambda: tools), patch.object(sys, "argv", [f"{program.__name__}.py", *map(str, words)]):
+        return said(program.main)
 
 
 class FakeCrate(SimpleNamespace):
@@ -121,7 +142,7 @@ def proves_each_library(folder):
     """`build.py` has each library checked once, after those below it and not where one of them fails, from nothing and for its statements;
     one is built where its check ends well, and all are where each is."""
     found = []
-    for at, failing in enumerate(("", "a", "b", "c", "d")):
+    for at, (failing, *_) in enumerate(DATA.failing):
         asked, top = [], folder / f"libraries-{at}"
         made = lambda name, *below: fake_library(top, name, below, asked, lambda: at * (name == failing))
         a, d = made("a"), made("d")
@@ -130,7 +151,7 @@ def proves_each_library(folder):
         is_built, told = built([c, b, e, a, d])
         names = "".join(name for name, *_ in asked)
         in_order = all(names.index(low) < names.index(high) for low, high in ("ab", "bc") if high in names)
-        found.append((is_built, "".join(sorted(names)), in_order))
+        found.append([is_built, "".join(sorted(names)), in_order])
         found += [(f"said of {it}\n" in told, f": {it} NOT PROVED," in told) == (it == failing,) * 2 for it in "abcd"]
         for name, *words in asked:
             jobs, to = words.pop(3), f"{top}/{name}/out/statements/{name}.rlib"
@@ -138,8 +159,7 @@ def proves_each_library(folder):
     asked = []
     built([fake_library(folder / "libraries-alone", "a", [], asked)], processors=4, free=99e9)
     found.append(len(asked) == 1 and asked[0][3:5] == ("--jobs", "4"))
-    wanted = [(True, "abcde", True), (False, "ad", True), (False, "abde", True), (False, "abcde", True), (False, "abcd", True)]
-    return [it for it in found if it is not True] == wanted
+    return [it for it in found if it is not True] == [[*wanted, True] for _, *wanted in DATA.failing]
 
 
 def takes_what_stands(folder):
@@ -247,7 +267,7 @@ def begins_in_order(_):
 def gives_long_chains_more(_):
     """`build.py` gives more processes to a crate that begins a long chain, as long as it is longer than the others."""
     found, c, h, s, x, z = [], crate_of("c", 2), crate_of("h", 9), crate_of("s", 0.2), crate_of("x", 1), crate_of("z", 1)
-    for hundreds, above, wanted in ((2, 1, "c3 f1"), (5, 1, "c3 f1"), (6, 1, "c2 f2"), (0.29, 9, "c3 f1"), (0.3, 9, "c2 f2")):
+    for hundreds, above, wanted in DATA.long_chains:
         f = crate_of("f", hundreds)
         found.append(begun_with([c, f, crate_of("d", 9, c), crate_of("g", above, f)], 4) == wanted)
     f, j, r = crate_of("f", 8), crate_of("j", 2, h), crate_of("r", 1, h)
@@ -264,13 +284,11 @@ def builds_each_program(folder):
     processes that it may use, and not where one of those is not proved; it takes what that process has made, where it ended well, and
     what stands as it would be built: not where its sources, a library below it or itself are others."""
     top, log, found = folder / "programs", folder / "log-of-programs", []
-    for place in (top / "gate", top / "crates/a/out", top / "crates/b/out", folder / "bin-of-both"):
+    for place in (top / "crates/a/out", top / "crates/b/out", folder / "bin-of-both"):
         place.mkdir(parents=True)
 
     def again(status, is_proved=True, stamps="", lost=""):
-        (top / "gate/build.py").write_text(f"import os, sys\nprint(os.getcwd(), *sys.argv[1:], os.environ['ENDS'], file=open({str(log)!r}, 'a'))\n"
-            f"print('said of', sys.argv[2], file=sys.stderr)\nmade = 'crates/' + sys.argv[2] + '/out/' + sys.argv[2]\n"
-            f"open(made, 'w').write('made {len(found)}')\nos.chmod(made, 0o755)\nos.utime(made, (1, 1))\nsys.exit({status})\n")
+        laid(top, {"gate/build.py": DATA.builder.format(log=str(log), number=len(found), status=status)})
         low = fake_library(top / "crates", "low", [], [], lambda: int(not is_proved))
         programs = [FakeCrate(name=name, folder=str(top / "crates" / name), below=lambda: [low], count=lambda _: 1,
                               makes_rlib=lambda: False, stamp=lambda it=name: "second" if it in stamps else "sources") for name in ("a", "b")]
@@ -288,22 +306,16 @@ def builds_each_program(folder):
         has = " ".join(sorted(f"{it.name}: {it.read_text()}" for it in (folder / "bin-of-both").iterdir()))
         found.append((is_built, asked, has, ("said of a\n" in told) == (status != 0) and is_replaced and can_run))
 
-    of_low = "low/out/statements/low.rlib/format"
-    for status, more in ((0, {}), (0, {}), (0, {"stamps": "a"}), (0, {"stamps": "a", "lost": "b/out/b"}), (0, {"stamps": "a", "lost": of_low}),
-                         (3, {"stamps": "b"}), (1, {"stamps": "b"}), (0, {"is_proved": False, "lost": of_low})):
-        again(status, **more)
-    a, b = "a 2 with it", "b 2 with it"
-    return found == [(True, a + b, "a: made 0 b: made 0", True), (True, "", "a: made 0 b: made 0", True), (True, a, "a: made 2 b: made 0", True),
-                     (True, b, "a: made 2 b: made 3", True), (True, a + b, "a: made 4 b: made 4", True),
-                     (False, a + b, "a: made 4 b: made 4", True), (False, a + b, "a: made 4 b: made 4", True),
-                     (False, "", "a: made 4 b: made 4", True)]
+    for row in DATA.of_programs:
+        again(**{name: it for name, it in row.items() if name not in ("is_built", "asks", "has")})
+    asks = lambda row: "".join(f"{name} 2 with it" for name in row["asks"])
+    return is_same([(row["is_built"], asks(row), row["has"], True) for row in DATA.of_programs], found)
 
 
 def proves_a_program(folder):
     """What `build.py` runs for a program proves, builds and runs it as `rt run` does, in the program's own folder, with words
     that only print, and ends as that does."""
-    with_words = {"ocadev": ["--help"], "trials": ["calls"], "amplifier": [], "panel": []}
-    asked, found, crates = [], [], []
+    asked, found, crates, with_words = [], [], [], {"ocadev": ["--help"], "trials": ["calls"], "amplifier": [], "panel": []}
     are_apart = lambda: all(it.rlib == f"{it.folder}/out/statements/{it.name}.rlib" for it in crates)
     for name in with_words:
         (folder / name).mkdir(parents=True)
@@ -312,9 +324,8 @@ def proves_a_program(folder):
     for name in with_words:
         for it in crates:
             it.rlib = "none"
-        with patch.object(kit, "toolchain", lambda: fake_tools(crates_below=lambda _: crates)), within(folder), \
-                patch.object(sys, "argv", ["build.py", "--one", name, "3"]):
-            found.append(build.main())
+        with within(folder):
+            found.append(main_of(build, fake_tools(crates_below=lambda _: crates), "--one", name, 3)[0])
     return found == [*map(len, with_words)] and asked == [(name, ["--jobs", "3"], words) for name, words in with_words.items()]
 
 
@@ -328,9 +339,8 @@ def builds_what_is_named(folder):
     tools = fake_tools(1, 99e9, crates_below=lambda _: crates, lock=lambda its: asked.append("locks " + named(its)) or [])
     for is_proved, names in ((True, "ab"), (True, "b"), (False, "ab"), (True, "ac"), (True, "")):
         of_all = lambda _, low, programs, to: asked.append(f"{named(low)} {named(programs)} to {to.name}" + writes()) or is_proved
-        with patch.object(kit, "toolchain", lambda: tools), patch.object(build, "build_all", of_all), within(folder), \
-                patch.object(sys, "argv", ["build.py", str(folder / "named"), *names]), memory_at(folder / "memory-of-named"):
-            status = said(build.main)[0]
+        with patch.object(build, "build_all", of_all), within(folder), memory_at(folder / "memory-of-named"):
+            status = main_of(build, tools, folder / "named", *names)[0]
         found.append((int(status not in (None, 0)), asked[:]))
         asked.clear()
     is_apart = all(it.rlib == f"{it.name}/out/statements/{it.name}.rlib" for it in crates)
@@ -357,25 +367,17 @@ def writes():
     return " in memory" if is_there else ""
 
 
-# How many processors, how much free memory, how the folder in memory is mounted, its room and mode, and what RT_JOBS says, where a check takes 4 GB
-# and the folder is to have 6; and whether all is written there.
-OF_MEMORY = [(2, 14e9, 0, 7e9, 0o777, "", " in memory"), (2, 13.9e9, 0, 7e9, 0o777, "", ""), (2, 14e9, os.ST_NOEXEC, 7e9, 0o777, "", ""),
-             (2, 14e9, 0, 5.9e9, 0o777, "", ""), (2, 14e9, 0, 6e9 + 4096, 0o777, "", " in memory"), (3, 18e9, 0, 7e9, 0o777, "", " in memory"),
-             (3, 17.9e9, 0, 7e9, 0o777, "", ""), (4, 10e9, 0, 7e9, 0o777, "1", " in memory"), (1, 13e9, 0, 7e9, 0o777, "2", ""),
-             (2, 14e9, 0, 7e9, 0o710, "", ""), (2, 14e9, 0, 7e9, 0o701, "", " in memory")]
-
-
 def writes_in_memory(folder):
     """`build.py` has what it starts write into a folder in memory, which is removed at the end, also where it is killed, where memory has
     room for that beside the checks, programs can be run from there, and nobody has said another place."""
     found = []
-    for at, (processors, free, flags, space, mode, said, wanted) in enumerate(OF_MEMORY):
-        with memory_at(folder / f"memory-{at}", flags, space):
+    for at, (processors, free, is_mounted_so, space, mode, said, is_there) in enumerate(DATA.of_memory):
+        with memory_at(folder / f"memory-{at}", 0 if is_mounted_so else os.ST_NOEXEC, space):
             before = tempfile.gettempdir()
             kit.MEMORY.chmod(mode)
             os.environ |= {"RT_JOBS": said} if said else {}
             with kit.in_memory(fake_tools(processors, free)):
-                found.append(writes() == wanted)
+                found.append(writes() == " in memory" * is_there)
             found.append("TMPDIR" not in os.environ and tempfile.gettempdir() == before and not [*kit.MEMORY.iterdir()])
     with memory_at(folder / "memory-said"):
         os.environ["TMPDIR"] = str(folder)
@@ -388,16 +390,10 @@ def writes_in_memory(folder):
     place = folder / "memory-of-a-killed"
     place.mkdir()
     place.chmod(0o755)
-    text = (f"import os, signal, sys\nfrom pathlib import Path\nfrom types import SimpleNamespace\nsys.path.insert(0, {str(run.HERE)!r})\nimport kit\n"
-            f"kit.MEMORY, kit.ROOM = Path({str(place)!r}), 0\nrt = SimpleNamespace(free=lambda: 99e9, processors=lambda: 1)\n"
-            "with kit.in_memory(rt):\n    Path(os.environ['TMPDIR'], 'left').touch()\n    print(os.environ['TMPDIR'], flush=True)\n"
-            "    os.killpg(0, signal.SIGKILL)\n")
     with without("TMPDIR", "RT_JOBS"):
-        ran = subprocess.run([sys.executable, "-c", text], timeout=60, start_new_session=True, stdout=subprocess.PIPE, text=True)
-    was_there, until = Path(ran.stdout).parent == place and ran.returncode == -signal.SIGKILL, time.monotonic() + 30
-    while any(place.iterdir()) and time.monotonic() < until:
-        time.sleep(0.05)
-    return all(found) and was_there and not any(place.iterdir())
+        ran = subprocess.run([sys.executable, "-c", DATA.killed, run.HERE, place], timeout=60, start_new_session=True, stdout=subprocess.PIPE, text=True)
+    was_there = Path(ran.stdout).parent == place and ran.returncode == -signal.SIGKILL
+    return all(found) and was_there and waited(lambda: not any(place.iterdir()), 30) is not None
 
 
 def writes_where_git_is(folder):
@@ -429,8 +425,7 @@ def keeps_others_out(folder):
 
 def stand_in(file, text):
     """Puts a program of the shell there."""
-    file.parent.mkdir(parents=True, exist_ok=True)
-    file.write_text(f"#!/bin/sh\n{text}\n")
+    laid(file.parent, {file.name: f"#!/bin/sh\n{text}\n"})
     file.chmod(0o755)
 
 
@@ -462,9 +457,7 @@ def builds_programs_anew(folder):
     """`make install` has the programs built where there are none, or where a source or a definition of any crate is
     newer than they are; not where only what was made of them, or a test, is."""
     found, programs = [], ("ocadev", "ocactl", "ocapanel")
-    cases = [("src/in/a.rt", 200, False), ("specs/A.antt", 200, False), ("proofs/f/A.antt", 200, False),
-             ("src/a.rt", 50, True), ("out/a.rt", 200, True), (None, 0, False)]
-    for at, (name, second, _) in enumerate(cases):
+    for at, (name, second, _) in enumerate(DATA.sources):
         made = Made(folder / f"programs-{at}")
         made("Makefile", 50)
         (made.folder / "Makefile").write_text((run.TOP / "Makefile").read_text())
@@ -477,7 +470,7 @@ def builds_programs_anew(folder):
         for program in programs:
             asked = ["make", "-q", "-C", made.folder, f"bin/{program}"]
             found.append(subprocess.run(asked, env=without_make(), capture_output=True, timeout=60).returncode == 0)
-    return found == [is_there for *_, is_there in cases for _ in programs]
+    return found == [is_there for *_, is_there in DATA.sources for _ in programs]
 
 
 def ci_runs_the_gate(folder):
@@ -493,17 +486,6 @@ def ci_runs_the_gate(folder):
     return found == [(it, "said\n") for it in (0, 1, 7)] and log.read_text() == f"{top}: test\n" * 3
 
 
-# What is done with the libraries that the gate has left, low below high below the library for C, and whether they are taken as they are.
-LEFT = [
-    (lambda made: None, True), (lambda made: made("low/src/lib.rt", 200), False),
-    (lambda made: made("high/src/lib.rt", 200), False),
-    (lambda made: made("high/specs/A.antt", 200), False), (lambda made: made("low/specs/B.antt", 100), False),
-    (lambda made: (made("low/src/lib.rt", 200), made("low/out/rlib/low.rlib", 300)), False),
-    (lambda made: made("low/out/rlib/stamp", 50), False), (lambda made: made("high/out/rlib/stamp", 50), False),
-    (lambda made: made.take("low/out/rlib/low.rlib"), False),
-    (lambda made: made.take("high/out/rlib/high.rlib"), False)]
-
-
 class Made:
     """Files and folders of crates, each with the second at which it was made."""
 
@@ -517,17 +499,15 @@ class Made:
             place.touch()
         os.utime(place, (second, second))
 
-    def take(self, name):
-        (self.folder / name).rmdir()
 
-
-def left_crates(folder, change):
-    """Two crates, low below high, as the gate leaves their libraries, with this change."""
+def left_crates(folder, changes):
+    """Two crates, low below high, as the gate leaves their libraries, with files made anew at a second, or taken away at second 0."""
     made = Made(folder)
     for name in ("low", "high"):
         for file, second in (("src/lib.rt", 50), ("specs/A.antt", 50), (f"out/rlib/{name}.rlib", 100)):
             made(f"{name}/{file}", second)
-    change(made)
+    for name, second in changes:
+        made(name, second) if second else (folder / name).rmdir()
     low, high = (FakeCrate(name=name, folder=str(folder / name), rlib=str(folder / f"{name}/out/rlib/{name}.rlib"),
                            is_built=lambda: False) for name in ("low", "high"))
     low.below, high.below = list, lambda: [low]
@@ -543,17 +523,16 @@ def takes_what_the_gate_left(folder):
     """`library.py` takes the libraries that `rt ci` has left only where each is there, has no stamp of other checks, and is newer than all sources of
     its crate and of those below; else it builds them. `edits.py` takes them so, too."""
     found = []
-    for at, (change, is_taken) in enumerate(LEFT):
-        low, high = left_crates(folder / f"left-{at}", change)
+    for at, (is_taken, *changes) in enumerate(DATA.left):
+        low, high = left_crates(folder / f"left-{at}", changes)
         crate = FakeCrate(name="oca_c", folder=str(folder / f"left-{at}"), below=lambda: [low, high], stamp=lambda: "sources")
         crate.compile = lambda words, to: Path(to).touch() or int(writes() != " in memory")
         tools = fake_tools(1, 99e9, crates_below=lambda _: [crate], lock=lambda _: [], files_of=files_of)
         made, is_apart = [], lambda: writes() == " in memory" and all("/out/statements/" in it.rlib for it in (low, high))
         build_all = lambda _, crates: made.append({*crates} == {low, high} and is_apart()) or True
-        with patch.object(kit, "toolchain", lambda: tools), patch.object(edits, "rt", tools), patch.object(build, "build_all", build_all), \
-                patch.object(sys, "argv", ["library.py"]), within(folder), memory_at(folder / "memory-of-library"):
+        with patch.object(edits, "rt", tools), patch.object(build, "build_all", build_all), within(folder), memory_at(folder / "memory-of-library"):
             stand = all(map(edits.stands, (low, high)))
-            got = library.main(), made, stand, "/out/rlib/" in low.rlib
+            got = main_of(library, tools)[0], made, stand, "/out/rlib/" in low.rlib
         found.append(is_same((0, [] if is_taken else [True], is_taken, is_taken), got))
     return all(found)
 
@@ -594,10 +573,7 @@ def installs_whole(folder):
         for words in (["library", kind], ["programs"]):
             ran = subprocess.run(["sh", "gate/install.sh", "install", *words], cwd=top, env=env, capture_output=True)
             found.append(ran.returncode == 0)
-    wanted = [True, True] + [False, True] * 6 + [True, False] * 2
-    if found != wanted:
-        print(f"install.sh: {[DATA.installs[at // 2] for at, it in enumerate(wanted) if found[at] != it]}")
-    return found == wanted
+    return is_same([True, True] + [False, True] * 6 + [True, False] * 2, found)
 
 
 # What is tried, each in a folder of its own.

@@ -12,7 +12,7 @@ from unittest.mock import patch
 
 import api
 import run
-from selftest_builds import FakeCrate, edits, in_turn, is_same, memory_at, said, stand_in, within, writes
+from selftest_builds import FakeCrate, edits, fake_tools, in_turn, is_same, laid, memory_at, of_prover, said, stand_in, within, writes
 
 import checks
 import fuzz
@@ -33,15 +33,10 @@ KEPT = []  # of which crates the prover was asked, what was kept there before, F
 
 def crate_of_edits(folder, name, edits, bodies=DATA.bodies, constant=""):
     """A crate with these functions, one of which may be constant, and edits, whose libraries are built."""
-    crate = folder / "crates" / name
-    for part in ("src", "wrong"):
-        (crate / part).mkdir(parents=True)
     functions = "".join(f"{'const ' * (it == constant)}fn {it}() {{\n    {body}\n}}\n" for it, body in bodies.items())
-    (crate / "src/lib.rt").write_text(f"const N = 1;\n{functions}")
-    for edit in edits:
-        old, new, _ = DATA.tried[edit]
-        (crate / f"wrong/{edit}.edit").write_text(f"file: src/lib.rt\nold: {old}\nnew: {new}\n")
-    return FakeCrate(name=name, folder=str(crate), below=list, count=lambda _: 1)
+    texts = {f"wrong/{edit}.edit": "file: src/lib.rt\nold: {}\nnew: {}\n".format(*DATA.tried[edit]) for edit in edits}
+    laid(folder / "crates" / name, {"src/lib.rt": f"const N = 1;\n{functions}", **texts})
+    return FakeCrate(name=name, folder=str(folder / "crates" / name), below=list, count=lambda _: 1)
 
 
 def said_by_the_prover(crate, texts, flags, kept):
@@ -55,14 +50,13 @@ def said_by_the_prover(crate, texts, flags, kept):
             lines += [f"proofs/{name}/F.antt:1:2: {GONE}", f"fn {crate.name}::{name}: not proved: its proof"]
         elif inside.startswith("#[tactic(none)] unreachable!();"):
             lines += [f"fn {crate.name}::{name}: no proof: expected answers; `#[tactic(none)]` leaves `unreachable-requires`"]
-    said = "\n".join([*lines, "logic=not-proved" if lines else "logic=proved"]) + "\n"
-    return SimpleNamespace(returncode=int(bool(lines)), stdout=said)
+    return of_prover(lines)
 
 
 def told_by_edits(folder, crates, words, most=60):
     """The status of `edits.py`, what it tells of each edit, and its last line, where these are all crates and a lane tries so many edits at most."""
-    tools = SimpleNamespace(edited=edits.rt.edited, unread=edits.rt.unread, STALE=edits.rt.STALE, PARTS=("src", "specs"), checked=said_by_the_prover,
-                            in_lanes=in_turn, need=lambda _: 1, free=lambda: 99e9, processors=lambda: 1, guarded=list, crates_below=lambda _: crates)
+    tools = fake_tools(1, 99e9, edited=edits.rt.edited, unread=edits.rt.unread, STALE=edits.rt.STALE, PARTS=("src", "specs"),
+                       checked=said_by_the_prover, in_lanes=in_turn, need=lambda _: 1, guarded=list, crates_below=lambda _: crates)
     with patch.multiple(edits, ROOT=folder, SELFTEST=folder / "none", rt=tools, MOST=most), memory_at(folder / "memory"), within(folder):
         status, told = said(edits.main, words)
     return status, dict(re.findall(r"(?m)^crates/(\S+)\.edit: (.*)$", told)), run.last_line(told)
@@ -71,13 +65,11 @@ def told_by_edits(folder, crates, words, most=60):
 def tries_edits_in_groups(folder):
     """`edits.py` tells of each edit of each crate what the prover says of that one, with whatever others it is tried,
     and fails where one is not refused, names what is gone, or stands no more."""
-    crates = [crate_of_edits(folder, name, edits) for name, edits in (("a", DATA.tried), ("b", DATA.good_ones), ("c", ["d_h_is_right"]))]
-    right = True
-    every = {"a": DATA.tried, "b": DATA.good_ones, "c": ["d_h_is_right"]}
-    for words, its, most in (([], every, 60), ([], every, 3), (["b"], {"b": DATA.good_ones}, 60), (["a"], {"a": DATA.tried}, 60),
-                             (["c"], {"c": ["d_h_is_right"]}, 60)):
+    every, right = {"a": DATA.tried, "b": DATA.good_ones, "c": ["d_h_is_right"]}, True
+    crates = [crate_of_edits(folder, name, edits) for name, edits in every.items()]
+    for words, most in (([], 60), ([], 3), (["b"], 60), (["a"], 60), (["c"], 60)):
         status, told, last = told_by_edits(folder, crates, words, most)
-        wanted = {f"{name}/wrong/{edit}": DATA.tried[edit][2] for name, edits in its.items() for edit in edits}
+        wanted = {f"{name}/wrong/{edit}": DATA.tried[edit][2] for name in words or every for edit in every[name]}
         good = sum(it == "refused" for it in wanted.values())
         wrong = [it for it in {*told, *wanted} if not told.get(it, "").startswith(wanted.get(it, "none"))]
         ends = (int(good < len(wanted)), f"{good} passed, {len(wanted) - good} failed")
@@ -91,9 +83,7 @@ def keeps_for_more_groups(folder):
     """`edits.py` has the checks of a crate keep what they prove where its edits are several groups; where they are one, nothing, but what
     EDITS_KEPT says. What they write and remove again lies in memory."""
     crates = [crate_of_edits(folder, "a", ["a_f", "c_g"]), crate_of_edits(folder, "b", ["a_f", "i_number"])]
-    earlier = Path(crates[0].folder, "out/incremental")
-    earlier.mkdir(parents=True)
-    (earlier / "work").touch()
+    laid(Path(crates[0].folder), {"out/incremental/work": ""})
     found = []
     for says in ("", "1"):
         KEPT.clear()
@@ -117,9 +107,7 @@ def compares_scripts(folder):
     """`fuzz.py` passes where each of both programs, on each script, with its words, prints just what the reference does,
     with its faults and its status; any difference of one of them is told, and has failed. Each script is drawn anew."""
     place, found, drawn = folder / "fuzzed", [], []
-    place.mkdir()
-    (place / "out").write_text("answer\n")
-    (place / "err").write_text("fault\n")
+    laid(place, {"out": "answer\n", "err": "fault\n"})
     script_of = lambda letter: lambda r: drawn.append(r.random()) or (["words", letter], b"a line\nand more\n", lambda _: (b"answer\n", "fault", 2))
     cases = [(what, DATA.of_scripts[0][0], good) for what, good in DATA.of_scripts]
     for device, link, good in cases + [(link, device, good) for device, link, good in cases]:
@@ -146,11 +134,8 @@ def runs_what_documents_say(folder):
     """`snippets.py` finds each session and piece of code of each of its documents, and fails where one of them is not so."""
     top, found = folder / "documents", []
     stand_in(folder / "says-bin/says", 'echo "$*"')
-    (top / "code").mkdir(parents=True)
-    (top / "code/of.txt").write_text("first\nsecond\n")
     for old, new in DATA.changed:
-        (top / "A.md").write_text(DATA.document)
-        (top / "B.md").write_text(DATA.document.replace(old, new, 1))
+        laid(top, {"code/of.txt": "first\nsecond\n", "A.md": DATA.document, "B.md": DATA.document.replace(old, new, 1)})
         with patch.multiple(snippets, TOP=top, DOCUMENTS=["A.md", "B.md"]):
             found.append(ran_as(snippets, str(folder / "says-bin"))[:2])
     return is_same([(0, "6 passed, 0 failed")] + [(1, "5 passed, 1 failed")] * len(DATA.changed[1:]), found)
@@ -175,11 +160,8 @@ def finds_what_documents_say(_):
 def finds_examples(folder):
     """`snippets.py` finds each example of a doc comment, and fails where no test has it as it stands."""
     top, found = folder / "documented", []
-    for name in ("a", "a_tests"):
-        (top / f"crates/{name}/src/in").mkdir(parents=True)
     for old, new in (("", ""), ("of(1)?", "of(2)?"), ("    if a { b() }\n", ""), ("let a", "let b"), (DATA.with_it, "")):
-        (top / "crates/a/src/in/lib.rt").write_text(DATA.documented)
-        (top / "crates/a_tests/src/in/tests.rt").write_text(DATA.with_it.replace(old, new, 1))
+        laid(top, {"crates/a/src/in/lib.rt": DATA.documented, "crates/a_tests/src/in/tests.rt": DATA.with_it.replace(old, new, 1)})
         with patch.multiple(snippets, TOP=top, DOCUMENTS=[]):
             found.append(ran_as(snippets, "none")[:2])
     return found == [(0, "1 passed, 0 failed")] + [(1, "0 passed, 1 failed")] * 4
@@ -203,10 +185,7 @@ def refuses_broken_tables(folder):
 
 def lists_what_is_public(folder):
     """`api.py` lists each public item of a library, and no other, with the first sentence of its comment."""
-    source = folder / "crates/a/src"
-    source.mkdir(parents=True)
-    for name, text in DATA.library.items():
-        (source / name).write_text(text)
+    laid(folder / "crates/a/src", DATA.library)
     with patch.object(api, "TOP", folder):
         rows, about = api.listed("a"), api.about("a")
     return is_same(([*DATA.listed], "What it is: a sample."), (rows, about))
@@ -317,14 +296,11 @@ def uncalled(folders):
 
 def calls_all_that_it_has(folder):
     """Each function of the tools and of the gate is named by another piece of them; one that is not is found."""
-    place = folder / "modules"
-    place.mkdir()
-    for name, text in DATA.modules.items():
-        (place / name).write_text(text)
+    laid(folder / "modules", DATA.modules)
     left = uncalled([run.TOP / it for it in ("tools", "gate", "bench", "examples", "examples/python")])
     for it in left:
         print(f"nothing calls {it}")
-    return sorted(uncalled([place])) == [*DATA.uncalled] and not left
+    return sorted(uncalled([folder / "modules"])) == [*DATA.uncalled] and not left
 
 
 # a definition of a spec: its line begins with its name, or with what it is and its name
@@ -342,10 +318,7 @@ def defined_twice(top):
 
 def finds_names_defined_twice(folder):
     """A name has one definition in all specs; where it has two, the name is found."""
-    texts = {"one": "abbrev pub same : A\n", "two": "pub record same (n : A) : Type 0 where\n  pub other : A\n", "three": "pub other : A\nother = a\n"}
-    for name, text in texts.items():
-        (folder / "crates" / name / "specs").mkdir(parents=True)
-        (folder / "crates" / name / "specs" / "Names.antt").write_text(text)
+    laid(folder / "crates", DATA.specs)
     found = defined_twice(run.TOP)
     for name, files in found.items():
         print(f"{name} is defined in {', '.join(files)}")
@@ -397,7 +370,7 @@ def sees_what_is_not_kept(folder):
     for at, (kept, is_well) in enumerate(DATA.of_keepers):
         place = folder / f"keeper-{at}"
         stand_in(place / "ocadev", f"exec '{sys.executable}' '{place}/device.py' \"$@\"")
-        (place / "device.py").write_text(DATA.keeper.replace("{KEPT}", kept))
+        laid(place, {"device.py": DATA.keeper.replace("{KEPT}", kept)})
         its = keep.Checks(str(place))
         with patch.multiple(keep, KILLS=3, random=SimpleNamespace(uniform=lambda *_: 0.15)):
             said(keep.kills, its, str(place))

@@ -1,9 +1,14 @@
 """What tools count: what is as it must be, and what is not, which they tell. Other tools use it; it has no `main`."""
+import atexit
 import contextlib
+import functools
 import os
 import re
+import shutil
 import subprocess
 import sys
+import tempfile
+import time
 
 import own_ports
 
@@ -15,6 +20,16 @@ def ended(run, seconds=60):
     except subprocess.TimeoutExpired:
         run.kill()
         return ("it did not end", *run.communicate(timeout=60))
+
+
+def waited(holds, seconds=60.0, pause=0.01):
+    """The seconds until this holds, or None where it does not in so many."""
+    begun = time.monotonic()
+    while not holds():
+        if time.monotonic() - begun > seconds:
+            return None
+        time.sleep(pause)
+    return time.monotonic() - begun
 
 
 class Serving:
@@ -125,8 +140,10 @@ def write(run, given, ends=True):
         run.stdin = None
 
 
-def layered(place, name):
-    """The layer over the C library of the file `NAME.c` here, built in this folder, as LD_PRELOAD names it."""
-    source = os.path.join(os.path.dirname(os.path.abspath(__file__)), f"{name}.c")
+@functools.cache
+def layer(name):
+    """The layer over the C library of the file `NAME.c` here, as LD_PRELOAD names it: built once, in a folder that goes with this process."""
+    place, source = tempfile.mkdtemp(), os.path.join(os.path.dirname(os.path.abspath(__file__)), f"{name}.c")
+    atexit.register(shutil.rmtree, place)
     subprocess.run(["gcc", "-O1", "-Wall", "-shared", "-fPIC", "-o", f"{place}/{name}.so", source, "-ldl"], check=True)
     return f"{place}/{name}.so"

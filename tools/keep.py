@@ -27,7 +27,7 @@ import checks
 import peers
 from tables import data, octets
 
-MUTE, INPUT, TRIM, LAMP = 4097, 4099, 4100, 4101
+MUTE, TRIM = 4097, 4100
 KILLS, STOPS = 30, 20
 DONE = (0, b"")
 DATA = data("keep")
@@ -63,14 +63,10 @@ def limit_files(most):
 
 
 class Checks(checks.Checks):
-    def __init__(self, folder, layer=None):
-        super().__init__(folder)
-        self.layer = layer
-
     def serve(self, keep, *words, most=None, refusing=False):
         """A device at a port that the system chooses, what it says before it listens, and a peer of it; beside the file there
         are what the layer is to refuse and what it told, where it is there."""
-        layer = {"LD_PRELOAD": self.layer, "REFUSING": f"{keep}.refusing", "TOLD": f"{keep}.told"} if refusing else {}
+        layer = {"LD_PRELOAD": checks.layer("refusing"), "REFUSING": f"{keep}.refusing", "TOLD": f"{keep}.told"} if refusing else {}
         run = self.start("ocadev", "serve", "--port", "0", "--keep", keep, *words, text=False, env={**os.environ, **layer}, stdin=subprocess.DEVNULL,
                          preexec_fn=None if most is None else lambda: limit_files(most))
         said = run.stderr.readline().decode()
@@ -115,17 +111,9 @@ def again(keep):
     return f"note: the state is kept again: {keep}\n"
 
 
-def set_all(peer):
-    """One of each kind that peers may set; the statuses."""
-    return [peer.ask(MUTE, 4, 2, b"\x02"), peer.trims(-60), peer.ask(LAMP, 5, 2, b"\x01"), peer.ask(INPUT, 4, 8, struct.pack(">H", 2), b"\x00"),
-            peer.ask(INPUT, 4, 2, struct.pack(">H", 1)), peer.ask(INPUT, 4, 4, struct.pack(">H", 0), text("a\"b,\n")),
-            peer.ask(MUTE, 2, 9, text("B\u00fchne \"1\"")), peer.ask(MUTE, 2, 2, b"\x00"), peer.ask(100, 2, 9, text("the root"))]
-
-
-def read_all(peer):
-    """What is read of the same."""
-    return [peer.ask(MUTE, 4, 1), peer.ask(TRIM, 5, 1), peer.ask(LAMP, 5, 1), peer.ask(INPUT, 4, 9), peer.ask(INPUT, 4, 1),
-            peer.ask(INPUT, 4, 3, struct.pack(">H", 0)), peer.ask(MUTE, 2, 8), peer.ask(MUTE, 2, 1), peer.ask(100, 2, 8)]
+def answers(peer, commands):
+    """What these commands are answered, each of whose parameters stand in hexadecimal digits, one behind the other."""
+    return [peer.ask(target, level, index, *map(bytes.fromhex, params)) for target, level, index, *params in commands]
 
 
 def restarts(checks, folder):
@@ -134,12 +122,12 @@ def restarts(checks, folder):
     with checks.served(keep, what="a device") as peer:
         peer.ask(MUTE, 4, 1)
         checks.same("a file before anything was set", os.path.exists(keep), False)
-        checks.same("statuses of what was set", [answer[0] for answer in set_all(peer)], [0] * 9)
-        before = read_all(peer)
+        checks.same("statuses of what was set", [answer[0] for answer in answers(peer, DATA.sets)], [0] * 9)
+        before = answers(peer, DATA.reads)
         checks.same("the name that was set", before[5], (0, text("a\"b,\n")))
         checks.same("the label that was set", before[6], (0, text("B\u00fchne \"1\"")))
     with checks.served(keep, "--verbose") as peer:
-        for at, (was, now) in enumerate(zip(before, read_all(peer))):
+        for at, (was, now) in enumerate(zip(before, answers(peer, DATA.reads))):
             checks.same(f"what was set, {at}, after a restart", now, was)
         written = os.stat(keep).st_mtime_ns
         peer.ask(MUTE, 4, 1)
@@ -276,12 +264,7 @@ def lines_told(keep):
 
 def are_refused(keep, step, count):
     """Waits until so many calls of a step were refused; whether they were."""
-    until = time.monotonic() + 20
-    while lines_told(keep).count(f"refused {step}") < count:
-        if time.monotonic() > until:
-            return False
-        time.sleep(0.01)
-    return True
+    return checks.waited(lambda: lines_told(keep).count(f"refused {step}") >= count, 20) is not None
 
 
 def trim_in(shown):
@@ -663,7 +646,7 @@ def power_cuts(checks, folder):
 
 def main():
     with tempfile.TemporaryDirectory() as folder:
-        its = Checks(sys.argv[1], checks.layered(folder, "refusing"))
+        its = Checks(sys.argv[1])
         restarts(its, folder)
         written_once(its, folder)
         kills(its, folder, int(sys.argv[2]) if len(sys.argv) > 2 else None)

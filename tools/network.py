@@ -26,11 +26,12 @@ from pathlib import Path
 import checks
 import grants
 import oca_profile as oca
-from checks import ended, layered, write
+from checks import ended, layer, waited, write
 from own_ports import at, bound, free_port, heard
+from tables import data
 
 GET, ASKS = (4097, 4, 1), ("--target", 4097, "--level", 4, "--index", 1, "--count", 0)
-WAIT_MS = 50
+WAIT_MS, DATA = 50, data("network")
 # Linux's option by which the system tells when a datagram came
 SO_TIMESTAMPNS = 35
 TRIES = 12
@@ -81,14 +82,10 @@ def answer(peer, handle, to):
 
 
 class Checks(checks.Checks):
-    def __init__(self, folder, layer):
-        super().__init__(folder)
-        self.layer = layer
-
     def start(self, *words, close=(), stack=0, **how):
         """A run in this folder, with these descriptors closed, so much stack where it is said, and what is written in capitals done by the layer."""
         settings = {name: str(how.pop(name)) for name in list(how) if name.isupper()}
-        env = {**os.environ, **settings, **({"LD_PRELOAD": self.layer} if settings else {})}
+        env = {**os.environ, **settings, **({"LD_PRELOAD": layer("unreliable")} if settings else {})}
 
         def prepare():
             for fd in close:
@@ -515,10 +512,8 @@ def kept_safely(checks):
                 peer.sendto(oca.command(handle, 4097, 4, 2, 1, value), ("127.0.0.1", port))
                 checks.same(f"--keep {state}: the answer to {handle}", peer.recv(2000), oca.response(handle))
                 wanted += [f"fsync {place}/state.new", f"rename {state}.new {state}", f"fsync {place}"]
-                until = time.monotonic() + 30
-                while time.monotonic() < until and (said := calls_in(place)) != wanted:
-                    time.sleep(0.01)
-                checks.same(f"--keep {state}: what is called for {handle}", said, wanted)
+                waited(lambda: calls_in(place) == wanted, 30)
+                checks.same(f"--keep {state}: what is called for {handle}", calls_in(place), wanted)
                 time.sleep(10 * WAIT_MS / 1000)
                 checks.same(f"--keep {state}: what is called in ten turns behind {handle}", calls_in(place), wanted)
             run.kill()
@@ -582,21 +577,17 @@ def small_stacks(checks):
 
     run, port = checks.serve(100000, stack=STACK["ocadev"])
     to = ("--device", f"127.0.0.1:{port}")
-    for words, given, printed in (
-            (("set", *to, 4097, "unmuted", 4100, 5), "", "4097 unmuted\n4100 5\n"), (("get", *to, 4097, 4100), "", "4097 unmuted\n4100 5\n"),
-            (("lock", *to, 4097), "", "4097 locked\n"), (("unlock", *to, 4097), "", "4097 unlocked\n"),
-            (("lock", "--hold", *to, 4097), "", "4097 locked\n4097 unlocked\n"), (("run", *to), "4097 4 1 0 -\n", "answer 0 1 02\n"),
-            (("send", *to, *ASKS, "--first-handle", 1), "", "answer 0 1 02\n"),
-            (("replay", "--device", "127.0.0.1:65000", "--first-handle", 1), "", "")):
-        checks.same(f"{words[0]} with 256 KiB of stack", ran("ocactl", *words, given=given), (printed, "", 0))
+    for words, given, printed in DATA.little_stack:
+        command, *more = words.split()
+        checks.same(f"{command} with 256 KiB of stack", ran("ocactl", command, *to, *more, given=given), (printed, "", 0))
     printed, told, status = ran("ocactl", "tree", *to)
     checks.same("tree with 256 KiB of stack", ([line.split()[0] for line in printed.splitlines()], told, status),
                 ([str(o.ono) for o in oca.bench()], "", 0))
     run.kill()
     with bound() as silent:
-        for words, given, printed in ((("get", "--turns", 2, 4097), "", "4097 no answer\n"), (("run",), "4097 4 1 0 -\n", "lost\n")):
-            got = ran("ocactl", words[0], "--device", at(silent), *words[1:], given=given)
-            checks.same(f"{words[0]} with 256 KiB of stack, without an answer", (got[0], got[2]), (printed, 3))
+        for command, words, given, printed in (("get", ("--turns", 2, 4097), "", "4097 no answer\n"), ("run", (), "4097 4 1 0 -\n", "lost\n")):
+            got = ran("ocactl", command, "--device", at(silent), *words, given=given)
+            checks.same(f"{command} with 256 KiB of stack, without an answer", (got[0], got[2]), (printed, 3))
     checks.same("show with 128 KiB of stack", ran("ocadev", "show")[2], 0)
 
 
@@ -606,10 +597,9 @@ PARTS = (closed_descriptors, broken_pipes, null_at_closed, quiet_turns, signals,
 
 
 def main():
-    with tempfile.TemporaryDirectory() as made:
-        counts = Checks(sys.argv[1], layered(made, "unreliable"))
-        counts.parts(*PARTS, alone=(small_stacks,))
-        return counts.verdict()
+    counts = Checks(sys.argv[1])
+    counts.parts(*PARTS, alone=(small_stacks,))
+    return counts.verdict()
 
 
 if __name__ == "__main__":

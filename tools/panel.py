@@ -26,7 +26,7 @@ from pathlib import Path
 from unittest.mock import patch
 
 import oca_profile as oca
-from checks import Checks, Serving, layered
+from checks import Checks, Serving, layer, waited
 from hands import SETS, Deaf, OldSession, stagebox
 from own_ports import bound, by_turns, free_port
 from peers import Lossy, Peer
@@ -162,12 +162,7 @@ class Panel(Serving):
 
     def wait(self, holds, seconds=20.0):
         """Looks until this holds of what was answered, and answers the seconds that it took, or None."""
-        begun = time.monotonic()
-        while time.monotonic() - begun < seconds:
-            if holds(self.look()):
-                return time.monotonic() - begun
-            time.sleep(0.01)
-        return None
+        return waited(lambda: holds(self.look()), seconds)
 
     def comes(self, holds, what, seconds=20.0):
         """Checks that this comes to hold of what is answered, and answers the seconds that it took, or None."""
@@ -569,11 +564,7 @@ def many(folder):
             check(max(times) < 60, "a change of the last object is shown")
             for value in ("8", "9"):
                 ocactl(folder, device.port, "set", last, value)
-                begun = time.monotonic()
-                while panel.value(last) != value and time.monotonic() - begun < 60:
-                    panel.look(f"&first={place}&count=1")
-                    time.sleep(0.01)
-                quick.append(time.monotonic() - begun)
+                quick.append(waited(lambda v=value: panel.look(f"&first={place}&count=1") and panel.value(last) == v) or 60)
             print(f"a change of the last of them is shown after {max(times) * 1000:.0f} ms, "
                   f"where it is visible after {max(quick) * 1000:.0f} ms, at most")
             begun = time.monotonic()
@@ -656,12 +647,11 @@ def without_a_page(folder):
     """Once no page asks for values any more, the panel asks the device for nothing more: there are two seconds in which
     no command comes."""
     with walked(folder, Served(oca.bench())) as (device, _):
-        until, commands = time.monotonic() + 30, None
-        while commands != 0 and time.monotonic() < until:
+        def commands():
             device.heard.clear()
             time.sleep(2)
-            commands = sum(len(commands_in(data)) for data, _ in list(device.heard))
-        same("commands in the last two seconds without a page", commands, 0)
+            return sum(len(commands_in(data)) for data, _ in list(device.heard))
+        check(waited(lambda: commands() == 0, 30) is not None, "commands in the last two seconds without a page")
 
 
 def seldom(folder):
@@ -823,14 +813,13 @@ def beside_an_order(folder):
 
 def failing(folder):
     """While each receive fails the panel waits as long as ever, and takes next to no processor."""
-    with tempfile.TemporaryDirectory() as place, bound() as silent:
-        fails = {"LD_PRELOAD": layered(place, "unreliable"), "FAIL_RECEIVE": str(10**9), "ERRNO": str(errno.ENETDOWN)}
-        with Panel(folder, silent.getsockname()[1], **fails) as panel:
-            time.sleep(0.5)
-            used = used_by(panel, 2)
-            print(f"while each receive fails: {100 * used:.2f} % of a processor")
-            check(used < 0.4, f"a panel whose receives fail uses {used:.2f} of a processor")
-            same("and answers its pages", panel.look()["link"]["heard"], None)
+    fails = {"LD_PRELOAD": layer("unreliable"), "FAIL_RECEIVE": str(10**9), "ERRNO": str(errno.ENETDOWN)}
+    with bound() as silent, Panel(folder, silent.getsockname()[1], **fails) as panel:
+        time.sleep(0.5)
+        used = used_by(panel, 2)
+        print(f"while each receive fails: {100 * used:.2f} % of a processor")
+        check(used < 0.4, f"a panel whose receives fail uses {used:.2f} of a processor")
+        same("and answers its pages", panel.look()["link"]["heard"], None)
 
 
 def unwatched(folder):
@@ -840,10 +829,7 @@ def unwatched(folder):
     took, is_found = [], False
     while len(took) < 9 and min(took, default=9) >= 1:
         with Served(oca.bench(80)) as device, Panel(folder, device.port) as panel:
-            begun = time.monotonic()
-            while len(device.heard) < 1300 and time.monotonic() - begun < 9:
-                time.sleep(0.01)
-            took.append(time.monotonic() - begun)
+            took.append(waited(lambda: len(device.heard) >= 1300, 9) or 9)
             is_found = panel.wait(is_walked) is not None
     print(f"without a page 1,300 datagrams came in {min(took):.1f} s")
     check(min(took) < 1, f"without a page 1,300 datagrams take {min(took):.1f} s")
@@ -904,26 +890,24 @@ def commands_at(silent, seconds):
 
 def asleep(folder):
     """The sleep of the machine counts: a command that was sent before it is not sent again."""
-    with tempfile.TemporaryDirectory() as place:
-        layer = layered(place, "unreliable")
-        for seconds, again in ((16, False), (10, True)):
-            with bound() as silent, Panel(folder, silent.getsockname()[1], LD_PRELOAD=layer, SLEPT=str(seconds)):
-                heard = commands_at(silent, 2)
-            same(f"a sleep of {seconds} seconds: whether the first command is sent again", bool(heard) and heard.count(min(heard)) > 1, again)
-            check(heard, f"a sleep of {seconds} seconds: commands are sent")
+    for seconds, again in ((16, False), (10, True)):
+        with bound() as silent, Panel(folder, silent.getsockname()[1], LD_PRELOAD=layer("unreliable"), SLEPT=str(seconds)):
+            heard = commands_at(silent, 2)
+        same(f"a sleep of {seconds} seconds: whether the first command is sent again", bool(heard) and heard.count(min(heard)) > 1, again)
+        check(heard, f"a sleep of {seconds} seconds: commands are sent")
 
 
 class Ahead:
     """Clocks that are set forward while a program runs: the words of its environment, and `set` for so many seconds."""
 
-    def __init__(self, place):
-        self.file = Path(place) / "ahead"
-        self.file.write_bytes(bytes(8))
-        self.words = {"LD_PRELOAD": layered(place, "ahead"), "AHEAD": str(self.file)}
+    def __init__(self):
+        self.file = tempfile.NamedTemporaryFile(buffering=0)
+        self.words = {"LD_PRELOAD": layer("ahead"), "AHEAD": self.file.name}
+        self.set(0)
 
     def set(self, seconds):
-        with open(self.file, "r+b") as file:
-            file.write(int(1000 * seconds).to_bytes(8, sys.byteorder))
+        self.file.seek(0)
+        self.file.write(int(1000 * seconds).to_bytes(8, sys.byteorder))
 
 
 @contextlib.contextmanager
@@ -946,30 +930,28 @@ def ticket_in(answer):
 def late_orders(folder):
     """An order that waited while the panel stood still is told as not sent, on a connection that was there and on one
     that came meanwhile, and so is one whose last moment has passed; the next one is carried out."""
-    with tempfile.TemporaryDirectory() as place:
-        ahead = Ahead(place)
-        with walked(folder, **ahead.words) as (device, panel):
-            same("an order beside no standstill", panel.fare("/set", MUTE, "muted"), None)
+    ahead = Ahead()
+    with walked(folder, **ahead.words) as (device, panel):
+        same("an order beside no standstill", panel.fare("/set", MUTE, "muted"), None)
+        now = panel.look()["now"]
+        for before, told in ((0, LATE), (now - 1, LATE), (now + 60_000, None), (2**64 - 1, None)):
+            status, ticket = panel.order("/set", TRIM, "7", before=before)
+            same(f"an order until {before}, at a clock that reads {now}", (status, panel.settled([ticket])), (202, [told]))
+        for before in ("7", -1, 1.5, None, 2**64):
+            same(f"an order until {before!r}", panel.order("/set", TRIM, "8", before=before)[0], 400)
+        with panel.connected() as old, contextlib.ExitStack() as others:
+            old.sendall(panel.asks("GET", "/nothing"))
+            check(whole_answer(old).startswith(b"HTTP/1.1 404"), "a connection is there")
             now = panel.look()["now"]
-            for before, told in ((0, LATE), (now - 1, LATE), (now + 60_000, None), (2**64 - 1, None)):
-                status, ticket = panel.order("/set", TRIM, "7", before=before)
-                same(f"an order until {before}, at a clock that reads {now}", (status, panel.settled([ticket])), (202, [told]))
-            for before in ("7", -1, 1.5, None, 2**64):
-                same(f"an order until {before!r}", panel.order("/set", TRIM, "8", before=before)[0], 400)
-            with panel.connected() as old:
-                old.sendall(panel.asks("GET", "/nothing"))
-                check(whole_answer(old).startswith(b"HTTP/1.1 404"), "a connection is there")
-                now = panel.look()["now"]
-                with contextlib.ExitStack() as both:
-                    with stopped(panel, ahead, 6):
-                        new, page = both.enter_context(panel.connected()), both.enter_context(panel.connected())
-                        for s in (old, new):
-                            s.sendall(panel.orders_by("/set", {"ono": MUTE, "value": "unmuted"}))
-                        page.sendall(panel.orders_by("/set", {"ono": TRIM, "value": "9", "before": now + 4000}))
-                    answers = [whole_answer(s) for s in (old, new, page)]
-            same("orders that waited for 6 s", panel.settled([ticket_in(it) for it in answers]), 3 * [LATE])
-            same("and did nothing", ocactl(folder, device.port, "get", MUTE, TRIM), f"{MUTE} muted\n{TRIM} 7\n")
-            same("the next order is carried out", panel.fare("/set", MUTE, "unmuted"), None)
+            with stopped(panel, ahead, 6):
+                new, page = (others.enter_context(panel.connected()) for _ in range(2))
+                for s in (old, new):
+                    s.sendall(panel.orders_by("/set", {"ono": MUTE, "value": "unmuted"}))
+                page.sendall(panel.orders_by("/set", {"ono": TRIM, "value": "9", "before": now + 4000}))
+            answers = [whole_answer(s) for s in (old, new, page)]
+        same("orders that waited for 6 s", panel.settled([ticket_in(it) for it in answers]), 3 * [LATE])
+        same("and did nothing", ocactl(folder, device.port, "get", MUTE, TRIM), f"{MUTE} muted\n{TRIM} 7\n")
+        same("the next order is carried out", panel.fare("/set", MUTE, "unmuted"), None)
 
 
 def filled(panel):
@@ -998,45 +980,40 @@ def behind_untaken_answers(folder):
     """An order that came while the panel stood still, on a connection whose answers nobody took so far, is told as not
     sent: the panel reads it only once they are taken. It is tried again where the machine was so busy that the
     connection had its 5 seconds."""
-    with tempfile.TemporaryDirectory() as place:
-        ahead = Ahead(place)
-        with walked(folder, **ahead.words) as (device, panel):
-            same("an order before answers that nobody takes", panel.fare("/set", MUTE, "muted"), None)
-            for tried in range(1, 10):
-                with filled(panel) as s:
-                    with stopped(panel, ahead, 2.2 * tried):
-                        s.sendall(panel.orders_by("/set", {"ono": MUTE, "value": "unmuted"}))
-                    time.sleep(0.3)
-                    s.setsockopt(socket.SOL_SOCKET, socket.SO_RCVBUF, 1 << 20)
-                    answer = last_answer(s)
-                if ticket_in(answer):
-                    break
-            same("an order that waited behind answers that nobody took, and over 2 s", panel.settled([ticket_in(answer)]), [LATE])
-            same("and did nothing", ocactl(folder, device.port, "get", MUTE), f"{MUTE} muted\n")
+    ahead = Ahead()
+    with walked(folder, **ahead.words) as (device, panel):
+        same("an order before answers that nobody takes", panel.fare("/set", MUTE, "muted"), None)
+        for tried in range(1, 10):
+            with filled(panel) as s:
+                with stopped(panel, ahead, 2.2 * tried):
+                    s.sendall(panel.orders_by("/set", {"ono": MUTE, "value": "unmuted"}))
+                time.sleep(0.3)
+                s.setsockopt(socket.SOL_SOCKET, socket.SO_RCVBUF, 1 << 20)
+                answer = last_answer(s)
+            if ticket_in(answer):
+                break
+        same("an order that waited behind answers that nobody took, and over 2 s", panel.settled([ticket_in(answer)]), [LATE])
+        same("and did nothing", ocactl(folder, device.port, "get", MUTE), f"{MUTE} muted\n")
 
 
 def over_a_stop(folder):
     """An order in flight, without an answer, while the panel stands still for 20 seconds: it is told as lost, and is
     not sent again. It is tried again where the machine was so busy that the link was lost before."""
-    with tempfile.TemporaryDirectory() as place:
-        ahead = Ahead(place)
-        for _ in range(9):
-            ahead.set(0)
-            with walked(folder, Noting(stagebox(), 4097, (4, 2)), **ahead.words) as (device, panel):
-                device.says = lambda peer, data, now: ("", []) if device.asks_it(data) else device.answers(peer, data, now)
-                copies = lambda: {handle: device.copies[handle] for handle, what in list(device.asked.items()) if what == device.what}
-                _, ticket = panel.order("/set", 4097, "unmuted")
-                until = time.monotonic() + 20
-                while not copies() and time.monotonic() < until:
-                    time.sleep(0.01)
-                with stopped(panel, ahead, 20):
-                    time.sleep(0.2)
-                    before = copies()
-                told = panel.settled([ticket])
-                time.sleep(0.6)
-                if max(before.values(), default=20) <= 15:
-                    same("an order in flight over a stop of 20 s", told, ["lost"])
-                    return same("its copies", copies(), before)
+    for _ in range(9):
+        ahead = Ahead()
+        with walked(folder, Noting(stagebox(), 4097, (4, 2)), **ahead.words) as (device, panel):
+            device.says = lambda peer, data, now: ("", []) if device.asks_it(data) else device.answers(peer, data, now)
+            copies = lambda: {handle: device.copies[handle] for handle, what in list(device.asked.items()) if what == device.what}
+            _, ticket = panel.order("/set", 4097, "unmuted")
+            waited(copies, 20)
+            with stopped(panel, ahead, 20):
+                time.sleep(0.2)
+                before = copies()
+            told = panel.settled([ticket])
+            time.sleep(0.6)
+            if max(before.values(), default=20) <= 15:
+                same("an order in flight over a stop of 20 s", told, ["lost"])
+                return same("its copies", copies(), before)
     return check(False, "an order in flight is lost before the stop")
 
 
@@ -1065,15 +1042,10 @@ def bound_for(folder):
             same(f"where the socket for {device} {given} is", at, [wanted])
 
 
-# What a device with one mute answers, each with ParamCount and parameters and status 0, in the order in which it is asked:
-# of the root its members, role, label, whether it can be locked and whether it is enabled; of the mute the same but for the
-# members, and its state; and then to the order that sets the mute, and to the order that locks it.
-TEXT, TRUE, DONE = (1, b"\0\1A"), (1, b"\1"), (0, b"")
-MEMBERS = (1, bytes([0, 1, 0, 0, 0x10, 1, 0, 4, 0, 1, 0, 1, 0, 1, 0, 2, 0, 2]))
-MUTED, UNMUTED = (1, b"\1"), (1, b"\2")
-FOUND = {(100, 3, 5): MEMBERS, (100, 1, 5): TEXT, (100, 2, 8): TEXT, (100, 1, 2): TRUE, (100, 2, 1): TRUE,
-         (4097, 1, 5): TEXT, (4097, 2, 8): TEXT, (4097, 1, 2): TRUE, (4097, 2, 1): TRUE, (4097, 4, 1): MUTED}
-ORDERED = {(4097, 4, 2): DONE, (4097, 1, 3): DONE}
+# What a device with one mute answers, each with ParamCount and parameters and status 0: in the order in which it is asked, and then to the order that
+# sets the mute, and to the order that locks it.
+FOUND = {tuple(asks): (1, bytes.fromhex(answer)) for answer, *asks in TABLE["found"]}
+ORDERED = dict.fromkeys([(4097, 4, 2), (4097, 1, 3)], (0, b""))
 
 
 class OneMute(Noting):
@@ -1087,16 +1059,14 @@ class OneMute(Noting):
         packets = [oca.pdu(4, [message[1]]) for message in oca.check(data) if message[0] == "keep-alive"]
         for one, method in commands_in(data):
             if method == (4, 2):
-                self.its |= {(4097, 4, 1): UNMUTED}
+                self.its |= {(4097, 4, 1): (1, b"\2")}
             packets.append(oca.response(one.handle, 0, *self.its[one.target, *method]))
         return "", packets
 
 
 def finds_a_mute(device, panel):
     """What a panel tells of a device before it is asked again: None where its last answer was not learned so early."""
-    until = time.monotonic() + 20
-    while len(device.came) < len(FOUND) and time.monotonic() < until:
-        time.sleep(0.01)
+    waited(lambda: len(device.came) >= len(FOUND), 20)
     time.sleep(0.1)
     panel.epoch = 1  # of the first walk: else a page would look twice
     values = panel.look()
@@ -1169,9 +1139,7 @@ def counted(folder):
         device.says = lambda peer, data, now: ("", []) if misses(data) else device.answers(peer, data, now)
         with Panel(folder, device.port) as panel:
             beats = lambda: sum(data[7] == 4 for data, _ in list(device.heard))
-            until = time.monotonic() + 60
-            while (beats() < 2 or len(device.came) < 9) and time.monotonic() < until:  # they come while no page asks for anything
-                time.sleep(0.05)
+            waited(lambda: beats() > 1 and len(device.came) >= 9)  # they come while no page asks for anything
             check(beats() > 1 and len(device.came) >= 9, f"{beats()} keep-alives and {len(device.came)} commands came")
             is_so = lambda v: (v["link"]["commands"], v["link"]["again"]) == (len(device.came), sum(device.copies.values()) - len(device.came))
             panel.comes(is_so, "how many commands and copies of them came is told")

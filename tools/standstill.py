@@ -22,9 +22,11 @@ from pathlib import Path
 import checks
 import oca_profile as oca
 import peers
+from checks import ended, layer, waited, write
 from own_ports import free_port
+from tables import data, octets
 
-HOST = "127.0.0.1"
+HOST, DATA = "127.0.0.1", data("standstill")
 MUTE, MUTED, UNMUTED = 4097, 1, 2
 GET_LINE, MUTE_LINE = b"4097 4 1 0 -\n", b"4097 4 2 1 01\n"
 PATIENCE = 60  # seconds that a busy machine may take for what takes none
@@ -32,12 +34,7 @@ PATIENCE = 60  # seconds that a busy machine may take for what takes none
 
 def wait_for(holds, patience=PATIENCE):
     """Whether something comes to hold."""
-    until = time.monotonic() + patience
-    while not holds():
-        if time.monotonic() > until:
-            return False
-        time.sleep(0.002)
-    return True
+    return waited(holds, patience, 0.002) is not None
 
 
 def commands_in(datagram):
@@ -126,7 +123,7 @@ class Scene:
         os.pwrite(self.time, struct.pack("q", seconds * 1000), 0)
 
     def start(self, *words, **streams):
-        env = dict(os.environ, LD_PRELOAD=self.checks.layer, AHEAD=f"{self.folder.name}/time")
+        env = dict(os.environ, LD_PRELOAD=layer("ahead"), AHEAD=f"{self.folder.name}/time")
         run = subprocess.Popen([f"{self.checks.folder}/{words[0]}", *words[1:]], env=env, **streams)
         self.runs.append(run)
         return run
@@ -147,17 +144,8 @@ class Scene:
 
 
 class Checks(checks.Checks):
-    def __init__(self, programs, layer):
-        super().__init__(programs)
-        self.layer = layer
-
-    @contextlib.contextmanager
     def scene(self):
-        scene = Scene(self)
-        try:
-            yield scene
-        finally:
-            scene.close()
+        return contextlib.closing(Scene(self))
 
     def stands(self, what, scene, passed=1):
         """What another controller set stands, and the command that sets came to the device so often."""
@@ -165,23 +153,13 @@ class Checks(checks.Checks):
         self.same(f"{what}: copies that came to the device", scene.relay.passed, passed)
 
 
-# a command of each kind that mutes, what it is given on its input, and what it prints where the command is lost
-STOPPED = {
-    "run": ([], MUTE_LINE, b"lost\n"),
-    "send": (["--target", "4097", "--level", "4", "--index", "2", "--count", "1", "--params", "01", "--turns", "4000000000"], b"", b"lost\n"),
-    "set": (["--turns", "4000000000", "4097", "muted"], b"", b"4097 lost\n"),
-}
-
-
 def stopped(checks):
     """Copies at second 0, which is executed, its answer lost; 95, which is lost; and 190, when the device has forgotten the controller.
     The program is stopped between them, and another controller unmutes in second 60."""
-    for name, (words, given, told) in STOPPED.items():
+    for name, words, given, told in DATA.stopped:
         with checks.scene() as scene:
-            relay, run = scene.relay, scene.control(name, *words)
-            run.stdin.write(given)
-            run.stdin.close()
-            run.stdin = None
+            relay, run = scene.relay, scene.control(name, *words.split())
+            write(run, octets(given))
             checks.same(f"{name}: the first copy", wait_for(lambda: relay.passed == 1), True)
             run.send_signal(signal.SIGSTOP)
             scene.is_at(60)
@@ -196,11 +174,8 @@ def stopped(checks):
                 run.send_signal(signal.SIGSTOP)
             relay.loses_answers = False
             run.send_signal(signal.SIGCONT)
-            try:
-                out = run.communicate(timeout=PATIENCE)[0]
-            except subprocess.TimeoutExpired:
-                out = b"it did not end"
-            checks.same(f"{name}: what it printed, and its status", (out, run.returncode), (told, 3))
+            out, _, status = ended(run, PATIENCE)
+            checks.same(f"{name}: what it printed, and its status", (out, status), (octets(told), 3))
             checks.stands(name, scene)
 
 
@@ -246,8 +221,7 @@ def read_rarely(checks):
     with checks.scene() as scene:
         relay, reader = scene.relay, Reader()
         run = scene.control("run", "--ahead", "4", stdout=reader.into)
-        run.stdin.write(GET_LINE * 2 + MUTE_LINE + GET_LINE * 5)
-        run.stdin.close()
+        write(run, GET_LINE * 2 + MUTE_LINE + GET_LINE * 5)
         checks.same("a slow reader: the first copy", wait_for(lambda: relay.passed == 1 and reader.is_blocked(run)), True)
         scene.is_at(60)
         checks.same("a slow reader: another unmutes", scene.peer.set(UNMUTED), 0)
@@ -273,8 +247,7 @@ def waits_behind(checks):
         relay, reader = scene.relay, Reader()
         relay.loses_answers = False
         run = scene.control("run", stdout=reader.into)
-        run.stdin.write(GET_LINE + MUTE_LINE * 3)
-        run.stdin.flush()
+        write(run, GET_LINE + MUTE_LINE * 3, ends=False)
         checks.same("a line that waits: it waits", wait_for(lambda: relay.answers == 1 and reader.is_blocked(run)), True)
         scene.is_at(20)
         checks.same("a line that waits: another unmutes", scene.peer.set(UNMUTED), 0)
@@ -282,30 +255,23 @@ def waits_behind(checks):
         checks.same("a line that waits: all are told", wait_for(lambda: told_in(reader) == 4), True)
         checks.stands("a line that waits", scene, 0)
         # what is read now is sent
-        run.stdin.write(MUTE_LINE)
-        run.stdin.close()
+        write(run, MUTE_LINE)
         lines = reader.rest().split(b"\n")
         checks.same("a line that waits: what it printed, and its status", (lines, run.wait(timeout=PATIENCE)),
                     ([b"answer 0 1 01", *[b"lost"] * 3, b"answer 0 0 -", b""], 3))
         checks.same("a line that waits: the state at last", scene.peer.state(), bytes([MUTED]))
 
 
-# what is done with three objects, and what is printed of the first where its answer comes
-SEVERAL = {
-    "set": (["--ahead", "1", "4097", "muted", "4098", "inverted", "4101", "on"], b"4097 muted"),
-    "lock": (["4097", "4098", "4101"], b"4097 locked"),
-    "unlock": (["4097", "4098", "4101"], b"4097 InvalidRequest"),  # it is not locked
-}
 LEFT = b"4098 not sent\n4101 not sent\n"
 
 
 def stopped_between(checks):
     """Three objects. The program is stopped for 20 seconds while the command for the first is in flight, and its answer has come by then:
     the others are left out. Some times more where the program was stopped at a moment at which it finds the first one late."""
-    for name, (words, answered) in SEVERAL.items():
+    for name, words, answered in DATA.several:
         for _ in range(20):
             with checks.scene() as scene:
-                relay, run = scene.relay, scene.control(name, *words)
+                relay, run = scene.relay, scene.control(name, *words.split())
                 checks.same(f"{name} of three: the first copy", wait_for(lambda: relay.passed == 1 and relay.kept), True)
                 run.send_signal(signal.SIGSTOP)
                 scene.is_at(20)
@@ -316,23 +282,23 @@ def stopped_between(checks):
                 passed, status = len(relay.handles), run.returncode
             is_late = out.startswith(b"4097 lost\n")
             checks.same(f"{name} of three: what it printed, its status, and how many were sent", (out, status, passed),
-                        ((b"4097 lost" if is_late else answered) + b"\n" + LEFT, 3, 1))
+                        ((b"4097 lost" if is_late else octets(answered)) + b"\n" + LEFT, 3, 1))
             if not is_late:
                 break
 
 
 def read_between(checks):
     """Three objects. The line of the first is read after 20 seconds: the others are left out."""
-    for name, (words, answered) in SEVERAL.items():
+    for name, words, answered in DATA.several:
         with checks.scene() as scene:
             relay, reader = scene.relay, Reader()
             relay.loses_answers = relay.loses_copies = False
-            run = scene.control(name, *words, stdout=reader.into)
+            run = scene.control(name, *words.split(), stdout=reader.into)
             checks.same(f"{name}, read late: it waits", wait_for(lambda: len(relay.handles) == 1 and reader.is_blocked(run)), True)
             scene.is_at(20)
             lines = reader.rest()
             checks.same(f"{name}, read late: what it printed, its status, and how many were sent",
-                        (lines, run.wait(timeout=PATIENCE), len(relay.handles)), (answered + b"\n" + LEFT, 3, 1))
+                        (lines, run.wait(timeout=PATIENCE), len(relay.handles)), (octets(answered) + b"\n" + LEFT, 3, 1))
 
 
 def told_in(reader):
@@ -350,27 +316,23 @@ def in_time(checks):
         run = scene.control("run")
         for moment in (0, 100, 300):
             scene.is_at(moment)
-            run.stdin.write(MUTE_LINE)
-            run.stdin.flush()
+            write(run, MUTE_LINE, ends=False)
             checks.same(f"a line in second {moment}", run.stdout.readline(), b"answer 0 0 -\n")
         relay.last = 3
-        run.stdin.write(MUTE_LINE * 4)
-        run.stdin.flush()
+        write(run, MUTE_LINE * 4, ends=False)
         for handle in range(4, 8):
             checks.same(f"line {handle} of 7: it is sent", wait_for(lambda: handle in relay.handles), True)
             scene.is_at(300 + 7 * (handle - 3))
             relay.last = handle
             checks.same(f"line {handle} of 7, which is answered late", run.stdout.readline(), b"answer 0 0 -\n")
-        run.stdin.close()
-        run.stdin = None
+        write(run, b"")
         checks.same("lines in time: the end", (run.communicate(timeout=PATIENCE)[0], run.returncode), (b"", 0))
 
 
 def main():
-    with tempfile.TemporaryDirectory() as folder:
-        counts = Checks(sys.argv[1], checks.layered(folder, "ahead"))
-        for part in (stopped, stopped_between, read_between, read_rarely, waits_behind, in_time):
-            part(counts)
+    counts = Checks(sys.argv[1])
+    for part in (stopped, stopped_between, read_between, read_rarely, waits_behind, in_time):
+        part(counts)
     return counts.verdict()
 
 

@@ -24,7 +24,7 @@ import threading
 import time
 
 import oca_profile as oca
-from checks import layered, verdict
+from checks import layer, verdict
 from damaged import MESSAGES
 from own_ports import free_port
 from peers import Peer
@@ -90,17 +90,15 @@ IN_MEMORY = {"a device": (device_run, len(TO_DEVICE), 9, {0: 1, 9: 1}, {10: 1, 1
 
 
 class Runs:
-    def __init__(self, folder, layer):
-        self.folder, self.layer = folder, layer
+    def __init__(self, folder, place):
+        self.folder, self.counts = folder, os.path.join(place, "counts")
         self.refused = self.without = self.ends = self.in_memory = self.pieces = self.served = self.wrong = 0
 
     def run(self, words, script, **settings):
         """(standard output, standard error, status, the counts)"""
-        counts = os.path.join(self.layer, "counts")
-        set_to = {name: str(value) for name, value in settings.items()}
-        env = dict(os.environ, LD_PRELOAD=os.path.join(self.layer, "unreliable.so"), COUNTS=counts, **set_to)
+        env = dict(os.environ, LD_PRELOAD=layer("unreliable"), COUNTS=self.counts, **{name: str(value) for name, value in settings.items()})
         done = subprocess.run([os.path.join(self.folder, words[0])] + words[1:], input=script, capture_output=True, env=env, timeout=60)
-        with open(counts) as file:
+        with open(self.counts) as file:
             return done.stdout, done.stderr, done.returncode, [int(n) for n in file.read().split()]
 
     def expect(self, good, what):
@@ -206,9 +204,8 @@ TREES = {"tree-builder-new", "tree-builder-with-room", "bench", "device-new", "d
 def main():
     folder = os.path.abspath(sys.argv[1])
     device, link = ["ocadev", "replay"], ["ocactl", "replay", "--device", "127.0.0.1:65000", "--first-handle", "1"]
-    with tempfile.TemporaryDirectory() as layer:
-        layered(layer, "unreliable")
-        runs = Runs(folder, layer)
+    with tempfile.TemporaryDirectory() as place:
+        runs = Runs(folder, place)
         for words in (["ocadev", "show"], ["ocadev", "--help"], ["ocadev", "serve", "--help"], ["ocactl", "--help"], ["ocactl", "send", "--help"]):
             runs.memory(words, b"")
         for words, scripts, expected in ((device, list(device_scripts()), oca.device_replay),
