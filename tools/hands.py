@@ -17,6 +17,7 @@ import sys
 import tempfile
 import threading
 import time
+from pathlib import Path
 
 import checks
 import oca_profile as oca
@@ -25,6 +26,7 @@ from own_ports import free_port
 from served import Other, Served, commands_in
 from tables import data
 
+DATA = data("hands")
 CLASS, ROLE, MEMBERS = (1, 1), (1, 5), (3, 5)
 SETS = ((4, 2), (5, 2))
 OTHER = (127, 0, 0, 1, 9)  # a peer that never speaks
@@ -37,7 +39,7 @@ HIDING = "Mic\n4098 unmuted\x1b[2J"
 def stagebox():
     """One object of each class, with names that need care."""
     tree = oca.bench()
-    block = len(tree)
+    assert len(tree) == 8
     tree += [oca.Object(5000, "block", 100, "two words"), oca.Object(5001, "int8", 5000, "", state=-128, low=-128, high=127),
              oca.Object(5002, "int32", 5000, "Ünïcode", state=2**31 - 1, low=-2**31, high=2**31 - 1),
              oca.Object(5003, "int64", 5000, "x" * 64, state=-2**63, low=-2**63, high=2**63 - 1),
@@ -47,7 +49,6 @@ def stagebox():
              oca.Object(5007, "switch", 5000, "names", state=2, names=["", "two words", "7", "Mic", "Mic"]),
              oca.Object(5008, "switch", 5000, "a\n5009 1.1.1 100 \u202eb\x1b[2J\\", state=1, names=["Mic", HIDING, "\x9b" * 32]),
              oca.Object(4294967295, "polarity", 5000, "last", state=2)]
-    assert block == 8
     return tree
 
 
@@ -216,7 +217,7 @@ def heard_as(device, asks):
 
 def of_rows(checks):
     """`tree`, `get`, `set`, `lock` and `unlock`: the rows of tools/rows/hands.toml."""
-    for row in data("hands").device:
+    for row in DATA.device:
         tree, other = TREES[row["tree"]](), str(free_port())
         by_ono = {str(o.ono): o for o in tree}
         for ono, kind in (it.split() for it in row.get("locks", ())):
@@ -233,36 +234,27 @@ def of_rows(checks):
                     checks.same(f"{what}: what it asks", heard_as(device, asks), asks.split(", "))
 
 
-VALUES = [(4097, "unmuted", 2), (4097, "muted", 1), (4098, "inverted", 2), (4098, "non-inverted", 1), (4099, "2", 2), (4099, "Mic", 1),
-          (4100, "-600", -600), (4100, "600", 600), (4100, "+5", 5), (4101, "on", True), (4101, "off", False), (4102, "100", 100),
-          (5001, "-128", -128), (5002, "-2147483648", -2**31), (5003, "9223372036854775807", 2**63 - 1), (5004, "65535", 65535),
-          (5005, "4294967295", 2**32 - 1), (5006, "18446744073709551615", 2**64 - 1), (5007, "two words", 1), (5007, "Mic", 3),
-          (5007, "4", 4), (4294967295, "non-inverted", 1)]
-# of a switch the number is printed, and of an integer its digits without a plus
-PRINTED = {"Mic": {4099: "1", 5007: "3"}, "two words": {5007: "1"}, "+5": {4100: "5"}}
-
-
 # What is told of a span that a device's window of 32 does not bear.
 OF_SPAN_32 = ("note: --span 32: the device needs a window of 63 commands or more; " "its default of 32 is enough for a span of 16\n")
 
 
 def sets_at_once(checks):
     """`set --ahead N`: so many set commands are there before any of them is answered; one that is refused has its line in its place."""
-    values = list({ono: (ono, text, state) for ono, text, state in VALUES}.values())
-    words = [w for ono, text, _ in values for w in (ono, text)]
+    values = DATA.at_once
+    words = [w for ono, text, *_ in values for w in (ono, text)]
     for options, count in ((["--ahead", 8], 7), (["--ahead", 8], 2), (["--ahead", 14], 14), (["--ahead", 32, "--span", 32], 14), ([], 1)):
         tree = stagebox()
         at = {o.ono: o for o in tree}
         before = at[4097].state
         at[4097].lock = ("read-only", OTHER)
-        said = [f"{ono} {PRINTED.get(text, {}).get(ono, text)}\n" if ono != 4097 else "4097 Locked\n" for ono, text, _ in values]
+        said = [f"{ono} {printed}\n" if ono != 4097 else "4097 Locked\n" for ono, _, _, printed in values]
         with Holding(tree, count) as device:
             checks.prints(f"set {options}", device, ["set", *options, *words], "".join(said), 4, OF_SPAN_32 if "--span" in options else "")
             checks.same(f"set {options}: how many at once", device.kept, [count] * (len(values) // count))
-            checks.same(f"set {options}: the device", [at[ono].state for ono, _, _ in values],
-                        [before if ono == 4097 else state for ono, _, state in values])
+            checks.same(f"set {options}: the device", [at[ono].state for ono, *_ in values],
+                        [before if ono == 4097 else state for ono, _, state, _ in values])
             writes = [c for c in asked(device) if c[1] in SETS]
-            checks.same(f"set {options}: in order", [c[0] for c in writes], [ono for ono, _, _ in values])
+            checks.same(f"set {options}: in order", [c[0] for c in writes], [ono for ono, *_ in values])
             checks.same(f"set {options}: first what is wanted", asked(device)[-len(values):], writes)
     with Holding(stagebox(), 2) as device:
         checks.prints("set --ahead: no handle is left for the last", device,
@@ -296,19 +288,6 @@ def helps(checks):
             checks.same(f"{name} --help: its examples", named, [[name]])
 
 
-SEND = ["--level", "4", "--index", "1", "--count", "0", "--target"]
-# Where a command ends with a status, in the words of its help: whether a device answers, the words behind the command, and the lines of its input.
-ENDS = {
-    "get": {"if all values were read": (True, ["4097"], ""), "if something was refused": (True, ["4097", "77"], ""),
-            "if an answer did not come": (False, ["--turns", "2", "4097"], "")},
-    "set": {"if everything was set": (True, ["4097", "muted"], ""), "if something was refused": (True, ["77", "on"], ""),
-            "if a value does not fit its object": (True, ["4097", "loud"], ""),
-            "if an answer did not come": (False, ["--turns", "2", "4097", "muted"], "")},
-    "send": {"for an answer with status 0": (True, [*SEND, "4097"], ""), "for an answer with another status": (True, [*SEND, "77"], ""),
-             "if none came": (False, ["--turns", "2", *SEND, "4097"], "")},
-    "run": {"if each command was answered": (True, [], "4097 4 1 0 -\n77 4 1 0 -\n"), "if one was not": (False, [], "4097 4 1 0 -\n")}}
-
-
 def ends_as_told(checks):
     """The exit statuses that the help of a command tells are those with which it ends where the help says so."""
     text = checks.ran("ocactl", "--help")[0]
@@ -317,14 +296,14 @@ def ends_as_told(checks):
         told = re.search(r"^Exit status: (.*?)\.\s", checks.ran("ocactl", command, "--help")[0], re.M | re.S)
         parts = re.split(r", (?=\d )", " ".join(told[1].split())) if told else []
         said = {condition: int(status) for status, condition in (part.split(" ", 1) for part in parts)}
-        ends = {condition: ended(checks, command, *how) for condition, how in ENDS.get(command, {}).items()}
+        ends = {condition: ended(checks, command, *how) for condition, how in DATA.ends.get(command, {}).items()}
         checks.same(f"{command} --help: its exit statuses", said, ends)
 
 
 def ended(checks, command, answers, words, lines):
     """The status with which a command ends at a device that answers, or at one that is silent."""
     with Served(stagebox()) if answers else silent() as device:
-        return checks.run(device, command, *words, given=lines)[2]
+        return checks.run(device, command, *words.split(), given=lines)[2]
 
 
 def strange_answers(checks):
@@ -468,13 +447,9 @@ def at_a_terminal_alone(checks):
 
 def says_in(path, wanted, seconds=10):
     """What a file has, as soon as that is what is wanted, or at last in so many seconds."""
-    until = time.monotonic() + seconds
-    while True:
-        with contextlib.suppress(FileNotFoundError), open(path, encoding="utf-8") as file:
-            found = file.read()
-            if found == wanted or time.monotonic() > until:
-                return found
-        time.sleep(0.02)
+    has = lambda: Path(path).read_text() if Path(path).exists() else None
+    checks.waited(lambda: has() == wanted, seconds, 0.02)
+    return has()
 
 
 # Runs a command in the background of its terminal, prints its number, waits for it and prints its status. Of the words before the command the first

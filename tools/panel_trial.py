@@ -24,16 +24,17 @@ from concurrent.futures import ThreadPoolExecutor
 from pathlib import Path
 
 import page
+from checks import waited
 from own_ports import free_port
-from panel import ITS, MUTE, SOURCE, TREE, TRIM, Device, Panel, check, locked, many_tree, ocactl, same
+from panel import ITS, MUTE, TREE, TRIM, Device, Panel, check, locked, many_tree, ocactl, same
 from peers import Lossy
-from tables import data
+from tables import data, table
 
 CASES = Path(__file__).resolve().parent / "page_cases"
 LOOKS = CASES / "looks.js"
-PHANTOM, OTHER_MUTE, BLOCK = 4096, 4103, 4097
+OTHER_MUTE, BLOCK = 4103, 4097
 AT_ONCE = 8
-DATA = data("panel_trial")
+DATA, BY_HAND = data("panel_trial"), table("by_hand")
 
 
 def prepared(sources=None, place=None):
@@ -179,12 +180,7 @@ class Window:
 
     def wait(self, script, seconds=20.0):
         """Waits until a script is true, and answers the seconds that it took, or None."""
-        begun = time.monotonic()
-        while time.monotonic() - begun < seconds:
-            if self.run(script) is True:
-                return time.monotonic() - begun
-            time.sleep(0.02)
-        return None
+        return waited(lambda: self.run(script) is True, seconds, 0.02)
 
     def holds(self, script, what, seconds=20.0):
         """Checks that a script becomes true."""
@@ -276,9 +272,9 @@ def idle(ono):
     return f"!!{row(ono)}&&!isOut({row(ono)},'set')&&!isOut({row(ono)},'lock')"
 
 
-def message_has(text, ono=MUTE):
-    """The strip of an object says this."""
-    return f"{row(ono, '.strip.message.textContent')}.includes({json.dumps(text)})"
+def message_has(text):
+    """The strip of the mute says this."""
+    return f"{row(MUTE, '.strip.message.textContent')}.includes({json.dumps(text)})"
 
 
 def shows(ono, value):
@@ -310,11 +306,6 @@ def cases_in_browser(browser, address):
     for window in windows:
         window.close()
     return lines
-
-
-def fares(one, ono, value, what):
-    """A control comes to a value, and the page is at rest."""
-    return one.holds(shows(ono, value), what)
 
 
 def said(folder, device, *onos):
@@ -356,65 +347,26 @@ def by_hand(folder, device, browser, address):
     value = said(folder, device, TRIM)[0]
     one.holds(f"{shows(TRIM, value)}&&{FADER}.getAttribute('aria-valuenow')==='{value}'", f"the last value of the drag stands: {value}")
     check(int(value) > 60, f"the drag went up: {value}")
-    by_keys(folder, device, one)
-    deliberate(folder, device, one)
+    steps(folder, device, one, "keys")
+    steps(folder, device, one, "deliberate")
     locks(folder, device, one, two)
     labels(folder, device, two)
     names(one, two)
-    many_at_once(folder, device, one)
+    if one.run(row(MUTE, ".value")) == "muted":
+        one.click(part(MUTE))
+    steps(folder, device, one, "many")
     held_by_one(one, two)
     return one, two
 
 
-def by_keys(folder, device, one):
-    """The keyboard and the wheel."""
-    one.run(f"{part(MUTE)}.focus()")
-    one.key(" ", 32, " ")
-    fares(one, MUTE, "unmuted", "a button is pressed by the keyboard")
-    one.run(f"{FADER}.focus()")
-    one.key("Delete", 46)
-    fares(one, TRIM, "0", "Delete sets a fader to 0")
-    for _ in range(3):
-        one.key("ArrowUp", 38)
-    fares(one, TRIM, "36", "arrow keys move a fader by a hundredth of its range")
-    one.wheel(FADER)
-    fares(one, TRIM, "48", "the wheel moves a fader that has the focus")
-    one.run("document.activeElement.blur()")
-    one.wheel(FADER)
-    time.sleep(0.3)
-    same("and no other one", said(folder, device, TRIM), ["48"])
-    one.run(f"{part(TRIM)}.focus()")
-    types(one, "9999")
-    one.holds(f"{part(TRIM)}.value==='48'&&{message_has('not sent', TRIM)}", "9999 is not left standing")
-    types(one, "-12")
-    fares(one, TRIM, "-12", "a number is typed")
-
-
-def types(one, number):
-    """A number is typed in place of the trim's."""
-    one.run(f"{part(TRIM)}.select()")
-    one.type(number)
-    one.key("Enter", 13)
-
-
-def deliberate(folder, device, one):
-    """Phantom power and sources."""
-    one.click(part(PHANTOM))
-    one.click(part(SOURCE))
-    one.holds("$('dialog').open", "a source asks first")
-    one.key("ArrowDown", 40)
-    one.key("Escape", 27)
-    one.wait("!$('dialog').open")
-    time.sleep(0.3)
-    same("no click in passing and no arrow key switches anything", said(folder, device, PHANTOM, SOURCE), ["off", "0 Mic"])
-    one.click(part(PHANTOM), held=1.2)
-    fares(one, PHANTOM, "on", "phantom power is switched by a press that is held")
-    one.click(part(SOURCE))
-    one.wait("$('dialog').open")
-    one.click("$('dialog').children[2].children[1]")
-    one.click("$('dialog').lastElementChild.lastElementChild")
-    fares(one, SOURCE, "1", "a source is selected, and then switched")
-    same("and so it is in the device", said(folder, device, PHANTOM, SOURCE), ["on", "1 Line"])
+def steps(folder, device, one, name):
+    """What is done in a window by the rows of this name of tools/rows/by_hand.toml, and what then holds."""
+    does = {"run": one.run, "wait": one.wait, "holds": one.holds, "click": one.click, "wheel": one.wheel, "key": one.key, "type": one.type,
+            "sleep": time.sleep, "fares": lambda ono, value, what: one.holds(shows(ono, value), what),
+            "both": lambda value, what: one.holds(f"{shows(MUTE, value)}&&{shows(OTHER_MUTE, value)}", what),
+            "device": lambda onos, values, what: same(what, said(folder, device, *onos), values)}
+    for action, *given in BY_HAND[name]:
+        does[action](*given)
 
 
 def locks(folder, device, one, two):
@@ -460,32 +412,6 @@ def names(one, two):
     one.run(f"order({row(BLOCK)},'label','x'.repeat(65))")
     one.holds(message_has("a name has at most 64 bytes"), "a name that is too long is refused in words")
     one.run(f"unnote({BLOCK})")
-
-
-def many_at_once(folder, device, one):
-    """Several strips are chosen and muted; all are; and that is taken back."""
-    one.click(part(MUTE)) if one.run(row(MUTE, ".value")) == "muted" else None
-    fares(one, MUTE, "unmuted", "a channel is open")
-    one.run(f"change({row(OTHER_MUTE)},'unmuted')")
-    fares(one, OTHER_MUTE, "unmuted", "and another one")
-    for ono in (MUTE, OTHER_MUTE):
-        one.click(row(ono, ".strip.select"))
-    one.click("$('mute-chosen')")
-    one.holds(f"{shows(MUTE, 'muted')}&&{shows(OTHER_MUTE, 'muted')}", "two that are chosen are muted")
-    one.click("$('choose-none')")
-    one.click("$('undo')")
-    one.holds(f"{shows(MUTE, 'unmuted')}&&{shows(OTHER_MUTE, 'unmuted')}", "that is taken back")
-    one.click("$('mute-all')")
-    one.wait("$('dialog').open")
-    one.click("$('dialog').lastElementChild.lastElementChild")
-    one.holds("mutesOf(strips).every(r=>r.value==='muted')", "all are muted")
-    same("and so they are in the device", said(folder, device, MUTE, OTHER_MUTE), ["muted", "muted"])
-    one.click("$('guard')")
-    one.click(part(MUTE))
-    one.holds(message_has("panel lock"), "the panel lock stops a click")
-    one.click("$('guard')", held=1.2)
-    one.holds("!guarded", "and is taken off by a press that is held")
-    same("the device was left alone", said(folder, device, MUTE), ["muted"])
 
 
 def held_by_one(one, two):

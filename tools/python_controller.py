@@ -29,7 +29,7 @@ from tables import data
 
 TOP = Path(__file__).resolve().parent.parent
 EXAMPLE, TREE = TOP / "examples/python/controller.py", "examples/stagebox.tree"
-SPAN, TRIES = 16, 20
+SPAN, TRIES, DATA = 16, 20, data("python_controller")
 MUTES, TRIMS = range(4098, 4138, 5), range(4100, 4138, 5)
 ROW = r"\| [^|]+ \| `([0-9A-F ]+)` \| `([0-9A-F .]+)`[^|]* \|"
 
@@ -106,7 +106,7 @@ def rules(checks, its):
 
 def wrong_ones(checks):
     """A link that breaks a rule is found."""
-    for old, new in data("python_controller").wrong:
+    for old, new in DATA.wrong:
         tried = Checks()
         with contextlib.redirect_stdout(io.StringIO()):
             try:
@@ -161,14 +161,16 @@ def runs(checks, folder, device):
                 [[ono, container, role] for ono, _, container, role in wanted])
     checks.same("its classes", {parts(line)[1] for line in listed}, {"block", "mute", "polarity", "int16", "switch", "boolean"})
     checks.same("its labels", ({line.split(" ")[-1] for line in listed}, status), ({'""'}, 0))
-    checks.same("get", python("get", "4098", "4099", "4100", "4101", "4096"),
-                (["4098 muted", "4099 non-inverted", "4100 0 (-600 to 600)", "4101 0 (0 to 3)", "4096 off"], 0))
-    checks.same("set", python("set", "4098", "unmuted", "4100", "-60", "4101", "2"), (["4098 unmuted", "4100 -60", "4101 2"], 0))
-    checks.same("what was set", ocactl("get", "4098", "4100", "4101"), (["4098 unmuted", "4100 -60", "4101 2 Stage left"], 0))
-    checks.same("a value out of range", python("set", "4100", "601"), (["4100 ParameterOutOfRange"], 4))
-    for words in (["set", "4098", "loud"], ["set", "4100", "99999"], ["get", "4097"], ["get", "5000"], ["set", "4098"], ["gets", "4098"], []):
+    by_rows(checks, DATA.in_turn, python, ocactl)
+    for words in map(str.split, DATA.nothing):
         checks.same(f"nothing to do: {words}", python(*words), ([], 1))
     lock(checks, at, python, ocactl)
+
+
+def by_rows(checks, rows, python, ocactl):
+    """Calls of both controllers, one after the other: what each prints, and its status."""
+    for what, who, words, printed, status in rows:
+        checks.same(what, {"python": python, "ocactl": ocactl}[who](*words.split()), ([*printed], status))
 
 
 def parts(line):
@@ -181,9 +183,7 @@ def lock(checks, at, python, ocactl):
     words = [sys.executable, str(EXAMPLE), at, "lock", "4098", "4096", "4103"]
     holder = subprocess.Popen(words, cwd=TOP, stdin=subprocess.PIPE, stdout=subprocess.PIPE, text=True)
     checks.same("lock", [holder.stdout.readline() for _ in range(3)], ["4098 locked\n", "4096 InvalidRequest\n", "4103 locked\n"])
-    checks.same("a locked object", ocactl("set", "4103", "unmuted"), (["4103 Locked"], 4))
-    checks.same("a locked object, from Python", python("set", "4105", "1", "4103", "unmuted"), ([], 1))
-    checks.same("others", python("set", "4105", "1", "4104", "inverted"), (["4105 1", "4104 inverted"], 0))
+    by_rows(checks, DATA.while_locked, python, ocactl)
     checks.same("of a refusal", python("lock", "4098", stdin=subprocess.DEVNULL), (["4098 Locked"], 4))
     rest, _ = holder.communicate("\n", timeout=120)
     checks.same("unlock", (rest, holder.returncode), ("4098 unlocked\n4103 unlocked\n", 4))

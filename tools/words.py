@@ -22,7 +22,7 @@ from pathlib import Path
 import grants
 import oca_profile as oca
 import own_ports
-from checks import Checks, ended, write
+from checks import Checks, ended, waited, write
 from own_ports import at, bound, free_port, heard
 from tables import data
 
@@ -284,16 +284,20 @@ def unwritten(checks):
             checks.same(f"{words}, which can't be written", (said.splitlines()[-1:], status), (["write failed"], 1))
 
 
+def files_of(run):
+    """The files of a run by its descriptors, as far as they can be told."""
+    with contextlib.suppress(OSError):
+        return {int(number.name): os.readlink(number) for number in Path(f"/proc/{run.pid}/fd").iterdir()}
+    return {}
+
+
 def without_streams(checks):
     """Where the standard streams are closed, no socket takes the place of one of them, to which what is printed would go."""
     with bound() as device:
         for words in ("ocadev serve --port 0", f"ocactl send --device {at(device)} {SENT}", f"ocapanel --device {at(device)} --listen 127.0.0.1:0"):
             run = checks.start(*words.split(), stdin=None, stdout=None, stderr=None, preexec_fn=lambda: [os.close(stream) for stream in range(3)])
-            files, until = {}, time.monotonic() + 30
-            while not any("socket" in name for name in files.values()) and time.monotonic() < until:
-                with contextlib.suppress(OSError):
-                    files = {int(number.name): os.readlink(number) for number in Path(f"/proc/{run.pid}/fd").iterdir()}
-            checks.same(f"{words} without standard streams: what they are", [files.get(number) for number in range(3)], ["/dev/null"] * 3)
+            waited(lambda: any("socket" in name for name in files_of(run).values()), 30, 0)
+            checks.same(f"{words} without standard streams: what they are", [files_of(run).get(number) for number in range(3)], ["/dev/null"] * 3)
             run.kill()
             run.wait()
 
@@ -359,21 +363,10 @@ def tells_locks(checks):
         return run.stderr.readline().split(" ", 1)[-1].rstrip("\n")
 
     with bound() as first, bound() as second:
-        for what, peer, kind, commands, said in (
-                ("a lock", first, 1, [lock(1, 4098)], "served 1 0 0 locked 4098"),
-                ("a set under it", second, 1, [put(1, 4098)], "served 1 0 0 refused 4098 Locked"),
-                ("an unlock by another peer", second, 1, [lock(2, 4098, 4)], "served 1 0 0 refused 4098 Locked"),
-                ("a duplicate of the lock", first, 1, [lock(1, 4098)], "served 0 1 0"),
-                ("a duplicate of a refused set", second, 1, [put(1, 4098)], "served 0 1 0"),
-                ("a handle used again", second, 1, [lock(2, 4097)], "served 0 0 0 reused 1"),
-                ("two locks", first, 1, [lock(2, 4097), lock(3, 4099, 6)], "served 2 0 0 locked 4097 locked 4099"),
-                ("two unlocks", first, 1, [lock(4, 4098, 4), lock(5, 4098, 4)], "served 2 0 0 unlocked 4098 refused 4098 InvalidRequest"),
-                ("a set that is done and one that is refused", second, 1, [put(3, 4098), put(4, 4097)], "served 2 0 0 wrote 4098 refused 4097 Locked"),
-                ("no such object", second, 1, [put(5, 5000)], "served 1 0 0 refused 5000 BadONo"),
-                ("a duplicate beside a lock", first, 1, [lock(2, 4097), lock(6, 4098)], "served 1 1 0"),
-                ("no response asked for", first, 0, [lock(7, 4098, 4)], "served 1 0 0"),
-                ("a heartbeat of a second", first, 4, [b"\0\1"], "served 0 0 0")):
-            checks.same(f"serve --verbose: {what}", told(peer, oca.pdu(kind, commands)), said)
+        for what, peer, kind, commands, said in DATA.of_locks:
+            bodies = [{"lock": lock, "set": put}[name](*given) for name, *given in commands]
+            checks.same(f"serve --verbose: {what}", told({"first": first, "second": second}[peer], oca.pdu(kind, bodies)), said)
+        checks.same("serve --verbose: a heartbeat of a second", told(first, oca.pdu(4, [b"\0\1"])), "served 0 0 0")
         time.sleep(3.5)
         checks.same("serve --verbose: a set after the locks lapsed", told(second, oca.pdu(1, [put(6, 4097)])), "served 1 0 0 wrote 4097")
     run.kill()
