@@ -47,9 +47,11 @@ class Serving:
     def __enter__(self):
         return self if self.port else sys.exit(f"{self.process.args[0]} said {self.said!r}")
 
-    def __exit__(self, *_):
+    def end(self, *_):
         self.process.kill()
         self.process.wait()
+
+    __exit__ = end
 
 
 def verdict(passed, failed):

@@ -33,7 +33,7 @@ from peers import Lossy, Peer
 from served import Other, Served, commands_in
 from tables import each, octets, table
 
-TREE = Path(__file__).resolve().parent.parent / "examples" / "stagebox.tree"
+TREE = (Path(__file__).resolve().parent.parent / "examples" / "stagebox.tree").read_text()
 MUTE, POLARITY, TRIM, SOURCE = 4098, 4099, 4100, 4101
 JSON, LATE = "application/json", "not sent: too late"
 ITS, OWN_PORTS = Checks(), {}
@@ -50,10 +50,13 @@ def is_walked(values):
 
 
 class Device(Serving):
-    """`ocadev serve` at a port."""
+    """`ocadev serve` at a port, of the objects of a text, or of its own."""
 
-    def __init__(self, folder, port=0, words=("--tree", TREE)):
-        super().__init__(f"{folder}/ocadev", "serve", "--port", port, "--peers", 64, *words)
+    def __init__(self, folder, port=0, tree=TREE):
+        with tempfile.NamedTemporaryFile("w") as file:
+            file.write(tree or "")
+            file.flush()
+            super().__init__(f"{folder}/ocadev", "serve", "--port", port, "--peers", 64, *(["--tree", file.name] if tree else []))
 
 
 def request(row):
@@ -488,11 +491,10 @@ def gone_and_back(folder):
     with Device(folder) as first, Panel(folder, first.port, "--verbose") as panel, Panel(folder, first.port) as other:
         check(panel.wait(is_walked) is not None and other.wait(is_walked) is not None, "found")
         epoch = panel.look()["epoch"]
-        first.process.kill()
-        first.process.wait()
+        first.end()
         begun = time.monotonic()
         is_lost(panel, other)
-        with Device(folder, first.port, ()) as second:
+        with Device(folder, first.port, None):
             took = panel.comes(lambda v: v["walked"] and v["epoch"] > epoch, "a device that came back is walked anew", 30)
             check({o["role"] for o in panel.get("/tree")["objects"]} >= {"desk"}, "with the objects that it has now")
             same("and is no longer lost", panel.look()["link"]["lost_for"], None)
@@ -531,45 +533,37 @@ def is_lost(panel, other):
     same("an order of an object that is not found yet", panel.order("/set", MUTE, "unmuted")[0], 404)
 
 
-def many_tree(file):
-    """Writes a list of 4,095 objects, and answers the number of the last."""
-    lines, ono = [], 4096
-    for block in range(51):
-        container = ono
-        lines.append(f'{ono} 100 block no-lock "bank {block}"')
-        ono += 1
-        for _ in range(80):
-            if len(lines) < 4095:
-                lines.append(f"{ono} {container} int16 -600 600 0 lockable gain")
-                ono += 1
-    file.write_text("\n".join(lines) + "\n")
-    return ono - 1
+def many_tree():
+    """A list of 4,095 objects, 80 in each block but the last one, and the number of the last."""
+    first, last = 4096, 4096 + 4094
+    blocks = [range(ono, min(ono + 81, last + 1)) for ono in range(first, last + 1, 81)]
+    lines = [f'{ono} 100 block no-lock "bank {at}"' if ono == its[0] else f"{ono} {its[0]} int16 -600 600 0 lockable gain"
+             for at, its in enumerate(blocks) for ono in its]
+    return "\n".join(lines) + "\n", last
 
 
 def many(folder):
     """4,096 objects."""
-    with tempfile.TemporaryDirectory() as place:
-        file = Path(place) / "many.tree"
-        last = many_tree(file)
-        with Device(folder, 0, ("--tree", file)) as device, Panel(folder, device.port) as panel:
-            took = panel.comes(is_walked, "4,096 objects are walked", 60)
-            tree = panel.get("/tree")["objects"]
-            same("objects of 4,096", len(tree), 4096)
-            print(f"{len(tree)} objects were walked in {took or 0:.1f} s")
-            panel.comes(lambda _: panel.value(last) == "0", "the last object is read", 60)
-            times, quick, place = [], [], [o["ono"] for o in tree].index(last)
-            for value in ("5", "6", "7"):
-                ocactl(folder, device.port, "set", last, value)
-                times.append(panel.wait(lambda _, v=value: panel.value(last) == v, 60) or 60)
-            check(max(times) < 60, "a change of the last object is shown")
-            for value in ("8", "9"):
-                ocactl(folder, device.port, "set", last, value)
-                quick.append(waited(lambda v=value: panel.look(f"&first={place}&count=1") and panel.value(last) == v) or 60)
-            print(f"a change of the last of them is shown after {max(times) * 1000:.0f} ms, "
-                  f"where it is visible after {max(quick) * 1000:.0f} ms, at most")
-            begun = time.monotonic()
-            same("an order among 4,096 objects", panel.fare("/set", last, "-5"), None)
-            print(f"an order among 4,096 objects was told after {(time.monotonic() - begun) * 1000:.0f} ms")
+    text, last = many_tree()
+    with Device(folder, 0, text) as device, Panel(folder, device.port) as panel:
+        took = panel.comes(is_walked, "4,096 objects are walked", 60)
+        tree = panel.get("/tree")["objects"]
+        same("objects of 4,096", len(tree), 4096)
+        print(f"{len(tree)} objects were walked in {took or 0:.1f} s")
+        panel.comes(lambda _: panel.value(last) == "0", "the last object is read", 60)
+        times, quick, place = [], [], [o["ono"] for o in tree].index(last)
+        for value in ("5", "6", "7"):
+            ocactl(folder, device.port, "set", last, value)
+            times.append(panel.wait(lambda _, v=value: panel.value(last) == v, 60) or 60)
+        check(max(times) < 60, "a change of the last object is shown")
+        for value in ("8", "9"):
+            ocactl(folder, device.port, "set", last, value)
+            quick.append(waited(lambda v=value: panel.look(f"&first={place}&count=1") and panel.value(last) == v) or 60)
+        print(f"a change of the last of them is shown after {max(times) * 1000:.0f} ms, "
+              f"where it is visible after {max(quick) * 1000:.0f} ms, at most")
+        begun = time.monotonic()
+        same("an order among 4,096 objects", panel.fare("/set", last, "-5"), None)
+        print(f"an order among 4,096 objects was told after {(time.monotonic() - begun) * 1000:.0f} ms")
 
 
 def used_by(panel, seconds):
@@ -669,18 +663,15 @@ def seldom(folder):
 
 def of_other_classes(folder):
     """A device that is back at once with the same numbers, one of another class, is walked anew."""
-    with tempfile.TemporaryDirectory() as place:
-        other = Path(place) / "other.tree"
-        other.write_text(TREE.read_text().replace(f"{MUTE} 4097 mute muted lockable mute", f"{MUTE} 4097 int16 -5 5 0 lockable mute"))
-        with walked(folder) as (first, panel):
-            first.process.kill()
-            first.process.wait()
-            with Device(folder, first.port, ("--tree", other)):
-                def is_new(values):
-                    """A walk that is over, or the next one by the time of the second question, which may list less."""
-                    listed = panel.get("/tree")["objects"] if values["walked"] else []
-                    return {o["ono"]: o["class"] for o in listed}.get(MUTE) == "int16"
-                panel.comes(is_new, "an object of another class under the same number is found", 30)
+    other = TREE.replace(f"{MUTE} 4097 mute muted lockable mute", f"{MUTE} 4097 int16 -5 5 0 lockable mute")
+    with walked(folder) as (first, panel):
+        first.end()
+        with Device(folder, first.port, other):
+            def is_new(values):
+                """A walk that is over, or the next one by the time of the second question, which may list less."""
+                listed = panel.get("/tree")["objects"] if values["walked"] else []
+                return {o["ono"]: o["class"] for o in listed}.get(MUTE) == "int16"
+            panel.comes(is_new, "an object of another class under the same number is found", 30)
 
 
 def in_two_blocks(folder):

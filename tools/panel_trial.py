@@ -459,9 +459,6 @@ def looks(one):
     check(one.run("parseFloat(getComputedStyle(document.activeElement).outlineWidth)") >= 2, "the focus is seen")
 
 
-NAMES = ["Kick", "Snare", "Bass", "Guitar", "Keys", "Lead vocal", "Choir", "Talkback"]
-
-
 def pictures(folder, browser, place):
     """The pictures of the documents: a stage box with names and levels."""
     with tempfile.TemporaryDirectory() as units:
@@ -469,10 +466,10 @@ def pictures(folder, browser, place):
         with Device(folder) as device, program(folder, device.port, "--units", Path(units, "units")) as panel, \
                 opened(browser, panel.address, "the device of the pictures is shown") as one:
             give_label(folder, device, 100, "Stage box A")
-            for n, name in enumerate(NAMES):
+            for n, (name, level, state) in enumerate(DATA.of_pictures):
                 give_label(folder, device, 4097 + 5 * n, name)
-                one.run(f"change({row(4100 + 5 * n)},'{[-60, -35, 0, 45, -120, 20, -80, -300][n]}')")
-                if n not in (4, 7):
+                one.run(f"change({row(4100 + 5 * n)},'{level}')")
+                if state == "unmuted":
                     one.run(f"change({row(4098 + 5 * n)},'unmuted')")
             one.holds(f"{row(4132, '.label')}==='Talkback'&&{shows(4135, '-300')}&&program.name==='Stage box A'", "its names and levels are set")
             one.run("document.activeElement.blur();scrollTo(0,0)")
@@ -507,39 +504,35 @@ def stalls(folder, device, browser, panel, address):
 
 def begun_anew(folder, browser):
     """The program ends, and begins again: for the same device, and for another one."""
-    with tempfile.TemporaryDirectory() as place, Device(folder) as first:
-        file = Path(place, "other.tree")
-        file.write_text("".join(f"{ono} 100 mute muted lockable \"desk {ono}\"\n" for ono in (4096, 4097, MUTE, 5000)))
-        with Device(folder, 0, ("--tree", file)) as second:
-            port = free_port()
-            with program(folder, first.port, port=port) as panel:
-                one = Window(browser, panel.address)
-                one.holds(LIVE, "the page is live", 30)
-                one.run(f"change({row(MUTE)},'unmuted')")
-                one.holds(shows(MUTE, "unmuted"), "a channel is open")
-                run = one.run("program.run")
-            one.holds("program.state==='stale'", "a program that ended is said")
-            ocactl(folder, first.port, "set", MUTE, "muted")
-            with program(folder, first.port, port=port):
-                one.holds(f"program.run!=='{run}'&&{LIVE}&&{shows(MUTE, 'muted')}", "begun anew, the page shows what is so", 30)
-                same("in words too", one.run(f"{part(MUTE)}.textContent"), "MUTED")
-                one.run(f"change({row(MUTE)},'unmuted')")
-                one.holds(shows(MUTE, "unmuted"), "and its orders are told")
-                first_strips = one.run("strips.length")
-            with program(folder, second.port, port=port):
-                is_named = f"document.title.includes('127.0.0.1:{second.port}')"
-                one.holds(f"{is_named}&&{LIVE}&&rows.size===5", "for another device the page shows that one, and names it", 30)
-                check(one.run("strips.length") == 1 != first_strips, "no strip of the other one stays")
-                same("the object of the same number is shown as it is", one.run(f"{part(MUTE)}.textContent"), "MUTED")
-                same("nothing was done to either", said(folder, second, MUTE) + said(folder, first, MUTE), ["muted", "unmuted"])
-            one.close()
+    desk, port = "".join(f"{ono} 100 mute muted lockable \"desk {ono}\"\n" for ono in (4096, 4097, MUTE, 5000)), free_port()
+    with Device(folder) as first, Device(folder, 0, desk) as second:
+        with program(folder, first.port, port=port) as panel:
+            one = Window(browser, panel.address)
+            one.holds(LIVE, "the page is live", 30)
+            one.run(f"change({row(MUTE)},'unmuted')")
+            one.holds(shows(MUTE, "unmuted"), "a channel is open")
+            run = one.run("program.run")
+        one.holds("program.state==='stale'", "a program that ended is said")
+        ocactl(folder, first.port, "set", MUTE, "muted")
+        with program(folder, first.port, port=port):
+            one.holds(f"program.run!=='{run}'&&{LIVE}&&{shows(MUTE, 'muted')}", "begun anew, the page shows what is so", 30)
+            same("in words too", one.run(f"{part(MUTE)}.textContent"), "MUTED")
+            one.run(f"change({row(MUTE)},'unmuted')")
+            one.holds(shows(MUTE, "unmuted"), "and its orders are told")
+            first_strips = one.run("strips.length")
+        with program(folder, second.port, port=port):
+            is_named = f"document.title.includes('127.0.0.1:{second.port}')"
+            one.holds(f"{is_named}&&{LIVE}&&rows.size===5", "for another device the page shows that one, and names it", 30)
+            check(one.run("strips.length") == 1 != first_strips, "no strip of the other one stays")
+            same("the object of the same number is shown as it is", one.run(f"{part(MUTE)}.textContent"), "MUTED")
+            same("nothing was done to either", said(folder, second, MUTE) + said(folder, first, MUTE), ["muted", "unmuted"])
+        one.close()
 
 
-def bad_network(folder, browser, place):
+def bad_network(folder, browser):
     """At 20 % loss, and over a device that restarts."""
-    file = Path(place, "one.tree")
-    file.write_text("".join(line + "\n" for line in TREE.read_text().splitlines() if line[:4] in ("4096", "4097", "4098", "4099", "4100", "4101")))
-    with Device(folder, 0, ("--tree", file)) as device, Lossy(device.port, 3) as relay, program(folder, relay.port) as panel, \
+    strip = "".join(line for line in TREE.splitlines(True) if line[:4] in ("4096", "4097", "4098", "4099", "4100", "4101"))
+    with Device(folder, 0, strip) as device, Lossy(device.port, 3) as relay, program(folder, relay.port) as panel, \
             opened(browser, panel.address, "the page is built at 20 % loss", 120) as window:
         wrong = 0
         for n in range(10):
@@ -558,10 +551,9 @@ def bad_network(folder, browser, place):
                 window.wait(idle(TRIM), 30)
             wrong += said(folder, device, TRIM) != [window.run(row(TRIM, ".value"))]
         same("of 5 drags at 20 % loss with a lock at once those that end at another value", wrong, 0)
-        device.process.kill()
-        device.process.wait()
+        device.end()
         window.holds("program.state==='lost'&&$('banner').textContent.includes('is lost')", "a device that is gone is shown as lost", 30)
-        with Device(folder, device.port, ("--tree", file)):
+        with Device(folder, device.port, strip):
             window.holds(LIVE, "and found again", 60)
 
 
@@ -619,48 +611,39 @@ def cut_off(folder, browser):
 
 def large(folder, browser):
     """4,096 objects: what is near is built, and the rest when it comes near."""
-    with tempfile.TemporaryDirectory() as place:
-        file = Path(place) / "many.tree"
-        last = many_tree(file)
-        with Device(folder, 0, ("--tree", file)) as device, program(folder, device.port) as panel:
-            first = Window(browser, panel.address)  # so that the times below are not those of a browser's start
-            first.holds("rows.size>4000&&isOpen()", "4,096 objects are walked", 90)
-            first.close()
-            window = Window(browser, panel.address)
-            usable = "rows.size>4000&&isOpen()&&inView.size>0&&[...inView].flatMap(s=>s.rows).every(r=>r.view&&r.value!==null)"
-            window.holds(usable, "what is visible can be used", 60)
-            print(f"a page with 4,096 objects: what is visible could be used {window.run('performance.now()') / 1000:.2f} s after it was opened "
-                  f"at the latest, at load {os.getloadavg()[0]:.1f}")
-            made = window.run("[...rows.values()].filter(r=>r.view).length")
-            check(0 < made < 1000, f"controls are made for what is near alone: {made}")
-            window.run("(()=>{$('find').value='" + str(last) + "';filter()})()")
-            window.holds(f"!{row(last, '.strip.element.hidden')}&&!!{row(last, '.view')}", "an object is found by its number")
-            window.run(f"change({row(last)},'123')")
-            window.holds(shows(last, "123"), "the last of them is set")
-            window.run("(()=>{$('find').value='';filter()})()")
-            window.run("scrollTo(0,document.body.scrollHeight)")
-            window.holds("[...inView].some(s=>s.rows.every(r=>r.view))", "what comes near gets its controls")
-            window.close()
-
-
-HOSTILE = ["</style></script><script>window.ran=1</script>", "<img src=x onerror=window.ran=1>", "'><svg onload=window.ran=1>",
-           "&lt;b&gt; {{7*7}} ${1}", "x" * 60]
+    text, last = many_tree()
+    with Device(folder, 0, text) as device, program(folder, device.port) as panel:
+        first = Window(browser, panel.address)  # so that the times below are not those of a browser's start
+        first.holds("rows.size>4000&&isOpen()", "4,096 objects are walked", 90)
+        first.close()
+        window = Window(browser, panel.address)
+        usable = "rows.size>4000&&isOpen()&&inView.size>0&&[...inView].flatMap(s=>s.rows).every(r=>r.view&&r.value!==null)"
+        window.holds(usable, "what is visible can be used", 60)
+        print(f"a page with 4,096 objects: what is visible could be used {window.run('performance.now()') / 1000:.2f} s after it was opened "
+              f"at the latest, at load {os.getloadavg()[0]:.1f}")
+        made = window.run("[...rows.values()].filter(r=>r.view).length")
+        check(0 < made < 1000, f"controls are made for what is near alone: {made}")
+        window.run("(()=>{$('find').value='" + str(last) + "';filter()})()")
+        window.holds(f"!{row(last, '.strip.element.hidden')}&&!!{row(last, '.view')}", "an object is found by its number")
+        window.run(f"change({row(last)},'123')")
+        window.holds(shows(last, "123"), "the last of them is set")
+        window.run("(()=>{$('find').value='';filter()})()")
+        window.run("scrollTo(0,document.body.scrollHeight)")
+        window.holds("[...inView].some(s=>s.rows.every(r=>r.view))", "what comes near gets its controls")
+        window.close()
 
 
 def hostile(folder, browser):
     """Texts of a device run nothing."""
-    with tempfile.TemporaryDirectory() as place:
-        file = Path(place, "hostile.tree")
-        file.write_text("".join(f'{5000 + 2 * n} 100 block lockable "{role}"\n{5001 + 2 * n} {5000 + 2 * n} mute muted lockable "{role}"\n'
-                                for n, role in enumerate(HOSTILE)))
-        with Device(folder, 0, ("--tree", file)) as device, program(folder, device.port) as panel, \
-                opened(browser, panel.address, "a hostile device is shown") as window:
-            runs_nothing = "window.ran===undefined&&document.scripts.length===1&&!document.querySelector('main img,main script')"
-            same("its texts run nothing", window.run(runs_nothing), True)
-            names = window.run("strips.map(s=>s.name.textContent)")
-            check(any(name.startswith("<img src=x") for name in names), f"they are shown as texts: {names}")
-            check(all(len(name) <= 120 for name in names), "and not without an end")
-            same("and make nothing wider", window.run("document.documentElement.scrollWidth<=1280"), True)
+    text = "".join(f'{5000 + 2 * n} 100 block lockable "{role}"\n{5001 + 2 * n} {5000 + 2 * n} mute muted lockable "{role}"\n'
+                   for n, role in enumerate(DATA.hostile))
+    with Device(folder, 0, text) as device, program(folder, device.port) as panel, opened(browser, panel.address, "a hostile device is shown") as window:
+        runs_nothing = "window.ran===undefined&&document.scripts.length===1&&!document.querySelector('main img,main script')"
+        same("its texts run nothing", window.run(runs_nothing), True)
+        names = window.run("strips.map(s=>s.name.textContent)")
+        check(any(name.startswith("<img src=x") for name in names), f"they are shown as texts: {names}")
+        check(all(len(name) <= 120 for name in names), "and not without an end")
+        same("and make nothing wider", window.run("document.documentElement.scrollWidth<=1280"), True)
 
 
 def watching(folder, browser):
@@ -720,14 +703,8 @@ def programs(folder, browser):
     with Device(folder) as device, program(folder, device.port) as panel:
         stalls(folder, device, browser, panel, panel.address)
     begun_anew(folder, browser)
-    with tempfile.TemporaryDirectory() as place:
-        bad_network(folder, browser, place)
-    ages(folder, browser)
-    cut_off(folder, browser)
-    large(folder, browser)
-    hostile(folder, browser)
-    watching(folder, browser)
-    with_token(folder, browser)
+    for tries in (bad_network, ages, cut_off, large, hostile, watching, with_token):
+        tries(folder, browser)
 
 
 def in_chromium(folder, chromium, place):

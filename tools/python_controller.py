@@ -161,16 +161,11 @@ def runs(checks, folder, device):
                 [[ono, container, role] for ono, _, container, role in wanted])
     checks.same("its classes", {parts(line)[1] for line in listed}, {"block", "mute", "polarity", "int16", "switch", "boolean"})
     checks.same("its labels", ({line.split(" ")[-1] for line in listed}, status), ({'""'}, 0))
-    by_rows(checks, DATA.in_turn, python, ocactl)
+    for what, who, words, printed, status in DATA.in_turn:
+        checks.same(what, (python if who == "python" else ocactl)(*words.split()), ([*printed], status))
     for words in map(str.split, DATA.nothing):
         checks.same(f"nothing to do: {words}", python(*words), ([], 1))
     lock(checks, at, python, ocactl)
-
-
-def by_rows(checks, rows, python, ocactl):
-    """Calls of both controllers, one after the other: what each prints, and its status."""
-    for what, who, words, printed, status in rows:
-        checks.same(what, {"python": python, "ocactl": ocactl}[who](*words.split()), ([*printed], status))
 
 
 def parts(line):
@@ -183,7 +178,8 @@ def lock(checks, at, python, ocactl):
     words = [sys.executable, str(EXAMPLE), at, "lock", "4098", "4096", "4103"]
     holder = subprocess.Popen(words, cwd=TOP, stdin=subprocess.PIPE, stdout=subprocess.PIPE, text=True)
     checks.same("lock", [holder.stdout.readline() for _ in range(3)], ["4098 locked\n", "4096 InvalidRequest\n", "4103 locked\n"])
-    by_rows(checks, DATA.while_locked, python, ocactl)
+    for what, who, words, printed, status in DATA.while_locked:
+        checks.same(what, (python if who == "python" else ocactl)(*words.split()), ([*printed], status))
     checks.same("of a refusal", python("lock", "4098", stdin=subprocess.DEVNULL), (["4098 Locked"], 4))
     rest, _ = holder.communicate("\n", timeout=120)
     checks.same("unlock", (rest, holder.returncode), ("4098 unlocked\n4103 unlocked\n", 4))
