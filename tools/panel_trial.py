@@ -34,7 +34,7 @@ CASES = Path(__file__).resolve().parent / "page_cases"
 LOOKS = CASES / "looks.js"
 OTHER_MUTE, BLOCK = 4103, 4097
 AT_ONCE = 8
-DATA, BY_HAND = data("panel_trial"), table("by_hand")
+DATA = data("panel_trial")
 
 
 def prepared(sources=None, place=None):
@@ -282,6 +282,7 @@ def shows(ono, value):
 
 
 LIVE = "isOpen()&&rows.size>1&&[...rows.values()].every(r=>['block','unknown'].includes(r.kind)||r.value!==null)"
+BY_HAND = table("by_hand", live=LIVE)
 
 
 def cases_in_browser(browser, address):
@@ -351,7 +352,7 @@ def by_hand(folder, device, browser, address):
     steps(folder, device, one, "deliberate")
     locks(folder, device, one, two)
     labels(folder, device, two)
-    names(one, two)
+    steps(folder, device, one, "names", two)
     if one.run(row(MUTE, ".value")) == "muted":
         one.click(part(MUTE))
     steps(folder, device, one, "many")
@@ -359,11 +360,14 @@ def by_hand(folder, device, browser, address):
     return one, two
 
 
-def steps(folder, device, one, name):
+def steps(folder, device, one, name, two=None, panel=None):
     """What is done in a window by the rows of this name of tools/rows/by_hand.toml, and what then holds."""
+    sends = lambda number: lambda whom: (device if whom == "device" else panel).process.send_signal(number)
     does = {"run": one.run, "wait": one.wait, "holds": one.holds, "click": one.click, "wheel": one.wheel, "key": one.key, "type": one.type,
-            "sleep": time.sleep, "fares": lambda ono, value, what: one.holds(shows(ono, value), what),
+            "sleep": time.sleep, "stop": sends(signal.SIGSTOP), "go on": sends(signal.SIGCONT),
+            "fares": lambda ono, value, what: one.holds(shows(ono, value), what),
             "both": lambda value, what: one.holds(f"{shows(MUTE, value)}&&{shows(OTHER_MUTE, value)}", what),
+            "each holds": lambda script, what: [window.holds(script, what) for window in (one, two)],
             "device": lambda onos, values, what: same(what, said(folder, device, *onos), values)}
     for action, *given in BY_HAND[name]:
         does[action](*given)
@@ -395,23 +399,6 @@ def labels(folder, device, two):
     for label, name in [("Lead <b>vocal</b>", "Lead <b>vocal</b>"), ("\u202elacov", "\ufffdlacov"), ("", "channel 1")]:
         give_label(folder, device, BLOCK, label)
         two.holds(f"{row(MUTE, '.strip.name.textContent')}==={json.dumps(name)}", f"the label {label!r} is shown as {name!r}")
-
-
-def names(one, two):
-    """A name that is given in the strip's menu is shown in both windows, once the device has it; one that is too long is refused."""
-    for name, key in [('Lead "vocal" <b>', "Enter"), ("", "")]:
-        one.click(row(MUTE, ".strip.menu"))
-        one.wait("$('dialog').open")
-        one.click("$('dialog').children[2].children[0].lastElementChild")
-        one.wait("document.activeElement.tagName==='INPUT'")
-        one.run("document.activeElement.value=''")
-        one.type(name)
-        one.key("Enter", 13) if key else one.click("$('dialog').lastElementChild.lastElementChild")
-        for window in (one, two):
-            window.holds(f"{row(MUTE, '.strip.name.textContent')}==={json.dumps(name or 'channel 1')}", f"the name {name!r} is shown")
-    one.run(f"order({row(BLOCK)},'label','x'.repeat(65))")
-    one.holds(message_has("a name has at most 64 bytes"), "a name that is too long is refused in words")
-    one.run(f"unnote({BLOCK})")
 
 
 def held_by_one(one, two):
@@ -478,28 +465,6 @@ def pictures(folder, browser, place):
                 one.dark(is_dark)
                 time.sleep(1)
                 Path(place, name).write_bytes(one.picture())
-
-
-def stalls(folder, device, browser, panel, address):
-    """A program that stands still is told from one that answers; what is clicked meanwhile is not taken."""
-    is_said = "!$('banner').hidden&&document.body.classList.contains('old')"
-    with opened(browser, address, "the page is live") as one:
-        value = one.run(row(MUTE, ".value"))
-        panel.process.send_signal(signal.SIGSTOP)
-        one.holds(f"program.state==='stale'&&$('banner').textContent.includes('gives no answer')&&{is_said}", "a program that stands still is said")
-        one.click(part(MUTE))
-        one.holds(message_has("not sent: no program"), "a click is not taken, and that is said")
-        panel.process.send_signal(signal.SIGCONT)
-        one.holds(LIVE, "the page is live again")
-        same("the device was left alone", said(folder, device, MUTE), [value])
-        device.process.send_signal(signal.SIGSTOP)
-        one.holds(f"['silent','lost'].includes(program.state)&&{is_said}", "a device that gives no answer is said")
-        one.click(part(MUTE))
-        one.holds(message_has("not sent: device"), "a click is not taken then either")
-        one.holds("program.state==='lost'", "it is lost then", 30)
-        device.process.send_signal(signal.SIGCONT)
-        one.holds(LIVE, "and found again", 60)
-        same("and was left alone", said(folder, device, MUTE), [value])
 
 
 def begun_anew(folder, browser):
@@ -611,8 +576,7 @@ def cut_off(folder, browser):
 
 def large(folder, browser):
     """4,096 objects: what is near is built, and the rest when it comes near."""
-    text, last = many_tree()
-    with Device(folder, 0, text) as device, program(folder, device.port) as panel:
+    with Device(folder, 0, many_tree()[0]) as device, program(folder, device.port) as panel:
         first = Window(browser, panel.address)  # so that the times below are not those of a browser's start
         first.holds("rows.size>4000&&isOpen()", "4,096 objects are walked", 90)
         first.close()
@@ -623,13 +587,7 @@ def large(folder, browser):
               f"at the latest, at load {os.getloadavg()[0]:.1f}")
         made = window.run("[...rows.values()].filter(r=>r.view).length")
         check(0 < made < 1000, f"controls are made for what is near alone: {made}")
-        window.run("(()=>{$('find').value='" + str(last) + "';filter()})()")
-        window.holds(f"!{row(last, '.strip.element.hidden')}&&!!{row(last, '.view')}", "an object is found by its number")
-        window.run(f"change({row(last)},'123')")
-        window.holds(shows(last, "123"), "the last of them is set")
-        window.run("(()=>{$('find').value='';filter()})()")
-        window.run("scrollTo(0,document.body.scrollHeight)")
-        window.holds("[...inView].some(s=>s.rows.every(r=>r.view))", "what comes near gets its controls")
+        steps(folder, device, window, "large")
         window.close()
 
 
@@ -700,10 +658,9 @@ def sources():
 
 
 def programs(folder, browser):
-    with Device(folder) as device, program(folder, device.port) as panel:
-        stalls(folder, device, browser, panel, panel.address)
-    begun_anew(folder, browser)
-    for tries in (bad_network, ages, cut_off, large, hostile, watching, with_token):
+    with Device(folder) as device, program(folder, device.port) as panel, opened(browser, panel.address, "the page is live") as one:
+        steps(folder, device, one, "stalls", panel=panel)
+    for tries in (begun_anew, bad_network, ages, cut_off, large, hostile, watching, with_token):
         tries(folder, browser)
 
 
