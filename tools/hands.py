@@ -24,7 +24,7 @@ import oca_profile as oca
 import own_ports
 from own_ports import free_port
 from served import Other, Served, commands_in
-from tables import data
+from tables import data, table
 
 DATA = data("hands")
 CLASS, ROLE, MEMBERS = (1, 1), (1, 5), (3, 5)
@@ -32,24 +32,9 @@ SETS = ((4, 2), (5, 2))
 OTHER = (127, 0, 0, 1, 9)  # a peer that never speaks
 
 
-# a name that would end the line, begin another and clear the screen
-HIDING = "Mic\n4098 unmuted\x1b[2J"
-
-
 def stagebox():
     """One object of each class, with names that need care."""
-    tree = oca.bench()
-    assert len(tree) == 8
-    tree += [oca.Object(5000, "block", 100, "two words"), oca.Object(5001, "int8", 5000, "", state=-128, low=-128, high=127),
-             oca.Object(5002, "int32", 5000, "Ünïcode", state=2**31 - 1, low=-2**31, high=2**31 - 1),
-             oca.Object(5003, "int64", 5000, "x" * 64, state=-2**63, low=-2**63, high=2**63 - 1),
-             oca.Object(5004, "uint16", 5000, "a", state=65535, low=0, high=65535),
-             oca.Object(5005, "uint32", 5000, "b", state=0, low=0, high=2**32 - 1),
-             oca.Object(5006, "uint64", 5000, "c", state=2**64 - 1, low=0, high=2**64 - 1),
-             oca.Object(5007, "switch", 5000, "names", state=2, names=["", "two words", "7", "Mic", "Mic"]),
-             oca.Object(5008, "switch", 5000, "a\n5009 1.1.1 100 \u202eb\x1b[2J\\", state=1, names=["Mic", HIDING, "\x9b" * 32]),
-             oca.Object(4294967295, "polarity", 5000, "last", state=2)]
-    return tree
+    return oca.bench() + [oca.Object(*fields, **how) for *fields, how in table("hands")["stagebox"]]
 
 
 class Strange(Other):

@@ -336,9 +336,8 @@ def protected(panel):
 
 
 def in_one_piece(panel):
-    """Many requests that come in one piece are answered one behind the other, while no page asks for values. A panel
-    that waited for something else behind each few of them would take some 35 seconds, and one that goes on a tenth of
-    one."""
+    """Many requests that come in one piece are answered one behind the other, while no page asks for values. A panel that waited for
+    something else behind each few of them would take some 35 seconds, and one that goes on a tenth of one."""
     asked, count, size, seen = panel.asks("GET", "/"), 2500, 1, 0
     with contextlib.suppress(OSError), panel.connected() as s:
         s.sendall(asked)
@@ -379,8 +378,7 @@ def slow(panel):
 
 
 def is_kept(panel, s):
-    """Whether the panel has its end of a connection open: before it takes it, and once it is closed, no file is behind
-    it."""
+    """Whether the panel has its end of a connection open: before it takes it, and once it is closed, no file is behind it."""
     rows = [line.split() for line in Path("/proc/net/tcp").read_text().splitlines()[1:]]
     ports = [f"{port:04X}" for port in (panel.port, s.getsockname()[1])]
     return any([at.split(":")[1] for at in row[1:3]] == ports and row[9] != "0" for row in rows)
@@ -649,8 +647,7 @@ def without_a_page(folder):
 
 
 def seldom(folder):
-    """What changes seldom is shown too, there and back: a label, whether an object is enabled, and which positions
-    are."""
+    """What changes seldom is shown too, there and back: a label, whether an object is enabled, and which positions are."""
     with walked(folder) as (device, panel):
         for label, enabled in (("Vox", False), ("", True)):
             flag = bytes([enabled])
@@ -789,8 +786,7 @@ def newer_than_an_answer(folder):
 
 
 def beside_an_order(folder):
-    """While an order waits for its answer, pages are answered: the fastest of five counts, each at a panel whose link is
-    still there."""
+    """While an order waits for its answer, pages are answered: the fastest of five counts, each at a panel whose link is still there."""
     took, taken = [], []
     while len(took) < 5 and min(took, default=9) >= 0.25:
         with walked(folder, Deaf(stagebox(), SETS)) as (_, panel):
@@ -814,9 +810,8 @@ def failing(folder):
 
 
 def unwatched(folder):
-    """A device is found while no page asks for anything: its answers wake the panel. The fastest of nine runs counts,
-    which takes a third of a second where the machine is not busy; where its timers alone wake it, each takes some two
-    seconds."""
+    """A device is found while no page asks for anything: its answers wake the panel. The fastest of nine runs counts, which takes a third
+    of a second where the machine is not busy; where its timers alone wake it, each takes some two seconds."""
     took, is_found = [], False
     while len(took) < 9 and min(took, default=9) >= 1:
         with Served(oca.bench(80)) as device, Panel(folder, device.port) as panel:
@@ -853,8 +848,7 @@ def trouble_of(panel, ono, trouble, value=None):
 
 
 def ailing(folder):
-    """Why the value of an object can't be read is shown, beside the last one that was, and no longer once it is read
-    again."""
+    """Why the value of an object can't be read is shown, beside the last one that was, and no longer once it is read again."""
     with Ailing(oca.bench()) as device, Panel(folder, device.port) as panel:
         for value in (None, "0"):
             device.ails = True
@@ -968,9 +962,8 @@ def last_answer(s):
 
 
 def behind_untaken_answers(folder):
-    """An order that came while the panel stood still, on a connection whose answers nobody took so far, is told as not
-    sent: the panel reads it only once they are taken. It is tried again where the machine was so busy that the
-    connection had its 5 seconds."""
+    """An order that came while the panel stood still, on a connection whose answers nobody took so far, is told as not sent: the panel
+    reads it only once they are taken. It is tried again where the machine was so busy that the connection had its 5 seconds."""
     ahead = Ahead()
     with walked(folder, **ahead.words) as (device, panel):
         same("an order before answers that nobody takes", panel.fare("/set", MUTE, "muted"), None)
@@ -1139,8 +1132,7 @@ def counted(folder):
 
 
 def at_its_port(folder):
-    """The socket for the device is at the port that is given; and a panel that follows another one at its port is
-    answered."""
+    """The socket for the device is at the port that is given; and a panel that follows another one at its port is answered."""
     port = str(free_port())
     with bound() as silent, Panel(folder, silent.getsockname()[1], "--port", port):
         silent.settimeout(20)
@@ -1184,8 +1176,7 @@ def by_its_names(folder):
 
 
 def runs(folder):
-    """Each start has another run. A page of another run is answered all, its orders are refused, and nothing of them is
-    taken."""
+    """Each start has another run. A page of another run is answered all, its orders are refused, and nothing of them is taken."""
     with Device(folder) as device:
         here, numbers = f"127.0.0.1:{device.port}", []
         for _ in range(2):

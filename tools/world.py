@@ -579,16 +579,8 @@ def main():
     print(f"bad lines refused: {lines} of {len(bad_lines())}")
     print("altered transcripts refused by the law that they break: {} of {}".format(*altered_lines))
     return verdict({
-        "answers": total["answers"], "only": total["only"] and total["only, of a peer that found no room before"],
-        "untaken": total["untaken, the oldest of a full window"] and total["untaken, of more peers ever"],
-        "room": total["room, of more peers ever"], "once": total["once"],
-        "in time": total["in time, of a forgotten peer"] and total["in time, copies to a forgotten peer"],
-        "said": total["said, of readings"],
-        "round trip": total["round trips of a command that is still untaken"],
-        "through": total["waiting, asked so, and sent again"],
-        "second": total["schedules"] >= count and total["refused"],
-        "premises": total["premises met, with loss, double and overtaking"], "sizes": good,
-        "lines": lines == len(bad_lines()), "wrong": all(found for found, _ in wrong),
+        **{law: all(total[name] for name in names) for law, names in DATA.needs.items()}, "second": total["schedules"] >= count and total["refused"],
+        "sizes": good, "lines": lines == len(bad_lines()), "wrong": all(found for found, _ in wrong),
         "altered": total["altered"] and altered_lines[0] == altered_lines[1]})
 
 
