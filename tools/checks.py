@@ -32,6 +32,18 @@ def waited(holds, seconds=60.0, pause=0.01):
     return time.monotonic() - begun
 
 
+def nulls_of(run, seconds=30):
+    """The descriptors of a run at which the null device stands, once it has a socket; nothing where it has none in so many seconds."""
+    def files():
+        with contextlib.suppress(OSError):
+            return {int(number): os.readlink(f"/proc/{run.pid}/fd/{number}") for number in os.listdir(f"/proc/{run.pid}/fd")}
+        return {}
+
+    is_there = lambda: any(what.startswith("socket:") for what in files().values())
+    waited(lambda: is_there() or run.poll() is not None, seconds, 0.005)
+    return sorted(number for number, what in files().items() if what == "/dev/null") if is_there() else None
+
+
 class Serving:
     """A run of a program that serves: the notes that it says first, and where it says that it listens. It is ended with the block that it stands in."""
 

@@ -26,7 +26,7 @@ from pathlib import Path
 import checks
 import grants
 import oca_profile as oca
-from checks import ended, layer, waited, write
+from checks import ended, layer, nulls_of, waited, write
 from own_ports import at, bound, free_port, heard
 from tables import data
 
@@ -436,20 +436,6 @@ def broken_pipes(checks):
             printed = run.communicate(timeout=60)[0][:len(begins)]
             checks.same(f"{words}: its errors are a broken pipe", (printed, run.returncode), (begins, status))
     os.close(writer)
-
-
-def nulls_of(run):
-    """The descriptors of a run at which the null device stands, once it has a socket; nothing where it has none in ten seconds."""
-    place, until = f"/proc/{run.pid}/fd", time.monotonic() + 10
-    while run.poll() is None and time.monotonic() < until:
-        try:
-            there = {name: os.readlink(f"{place}/{name}") for name in os.listdir(place)}
-        except OSError:
-            continue
-        if any(what.startswith("socket:") for what in there.values()):
-            return sorted(int(name) for name, what in there.items() if what == "/dev/null")
-        time.sleep(0.005)
-    return None
 
 
 def null_at_closed(checks):

@@ -22,7 +22,7 @@ import time
 import namespaces
 import oca_profile as oca
 import peers
-from checks import Checks, Serving, ended, write
+from checks import Checks, Serving, ended, waited, write
 from own_ports import bound
 
 DEVICE, PORT, OWN_PORT, MUTE = "10.98.9.9", 65000, 20001, 4097
@@ -107,16 +107,11 @@ def order(host):
         c.request(method, path, body, {"Host": host, "Origin": f"http://{host}", "Content-Type": "application/json"})
         return json.loads(c.getresponse().read() or "null")
 
-    until = time.monotonic() + 40
-    while not any(o["ono"] == MUTE and o.get("value") for o in ask("GET", "/values?since=0")["objects"]) and time.monotonic() < until:
-        time.sleep(0.05)
+    waited(lambda: any(o["ono"] == MUTE and o.get("value") for o in ask("GET", "/values?since=0")["objects"]), 40, 0.05)
     ticket = ask("POST", "/set", json.dumps({"ono": MUTE, "value": "muted"}))
-    while time.monotonic() < until:
-        for told in ask("GET", "/values?since=0")["told"]:
-            if told["ticket"] == ticket:
-                return print(told["trouble"])
-        time.sleep(0.05)
-    return print("not told")
+    fared = lambda: [told["trouble"] for told in ask("GET", "/values?since=0")["told"] if told["ticket"] == ticket]
+    waited(fared, 40, 0.05)
+    print(*fared() or ["not told"])
 
 
 def cut_between(machines, relay, keeps_address):

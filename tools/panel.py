@@ -19,9 +19,9 @@ import socket
 import subprocess
 import sys
 import tempfile
-import threading
 import time
 from collections import Counter
+from concurrent.futures import ThreadPoolExecutor
 from pathlib import Path
 from unittest.mock import patch
 
@@ -744,9 +744,7 @@ def aged(folder):
             return told.get(TRIM)
         for holds in (False, True, False, True, False):
             device.holds = holds
-            until = time.monotonic() + 30
-            while time.monotonic() < until and (age() is not None) != holds:
-                time.sleep(0.02)
+            waited(lambda: (age() is not None) == holds, 30, 0.02)
             same(f"where answers are kept back ({holds}), whether the reading is told as old", age() is not None, holds)
         same("readings that are told as younger than they are, or that are not old or not shown", wrong[:5], [])
 
@@ -1324,33 +1322,21 @@ def at_port_80(folder):
         same("an order of its page", got, 202)
 
 
-class Steady(threading.Thread):
-    """A connection with a request each half second, for longer than one on which nothing moves is kept: 30 seconds."""
-
-    def __init__(self, folder):
-        super().__init__(daemon=True)
-        self.folder, self.asked, self.answered = folder, 0, 0
-
-    def run(self):
-        with Device(self.folder) as device, Panel(self.folder, device.port) as panel:
-            with panel.connected() as s, contextlib.suppress(OSError):
-                until = time.monotonic() + 33
-                while time.monotonic() < until and self.asked == self.answered:
-                    self.asked += 1
-                    s.sendall(panel.asks("GET", "/nothing"))
-                    self.answered += whole_answer(s).startswith(b"HTTP/1.1 404")
-                    time.sleep(0.5)
-
-    def ends(self):
-        """It was answered each time."""
-        self.join()
-        check(self.asked == self.answered > 1, f"a connection with a request each half second: {self.answered} of {self.asked} are answered")
+def steady(folder):
+    """A connection with a request each half second, for longer than one on which nothing moves is kept (30 seconds): how many are asked and answered."""
+    asked, answered, until = 0, 0, time.monotonic() + 33
+    with Device(folder) as device, Panel(folder, device.port) as panel, panel.connected() as s, contextlib.suppress(OSError):
+        while time.monotonic() < until and asked == answered:
+            asked += 1
+            s.sendall(panel.asks("GET", "/nothing"))
+            answered += whole_answer(s).startswith(b"HTTP/1.1 404")
+            time.sleep(0.5)
+    return asked, answered
 
 
 def main():
-    folder = sys.argv[1]
-    steady = Steady(folder)
-    steady.start()
+    folder, pool = sys.argv[1], ThreadPoolExecutor(1)
+    beside = pool.submit(steady, folder)
     for part in (words, spans, bound_for, classes, seldom, of_other_classes, in_two_blocks, visible_first, often, aged, newer_than_an_answer,
                  beside_an_order, late_orders, behind_untaken_answers, over_a_stop, asleep, failing, unwatched, troubled, ailing, counted, without_a_page,
                  at_its_port, at_an_old_port, by_its_names, a_mute, limits_of_orders, runs, many_orders, labels, lost_stays_told, tokens, only_shown,
@@ -1364,7 +1350,8 @@ def main():
             part(panel)
     for part in (lossy, cut_off, gone_and_back, many, rest):
         part(folder)
-    steady.ends()
+    asked, answered = beside.result()
+    check(asked == answered > 1, f"a connection with a request each half second: {answered} of {asked} are answered")
     return ITS.verdict()
 
 

@@ -22,7 +22,7 @@ from pathlib import Path
 import grants
 import oca_profile as oca
 import own_ports
-from checks import Checks, ended, waited, write
+from checks import Checks, ended, nulls_of, write
 from own_ports import at, bound, free_port, heard
 from tables import data
 
@@ -284,20 +284,12 @@ def unwritten(checks):
             checks.same(f"{words}, which can't be written", (said.splitlines()[-1:], status), (["write failed"], 1))
 
 
-def files_of(run):
-    """The files of a run by its descriptors, as far as they can be told."""
-    with contextlib.suppress(OSError):
-        return {int(number.name): os.readlink(number) for number in Path(f"/proc/{run.pid}/fd").iterdir()}
-    return {}
-
-
 def without_streams(checks):
     """Where the standard streams are closed, no socket takes the place of one of them, to which what is printed would go."""
     with bound() as device:
         for words in ("ocadev serve --port 0", f"ocactl send --device {at(device)} {SENT}", f"ocapanel --device {at(device)} --listen 127.0.0.1:0"):
             run = checks.start(*words.split(), stdin=None, stdout=None, stderr=None, preexec_fn=lambda: [os.close(stream) for stream in range(3)])
-            waited(lambda: any("socket" in name for name in files_of(run).values()), 30, 0)
-            checks.same(f"{words} without standard streams: what they are", [files_of(run).get(number) for number in range(3)], ["/dev/null"] * 3)
+            checks.same(f"{words} without standard streams: what they are", (nulls_of(run) or [])[:3], [0, 1, 2])
             run.kill()
             run.wait()
 
