@@ -25,11 +25,11 @@ import oca_profile as oca
 from checks import Checks, Serving
 from lossy import Network
 from own_ports import free_port
-from tables import data
+from tables import table
 
 TOP = Path(__file__).resolve().parent.parent
 EXAMPLE, TREE = TOP / "examples/python/controller.py", "examples/stagebox.tree"
-SPAN, TRIES, DATA = 16, 20, data("python_controller")
+SPAN, TRIES, DATA = 16, 20, table("python_controller")
 MUTES, TRIMS = range(4098, 4138, 5), range(4100, 4138, 5)
 ROW = r"\| [^|]+ \| `([0-9A-F ]+)` \| `([0-9A-F .]+)`[^|]* \|"
 
@@ -42,11 +42,6 @@ def example(old="", new=""):
     module = sys.modules["controller"] = ModuleType("controller")    # where its dataclasses look for their types
     exec(compile(text.replace(old, new) if old else text, EXAMPLE, "exec"), module.__dict__)
     return module
-
-
-def answer(handle, status=0):
-    """A response without parameters."""
-    return oca.response(handle, status, 0, b"")
 
 
 def what_is_due(its, link, now):
@@ -64,49 +59,23 @@ def what_is_due(its, link, now):
 
 
 def rules(checks, its):
-    """The link of the example, moment by moment; moments are sums of fractions of 2, so that none is rounded."""
-    get = its.Request(4097, 4, 1)
-    link = its.Link(1, last_sent=0.0)
-    link.submit(get, 0.0)
-    due = [(now, what_is_due(its, link, now)) for now in [0.0, 0.125, *(n / 4 for n in range(1, 21))]]
-    checks.same("20 transmissions, then lost", due, [(0.0, [1]), (0.125, []), *((n / 4, [1]) for n in range(1, 20)), (5.0, ["lost"])])
-    checks.same("an answer still comes in", [it.handle for it in link.heard(answer(1))], [1])
-
-    link = its.Link(1, last_sent=0.0)
-    checks.same("keep-alives", [what_is_due(its, link, now) for now in (2.25, 2.5, 2.5, 4.75, 5.0)], [[], ["alive"], [], [], ["alive"]])
-    link.submit(get, 5.25)
-    checks.same("none beside a command", [what_is_due(its, link, now) for now in (5.25, 7.75)], [[1], [1]])
-    checks.same("its bytes", link.due(99.0) if link.heard(answer(1)) else None, bytes.fromhex("3B00010000000B0400010005"))
-
-    link = its.Link(1, last_sent=0.0)
-    for _ in range(SPAN):
-        checks.same("room", link.has_room(), True)
-        link.submit(get, 0.0)
-    checks.same("a full span", link.has_room(), False)
-    checks.same("the lowest first", what_is_due(its, link, 0.0), [*range(1, 17)])
-    checks.same("the second answer alone", [len(link.heard(answer(2))), link.has_room()], [1, False])
-    checks.same("no more at once", [len(link.heard(answer(2))), len(link.heard(answer(99)))], [0, 0])
-    both = oca.pdu(3, [oca.response_body(handle, 0, 0, b"") for handle in (3, 4)]) + oca.pdu(4, [b"\0\1"]) + answer(1)
-    checks.same("all answers of a datagram", [it.handle for it in link.heard(both)], [3, 4, 1])
-    checks.same("room behind them", [link.has_room(), min(link.flights)], [True, 5])
-    checks.same("copies of the others", what_is_due(its, link, 0.25), [*range(5, 17)])
-    two = oca.pdu(3, [oca.response_body(handle, 0, 0, b"") for handle in (5, 6)])
-    for bad in (both[:-1], both + b"\0", b"\x3c" + both[1:], two[:9] + b"\1" + two[10:], two[:9] + b"\3" + two[10:],
-                two + oca.pdu(4, [b"\0\1"])[:-1]):
-        checks.same("a malformed datagram", refuses(link, bad), True)
-    checks.same("it brings nothing", len(link.flights), 12)
-
-    link = its.Link(1, last_sent=0.0)
-    link.submit(get, 0.0)
-    checks.same("too late, though never sent", [what_is_due(its, link, now) for now in (15.125, 16.0)], [["lost"], ["lost"]])
-    link = its.Link(1, last_sent=0.0)
-    link.submit(get, 0.0)
-    checks.same("just in time", what_is_due(its, link, 15.0), [1])
+    """The link of the example, moment by moment, by the rows of links."""
+    for steps in DATA["links"]:
+        link = its.Link(1, last_sent=0.0)
+        found = {"due": lambda moments: [what_is_due(its, link, now) for now in moments], "sends": lambda now: link.due(now).hex().upper(),
+                 "heard": lambda data: [it.handle for it in link.heard(bytes.fromhex(data))], "has room": link.has_room,
+                 "in flight": lambda: sorted(link.flights), "refuses": lambda data: refuses(link, bytes.fromhex(data))}
+        for kind, *given in steps:
+            if kind == "submit":
+                link.submit(its.Request(4097, 4, 1), *given)
+            else:
+                what, *asked, wanted = given
+                checks.same(what, found[kind](*asked), wanted)
 
 
 def wrong_ones(checks):
     """A link that breaks a rule is found."""
-    for old, new in DATA.wrong:
+    for old, new in DATA["wrong"]:
         tried = Checks()
         with contextlib.redirect_stdout(io.StringIO()):
             try:
@@ -161,9 +130,9 @@ def runs(checks, folder, device):
                 [[ono, container, role] for ono, _, container, role in wanted])
     checks.same("its classes", {parts(line)[1] for line in listed}, {"block", "mute", "polarity", "int16", "switch", "boolean"})
     checks.same("its labels", ({line.split(" ")[-1] for line in listed}, status), ({'""'}, 0))
-    for what, who, words, printed, status in DATA.in_turn:
+    for what, who, words, printed, status in DATA["in_turn"]:
         checks.same(what, (python if who == "python" else ocactl)(*words.split()), ([*printed], status))
-    for words in map(str.split, DATA.nothing):
+    for words in map(str.split, DATA["nothing"]):
         checks.same(f"nothing to do: {words}", python(*words), ([], 1))
     lock(checks, at, python, ocactl)
 
@@ -178,7 +147,7 @@ def lock(checks, at, python, ocactl):
     words = [sys.executable, str(EXAMPLE), at, "lock", "4098", "4096", "4103"]
     holder = subprocess.Popen(words, cwd=TOP, stdin=subprocess.PIPE, stdout=subprocess.PIPE, text=True)
     checks.same("lock", [holder.stdout.readline() for _ in range(3)], ["4098 locked\n", "4096 InvalidRequest\n", "4103 locked\n"])
-    for what, who, words, printed, status in DATA.while_locked:
+    for what, who, words, printed, status in DATA["while_locked"]:
         checks.same(what, (python if who == "python" else ocactl)(*words.split()), ([*printed], status))
     checks.same("of a refusal", python("lock", "4098", stdin=subprocess.DEVNULL), (["4098 Locked"], 4))
     rest, _ = holder.communicate("\n", timeout=120)
