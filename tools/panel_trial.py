@@ -365,6 +365,7 @@ def steps(folder, device, one, name, two=None, panel=None):
     sends = lambda number: lambda whom: (device if whom == "device" else panel).process.send_signal(number)
     does = {"run": one.run, "wait": one.wait, "holds": one.holds, "click": one.click, "wheel": one.wheel, "key": one.key, "type": one.type,
             "sleep": time.sleep, "stop": sends(signal.SIGSTOP), "go on": sends(signal.SIGCONT),
+            "is": lambda script, value, what: same(what, one.run(script), value),
             "fares": lambda ono, value, what: one.holds(shows(ono, value), what),
             "both": lambda value, what: one.holds(f"{shows(MUTE, value)}&&{shows(OTHER_MUTE, value)}", what),
             "each holds": lambda script, what: [window.holds(script, what) for window in (one, two)],
@@ -596,22 +597,17 @@ def hostile(folder, browser):
     text = "".join(f'{5000 + 2 * n} 100 block lockable "{role}"\n{5001 + 2 * n} {5000 + 2 * n} mute muted lockable "{role}"\n'
                    for n, role in enumerate(DATA.hostile))
     with Device(folder, 0, text) as device, program(folder, device.port) as panel, opened(browser, panel.address, "a hostile device is shown") as window:
-        runs_nothing = "window.ran===undefined&&document.scripts.length===1&&!document.querySelector('main img,main script')"
-        same("its texts run nothing", window.run(runs_nothing), True)
+        steps(folder, device, window, "hostile")
         names = window.run("strips.map(s=>s.name.textContent)")
         check(any(name.startswith("<img src=x") for name in names), f"they are shown as texts: {names}")
         check(all(len(name) <= 120 for name in names), "and not without an end")
-        same("and make nothing wider", window.run("document.documentElement.scrollWidth<=1280"), True)
 
 
 def watching(folder, browser):
     """A panel that is read only shows all, and no control that acts."""
     with Device(folder) as device, program(folder, device.port, "--read-only") as panel, \
             opened(browser, panel.address, "a page that is read only shows the device") as window:
-        same("it says that it is read only", window.run("!$('watch').hidden&&$('watch').getClientRects().length>0"), True)
-        acts = "main button:not(.select),main input,main [role=slider],#guard,#undo,#mute-all"
-        same("controls that act", window.run(f"[...document.querySelectorAll('{acts}')].filter(e=>e.getClientRects().length).length"), 0)
-        same("a value in words", window.run(f"{part(MUTE)}.textContent"), "muted")
+        steps(folder, device, window, "watching")
 
 
 def with_token(folder, browser):
