@@ -212,6 +212,11 @@ class Window:
         if release:
             self.mouse("mouseReleased", x, y - by)
 
+    def let_go(self, what):
+        """The mouse is let go over an element."""
+        x, y, _, _ = self.place(what)
+        self.mouse("mouseReleased", x, y)
+
     def key(self, key, code=0, text=""):
         for kind, more in (("keyDown", {"text": text}) if text else ("rawKeyDown", {}), ("keyUp", {})):
             self.call("Input.dispatchKeyEvent", type=kind, key=key, code=key, windowsVirtualKeyCode=code, **more)
@@ -356,15 +361,17 @@ def by_hand(folder, device, browser, address):
     if one.run(row(MUTE, ".value")) == "muted":
         one.click(part(MUTE))
     steps(folder, device, one, "many")
-    held_by_one(one, two)
+    steps(folder, device, one, "held", two)
     return one, two
 
 
-def steps(folder, device, one, name, two=None, panel=None):
+def steps(folder, device, one, name, two=None, panel=None, relay=None):
     """What is done in a window by the rows of this name of tools/rows/by_hand.toml, and what then holds."""
     sends = lambda number: lambda whom: (device if whom == "device" else panel).process.send_signal(number)
     does = {"run": one.run, "wait": one.wait, "holds": one.holds, "click": one.click, "wheel": one.wheel, "key": one.key, "type": one.type,
-            "sleep": time.sleep, "stop": sends(signal.SIGSTOP), "go on": sends(signal.SIGCONT),
+            "drag": one.drag, "let go": one.let_go, "sleep": time.sleep, "stop": sends(signal.SIGSTOP), "go on": sends(signal.SIGCONT),
+            "loses": lambda share: setattr(relay, "share", share), "other runs": lambda script: two.run(script),
+            "agrees": lambda what: same(what, said(folder, device, MUTE), [one.run(row(MUTE, ".value"))]),
             "is": lambda script, value, what: same(what, one.run(script), value),
             "fares": lambda ono, value, what: one.holds(shows(ono, value), what),
             "both": lambda value, what: one.holds(f"{shows(MUTE, value)}&&{shows(OTHER_MUTE, value)}", what),
@@ -400,21 +407,6 @@ def labels(folder, device, two):
     for label, name in [("Lead <b>vocal</b>", "Lead <b>vocal</b>"), ("\u202elacov", "\ufffdlacov"), ("", "channel 1")]:
         give_label(folder, device, BLOCK, label)
         two.holds(f"{row(MUTE, '.strip.name.textContent')}==={json.dumps(name)}", f"the label {label!r} is shown as {name!r}")
-
-
-def held_by_one(one, two):
-    """A fader that is held in one window is not moved by the other one, which is shown beside it."""
-    now = f"{FADER}.getAttribute('aria-valuenow')"
-    one.drag(CAP, 20, release=False)
-    one.holds(f"!isOut({row(TRIM)},'set')", "what the hand moved was sent")
-    here = one.run(now)
-    two.run(f"change({row(TRIM)},'-500')")
-    beside = row(TRIM, ".view.second.lastElementChild.textContent")
-    one.holds(f"{row(TRIM, '.value')}==='-500'&&{beside}==='device −500'", "another's value stands beside the hand")
-    same("the hand was not moved", one.run(now), here)
-    x, y, _, _ = one.place(CAP)
-    one.mouse("mouseReleased", x, y)
-    one.holds(f"{now}==='-500'", "once it is let go it shows what the device has")
 
 
 def looks(one):
@@ -562,17 +554,7 @@ def cut_off(folder, browser):
     """A network that is cut over a device that lives on: that is said, and the page goes on where it was."""
     with Device(folder) as device, Lossy(device.port, share=0) as relay, program(folder, relay.port) as panel, \
             opened(browser, panel.address, "the page is live") as window:
-        strips = window.run("strips.length")
-        relay.share = 1
-        window.run(f"change({row(MUTE)},'unmuted')")
-        window.holds("['silent','lost'].includes(program.state)&&document.body.classList.contains('old')", "a network that is cut is said", 30)
-        window.holds("program.state==='lost'", "the device is lost then", 60)
-        window.holds(f"{message_has('lost')}||!{row(MUTE)}", "an order in flight is told as lost", 60)
-        relay.share = 0
-        window.holds(f"{LIVE}&&strips.length==={strips}", "the device that lived on is found again", 60)
-        window.run(f"change({row(MUTE)},{row(MUTE)}.value==='muted'?'unmuted':'muted')")
-        window.holds(idle(MUTE), "and takes orders")
-        same("the mute is what the page shows", said(folder, device, MUTE), [window.run(row(MUTE, ".value"))])
+        steps(folder, device, window, "cut_off", relay=relay)
 
 
 def large(folder, browser):
