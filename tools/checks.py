@@ -60,6 +60,7 @@ class Serving:
         return self if self.port else sys.exit(f"{self.process.args[0]} said {self.said!r}")
 
     def end(self, *_):
+        """Ends the run."""
         self.process.kill()
         self.process.wait()
 
