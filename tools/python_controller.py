@@ -221,18 +221,15 @@ def over_the_network(checks, device, seed, least, *words, keep_alives=0):
 def at_a_loss(checks, device):
     """The example over a bad network; what was executed of it is checked once the device has ended."""
     sets = [(ono, "muted") for ono in MUTES] + [(ono, str(ono - 4100)) for ono in TRIMS]
-    asked = [word for ono, value in sets for word in (str(ono), value)]
-    printed, status, first = over_the_network(checks, device, 1, SPAN, "set", *asked)
-    checks.same("set at a loss", (printed, status), ([f"{ono} {value}" for ono, value in sets], 0))
-    printed, status, second = over_the_network(checks, device, 2, SPAN, "get", *map(str, [*MUTES, *TRIMS]))
-    wanted = [f"{ono} {value}{' (-600 to 600)' if ono in TRIMS else ''}" for ono, value in sets]
-    checks.same("get at a loss", (printed, status), (wanted, 0))
-    printed, status, third = over_the_network(checks, device, 3, SPAN, "list")
-    checks.same("list at a loss", (len(printed), status), (42, 0))
-    printed, status, fourth = over_the_network(checks, device, 4, 2, "lock", "4098", "4100", keep_alives=2)
-    checks.same("lock at a loss", (printed, status), (["4098 locked", "4100 locked", "4098 unlocked", "4100 unlocked"], 0))
-    checks.same("locks are held by keep-alives", fourth.alive >= 2, True)
-    watches = [first, second, third, fourth]
+    tries = [(SPAN, 0, ["set", *(word for ono, value in sets for word in (str(ono), value))], [f"{ono} {value}" for ono, value in sets]),
+             (SPAN, 0, ["get", *map(str, [*MUTES, *TRIMS])], [f"{ono} {value}{' (-600 to 600)' if ono in TRIMS else ''}" for ono, value in sets]),
+             (SPAN, 0, ["list"], 42), (2, 2, ["lock", "4098", "4100"], ["4098 locked", "4100 locked", "4098 unlocked", "4100 unlocked"])]
+    watches = []
+    for seed, (least, alive, words, wanted) in enumerate(tries, 1):
+        printed, status, watch = over_the_network(checks, device, seed, least, *words, keep_alives=alive)
+        checks.same(f"{words[0]} at a loss", (len(printed) if words == ["list"] else printed, status), (wanted, 0))
+        watches.append(watch)
+    checks.same("locks are held by keep-alives", watches[-1].alive >= 2, True)
     carried = [sum(counts) for counts in zip(*((it.network.lost, it.network.doubled, it.network.overtaken) for it in watches))]
     checks.same("datagrams were lost, doubled and overtaken", min(carried) > 20, True)
     return watches
