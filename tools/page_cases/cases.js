@@ -409,7 +409,7 @@ const CASES = [
     click(part(11));
     await flying();
     skipped += 8100;
-    await until(() => words(11).startsWith("mute"));
+    await until(() => words(11).startsWith("mute") && !words(11).includes("not yet confirmed"));
     return [words(11)];
   }],
   ["at most 64 orders in a body", [true, 70], async () => {
