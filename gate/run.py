@@ -40,7 +40,8 @@ TABLE = []  # a line for each command that has ended
 WRONG = []  # lines that say what failed
 PROVED = re.compile(r"rt: (\S+) (?:proved$|is kept: )")  # what `rt ci` says of a crate that it has proved
 ENDED = "(ended)"
-SAYS_WRONG = re.compile(r"WRONG: |FAILED|NOT (PROVED|REFUSED|TRIED|BUILT)|is not what its file")
+SAYS_WRONG = re.compile(r"WRONG: |FAILED|NOT (PROVED|REFUSED|BUILT)|: NOT TRIED|is not what its file")
+SAYS_WELL = ": rightly not refused: "  # of an edit that tries `edits.py` itself: behind it stands why, in the words of one that failed
 MOST_WRONG = 12  # so many of these lines are shown at the end
 
 
@@ -102,7 +103,7 @@ def counted(last, status, least):
 def note_wrong(lines):
     """Notes the lines that say what failed; of a failed command that has none, the last three."""
     lines = [line.strip() for line in lines if line.strip()]
-    WRONG.extend([line for line in lines if SAYS_WRONG.search(line)] or lines[-3:])
+    WRONG.extend([line for line in lines if SAYS_WRONG.search(line) and SAYS_WELL not in line] or lines[-3:])
 
 
 def took(command, begun, passed, failed, why=""):

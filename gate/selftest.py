@@ -54,10 +54,18 @@ def is_as_wanted(folder, steps, passes, last):
 
 
 def tells_what_failed(folder):
-    """Behind the table stands what failed: the lines that say so, of a step that has none its last ones, and nothing of a step that passed."""
+    """Behind the table stands what failed: the lines that say so, of a step that has none its last ones, and nothing of a step that passed, nor
+    of one that failed what it only could not try, and the edits that `edits.py` rightly did not refuse, whatever it says of them."""
     steps = ("1 1 echo 'x: FAILED: it is so'; echo y; echo '1 passed, 1 failed'\n1 1 echo z; false\n"
-             "1 1 echo 'w: FAILED before'; echo '1 passed, 0 failed'")
-    return is_same(["x: FAILED: it is so", "z"], gate_over(folder, steps)[2])
+             "1 1 echo 'w: FAILED before'; echo '1 passed, 0 failed'\n"
+             "1 1 cat well; echo 'NOT TRIED: v is not installed'; echo 'u/a.edit: NOT TRIED: its check hung'; echo '1 passed, 2 failed'")
+    trial = edits.Trial(SimpleNamespace(folder=folder, name="a"), folder)
+    of = {"must_pass": True, "is_refused": False, "is_misnamed": False, "says": "still proved", "path": folder / "a.edit"}
+    trial.edits = [SimpleNamespace(why=why, **of) for why in (answered([]).reason(None), "still proved: FAILED, it is WRONG: NOT TRIED")]
+    well = "".join(f"{line}\n" for line in said(trial.told)[1].splitlines())
+    (folder / "well").write_text(well)
+    told = gate_over(folder, steps.replace("cat well", f"cat '{folder}/well'"))[2]
+    return well.count("NOT REFUSED: ") == 1 and well.count("\n") == 2 and is_same(["u/a.edit: NOT TRIED: its check hung", "x: FAILED: it is so", "z"], told)
 
 
 def finds_what_is_left_out(folder):
