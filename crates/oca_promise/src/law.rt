@@ -46,11 +46,12 @@ pub fn law_of_calls()
 /// begin commands, wait for them, look them up, or take turns. The premises are those of [`law_of_calls`].
 ///
 /// Once: each answer is that of the only execution of the command that was begun under this handle, and this lies
-/// between the begin and the taking of the answer. In time: none of these calls sends while the link is late. Refused:
-/// a refusal changed no object. Set: what was confirmed was set, if the object is of the value's class. Reading: what
-/// was read is how the object read at a moment between, if it is of the class that was given. Answer: what is read of
-/// the answer to any method is what the object answered, and the object was left as the request makes it, if the object
-/// is of the class that was given or every class answers the method alike. It does nothing at run time.
+/// between the begin and the taking of the answer; no call between takes this answer. In time: none of these calls
+/// sends while the link is late. Refused: a refusal changed no object. Set: what was confirmed was set, if the object
+/// is of the value's class. Reading: what was read is how the object read at a moment between, if it is of the class
+/// that was given. Answer: what is read of the answer to any method is what the object answered, and the object was
+/// left as the request makes it, if the object is of the class that was given or every class answers the method alike.
+/// It does nothing at run time.
 pub fn law_of_flights()
     ensures once { EveryAnsweredFlightKeeps IsOfOneExecutionSince }
     ensures in_time { EveryFlightIsInTime }
