@@ -48,7 +48,7 @@ fixed_kept (step ∷ es) n = fixed_kept es (after_step step n) ∙ one step
     one (ToLink k now) = by_reception now (slice_get n.to_links k)
     one (Other from bytes now) = by_other from bytes now (has_link from n.links)
     one (steps.Tick now) = refl
-    one (steps.Local ono value) = refl
+    one (steps.Local ono change) = refl
     one (Take i h) = by_take i h (slice_get n.links i)
 
 pub sizes_kept : (es : List Step) (n : Network) → (after_steps es n).sizes ≡ n.sizes

@@ -204,7 +204,7 @@ runs_step first s i p calls step n g = one step
     one (ToLink k now) = by_reception now (slice_get n.to_links k)
     one (Other from bytes now) = by_other from bytes now (has_link from n.links)
     one (steps.Tick now) = record { link = g.link; there = g.there; peer = g.peer; made = g.made; sent = g.sent }
-    one (steps.Local ono value) = record { link = g.link; there = g.there; peer = g.peer; made = g.made; sent = g.sent }
+    one (steps.Local ono change) = record { link = g.link; there = g.there; peer = g.peer; made = g.made; sent = g.sent }
     one (Take k j) = by_take k j (slice_get n.links k) refl
 
 runs_steps : (first s i : ℕ) (p : Peer) (calls : List Call) (es : List Step) (n : Network) → Runs first s i p calls n → Runs first s i p (calls_in i es n ++ calls) (after_steps es n)

@@ -641,7 +641,7 @@ timed_step law s i left step n sound in_time g = one step in_time
     one (ToLink k now) t = none (after_step (ToLink k now) n) (timed_step_reception i now left n g (slice_get n.to_links k))
     one (Other from bytes now) t = none (after_step (Other from bytes now) n) (timed_step_other i from bytes now left n g)
     one (steps.Tick now) t = none (after_step (steps.Tick now) n) (λ l own. let f = g l own in f)
-    one (steps.Local ono value) t = none (after_step (steps.Local ono value) n) (λ l own. let f = g l own in f)
+    one (steps.Local ono change) t = none (after_step (steps.Local ono change) n) (λ l own. let f = g l own in f)
     one (Take k h) t = none (after_step (Take k h) n) (timed_step_take i k h left n g (slice_get n.links k) refl)
 
 -- what left with the steps

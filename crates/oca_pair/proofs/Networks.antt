@@ -12,8 +12,7 @@ use Rattle.oca_pdu.specs.Reading.{read_datagram}
 use Rattle.oca_pdu.specs.Laws.{WrittenIsReadBack}
 use Rattle.oca_tree.specs.declared.object.Object.{Object}
 use Rattle.oca_session.specs.Accepted.{Entry}
-use Rattle.oca_model.specs.declared.value.Value.{Value}
-use Rattle.oca_tree.specs.LocalChanges.{ToValue}
+use Rattle.oca_tree.specs.LocalChanges.{LocalChange}
 use Rattle.oca_device.specs.Events.{Datagram}
 use Rattle.oca_device.specs.Answers.{packets}
 use Rattle.oca_control.specs.declared.fault.ControlFault.{ControlFault}
@@ -407,12 +406,12 @@ sound_tick s now n g = record {
   }) n.links g.each;
 }
 
-sound_local : (s ono : ℕ) (value : Value) (n : Network) → Sound s n → Sound s (after_step (steps.Local ono value) n)
-sound_local s ono value n g = record {
+sound_local : (s ono : ℕ) (change : LocalChange) (n : Network) → Sound s n → Sound s (after_step (steps.Local ono change) n)
+sound_local s ono change n g = record {
   apart = g.apart;
   each = each_map (λ z w. record {
     span = w.span;
-    fair = fair_local z.peer z.link.next z.link.untaken (past n) n.to_device n.to_links n.taken ono (ToValue value) w.fair;
+    fair = fair_local z.peer z.link.next z.link.untaken (past n) n.to_device n.to_links n.taken ono change w.fair;
     kept = w.kept;
     good = w.good;
   }) n.links g.each;
@@ -435,7 +434,7 @@ sound_step law s (ToLink k now) n fits g = by_sent (slice_get n.to_links k) refl
     by_sent (Some d) e = sound_reception s now n g d k e
 sound_step law s (Other from bytes now) n fits g = sound_other s from bytes now n g
 sound_step law s (steps.Tick now) n fits g = sound_tick s now n g
-sound_step law s (steps.Local ono value) n fits g = sound_local s ono value n g
+sound_step law s (steps.Local ono change) n fits g = sound_local s ono change n g
 sound_step law s (Take i h) n fits g = sound_take s i h n g (slice_get n.links i) refl
 
 pub sound_steps : (law : WrittenIsReadBack) (s : ℕ) (es : List Step) (n : Network) → AllByRecursion StepFits es → Sound s n → Sound s (after_steps es n)

@@ -13,7 +13,6 @@ use Rattle.oca_pdu.specs.Messages.{Msg, Response, KeepAlive, Command, ResponseFi
 use Rattle.oca_pdu.specs.Encoding.{pdu_encoding}
 use Rattle.oca_pdu.specs.Laws.{WrittenIsReadBack}
 use Rattle.oca_tree.specs.declared.object.Object.{Object}
-use Rattle.oca_tree.specs.LocalChanges.{ToValue}
 use Rattle.oca_device.specs.Events.{Datagram}
 use Rattle.oca_device.specs.Events as event
 use Rattle.oca_device.specs.Notes.{Noted, Admitted, Heartbeat, Executed, Note}
@@ -92,7 +91,7 @@ grown_step step n = one step
     one (ToLink k now) = by_reception now (slice_get n.to_links k)
     one (Other from bytes now) = by_other from bytes now (has_link from n.links)
     one (steps.Tick now) = record { sent = []; to_links = none_sent; more = []; submitted = none_more }
-    one (steps.Local ono value) = record { sent = []; to_links = none_sent; more = []; submitted = none_more }
+    one (steps.Local ono change) = record { sent = []; to_links = none_sent; more = []; submitted = none_more }
     one (Take i h) = by_take i h (slice_get n.links i)
 
 grown_on : (n m o : Network) → Grown n m → Grown m o → Grown n o
@@ -179,7 +178,7 @@ to_device_step step n a = one step
     one (ToLink k now) = by_reception now (slice_get n.to_links k)
     one (Other from bytes now) = by_other from bytes now (has_link from n.links)
     one (steps.Tick now) = a
-    one (steps.Local ono value) = a
+    one (steps.Local ono change) = a
     one (Take i h) = by_take i h (slice_get n.links i) refl
 
 to_device_steps : (es : List Step) (n : Network) → AreToDevice n.links → AreToDevice (after_steps es n).links
@@ -335,7 +334,7 @@ stands_step i h p step n g = one step
     one (ToLink k now) = by_reception now (slice_get n.to_links k)
     one (Other from bytes now) = by_other from bytes now (has_link from n.links)
     one (steps.Tick now) = record { link = g.link; there = g.there; peer = g.peer; kept = g.kept }
-    one (steps.Local ono value) = record { link = g.link; there = g.there; peer = g.peer; kept = g.kept }
+    one (steps.Local ono change) = record { link = g.link; there = g.there; peer = g.peer; kept = g.kept }
     one (Take k j) = by_take k j (slice_get n.links k) refl
 
 pub stands_steps : (i h : ℕ) (p : Peer) (es : List Step) (n : Network) → Stands i p h n.links n.taken → Stands i p h (after_steps es n).links (after_steps es n).taken
@@ -484,7 +483,7 @@ executed_steps p x (e ∷ es) n i = executed_steps p x es (after_step e n) (one 
     one (ToLink k now) = by_reception now (slice_get n.to_links k)
     one (Other from bytes now) = by_other from bytes now (has_link from n.links)
     one (steps.Tick now) = executed_then p x (past n) (event.Tick now) i
-    one (steps.Local ono value) = executed_then p x (past n) (event.Local ono (ToValue value)) i
+    one (steps.Local ono change) = executed_then p x (past n) (event.Local ono change) i
     one (Take k h) = by_take k h (slice_get n.links k)
 
 -- what a delivery is answered with was executed then or before

@@ -18,7 +18,6 @@ use Rattle.oca_tree.specs.Objects.{object_of}
 use Rattle.oca_tree.specs.Execution.{status_of}
 use Rattle.oca_tree.specs.Readers.{class_of_ono}
 use Rattle.oca_session.specs.Accepted.{Judgement, Fresh, Duplicate, Reused, Old}
-use Rattle.oca_tree.specs.LocalChanges.{ToValue}
 use Rattle.oca_device.specs.declared.verdict.Verdict.TheVariants as verdicts
 use Rattle.oca_device.specs.Events.{Event, Datagram, Tick, Local}
 use Rattle.oca_device.specs.Notes.{Noted, Admitted, Heartbeat, Executed, Note}
@@ -106,7 +105,7 @@ peers_step step n = one step
     one (ToLink k now) = by_reception now (slice_get n.to_links k)
     one (Other from bytes now) = by_other from bytes now (has_link from n.links)
     one (steps.Tick now) = refl
-    one (steps.Local ono value) = refl
+    one (steps.Local ono change) = refl
     one (Take k h) = by_take k h (slice_get n.links k) refl
 
 peers_steps : (es : List Step) (n : Network) → peers_of (after_steps es n).links ≡ peers_of n.links
@@ -284,7 +283,7 @@ does_step law s i l step n sound own = one step
     one (ToLink k now) = by_reception k now (slice_get n.to_links k)
     one (Other from bytes now) = by_other from bytes now (has_link from n.links) refl
     one (steps.Tick now) = inl (executions_are n.sizes p n.tree (Tick now ∷ n.events) ∙ sym (executions_are n.sizes p n.tree n.events))
-    one (steps.Local ono value) = inl (executions_are n.sizes p n.tree (Local ono (ToValue value) ∷ n.events) ∙ sym (executions_are n.sizes p n.tree n.events))
+    one (steps.Local ono change) = inl (executions_are n.sizes p n.tree (Local ono change ∷ n.events) ∙ sym (executions_are n.sizes p n.tree n.events))
     one (Take k h) = by_take k h (slice_get n.links k)
 
 -- what is among the executions after steps was before them, or happens in one of them

@@ -60,7 +60,7 @@ call_in i (Take link handle) n =
 call_in i (ToDevice k now) n = []
 call_in i (Other from bytes now) n = []
 call_in i (Tick now) n = []
-call_in i (Local ono value) n = []
+call_in i (Local ono change) n = []
 
 abbrev pub calls_in : ℕ → List Step → Network → List Call
 calls_in i [] n = []

@@ -43,7 +43,7 @@ departures_in (ToDevice k now) n = []
 departures_in (ToLink k now) n = []
 departures_in (Other from bytes now) n = []
 departures_in (Tick now) n = []
-departures_in (Local ono value) n = []
+departures_in (Local ono change) n = []
 departures_in (Take link handle) n = []
 
 -- the device's clock when something comes to it at this moment

@@ -12,10 +12,12 @@ use Rattle.oca_device.specs.Events.{Datagram}
 use Rattle.oca_device.specs.Events as event
 use Rattle.oca_device.specs.Answers.{packets, verdict}
 use Rattle.oca_device.specs.States.{state_after}
-use Rattle.oca_model.specs.declared.value.Value.{Value}
+use Rattle.oca_model.specs.declared.request.Request.TheVariants as asked
+use Rattle.oca_tree.specs.declared.front.FrontFault.{FrontFault}
+use Rattle.oca_tree.specs.declared.object.Object.{Object}
 use Rattle.oca_tree.specs.declared.setting.SetFault.{SetFault}
 use Rattle.oca_tree.specs.Settings.{set_fault}
-use Rattle.oca_tree.specs.LocalChanges.{ToValue}
+use Rattle.oca_tree.specs.LocalChanges.{LocalChange, ToValue, ToLabel, ToEnabled, ToUnlocked, ToFailing, front_fault}
 use Rattle.oca_control.specs.declared.fault.ControlFault.{ControlFault}
 use Rattle.oca_control.specs.Answers.{AnswerFields}
 use Rattle.oca_control.specs.Untaken.{answer_under}
@@ -40,8 +42,8 @@ pub data Step : Type 0 where
   Other : (from : Peer) (bytes : List ℕ) (now : ℕ) → Step
   -- the device reads its clock
   Tick : (now : ℕ) → Step
-  -- an object is set at the device's own front
-  Local : (ono : ℕ) (value : Value) → Step
+  -- an object is changed at the device's own front
+  Local : (ono : ℕ) (change : LocalChange) → Step
   -- the answer to a command is asked of a link
   Take : (link : ℕ) (handle : ℕ) → Step
 
@@ -57,7 +59,7 @@ is_there (ToDevice k now) n = is_some (slice_get n.to_device k)
 is_there (ToLink k now) n = is_some (slice_get n.to_links k)
 is_there (Other from bytes now) n = not (has_link from n.links)
 is_there (Tick now) n = true
-is_there (Local ono value) n = true
+is_there (Local ono change) n = true
 is_there (Take link handle) n = is_some (slice_get n.links link)
 
 -- the datagrams of a peer with these bytes
@@ -160,6 +162,17 @@ abbrev pub set_outcome : Option SetFault → Outcome
 set_outcome None = outcomes.Set
 set_outcome (Some fault) = outcomes.NotSet fault
 
+abbrev pub front_outcome : Option FrontFault → Outcome
+front_outcome None = outcomes.Changed
+front_outcome (Some fault) = outcomes.NotChanged fault
+
+abbrev pub local_outcome : List Object → ℕ → LocalChange → Outcome
+local_outcome tree ono (ToValue value) = set_outcome (set_fault tree ono value)
+local_outcome tree ono (ToLabel label) = front_outcome (front_fault tree ono (asked.SetLabel label))
+local_outcome tree ono (ToEnabled truth) = front_outcome (front_fault tree ono (asked.SetEnabled truth))
+local_outcome tree ono ToUnlocked = front_outcome (front_fault tree ono asked.Unlock)
+local_outcome tree ono (ToFailing truth) = front_outcome (front_fault tree ono (asked.SetEnabled truth))
+
 -- ---- THE NETWORK AFTER A STEP. A step that names what is not there does nothing.
 abbrev pub after_step : Step → Network → Network
 after_step (Submit link request now) n = after_submit link request now (slice_get n.links link) n
@@ -169,7 +182,7 @@ after_step (ToLink k now) n = after_reception now (slice_get n.to_links k) n
 after_step (Other from bytes now) n =
     if has_link from n.links then n else record n { events = Datagram from bytes now ∷ n.events }
 after_step (Tick now) n = record n { events = event.Tick now ∷ n.events }
-after_step (Local ono value) n = record n { events = event.Local ono (ToValue value) ∷ n.events }
+after_step (Local ono change) n = record n { events = event.Local ono change ∷ n.events }
 after_step (Take link handle) n = after_take link handle (slice_get n.links link) n
 
 -- THE NETWORK AFTER A SCHEDULE.
@@ -200,7 +213,7 @@ outcome_of (ToLink k now) n = reception_outcome (slice_get n.to_links k) n
 outcome_of (Other from bytes now) n =
     if has_link from n.links then [] else outcomes.Device (verdict n.sizes n.tree n.events from bytes now) ∷ []
 outcome_of (Tick now) n = outcomes.Ticked ∷ []
-outcome_of (Local ono value) n = set_outcome (set_fault (state_after n.sizes n.tree n.events).tree ono value) ∷ []
+outcome_of (Local ono change) n = local_outcome (state_after n.sizes n.tree n.events).tree ono change ∷ []
 outcome_of (Take link handle) n =
     on_link (λ l. take_outcome (answer_under handle l.link.untaken)) (slice_get n.links link)
 

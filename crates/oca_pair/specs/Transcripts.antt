@@ -2,6 +2,7 @@
 use Rattle.std.specs.Prelude.{◌≡◌, ℕ, true, false, List, map, Result, Ok, Err, Some, None}
 use Rattle.oca_types.specs.Sizes.{DeviceSizes}
 use Rattle.oca_tree.specs.declared.object.Object.{Object}
+use Rattle.oca_tree.specs.LocalChanges.{ToValue, ToLabel, ToEnabled, ToUnlocked, ToFailing}
 use Rattle.oca_device.specs.Devices.{Represents}
 use Rattle.oca_pair.specs.declared.fault.PairFault.{PairFault}
 use Rattle.oca_pair.specs.declared.fault.PairFault.TheVariants as faults
@@ -29,7 +30,11 @@ step_of (given.ToDevice k now) = ToDevice k now
 step_of (given.ToLink k now) = ToLink k now
 step_of (given.Other from bytes now) = Other from bytes.now now
 step_of (given.Tick now) = Tick now
-step_of (given.Local ono value) = Local ono.0 value
+step_of (given.Local ono value) = Local ono.0 (ToValue value)
+step_of (given.Label ono label) = Local ono.0 (ToLabel label.now)
+step_of (given.Enable ono enabled) = Local ono.0 (ToEnabled enabled)
+step_of (given.Unlock ono) = Local ono.0 ToUnlocked
+step_of (given.Fail ono failing) = Local ono.0 (ToFailing failing)
 step_of (given.Take link handle) = Take link handle.0
 
 -- The transcript of the steps from a network on: its lists, one outcome for each step, and a device that represents

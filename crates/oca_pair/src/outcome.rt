@@ -1,7 +1,7 @@
 //! What a step of a network led to.
 use oca_control::{Answer, ControlFault, Reception};
 use oca_device::Verdict;
-use oca_tree::SetFault;
+use oca_tree::{FrontFault, SetFault};
 use oca_types::Handle;
 
 /// What a step of a network led to.
@@ -27,6 +27,11 @@ pub enum Outcome {
     Set,
     /// The object was not set at the local front panel, for this fault.
     NotSet(SetFault),
+    /// The object got its label at the local front panel, was enabled or disabled there, or lost its lock, or its
+    /// hardware was said to refuse or not to.
+    Changed,
+    /// The object was not changed so, for this fault.
+    NotChanged(FrontFault),
     /// The link gave this answer.
     Answer(Answer),
     /// The link has no answer under the handle.

@@ -1,12 +1,15 @@
 //! A network as it runs: the device, the links, and what was sent.
 ghost use Rattle.std.specs.Prelude.{◌≡◌, ◌++◌, ◌∷◌, [], ℕ, IfOk, Ok, map, Option, Some, None};
+ghost use Rattle.std.specs.Result.{result_err};
 ghost use Rattle.oca_types.specs.Sizes.{sizes_of, span_size};
+ghost use Rattle.oca_tree.specs.LocalChanges.{ToValue, ToLabel, ToEnabled, ToUnlocked, ToFailing};
 ghost use Rattle.oca_control.specs.Links.{Request, submitted, submission, decision, gone_on, received, reception};
 ghost use Rattle.oca_control.specs.Links.{taken};
 ghost use Rattle.oca_control.specs.Untaken.{answer_under};
 ghost use Rattle.oca_pair.specs.Networks.{Network, SentDatagram, started, opening, device_address};
 ghost use Rattle.oca_pair.specs.Steps.{Submit, Due as DueStep, ToDevice, ToLink, Other, Tick as TickStep, Local, Take};
 ghost use Rattle.oca_pair.specs.Steps.{sendings_in, hears_datagram, submit_outcome, content_read, take_outcome};
+ghost use Rattle.oca_pair.specs.Steps.{front_outcome};
 ghost use Rattle.oca_pair.specs.PrivateRunning.{first_heard};
 
 use crate::given::Given;
@@ -17,7 +20,7 @@ use crate::step::Step;
 use oca_control::{Due, Link, Reception};
 use oca_device::{Device, Outbox};
 use oca_pdu::law_reading;
-use oca_tree::{Tree, Value};
+use oca_tree::{FrontFault, Tree, Value};
 use oca_types::{Handle, LOOPBACK, MethodId, NoMemory, Ono, Packet, Peer, Sizes, Span};
 use std::alloc::Global;
 use std::marker::Model;
@@ -200,6 +203,10 @@ impl Running {
             Step::Other { from, bytes, now } => self.deliver_other(from, bytes, now),
             Step::Tick { now } => Ok(self.tick(now)),
             Step::Local { ono, value } => Ok(self.set(ono, value)),
+            Step::Label { ono, label } => Ok(self.label(ono, label)),
+            Step::Enable { ono, enabled } => Ok(self.enable(ono, enabled)),
+            Step::Unlock { ono } => Ok(self.unlock(ono)),
+            Step::Fail { ono, failing } => Ok(self.fail(ono, failing)),
             Step::Take { link, handle } => self.take(link, handle),
         }
     }
@@ -312,12 +319,43 @@ impl Running {
 
     /// Sets an object at the local front panel.
     fn set(&mut self, ono: Ono, value: Value) -> Outcome
-        ensures { (n : Network) → Shows self.old n → Took (Ok result) (Local ono.0 value) n self.new }
+        ensures { (n : Network) → Shows self.old n → Took (Ok result) (Local ono.0 (ToValue value)) n self.new }
     {
         match self.device.set(ono, value) {
             Ok(()) => Outcome::Set,
             Err(fault) => Outcome::NotSet(fault),
         }
+    }
+
+    /// Gives an object a label at the local front panel.
+    fn label(&mut self, ono: Ono, label: &str) -> Outcome
+        ensures { (n : Network) → Shows self.old n →
+            Took (Ok result) (Local ono.0 (ToLabel label.now)) n self.new }
+    {
+        told(self.device.set_label(ono, label))
+    }
+
+    /// Enables or disables an object at the local front panel.
+    fn enable(&mut self, ono: Ono, enabled: bool) -> Outcome
+        ensures { (n : Network) → Shows self.old n →
+            Took (Ok result) (Local ono.0 (ToEnabled enabled)) n self.new }
+    {
+        told(self.device.set_enabled(ono, enabled))
+    }
+
+    /// Releases the lock of an object at the local front panel.
+    fn unlock(&mut self, ono: Ono) -> Outcome
+        ensures { (n : Network) → Shows self.old n → Took (Ok result) (Local ono.0 ToUnlocked) n self.new }
+    {
+        told(self.device.unlock(ono))
+    }
+
+    /// Says whether the hardware of an object refuses to be changed.
+    fn fail(&mut self, ono: Ono, failing: bool) -> Outcome
+        ensures { (n : Network) → Shows self.old n →
+            Took (Ok result) (Local ono.0 (ToFailing failing)) n self.new }
+    {
+        told(self.device.set_failing(ono, failing))
     }
 
     /// Takes an answer from a link.
@@ -329,6 +367,16 @@ impl Running {
         }
         let place = &mut self.links[link];
         Ok(place.take(handle))
+    }
+}
+
+/// What a change at the local front panel led to.
+fn told(answer: Result<(), FrontFault>) -> Outcome
+    ensures { result ≡ front_outcome (result_err answer) }
+{
+    match answer {
+        Ok(()) => Outcome::Changed,
+        Err(fault) => Outcome::NotChanged(fault),
     }
 }
 

@@ -40,10 +40,30 @@ pub enum Step<'a> {
     Tick {
         now: u64,
     },
-    /// An object is set at the local front panel. That has no moment: it happens at that of the device's clock.
+    /// An object is set at the local front panel. That has no moment: it happens at that of the device's clock. So do
+    /// the next four.
     Local {
         ono: Ono,
         value: Value,
+    },
+    /// An object gets a label at the local front panel.
+    Label {
+        ono: Ono,
+        label: &'a str,
+    },
+    /// An object is enabled or disabled at the local front panel.
+    Enable {
+        ono: Ono,
+        enabled: bool,
+    },
+    /// The lock of an object is released at the local front panel, whichever peer holds it.
+    Unlock {
+        ono: Ono,
+    },
+    /// The hardware of an object refuses to be changed from now on, or no longer does.
+    Fail {
+        ono: Ono,
+        failing: bool,
     },
     /// A link is asked for the answer to a command.
     Take {

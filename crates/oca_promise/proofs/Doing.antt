@@ -1,7 +1,7 @@
 -- What the calls of a panel do with its link.
 use Rattle.std.proofs.Common.{◌≡◌, ℕ, ◌+◌, ◌<◌, ◌≤◌, ◌⊎◌, Bool, true, false, List, [], ◌∷◌, ◌++◌, length, Option, Some, None, Result, Ok, Err, refl, sym, ap, ◌∙◌, subst, arith, zero, suc, inl, inr, append_assoc, append-nil}
 use Rattle.std.specs.Prelude.{IsTrue, nat_le, if◌then◌else◌}
-use Rattle.std.specs.List.{filter, flat_map}
+use Rattle.std.specs.List.{filter, flat_map, list_any}
 use Rattle.std.proofs.lemmas.Grind.{flat_map-append}
 use Rattle.std.proofs.lemmas.List.Elements.{filter-append}
 use Rattle.oca_types.specs.declared.words.Peer.{Peer}
@@ -34,11 +34,12 @@ use Rattle.oca_control.specs.Waiting as waiting
 use Rattle.oca_pair.specs.Networks.{device_address}
 use Rattle.oca_pair.specs.Steps.{content_read, messages_read}
 use Rattle.oca_panel.specs.Panels.{PanelState, AsksIn, BeginsIn, EndsIn, FinishesIn, SettlesIn}
-use Rattle.oca_promise.specs.Doings.{Doing, Submits, Sends, Hears, Takes, done, all_done, hearing_of, is_hearing, hearings, IsOfDevice, AreOfDevice, WasDone, sent_by, is_begun_or_taken, AreSentInTime}
+use Rattle.oca_promise.specs.Doings.{Doing, Submits, Sends, Hears, Takes, done, all_done, hearing_of, is_hearing, hearings, IsOfDevice, AreOfDevice, WasDone, sent_by, is_begun_or_taken, is_taking, AreSentInTime}
 use Rattle.oca_control.proofs.Copies.{calm_after, calm_submitted}
 use Rattle.oca_promise.specs.Calls.{IsDoneByCall, IsAll, NothingIsSentLate, EveryCallIsInTime}
 use Rattle.oca_promise.specs.Flights.{begun_by, takes_by, AreMade, WasInFlight, EveryFlightIsInTime}
 use Rattle.oca_promise.specs.Flights as flights
+use Rattle.oca_promise.proofs.Handles.{AreHeld, held_both, held_of_none, held_behind_submit, held_one, above_own, none_took}
 
 -- ---- lists of doings
 
@@ -375,10 +376,12 @@ turn_in_time law d old between answered heard are =
     in_time_both (hearing_of d) (sends_after d between) old (calm_hearing d old)
     (subst (λ (l : LinkState). AreSentInTime (sends_after d between) l) (hears law d old between answered heard are.0) (calm_after_delivery d between))
 
--- Some doings make a link another, over an end, in time; this is what of them is begun and taken.
+-- Some doings make a link another, over an end, in time; this is what of them is begun and taken, and each answer that
+-- is taken is there.
 abbrev Does : List Doing → LinkState → LinkState → EndState → EndState → Type 0
 Does asked old new before after =
-    (doings : List Doing) × (done : WasDone doings old new before after) × (asked_in doings ≡ asked) × (AreOfDevice done.deliveries → AreSentInTime doings old)
+    (doings : List Doing) × (done : WasDone doings old new before after) × (asked_in doings ≡ asked)
+    × (AreOfDevice done.deliveries → AreSentInTime doings old) × (AreOfDevice done.deliveries → AreHeld doings old)
 
 sent_none : (l : LinkState) → [] ≡ sent_by [] l
 unfolding sent_by
@@ -387,6 +390,9 @@ sent_none l = refl
 done_none : (l : LinkState) → l ≡ all_done [] l
 unfolding all_done
 done_none l = refl
+
+only_turn : (d : Delivery) (old between : LinkState) → asked_in (turn_doings d old between) ≡ []
+only_turn d old between = asked_both (hearing_of d) (sends_after d between) [] [] (only_hearing d) (only_after d between)
 
 turn_does : ReadingIsExact → (old new : LinkState) (e f : EndState) (r : DriveReport) → Turns old new e f r → Does [] old new e f
 turn_does law old new e f r (inl x) = (
@@ -404,8 +410,9 @@ turn_does law old new e f r (inl x) = (
         (sent_in_turn x.delivery old x.turns.between new x.decisions x.answered law x.turns.hears x.turns.gives are) (x.runs.taken tells);
     sends = λ are below. x.runs.sends below ∙ ap (λ (zs : List Sent). e.sends + length zs) (sent_in_turn x.delivery old x.turns.between new x.decisions x.answered law x.turns.hears x.turns.gives are);
   },
-  asked_both (hearing_of x.delivery) (sends_after x.delivery x.turns.between) [] [] (only_hearing x.delivery) (only_after x.delivery x.turns.between),
+  only_turn x.delivery old x.turns.between,
   λ are. turn_in_time law x.delivery old x.turns.between x.answered x.turns.hears are,
+  λ are. held_of_none (turn_doings x.delivery old x.turns.between) old (only_turn x.delivery old x.turns.between),
 )
 turn_does law old new e f r (inr x) = (
   [],
@@ -422,10 +429,11 @@ turn_does law old new e f r (inr x) = (
   },
   refl,
   λ are. none_in_time_sent old,
+  λ are. held_of_none [] old refl,
 )
 
 nothing_does : (l : LinkState) (e : EndState) → Does [] l l e e
-nothing_does l e = ([], nothing l e, refl, λ are. none_in_time_sent l)
+nothing_does l e = ([], nothing l e, refl, λ are. none_in_time_sent l, λ are. held_of_none [] l refl)
 
 does_both : {us vs : List Doing} {a b c : LinkState} {d e f : EndState} → Does us a b d e → Does vs b c e f → Does (us ++ vs) a c d f
 unfolding both
@@ -437,6 +445,10 @@ does_both {us} {vs} {a} {b} {c} {d} {e} {f} x y = (
       let before = first_of_both x.1.deliveries y.1.deliveries are in
       in_time_both x.0 y.0 a (x.3 before)
       (subst (λ (l : LinkState). AreSentInTime y.0 l) (x.1.link before) (y.3 (last_of_both x.1.deliveries y.1.deliveries are))),
+  λ are.
+      let before = first_of_both x.1.deliveries y.1.deliveries are in
+      held_both x.0 y.0 a (x.4 before)
+      (subst (λ (l : LinkState). AreHeld y.0 l) (x.1.link before) (y.4 (last_of_both x.1.deliveries y.1.deliveries are))),
 )
 
 turns_do : ReadingIsExact → {h until n : ℕ} {lost closed : Bool} {old new : LinkState} {e f : EndState} → TakesTurnsBefore h until n lost closed old new e f → Does [] old new e f
@@ -513,6 +525,7 @@ begun_does request (Ok h) old new e f b =
       begin_does request h old new e f b,
       ap (λ zs. Submits request b.now ∷ zs) (only_sends b.now (called.span + 1) called),
       λ are. calm_sends b.now (called.span + 1) called (calm_submitted request b.now h old (sym (submission_of request b.now old h b.answer)) (not_late request b.now old h b.answer)),
+      λ are. held_behind_submit request b.now (begin_doings request b.now old) old (only_sends b.now (called.span + 1) called),
     )
 begun_does request (Err fault) old new e f b =
     subst (λ (l : LinkState). Does [] old l e f) (sym b.gives.0) (subst (λ (x : EndState). Does [] old old e x) (sym b.gives.1) (nothing_does old e))
@@ -537,6 +550,9 @@ takes_does {h} {a} {old} {new} {e} {f} t = (
   take_done h t.before.0 old t.link new e f t.before.1 t.taken,
   asked_both t.before.0 (Takes h ∷ []) [] (Takes h ∷ []) t.before.2 refl,
   λ are. in_time_both t.before.0 (Takes h ∷ []) old (t.before.3 are) (taken_in_time h (all_done t.before.0 old)),
+  λ are.
+      held_both t.before.0 (Takes h ∷ []) old (t.before.4 are)
+      (held_one h a (all_done t.before.0 old) (ap (λ (l : LinkState). answer_under h l.untaken) (sym (t.before.1.link are)) ∙ t.held)),
 )
 
 waited_does : ReadingIsExact → (h until : ℕ) (o : Outcome) (old new : LinkState) (e f : EndState) → WaitsUntil h until old o new e f → Does (takes_by h o) old new e f
@@ -585,6 +601,8 @@ flight_does law request handle others old new a f =
     let xs = begin_doings request b.now old.link ++ meanwhile.0 in
     let called : LinkState = submitted request b.now old.link in
     let before : WasDone (Submits request b.now ∷ xs) old.link t.link old.end_state new.end_state = both begun meanwhile.1 in
+    let only : asked_in xs ≡ others =
+    asked_both (begin_doings request b.now old.link) meanwhile.0 [] (others ++ []) (only_sends b.now (called.span + 1) called) meanwhile.2 ∙ append-nil others in
     let began = begun_does request (Ok h) old.link f.begun.link old.end_state f.begun.end_state b in (
       Submits request b.now ∷ xs ++ Takes handle ∷ [],
       record {
@@ -597,7 +615,14 @@ flight_does law request handle others old new a f =
       },
       record {
         present = b.present;
-        only = asked_both (begin_doings request b.now old.link) meanwhile.0 [] (others ++ []) (only_sends b.now (called.span + 1) called) meanwhile.2 ∙ append-nil others;
+        only = only;
+        kept = λ are.
+            subst (λ (zs : List Doing). list_any (is_taking handle) zs ≡ false) only
+            (none_took handle (answer_fields a) xs called (above_own request b.now handle old.link (submission_of request b.now old.link h b.answer))
+            (held_both (begin_doings request b.now old.link) meanwhile.0 called
+            (held_of_none (begin_doings request b.now old.link) called (only_sends b.now (called.span + 1) called))
+            (subst (λ (l : LinkState). AreHeld meanwhile.0 l) (begun.link (first_of_both begun.deliveries meanwhile.1.deliveries are)) (meanwhile.4 (last_of_both begun.deliveries meanwhile.1.deliveries are))))
+            (ap (λ (l : LinkState). answer_under handle l.untaken) (sym (before.link are)) ∙ t.held));
         in_time = λ are.
             in_time_both xs (Takes handle ∷ []) called
             (in_time_both (begin_doings request b.now old.link) meanwhile.0 called

@@ -45,6 +45,7 @@ in_each_network Holds of_each request h a doings old new d are w s tree starts b
       now = d.now;
       later = x.later;
       steps_are = x.steps_are;
+      submitted = submit_outcome_is i p old.link request d.now handle at x.link d.accepted;
       holds = subst (λ (z : Network). Holds p (command_under h request) a x.later (after_step step z)) same
           (of_each w s tree starts (before ++ x.first) x.later i l request d.now handle a apart
           (subst (λ (zs : List Step). Fit starts zs) all fit)

@@ -1,3 +1,4 @@
+pub mod Handles
 pub mod Doing
 pub mod Playing
 pub mod Keeping

@@ -158,7 +158,7 @@ taken_stays p h a step n is = one step
     one (ToLink k now) = by_reception now (slice_get n.to_links k)
     one (Other from bytes now) = by_other from bytes now (has_link from n.links)
     one (steps.Tick now) = is
-    one (steps.Local ono value) = is
+    one (steps.Local ono change) = is
     one (Take i k) = by_take i k (slice_get n.links i)
 
 taken_stays_on : (p : Peer) (h : ℕ) (a : AnswerFields) (steps : List Step) (n : Network) → HasTaken p h a n → HasTaken p h a (after_steps steps n)

@@ -82,7 +82,7 @@ follows A B request handle answer others old new f k = record {
   all = k.all;
   holds = λ xs done are w s tree starts before steps i p apart fit time is plays.
       let x = k.holds xs done are w s tree starts before steps i p apart fit time is plays in
-      record { first = x.first; now = x.now; later = x.later; steps_are = x.steps_are; holds = f p x.later _ x.holds };
+      record { first = x.first; now = x.now; later = x.later; steps_are = x.steps_are; submitted = x.submitted; holds = f p x.later _ x.holds };
 }
 
 -- ---- what an outcome says

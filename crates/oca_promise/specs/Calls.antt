@@ -1,7 +1,7 @@
 -- WHAT A CALL OF A PANEL IS IN A NETWORK (profile): what was done with its link, and what then holds where a schedule
 -- plays that.
-use Rattle.std.specs.Prelude.{◌≡◌, ℕ, true, List, [], ◌∷◌, ◌++◌, Some, Ok}
-use Rattle.std.specs.List.{filter, slice_get}
+use Rattle.std.specs.Prelude.{◌≡◌, ℕ, true, false, List, [], ◌∷◌, ◌++◌, Some, Ok}
+use Rattle.std.specs.List.{filter, list_any, slice_get}
 use Rattle.oca_types.specs.declared.words.Peer.{Peer}
 use Rattle.oca_types.specs.Peers.{CommandFields, RequestFields}
 use Rattle.oca_types.specs.Sizes.{DeviceSizes}
@@ -13,14 +13,15 @@ use Rattle.oca_control.specs.declared.outcome.Outcome.TheVariants as outcomes
 use Rattle.oca_control.specs.Answers.{AnswerFields, answer_fields}
 use Rattle.oca_control.specs.Links.{submission, command_under}
 use Rattle.oca_control.specs.Untaken.{answer_under}
+use Rattle.oca_pair.specs.declared.outcome.Outcome.TheVariants as step_outcomes
 use Rattle.oca_pair.specs.declared.start.Start.{Start}
 use Rattle.oca_pair.specs.Networks.{Network, opening}
-use Rattle.oca_pair.specs.Steps.{Step, Submit, after_step, after_steps}
+use Rattle.oca_pair.specs.Steps.{Step, Submit, after_step, after_steps, outcome_of}
 use Rattle.oca_pair.specs.Premises.{are_apart, Fit}
 use Rattle.oca_pair.specs.InTime.{AreInTime}
 use Rattle.oca_panel.specs.Panels.{PanelState, AsksIn}
-use Rattle.oca_promise.specs.Doings.{Doing, Submits, Takes, all_done, is_begun_or_taken, AreSentInTime, AreOfDevice}
-use Rattle.oca_promise.specs.Doings.{WasDone, Plays}
+use Rattle.oca_promise.specs.Doings.{Doing, Submits, Takes, all_done, is_begun_or_taken, is_taking, AreSentInTime}
+use Rattle.oca_promise.specs.Doings.{AreOfDevice, WasDone, Plays}
 
 -- THIS WAS DONE BY A CALL that asked the request and got the answer: the command was given to the link under this
 -- handle, and at the end its answer, which the link then held, was taken.
@@ -35,13 +36,14 @@ pub record IsDoneByCall (request : RequestFields) (handle : ℕ) (answer : Answe
       answer_under handle (all_done (Submits request now ∷ between) old.link).untaken ≡ Some answer
 
 -- The call did that alone: the command was submitted at a present moment of the end, and then it was sent and heard until
--- the answer was taken. What was begun or taken meanwhile by other calls is this, in order. Nothing was sent while the
--- link was late.
+-- the answer was taken. What was begun or taken meanwhile by other calls is this, in order; none of them took the answer
+-- under this handle. Nothing was sent while the link was late.
 pub record IsAll (others : List Doing) {request : RequestFields} {handle : ℕ} {answer : AnswerFields}
     {doings : List Doing} {old new : PanelState} (by_call : IsDoneByCall request handle answer doings old new) : Type 0
   where
     pub present : IsPresent by_call.now old.end_state
     pub only : filter is_begun_or_taken by_call.between ≡ others
+    pub kept : AreOfDevice by_call.done.deliveries → list_any (is_taking handle) others ≡ false
     pub in_time : AreOfDevice by_call.done.deliveries → AreSentInTime doings old.link
 
 -- What holds of a command of a peer and its answer, by the network just after the command was submitted and the steps
@@ -49,13 +51,16 @@ pub record IsAll (others : List Doing) {request : RequestFields} {handle : ℕ} 
 abbrev pub OfAnAnswer : Type 1
 OfAnAnswer = Peer → CommandFields → AnswerFields → List Step → Network → Type 0
 
--- These steps have a submit of the request to the link of this number, and so it holds from there on.
+-- These steps have a submit of the request to the link of this number, which gave the command this handle, and so it
+-- holds from there on.
 pub record HoldsFromSubmit (Holds : OfAnAnswer) (i : ℕ) (p : Peer) (request : RequestFields) (handle : ℕ)
     (answer : AnswerFields) (steps : List Step) (n : Network) : Type 0 where
   pub first : List Step
   pub now : ℕ
   pub later : List Step
   pub steps_are : steps ≡ first ++ Submit i request now ∷ later
+  pub submitted : outcome_of (Submit i request now) (after_steps first n)
+      ≡ step_outcomes.Submitted (record { 0 = handle }) ∷ []
   pub holds : Holds p (command_under handle request) answer later
       (after_step (Submit i request now) (after_steps first n))
 

@@ -1,6 +1,6 @@
 -- WHAT IS DONE WITH A LINK (profile), and a schedule of a network in which that is done. Of doings the first stands first;
 -- moments are in milliseconds.
-use Rattle.std.specs.Prelude.{◌≡◌, ◌⊎◌, ℕ, ◌+◌, ◌<◌, ◌≤◌, Bool, true, false, IsTrue, if◌then◌else◌, nat_le, List, [], ◌∷◌, ◌++◌, length, Some}
+use Rattle.std.specs.Prelude.{◌≡◌, ◌⊎◌, ℕ, ◌+◌, ◌<◌, ◌≤◌, Bool, true, false, IsTrue, if◌then◌else◌, nat_le, ◌==◌, List, [], ◌∷◌, ◌++◌, length, Some}
 use Rattle.std.specs.List.{filter, flat_map, slice_get, AllByRecursion}
 use Rattle.oca_types.specs.declared.words.Peer.{Peer}
 use Rattle.oca_net.specs.Deliveries.{Delivery, Datagram, Quiet, Failed, Sent}
@@ -41,6 +41,13 @@ is_begun_or_taken (Submits request now) = true
 is_begun_or_taken (Sends now) = false
 is_begun_or_taken (Hears bytes now) = false
 is_begun_or_taken (Takes h) = true
+
+-- the answer under this handle is taken
+abbrev pub is_taking : ℕ → Doing → Bool
+is_taking handle (Submits request now) = false
+is_taking handle (Sends now) = false
+is_taking handle (Hears bytes now) = false
+is_taking handle (Takes h) = h == handle
 
 -- nothing is sent at a moment at which the link is late
 unfoldable pub AreSentInTime : List Doing → LinkState → Type 0

@@ -221,6 +221,8 @@ fn put_outcome(alloc: Global, out: &mut Told, outcome: &Outcome) {
         Outcome::Ticked => out.put("quiet\n"),
         Outcome::Set => out.put("set\n"),
         Outcome::NotSet(fault) => out.put_set_fault(*fault),
+        Outcome::Changed => out.put("changed\n"),
+        Outcome::NotChanged(fault) => out.put_front_fault(*fault),
         Outcome::Answer(answer) => put_answer(alloc, out, answer),
         Outcome::NoAnswer => out.put("none\n"),
     }

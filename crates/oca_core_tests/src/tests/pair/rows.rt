@@ -4,7 +4,7 @@ use crate::tests::Wanted;
 use oca_control::{ControlFault, Reception};
 use oca_device::Verdict;
 use oca_pair::{Outcome, Step};
-use oca_tree::{SetFault, Value};
+use oca_tree::{FrontFault, SetFault, Value};
 use oca_types::{Handle, LOOPBACK, MethodId, Ono, Peer};
 use std::alloc::Global;
 
@@ -24,6 +24,8 @@ pub enum Seen {
     Ticked,
     Set,
     NotSet(SetFault),
+    Changed,
+    NotChanged(FrontFault),
     /// Status, ParamCount and the number of parameter bytes.
     Answer(u8, u8, usize),
     NoAnswer,
@@ -84,6 +86,14 @@ pub enum Row {
     Other(Peer, &'static [u8], u64, Seen),
     /// The object with this number is set at the local front panel.
     Sets(u32, Value, Seen),
+    /// The object with this number gets a label at the local front panel.
+    Labels(u32, &'static str, Seen),
+    /// The object with this number is enabled or disabled at the local front panel.
+    Enables(u32, bool, Seen),
+    /// The lock of the object with this number is released at the local front panel.
+    Unlocks(u32, Seen),
+    /// The hardware of the object with this number refuses to be changed, or no longer does.
+    Fails(u32, bool, Seen),
     /// The answer under a handle is taken.
     Takes(u32, Seen),
     /// Such steps, with the numbers from the first to below the second.
@@ -122,6 +132,8 @@ impl Wanted<Outcome> for Seen {
             (Outcome::Ticked, Seen::Ticked) => true,
             (Outcome::Set, Seen::Set) => true,
             (Outcome::NotSet(fault), Seen::NotSet(wanted)) => *fault == wanted,
+            (Outcome::Changed, Seen::Changed) => true,
+            (Outcome::NotChanged(fault), Seen::NotChanged(wanted)) => *fault == wanted,
             (Outcome::Answer(answer), Seen::Answer(status, count, size)) => {
                 answer.status == status && answer.count == count && answer.params.len() == size
             }
@@ -244,6 +256,27 @@ fn only_step(row: Row) -> (Step<'static>, Seen) {
         }
         Row::Takes(handle, want) => (take(handle), want),
         Row::All(each, first, _) => step_of(each, first),
+        other => front_step(other),
+    }
+}
+
+/// The step of a row that changes an object at the local front panel beside its setting.
+fn front_step(row: Row) -> (Step<'static>, Seen) {
+    match row {
+        Row::Labels(ono, label, want) => {
+            let ono = Ono(ono);
+            (Step::Label { ono, label }, want)
+        }
+        Row::Enables(ono, enabled, want) => {
+            let ono = Ono(ono);
+            (Step::Enable { ono, enabled }, want)
+        }
+        Row::Fails(ono, failing, want) => {
+            let ono = Ono(ono);
+            (Step::Fail { ono, failing }, want)
+        }
+        Row::Unlocks(ono, want) => (Step::Unlock { ono: Ono(ono) }, want),
+        _ => (Step::Tick { now: 0 }, Seen::Ticked),
     }
 }
 

@@ -1,10 +1,10 @@
 //! Changes at the device's front, the clock, and the numbers of faults.
 use super::rows::Row::*;
-use super::rows::{EXECUTED, Each, Row, Seen};
+use super::rows::{ANSWERED, EXECUTED, Each, Row, Seen};
 use super::schedules::{Case, Network, ONE_LINK, Ran};
 use crate::tests::{Row as Agrees, first_wrong, none_wrong, play};
 use oca_pair::PairFault;
-use oca_tree::{MuteState, SetFault, Value};
+use oca_tree::{FrontFault, MuteState, SetFault, Value};
 use std::alloc::Global;
 
 const CHANGES: &[Row] = &[
@@ -18,6 +18,34 @@ const CHANGES: &[Row] = &[
     Gets(0, Seen::Submitted(1)),
     Due(0, Seen::Sent(0)),
     ToDevice(0, 1, EXECUTED),
+];
+
+/// A text of 65 bytes.
+const LONG: &str = "01234567890123456789012345678901234567890123456789012345678901234";
+
+/// Status ProcessingFailed.
+const FAILED: Seen = Seen::Answer(10, 0, 0);
+
+const OTHER_CHANGES: &[Row] = &[
+    Labels(4097, "left", Seen::Changed),
+    Labels(4097, LONG, Seen::NotChanged(FrontFault::BadLabel)),
+    Labels(1, "left", Seen::NotChanged(FrontFault::NoObject)),
+    Enables(4099, false, Seen::Changed),
+    Enables(1, false, Seen::NotChanged(FrontFault::NoObject)),
+    Unlocks(4097, Seen::NotChanged(FrontFault::NotLocked)),
+    Fails(1, true, Seen::NotChanged(FrontFault::NoObject)),
+    Fails(4097, true, Seen::Changed),
+    Unmutes(0, Seen::Submitted(1)),
+    Due(0, Seen::Sent(0)),
+    ToDevice(0, 1, EXECUTED),
+    Fails(4097, false, Seen::Changed),
+    Unmutes(2, Seen::Submitted(2)),
+    Due(2, Seen::Sent(1)),
+    ToDevice(1, 3, EXECUTED),
+    ToLink(0, 4, ANSWERED),
+    ToLink(1, 4, ANSWERED),
+    Takes(1, FAILED),
+    Takes(2, Seen::Answer(0, 0, 0)),
 ];
 
 /// A device without links.
@@ -57,6 +85,19 @@ const CASES: &[Case] = &[
             to_device: 1,
             to_links: 1,
             last_byte: Some(2),
+            sessions: 1,
+        }),
+    },
+    // A label, an object that is disabled, a lock that is released and hardware that refuses; then it does no longer.
+    Case {
+        name: "other_local_changes",
+        network: ONE_LINK,
+        parts: &[OTHER_CHANGES],
+        want: Ok(Ran {
+            wrong: None,
+            to_device: 2,
+            to_links: 2,
+            last_byte: Some(0),
             sessions: 1,
         }),
     },
