@@ -8,6 +8,7 @@ pub mod Starting
 pub mod Copying
 pub mod Plain
 pub mod Executing
+pub mod States
 pub mod Endings
 pub mod Containers
 pub mod Listing

@@ -22,6 +22,7 @@ use Rattle.oca_model.specs.declared.answer.Answer.{Answer}
 use Rattle.oca_model.specs.declared.answer.Answer.TheVariants as answers
 use Rattle.oca_model.specs.declared.asked.Asked.{Asked}
 use Rattle.oca_model.specs.declared.reading.Reading.{Reading}
+use Rattle.oca_model.specs.declared.reading.Reading.TheVariants as readings
 use Rattle.oca_model.specs.Readings.{IsReading}
 use Rattle.oca_model.specs.declared.request.Request.{Request}
 use Rattle.oca_model.specs.declared.request.Request.TheVariants as asked
@@ -108,6 +109,12 @@ PutsAnswer (Err s) old new a =
 -- what is answered of what a value reads as
 abbrev pub reading_answer : Value → Answer
 reading_answer value = option_map_or answers.Reading (reading_held value) answers.Done
+
+-- whether it is the state of a mute or of a polarity
+abbrev pub has_state : Value → Bool
+has_state (values.Reads (readings.Mute state)) = true
+has_state (values.Reads (readings.Polarity state)) = true
+has_state _ = false
 
 -- whether a method of this access only reads
 abbrev pub only_reads : Access → Bool

@@ -10,7 +10,7 @@ ghost use Rattle.oca_model.specs.HeldRequests.{asked_by};
 ghost use Rattle.oca_model.specs.Lists.{list_encoding};
 ghost use Rattle.oca_model.specs.Readings.{reading_encoding};
 ghost use Rattle.oca_tree.specs.PrivateSteps.{is_listed, item_encoding, listed_answer, counted_as, PutsAnswer};
-ghost use Rattle.oca_tree.specs.PrivateSteps.{reading_answer};
+ghost use Rattle.oca_tree.specs.PrivateSteps.{has_state, reading_answer};
 ghost use Rattle.oca_tree.specs.Requests.{asks_out_of_range};
 ghost use Rattle.oca_tree.specs.Trees.{IsTree, IsSoundValue, IsSoundSwitch};
 ghost use Rattle.oca_tree.specs.Typed.{answer_given, position_reading, positions_answer};
@@ -191,8 +191,9 @@ fn put_any_reading(out: &mut Params, value: &Value) -> Result<u8, Status>
 
 /// The number of a mute's or a polarity's state, which is then all that is answered.
 #[tactic(auto, unfolding(crate::specs::Typed::reading_held, oca_model::specs::Answers::answer_encoding, oca_model::specs::Readings::reading_encoding))]
-fn state_number(value: &Value) -> Option<u8>
-    ensures { IfSome result (λ number. (answer_encoding (reading_answer value.now) ≡ unsigned_encoding w8 number)
+pub(crate) fn state_number(value: &Value) -> Option<u8>
+    ensures state { IfSome result (λ number. has_state value.now ≡ true) }
+    ensures number { IfSome result (λ number. (answer_encoding (reading_answer value.now) ≡ unsigned_encoding w8 number)
         × (answer_count (reading_answer value.now) ≡ 1)) }
 {
     match value {
@@ -202,6 +203,15 @@ fn state_number(value: &Value) -> Option<u8>
     }
 }
 
+/// Answers the number of a state, which is what the value reads as.
+pub(crate) fn put_number(out: &mut Params, value: &Value, number: u8) -> Result<u8, Status>
+    requires encoding { answer_encoding (reading_answer value.now) ≡ unsigned_encoding w8 number }
+    requires count { answer_count (reading_answer value.now) ≡ 1 }
+    ensures { PutsAnswer result out.old.items out.new.items (reading_answer value.now) }
+{
+    counted(1, put_u8(out, number))
+}
+
 /// What a value reads as: at once where it is a state.
 #[inline(always)]
 fn put_reading(out: &mut Params, value: &Value) -> Result<u8, Status>
@@ -209,7 +219,7 @@ fn put_reading(out: &mut Params, value: &Value) -> Result<u8, Status>
     ensures { PutsAnswer result out.old.items out.new.items (reading_answer value.now) }
 {
     match state_number(value) {
-        Some(number) => counted(1, put_u8(out, number)),
+        Some(number) => put_number(out, value, number),
         None => put_any_reading(out, value),
     }
 }

@@ -1,25 +1,25 @@
 //! Executing a command: whether it is refused, what it answers and what it changes.
-ghost use Rattle.std.specs.Prelude.{◌≡◌, [], slice_index_or, length, Some, OnOk, IsTrue};
+ghost use Rattle.std.specs.Prelude.{◌≡◌, [], slice_index_or, length, Some, None, Ok, OnOk, IfSome, IsTrue, true, false};
 ghost use Rattle.std.specs.List.{position};
 ghost use Rattle.oca_types.specs.Peers.{fields_of};
-ghost use Rattle.oca_tree.specs.Objects.{has_number};
+ghost use Rattle.oca_tree.specs.Objects.{class_of, has_number};
 ghost use Rattle.oca_tree.specs.Locks.{lock_count};
 ghost use Rattle.oca_tree.specs.Trees.{IsTree, IsSound};
 ghost use Rattle.oca_tree.specs.PrivateSteps.{MayCall, IsMethodFor, IsRequestFor, Executes, status_of_fault};
-ghost use Rattle.oca_tree.specs.PrivateSteps.{setting_in, sets_value, MaySet, IsSettingFor};
+ghost use Rattle.oca_tree.specs.PrivateSteps.{setting_in, sets_value, has_state, MaySet, IsSettingFor};
 ghost use Rattle.oca_types.specs.declared.class.MethodKind.TheVariants.{Known};
 ghost use Rattle.oca_types.specs.Methods.{access};
 ghost use Rattle.oca_tree.specs.Execution.{is_write, is_failing};
 ghost use Rattle.oca_tree.specs.Written.{calls_a_write};
 ghost use Rattle.oca_tree.specs.declared.object.Object.{Object as AnObject};
 
-use crate::answer::put_answer;
+use crate::answer::{put_answer, put_number, state_number};
 use crate::marks::Marks;
-use crate::object::Object;
+use crate::object::{Object, Value as Held};
 use crate::objects::Objects;
 use crate::place::index_from;
 use crate::request::{cannot_be, plain, refusal};
-use oca_model::{Asked, Value, ValueFault};
+use oca_model::{Asked, Reading, Value, ValueFault};
 use oca_types::{
     Access, Class, Command, Method, MethodKind, Params, Peer, Status, access_of, method_of,
 };
@@ -189,6 +189,43 @@ fn is_bare(command: &Command<'_>) -> bool
     command.params.len() + usize::from(command.count) == 0
 }
 
+/// Whether a command calls the method of DefLevel 4 with this MethodIndex, and the object is not locked.
+fn calls_unlocked(object: &Object, command: &Command<'_>, index: u16) -> bool
+    ensures { IsTrue result → (command.now.method.level ≡ 4) × (command.now.method.index ≡ index)
+        × (object.now.lock ≡ None) }
+{
+    command.method.level == 4 && command.method.index == index && object.lock.is_none()
+}
+
+/// What a command sets an object of the class to, if its parameters are those of a set method; it tells no fault.
+fn readable_setting(class: Class, command: &Command<'_>) -> Option<Value>
+    ensures { IfSome result (λ value. setting_in class command.now.count command.now.params.now ≡ Ok value) }
+{
+    match setting_in(class, command.count, command.params) {
+        Ok(value) => Some(value),
+        Err(_) => None,
+    }
+}
+
+/// The listed state that a command's parameters are, where the object is a mute or a polarity and its hardware works.
+#[tactic(auto, unfolding(crate::specs::Objects::class_of))]
+fn state_to_set(object: &Object, command: &Command<'_>) -> Option<Value>
+    ensures state { IfSome result (λ value. has_state object.now.value ≡ true) }
+    ensures works { IfSome result (λ value. object.now.failing ≡ false) }
+    ensures asked { IfSome result (λ value.
+        setting_in (class_of object.now.value) command.now.count command.now.params.now ≡ Ok value) }
+{
+    if !object.failing {
+        match object.value {
+            Held::Reads(Reading::Mute(_)) => readable_setting(Class::Mute, command),
+            Held::Reads(Reading::Polarity(_)) => readable_setting(Class::Polarity, command),
+            _ => None,
+        }
+    } else {
+        None
+    }
+}
+
 /// Carries out a command, if it is not refused, and puts the answer into empty parameters. `marks` count the locks that
 /// are held and say where an object was found last, and `writes` is then whether the method of a command that was not
 /// refused writes. What only reads and has no parameters is answered at once.
@@ -212,6 +249,23 @@ pub(crate) fn carry_out(
         return Err(Status::BadOno);
     };
     let object = objects.object_at(at);
+    if calls_unlocked(object, command, 1)
+        && is_bare(command)
+        && let Some(number) = state_number(&object.value)
+    {
+        let answered = put_number(out, &object.value, number);
+        // As in `carry_out_at`.
+        let _length = out.len();
+        *writes = false;
+        return answered;
+    }
+    if calls_unlocked(object, command, 2)
+        && let Some(state) = state_to_set(object, command)
+    {
+        objects.change_at(at, marks, peer, Asked::Set(state));
+        *writes = true;
+        return Ok(0);
+    }
     let method = method_for(object, peer, command)?;
     if is_bare(command)
         && let Some(request) = plain(method)
