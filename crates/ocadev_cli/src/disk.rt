@@ -1,5 +1,5 @@
 //! How the objects of a device are written over a file: a new file takes the place of the old one.
-ghost use Rattle.std.specs.Prelude.{◌≡◌, is_ok};
+ghost use Rattle.std.specs.Prelude.{◌≡◌, ◌++◌, IfSome, codes, decimal, is_ok, string_bytes};
 ghost use Rattle.ocadev_cli.specs.PrivateStoring.{Reaches};
 ghost use Rattle.ocadev_cli.specs.Storing.{DiskState, Replaces, StoresBy, SyncsFolder, SyncsNew, Tries, WritesNew};
 
@@ -217,7 +217,9 @@ fn make_alike<F: Files, O: OpenFile>(
 }
 
 /// The last line of a file that lists `count` objects, with its line feed. `None` if memory was refused.
-pub fn end_line(alloc: Global, count: usize) -> Option<String> {
+pub fn end_line(alloc: Global, count: usize) -> Option<String>
+    ensures { IfSome result (λ line. string_bytes line ≡ codes "# end of " ++ decimal count ++ codes " objects\n") }
+{
     format!(in alloc; "# end of {count} objects\n").ok()
 }
 

@@ -5,7 +5,7 @@ ghost use Rattle.std.specs.Option.{option_copied};
 ghost use Rattle.oca_program.specs.declared.fault.RunFault.TheVariants.{NoMemory as no_memory, Read as read_failed};
 ghost use Rattle.ocadev_cli.specs.Words.{object_source};
 ghost use Rattle.oca_program.specs.Faults.{fault_in};
-ghost use Rattle.ocadev_cli.specs.Keeping.{starting_objects};
+ghost use Rattle.ocadev_cli.specs.Keeping.{moment_heard, starting_objects};
 ghost use Rattle.ocadev_cli.specs.Makings.{MakesObjects};
 ghost use Rattle.ocadev_cli.specs.Runs.{turns_until};
 ghost use Rattle.ocadev_cli.specs.Storing.{store_of};
@@ -474,7 +474,9 @@ pub fn serve_stored<E: End, D: Disk, F: Sink>(
 }
 
 /// The moment of what was heard, where it has one.
-fn moment_of(heard: Heard) -> Option<u64> {
+fn moment_of(heard: Heard) -> Option<u64>
+    ensures { result ≡ moment_heard heard }
+{
     match heard {
         Heard::Datagram { now, .. } | Heard::Quiet { now } | Heard::Oversize { now } => Some(now),
         Heard::Failed | Heard::Closed => None,
