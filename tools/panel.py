@@ -685,6 +685,25 @@ def in_two_blocks(folder):
         same("the walk stands", (values["walked"], values["epoch"]), (True, 1))
 
 
+def listed_twice(folder):
+    """A device whose block lists an object twice is walked once, and again once the block lists something else."""
+    tree, real, is_twice = oca.bench(2), oca.members, [True]
+    block = next(o for o in tree if o.kind == "block" and o.ono != 100)
+
+    def listed(tree, ono):
+        its = real(tree, ono)
+        return [*its, its[0]] if ono == block.ono and is_twice else its
+
+    with patch.object(oca, "members", listed), walked(folder, Noting(tree, block.ono, (3, 5))) as (device, panel):
+        same("each object that is listed twice is found once", sorted(o["ono"] for o in panel.get("/tree")["objects"]), sorted(o.ono for o in tree))
+        device.asked.clear()
+        panel.comes(lambda _: [*device.asked.values()].count(device.what) > 2, "the block is listed again", 60)
+        values = panel.look()
+        same("the walk of a device that lists an object twice stands", (values["walked"], values["epoch"]), (True, 1))
+        is_twice.clear()
+        panel.comes(lambda v: v["walked"] and v["epoch"] > 1, "it is walked again once the block lists something else", 30)
+
+
 def visible_first(folder):
     """What a page shows is read at most ten times a second, and all else once in five seconds."""
     tree = oca.bench(60)
@@ -1337,7 +1356,7 @@ def steady(folder):
 def main():
     folder, pool = sys.argv[1], ThreadPoolExecutor(1)
     beside = pool.submit(steady, folder)
-    for part in (words, spans, bound_for, classes, seldom, of_other_classes, in_two_blocks, visible_first, often, aged, newer_than_an_answer,
+    for part in (words, spans, bound_for, classes, seldom, of_other_classes, in_two_blocks, listed_twice, visible_first, often, aged, newer_than_an_answer,
                  beside_an_order, late_orders, behind_untaken_answers, over_a_stop, asleep, failing, unwatched, troubled, ailing, counted, without_a_page,
                  at_its_port, at_an_old_port, by_its_names, a_mute, limits_of_orders, runs, many_orders, labels, lost_stays_told, tokens, only_shown,
                  units, at_port_80):

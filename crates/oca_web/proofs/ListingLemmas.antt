@@ -1,194 +1,102 @@
--- What is left to be listed of a block, member by member.
-use Rattle.std.proofs.Common.{◌≡◌, ℕ, Bool, true, false, cond, List, [], ◌∷◌, ◌++◌, length, refl, sym, ◌∙◌, ap, subst, append_assoc}
-use Rattle.std.specs.Prelude.{◌&&◌, ◌||◌, ◌==◌, not, map}
+-- What blocks listed, member by member and list by list.
+use Rattle.std.proofs.Common.{◌≡◌, ℕ, Bool, true, false, List, [], ◌∷◌, ◌++◌, length, refl, sym, ◌∙◌, ap, inl, inr}
+use Rattle.std.specs.Prelude.{◌⊎◌, ◌==◌}
 use Rattle.std.specs.Bool.{Decides}
-use Rattle.std.specs.List.{filter, list_all}
-use Rattle.std.proofs.lemmas.List.Folds.{list_any-append}
 use Rattle.std.proofs.lemmas.Bool.{eq-eqb}
 use Rattle.oca_model.specs.declared.member.Member.{Member}
-use Rattle.oca_web.specs.declared.object.Object.{Object}
 use Rattle.oca_web.specs.declared.inventory.Inventory.{Inventory}
-use Rattle.oca_web.specs.Listing.{Compares, ListsSame, is_elsewhere, is_found, is_found_in, is_here, is_in, listed_as, listed_in}
-
--- what is decided of one fact is decided of another that is the same
-same_decided : {P Q : Type 0} (r : Bool) → (P → Q) → (Q → P) → Decides r P → Decides r Q
-same_decided r f g d = (λ h. f (d.0 h), λ q. d.1 (g q))
+use Rattle.oca_web.specs.declared.inventory.Listed.{Listed}
+use Rattle.oca_web.specs.Listing.{Compares, IsListOf, KeepsList, WasListed}
 
 never : {P : Type 0} → (P → ⊥) → Decides false P
 never f = (λ h. absurd (cc h), λ p. absurd (f p))
 
-abbrev tail_of : List Member → List Member
-tail_of [] = []
-tail_of (m ∷ ms) = ms
+-- ---- two lists of members
+
+pub no_end : (ms : List Member) (x : Member) (xs : List Member) → ms ≡ x ∷ xs → Decides false ([] ≡ ms)
+no_end ms x xs e = never (λ h. cc (h ∙ e))
+
+pub an_end : (ms : List Member) → length ms ≡ 0 → Decides true ([] ≡ ms)
+an_end [] e = (λ h. refl, λ h. refl)
+an_end (x ∷ xs) e = absurd (cc e)
+
+pub ruleset end_rules = (no_end, an_end)
+
+pub both_end : (some others : List Member) (r : Bool) → length some ≡ 0 → Decides r ([] ≡ others) → Decides r (some ≡ others)
+both_end [] others r m d = d
+both_end (x ∷ xs) others r m d = absurd (cc m)
+
+pub other_ends : (some others : List Member) (x : Member) (xs : List Member) → some ≡ x ∷ xs → length others ≡ 0 → Decides false (some ≡ others)
+other_ends some [] x xs m n = never (λ h. cc (sym m ∙ h))
+other_ends some (y ∷ ys) x xs m n = absurd (cc n)
 
 abbrev head_or : Member → List Member → Member
 head_or d [] = d
 head_or d (m ∷ ms) = m
 
--- ---- no object is left
+abbrev tail_of : List Member → List Member
+tail_of [] = []
+tail_of (m ∷ ms) = ms
 
-none_all : (t : Member → Bool) (ms : List Member) → list_all t ms ≡ true → [] ≡ filter (λ m. not (t m)) ms
-none_all t [] h = refl
-none_all t (m ∷ ms) h = by (t m) (none_all t ms) h
+pub first_differs : (some others : List Member) (x y : Member) (xs ys : List Member) (b : Bool) → some ≡ x ∷ xs → others ≡ y ∷ ys
+    → Decides b (x ≡ y) → b ≡ false → Decides false (some ≡ others)
+first_differs some others x y xs ys b e f d n = never (λ h. cc (sym n ∙ d.1 (ap (head_or x) (sym e ∙ (h ∙ f)))))
+
+pub first_same : (some others : List Member) (x y : Member) (xs ys : List Member) (b r : Bool) → some ≡ x ∷ xs → others ≡ y ∷ ys
+    → Decides b (x ≡ y) → b ≡ true → Decides r (xs ≡ ys) → Decides r (some ≡ others)
+first_same some others x y xs ys b r e f d t rest =
+    let is : x ≡ y = d.0 t in (
+      λ h. rw (e, f, is, rest.0 h) refl,
+      λ h. rest.1 (ap tail_of (sym e ∙ (h ∙ f))),
+    )
+
+pub ruleset same_rules = (both_end, other_ends, first_differs, first_same)
+
+-- ---- the lists of a walk
+
+pub of_other_place : (place : ℕ) (members : List Member) (l : Listed) → (l.place == place) ≡ false → Decides false (IsListOf place members l)
+of_other_place place members l e = never (λ h. cc (sym e ∙ eq-eqb l.place place h.0))
+
+pub of_place : (place : ℕ) (members : List Member) (l : Listed) (r : Bool) → l.place ≡ place → Decides r (l.members.items ≡ members)
+    → Decides r (IsListOf place members l)
+of_place place members l r e d = (λ h. (e, d.0 h), λ h. d.1 h.1)
+
+pub ruleset list_rules = (of_other_place, of_place)
+
+pub none_listed : (place : ℕ) (members : List Member) (lists : List Listed) → length lists ≡ 0 → Decides false (WasListed place members lists)
+none_listed place members [] e = never (λ h. h)
+none_listed place members (l ∷ ls) e = absurd (cc e)
+
+pub first_listed : (place : ℕ) (members : List Member) (lists : List Listed) (l : Listed) (ls : List Listed) (b : Bool) → lists ≡ l ∷ ls
+    → Decides b (IsListOf place members l) → b ≡ true → Decides true (WasListed place members lists)
+first_listed place members lists l ls b e d t = (λ h. rw e (inl (d.0 t)), λ h. refl)
+
+pub other_listed : (place : ℕ) (members : List Member) (lists : List Listed) (l : Listed) (ls : List Listed) (b r : Bool) → lists ≡ l ∷ ls
+    → Decides b (IsListOf place members l) → b ≡ false → Decides r (WasListed place members ls) → Decides r (WasListed place members lists)
+other_listed place members lists l ls b r e c n d = (λ h. rw e (inr (d.0 h)), λ h. by (rw e at h))
   where
-    by : (b : Bool) → (list_all t ms ≡ true → [] ≡ filter (λ x. not (t x)) ms) → (b && list_all t ms) ≡ true
-        → [] ≡ cond (not b) (m ∷ filter (λ x. not (t x)) ms) (filter (λ x. not (t x)) ms)
-    by true next k = next k
-    by false next k = absurd (cc k)
+    by : (IsListOf place members l ⊎ WasListed place members ls) → r ≡ true
+    by (inl x) = absurd (cc (sym n ∙ c.1 x))
+    by (inr x) = d.1 x
 
-all_none : (t : Member → Bool) (ms : List Member) → [] ≡ filter (λ m. not (t m)) ms → list_all t ms ≡ true
-all_none t [] h = refl
-all_none t (m ∷ ms) h = by (t m) (all_none t ms) h
-  where
-    by : (b : Bool) → ([] ≡ filter (λ x. not (t x)) ms → list_all t ms ≡ true)
-        → [] ≡ cond (not b) (m ∷ filter (λ x. not (t x)) ms) (filter (λ x. not (t x)) ms) → (b && list_all t ms) ≡ true
-    by true next k = next k
-    by false next k = absurd (cc k)
+pub ruleset listed_rules = (none_listed, first_listed, other_listed)
 
-pub ends : (block : ℕ) (objects left : List Object) (ms : List Member) (r : Bool) → length left ≡ 0
-    → r ≡ list_all (λ m. is_elsewhere block objects m.ono.0) ms → Decides r (listed_in block left ≡ filter (is_here block objects) ms)
-ends block objects [] ms r n e = (λ h. none_all (λ m. is_elsewhere block objects m.ono.0) ms (sym e ∙ h), λ h. e ∙ all_none (λ m. is_elsewhere block objects m.ono.0) ms h)
-ends block objects (o ∷ os) ms r n e = absurd (cc n)
+pub keeps_list : (place : ℕ) (members : List Member) (one : Listed) (old new : List Listed) → one.place ≡ place → one.members.items ≡ members
+    → new ≡ old ++ one ∷ [] → KeepsList place members old new
+keeps_list place members one old new p m e = record { one = one; of = (p, m); lists = e }
 
--- ---- the next object that is left
-
-out : (block : ℕ) (o : Object) (behind : List Object) → is_in block o ≡ false → listed_in block (o ∷ behind) ≡ listed_in block behind
-out block o behind e = by (is_in block o) e
-  where
-    by : (b : Bool) → b ≡ false → map listed_as (cond b (o ∷ filter (is_in block) behind) (filter (is_in block) behind)) ≡ listed_in block behind
-    by true k = absurd (cc k)
-    by false k = refl
-
-within : (block : ℕ) (o : Object) (behind : List Object) → is_in block o ≡ true → listed_in block (o ∷ behind) ≡ listed_as o ∷ listed_in block behind
-within block o behind e = by (is_in block o) e
-  where
-    by : (b : Bool) → b ≡ true → map listed_as (cond b (o ∷ filter (is_in block) behind) (filter (is_in block) behind)) ≡ listed_as o ∷ listed_in block behind
-    by true k = refl
-    by false k = absurd (cc k)
-
-last_all : (a b : Bool) → (a && b) ≡ true → b ≡ true
-last_all true b h = h
-last_all false b h = absurd (cc h)
-
-first_all : (a b : Bool) → (a && b) ≡ true → a ≡ true
-first_all true b h = refl
-first_all false b h = absurd (cc h)
-
-pub all_behind : (block : ℕ) (objects left : List Object) (o : Object) (behind : List Object) → left ≡ o ∷ behind
-    → list_all (is_here block objects) (listed_in block left) ≡ true → list_all (is_here block objects) (listed_in block behind) ≡ true
-all_behind block objects left o behind e h = by (is_in block o) (rw e at h)
-  where
-    by : (b : Bool) → list_all (is_here block objects) (map listed_as (cond b (o ∷ filter (is_in block) behind) (filter (is_in block) behind))) ≡ true
-        → list_all (is_here block objects) (listed_in block behind) ≡ true
-    by true k = last_all (is_here block objects (listed_as o)) (list_all (is_here block objects) (listed_in block behind)) k
-    by false k = k
-
-pub passes_over : (block : ℕ) (objects left : List Object) (o : Object) (behind : List Object) (ms : List Member) (c r : Bool) → left ≡ o ∷ behind
-    → c ≡ is_in block o → c ≡ false → Decides r (listed_in block behind ≡ filter (is_here block objects) ms)
-    → Decides r (listed_in block left ≡ filter (is_here block objects) ms)
-passes_over block objects left o behind ms c r e i n d =
-    let same : listed_in block left ≡ listed_in block behind = rw e (out block o behind (sym i ∙ n)) in
-    same_decided r (λ h. same ∙ h) (λ h. sym same ∙ h) d
-
-pub lacks : (block : ℕ) (objects left : List Object) (o : Object) (behind : List Object) (ms : List Member) (c : Bool) → left ≡ o ∷ behind
-    → c ≡ is_in block o → c ≡ true → length ms ≡ 0 → Decides false (listed_in block left ≡ filter (is_here block objects) ms)
-lacks block objects left o behind [] c e i y n =
-    let same : listed_in block left ≡ listed_as o ∷ listed_in block behind = rw e (within block o behind (sym i ∙ y)) in
-    never (λ h. cc (sym same ∙ h))
-lacks block objects left o behind (m ∷ ms) c e i y n = absurd (cc n)
-
--- ---- the next member
-
-kept : (t : Member → Bool) (m : Member) (ms : List Member) → t m ≡ true → filter t (m ∷ ms) ≡ m ∷ filter t ms
-kept t m ms e = by (t m) e
-  where
-    by : (b : Bool) → b ≡ true → cond b (m ∷ filter t ms) (filter t ms) ≡ m ∷ filter t ms
-    by true k = refl
-    by false k = absurd (cc k)
-
-left_out : (t : Member → Bool) (m : Member) (ms : List Member) → t m ≡ false → filter t (m ∷ ms) ≡ filter t ms
-left_out t m ms e = by (t m) e
-  where
-    by : (b : Bool) → b ≡ false → cond b (m ∷ filter t ms) (filter t ms) ≡ filter t ms
-    by true k = absurd (cc k)
-    by false k = refl
-
-pub matches : (block : ℕ) (objects left : List Object) (o : Object) (behind : List Object) (ms : List Member) (m : Member) (others : List Member)
-    (c d r : Bool) → left ≡ o ∷ behind → c ≡ is_in block o → c ≡ true → ms ≡ m ∷ others → Decides d (listed_as o ≡ m) → d ≡ true
-    → list_all (is_here block objects) (listed_in block left) ≡ true
-    → Decides r (listed_in block behind ≡ filter (is_here block objects) others) → Decides r (listed_in block left ≡ filter (is_here block objects) ms)
-matches block objects left o behind ms m others c d r e i y f g z all next =
-    let is : listed_as o ≡ m = g.0 z in
-    let same : listed_in block left ≡ listed_as o ∷ listed_in block behind = rw e (within block o behind (sym i ∙ y)) in
-    let all_here : list_all (is_here block objects) (listed_as o ∷ listed_in block behind) ≡ true = rw same at all in
-    let here : is_here block objects m ≡ true = subst (λ x. is_here block objects x ≡ true) is (first_all (is_here block objects (listed_as o)) (list_all (is_here block objects) (listed_in block behind)) all_here) in
-    let more : filter (is_here block objects) ms ≡ m ∷ filter (is_here block objects) others = rw f (kept (is_here block objects) m others here) in
-    same_decided r
-    (λ h. same ∙ (ap (λ x. x ∷ listed_in block behind) is ∙ (ap (λ xs. m ∷ xs) h ∙ sym more)))
-    (λ h. ap tail_of (sym same ∙ (h ∙ more)))
-    next
-
-pub differs : (block : ℕ) (objects left : List Object) (ms : List Member) (m : Member) (others : List Member) (x r : Bool) → ms ≡ m ∷ others
-    → x ≡ is_elsewhere block objects m.ono.0 → x ≡ true → Decides r (listed_in block left ≡ filter (is_here block objects) others)
-    → Decides r (listed_in block left ≡ filter (is_here block objects) ms)
-differs block objects left ms m others x r f i y next =
-    let none : is_here block objects m ≡ false = ap not (sym i ∙ y) in
-    let same : filter (is_here block objects) ms ≡ filter (is_here block objects) others = rw f (left_out (is_here block objects) m others none) in
-    same_decided r (λ h. h ∙ sym same) (λ h. h ∙ same) next
-
-pub misses : (block : ℕ) (objects left : List Object) (o : Object) (behind : List Object) (ms : List Member) (m : Member) (others : List Member)
-    (c d x : Bool) → left ≡ o ∷ behind → c ≡ is_in block o → c ≡ true → ms ≡ m ∷ others → Decides d (listed_as o ≡ m) → d ≡ false
-    → x ≡ is_elsewhere block objects m.ono.0 → x ≡ false → Decides false (listed_in block left ≡ filter (is_here block objects) ms)
-misses block objects left o behind ms m others c d x e i y f g z j n =
-    let same : listed_in block left ≡ listed_as o ∷ listed_in block behind = rw e (within block o behind (sym i ∙ y)) in
-    let here : is_here block objects m ≡ true = ap not (sym j ∙ n) in
-    let more : filter (is_here block objects) ms ≡ m ∷ filter (is_here block objects) others = rw f (kept (is_here block objects) m others here) in
-    never (λ h. cc (sym z ∙ g.1 (ap (head_or m) (sym same ∙ (h ∙ more)))))
-
-pub ruleset listing_rules = (ends, all_behind, passes_over, lacks, matches, differs, misses)
-
--- ---- each object that was found in a block is here
-
-here_by : (a b : Bool) → b ≡ true → not (a && not b) ≡ true
-here_by true true h = refl
-here_by false true h = refl
-here_by a false h = absurd (cc h)
-
-both : (a b : Bool) → a ≡ true → b ≡ true → (a && b) ≡ true
-both true true x y = refl
-both true false x y = absurd (cc y)
-both false b x y = absurd (cc x)
-
-or_true : (a : Bool) → (a || true) ≡ true
-or_true true = refl
-or_true false = refl
-
--- whether each of these objects that is in the block is found there among all
-found_all : (block : ℕ) (objects before os : List Object) → objects ≡ before ++ os → list_all (is_here block objects) (listed_in block os) ≡ true
-found_all block objects before [] e = refl
-found_all block objects before (o ∷ os) e =
-    by (is_in block o) refl (found_all block objects (before ++ o ∷ []) os (e ∙ sym (append_assoc before (o ∷ []) os)))
-  where
-    there : (b : Bool) → is_in block o ≡ b → b ≡ true → is_found_in block o.ono.0 objects ≡ true
-    there b i y = rw (e, list_any-append (λ x. is_in block x && (x.ono.0 == o.ono.0)) before (o ∷ os), i, y, eq-eqb o.ono.0 o.ono.0 refl) (or_true (is_found_in block o.ono.0 before))
-
-    by : (b : Bool) → is_in block o ≡ b → list_all (is_here block objects) (listed_in block os) ≡ true
-        → list_all (is_here block objects) (map listed_as (cond b (o ∷ filter (is_in block) os) (filter (is_in block) os))) ≡ true
-    by true i next = both (is_here block objects (listed_as o)) (list_all (is_here block objects) (listed_in block os))
-        (here_by (is_found o.ono.0 objects) (is_found_in block o.ono.0 objects) (there true i refl)) next
-    by false i next = next
-
-pub all_here : (block : ℕ) (objects : List Object) → list_all (is_here block objects) (listed_in block objects) ≡ true
-all_here block objects = found_all block objects [] objects refl
+pub keeps_on : (place : ℕ) (members : List Member) (old between new : List Listed) → KeepsList place members old between → new ≡ between
+    → KeepsList place members old new
+keeps_on place members old between new k e = rw e k
 
 -- ---- what follows of a block's list
 
-pub compares_same : (block : ℕ) (members : List Member) (r : Bool) (old new : Inventory) → Decides r (ListsSame block old.objects.list members) → r ≡ true
-    → new.is_stale ≡ old.is_stale → Compares block members old new
-compares_same block members r old new d y e = record { same = λ h. e; other = λ h. absurd (h (d.0 y)) }
+pub compares_same : (place : ℕ) (members : List Member) (r : Bool) (old new : Inventory) → Decides r (WasListed place members old.lists.items) → r ≡ true
+    → new.is_stale ≡ old.is_stale → new.lists ≡ old.lists → Compares place members old new
+compares_same place members r old new d y e k = record { same = λ h. e; other = λ h. absurd (h (d.0 y)); kept = k }
 
-pub compares_other : (block : ℕ) (members : List Member) (r : Bool) (old new : Inventory) → Decides r (ListsSame block old.objects.list members) → r ≡ false
-    → new.is_stale ≡ true → Compares block members old new
-compares_other block members r old new d n e = record { same = λ h. absurd (cc (sym n ∙ d.1 h)); other = λ h. e }
+pub compares_other : (place : ℕ) (members : List Member) (r : Bool) (old new : Inventory) → Decides r (WasListed place members old.lists.items) → r ≡ false
+    → new.is_stale ≡ true → new.lists ≡ old.lists → Compares place members old new
+compares_other place members r old new d n e k = record { same = λ h. absurd (cc (sym n ∙ d.1 h)); other = λ h. e; kept = k }
 
 pub ruleset compare_rules = (compares_same, compares_other)

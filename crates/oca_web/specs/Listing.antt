@@ -1,47 +1,32 @@
--- Whether a block lists the objects that were found in it (AES70-2, OcaBlock; the comparison is of this *profile*).
-use Rattle.std.specs.Prelude.{◌≡◌, ℕ, ◌==◌, ◌&&◌, not, Bool, true, List, map, slice_get, IfSome}
-use Rattle.std.specs.List.{filter, list_any}
+-- What blocks list: in a walk, and again behind it (*profile*).
+use Rattle.std.specs.Prelude.{◌≡◌, ◌⊎◌, ℕ, ◌++◌, true, List, [], ◌∷◌, slice_get, IfSome}
 use Rattle.oca_model.specs.declared.member.Member.{Member}
 use Rattle.oca_web.specs.declared.inventory.Inventory.{Inventory}
-use Rattle.oca_web.specs.declared.object.Object.{Object}
+use Rattle.oca_web.specs.declared.inventory.Listed.{Listed}
 
--- the number and the class with which a block lists an object
-abbrev pub listed_as : Object → Member
-listed_as o = record { ono = o.ono; class = o.class }
+-- what is kept of a block that listed these members, in this order, each with its number and its class: the block is the
+-- object at this place
+abbrev pub IsListOf : (place : ℕ) → List Member → Listed → Type 0
+IsListOf place members l = (l.place ≡ place) × (l.members.items ≡ members)
 
--- whether an object was found in this block
-abbrev pub is_in : (block : ℕ) → Object → Bool
-is_in block o = o.container.0 == block
+-- THE BLOCK LISTED THESE MEMBERS in a walk of which these are the lists.
+abbrev pub WasListed : (place : ℕ) → List Member → List Listed → Type 0
+WasListed place members [] = ⊥
+WasListed place members (l ∷ ls) = IsListOf place members l ⊎ WasListed place members ls
 
--- the objects that were found in this block, as it is to list them
-abbrev pub listed_in : (block : ℕ) → List Object → List Member
-listed_in block objects = map listed_as (filter (is_in block) objects)
+-- what a block lists in a walk is kept, whatever it is, beside what others listed
+pub record KeepsList (place : ℕ) (members : List Member) (old new : List Listed) : Type 0 where
+  pub one : Listed
+  pub of : IsListOf place members one
+  pub lists : new ≡ old ++ one ∷ []
 
--- whether an object with this number was found, and whether one was in this block
-abbrev pub is_found : (ono : ℕ) → List Object → Bool
-is_found ono objects = list_any (λ o. o.ono.0 == ono) objects
-
-abbrev pub is_found_in : (block ono : ℕ) → List Object → Bool
-is_found_in block ono objects = list_any (λ o. is_in block o && (o.ono.0 == ono)) objects
-
--- whether one was found, but none in this block
-abbrev pub is_elsewhere : (block : ℕ) → List Object → (ono : ℕ) → Bool
-is_elsewhere block objects ono = is_found ono objects && not (is_found_in block ono objects)
-
--- whether a member is to be one of those that were found in this block
-abbrev pub is_here : (block : ℕ) → List Object → Member → Bool
-is_here block objects m = not (is_elsewhere block objects m.ono.0)
-
--- A BLOCK LISTS WHAT WAS FOUND IN IT: its members, but for those that were found in other blocks alone, are the objects
--- that were found in this one, in their order, each with its number and its class.
-abbrev pub ListsSame : (block : ℕ) → List Object → List Member → Type 0
-ListsSame block objects members = listed_in block objects ≡ filter (is_here block objects) members
-
--- WHAT WAS FOUND STAYS where the block lists it, and another walk is to begin where it lists something else.
-pub record Compares (block : ℕ) (members : List Member) (old new : Inventory) : Type 0 where
-  pub same : ListsSame block old.objects.list members → new.is_stale ≡ old.is_stale
-  pub other : (ListsSame block old.objects.list members → ⊥) → new.is_stale ≡ true
+-- WHAT WAS FOUND STAYS where the block lists what it listed in the walk: another walk is to begin only where it lists
+-- something else. What blocks listed in the walk stays kept.
+pub record Compares (place : ℕ) (members : List Member) (old new : Inventory) : Type 0 where
+  pub same : WasListed place members old.lists.items → new.is_stale ≡ old.is_stale
+  pub other : (WasListed place members old.lists.items → ⊥) → new.is_stale ≡ true
+  pub kept : new.lists ≡ old.lists
 
 -- the block is the object at this place, where one stands there
 abbrev pub ComparesAt : (place : ℕ) → List Member → Inventory → Inventory → Type 0
-ComparesAt place members old new = IfSome (slice_get old.objects.list place) (λ o. Compares o.ono.0 members old new)
+ComparesAt place members old new = IfSome (slice_get old.objects.list place) (λ o. Compares place members old new)

@@ -1,6 +1,6 @@
 -- What a view of a device does over its panel (*profile*).
-use Rattle.std.specs.Prelude.{◌≡◌, ◌⊎◌, ℕ, ◌+◌, ◌-◌, ◌*◌, min, max, nat_le, nat_lt, Bool, true, false, if◌then◌else◌, Option, Result, Ok}
-use Rattle.std.specs.Prelude.{Err}
+use Rattle.std.specs.Prelude.{◌≡◌, ◌⊎◌, ℕ, ◌+◌, ◌-◌, ◌*◌, ◌==◌, min, max, nat_le, nat_lt, Bool, true, false, if◌then◌else◌, Option, Result, Ok}
+use Rattle.std.specs.Prelude.{Err, Some}
 use Rattle.oca_types.specs.declared.words.NoMemory.{NoMemory}
 use Rattle.oca_types.specs.declared.words.Handle.{Handle}
 use Rattle.oca_types.specs.declared.class.Class.{Class}
@@ -51,14 +51,25 @@ pub data AsksQuestions : ℕ → PanelState → ℕ → PanelState → Type 0 wh
       → AsksQuestions n p m q → BeginsAsking ono (class_for of) (request_of_ask ask) (Ok handle) q r
       → AsksQuestions n p (next_behind m handle.0) r
 
--- A TURN WAS TAKEN, and then the results of the orders that were answered were noted; what followed of it only took
--- answers to questions.
-pub record TurnsAndSettles (old : OrdersState) (before : PanelState) (new : OrdersState) (after : PanelState)
+-- WHEN THE DEVICE WAS HEARD, by the program's clock, which is so far ahead of the end's: at the moment that the link tells
+-- behind a turn, where that is not the one that it told before the turn. Else it stays as it was: the making of a link is
+-- no hearing.
+abbrev pub heard_behind : (ahead before after : ℕ) → Option ℕ → Option ℕ
+heard_behind ahead before after heard = if after == before then heard else Some (min (ahead + after) 18446744073709551615)
+
+-- A TURN WAS TAKEN, and it was noted whether the device was heard in it.
+pub record TurnsHearing (ahead : ℕ) (heard : Option ℕ) (before : PanelState) (new_heard : Option ℕ) (after : PanelState)
     : Type 0 where
   pub report : DriveReport
+  pub turns : TurnsWith report before after
+  pub hears : new_heard ≡ heard_behind ahead before.link.heard after.link.heard heard
+
+-- Then the results of the orders that were answered were noted; what followed of it only took answers to questions.
+pub record TurnsAndSettles (ahead : ℕ) (heard : Option ℕ) (old : OrdersState) (before : PanelState)
+    (new_heard : Option ℕ) (new : OrdersState) (after : PanelState) : Type 0 where
   pub turned : PanelState
   pub settled : PanelState
-  pub turns : TurnsWith report before turned
+  pub turns : TurnsHearing ahead heard before new_heard turned
   pub settles : SettlesOrders old turned new settled
   pub answers : TakesAnswers settled after
 

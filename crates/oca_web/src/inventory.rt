@@ -1,8 +1,7 @@
 //! What is known of a device, and what is asked of it.
-ghost use Rattle.std.specs.Prelude.{◌≡◌, true};
+ghost use Rattle.std.specs.Prelude.{◌≡◌, []};
 ghost use Rattle.std.specs.Bool.{Decides};
-ghost use Rattle.std.specs.List.{filter, list_all};
-ghost use Rattle.oca_web.specs.Listing.{is_elsewhere, is_found, is_found_in, is_here, is_in, listed_as, listed_in};
+ghost use Rattle.oca_web.specs.Listing.{IsListOf, WasListed};
 ghost use Rattle.oca_web.specs.Shows.{ShowsOrder, lock_behind, shown_listed, shown_read, tells_of_another_device};
 
 use crate::ask::{Ask, Asked, Question, class_for};
@@ -21,6 +20,15 @@ use std::collections::VecDeque;
 /// The number of the status Locked (AES70-2, OcaStatus).
 const LOCKED: u8 = 3;
 
+/// What a block listed in a walk.
+#[derive(Drop)]
+pub struct Listed {
+    /// Where the block stands.
+    pub place: usize,
+    /// Its members.
+    pub members: Vec<Member>,
+}
+
 /// What is known of a device, and what is asked of it.
 ///
 /// A walk begins at the root: the members of each block are asked, and of each object what does not change. Once
@@ -32,6 +40,7 @@ pub struct Inventory {
     walk: Walk,
     waiting: VecDeque<Question>,
     asked: ArrayVec<Asked, 32>,
+    lists: Vec<Listed>,
     poll: Poll,
     epoch: u64,
     walked: bool,
@@ -39,9 +48,8 @@ pub struct Inventory {
 }
 
 impl Inventory {
-    ghost use Rattle.std.specs.Prelude.{◌≡◌, ◌≢◌, true, false, length};
-    ghost use Rattle.std.specs.Bool.{Decides};
-    ghost use Rattle.oca_web.specs.Listing.{Compares, ComparesAt, ListsSame};
+    ghost use Rattle.std.specs.Prelude.{◌≡◌, ◌≢◌, true, length, IfOk};
+    ghost use Rattle.oca_web.specs.Listing.{Compares, ComparesAt, KeepsList};
     ghost use Rattle.oca_web.specs.Readings.{AsksAgain, ConfirmsBy, IsOfMoment, KeepsAsked, KeepsMoment};
     ghost use Rattle.oca_web.specs.declared.ask.Ask.TheVariants as asks;
     ghost use Rattle.std.specs.Prelude.{slice_get};
@@ -57,6 +65,7 @@ impl Inventory {
             walk: Walk::new(alloc)?,
             waiting: VecDeque::new(alloc),
             asked: ArrayVec::new(),
+            lists: Vec::new(alloc),
             poll: Poll::new(now),
             epoch: 0,
             walked: false,
@@ -77,6 +86,7 @@ impl Inventory {
         }
         self.objects.clear();
         self.waiting.clear();
+        self.lists.clear();
         self.poll.end_round();
         self.walked = false;
         self.is_stale = false;
@@ -87,7 +97,8 @@ impl Inventory {
 
     /// Adds the object at the next place of the walk, unless it was visited before, with what is asked to know it.
     fn add_next(&mut self, class: Option<Class>) -> Result<(), NoMemory>
-        ensures { KeepsWalk self.old self.new }
+        ensures walk { KeepsWalk self.old self.new }
+        ensures lists { self.new.lists ≡ self.old.lists }
     {
         match self.walk.take_place()? {
             Some((place, false)) => self.add(place, class),
@@ -97,7 +108,8 @@ impl Inventory {
 
     /// Adds an object, with what is asked to know it.
     fn add(&mut self, at: Place, class: Option<Class>) -> Result<(), NoMemory>
-        ensures { KeepsWalk self.old self.new }
+        ensures walk { KeepsWalk self.old self.new }
+        ensures lists { self.new.lists ≡ self.old.lists }
     {
         let place = self.objects.as_slice().len();
         self.objects.add(Object::new(at.ono, at.container, class))?;
@@ -109,7 +121,8 @@ impl Inventory {
 
     /// A question that is asked behind all that wait.
     fn ask_later(&mut self, place: usize, ask: Ask) -> Result<(), NoMemory>
-        ensures { KeepsWalk self.old self.new }
+        ensures walk { KeepsWalk self.old self.new }
+        ensures lists { self.new.lists ≡ self.old.lists }
     {
         let epoch = self.epoch;
         match self.waiting.push_back(Question { place, ask, epoch }) {
@@ -135,9 +148,12 @@ impl Inventory {
         self.walked
     }
 
-    /// Whether an answer showed that the device has other objects than were found, so that another walk must begin.
-    /// `false` again after [`begin_anew`](Inventory::begin_anew).
-    pub fn is_stale(&self) -> bool {
+    /// Whether an answer showed that the device changed since the walk, so that another walk must begin: a block lists
+    /// something else than it listed in the walk, or the device has other objects by now. `false` again after
+    /// [`begin_anew`](Inventory::begin_anew).
+    pub fn is_stale(&self) -> bool
+        ensures { result ≡ self.now.is_stale }
+    {
         self.is_stale
     }
 
@@ -373,7 +389,7 @@ impl Inventory {
         }
     }
 
-    /// Learns the members of a block: in a walk they are visited, else they are compared with what was found.
+    /// Learns the members of a block: in a walk they are visited, else they are compared with what it listed in the walk.
     fn learn_members(&mut self, place: usize, members: &Members) -> Result<(), NoMemory>
         ensures walk { KeepsWalk self.old self.new }
         ensures compares { self.old.walked ≡ true → ComparesAt place members.now.items self.old self.new }
@@ -383,24 +399,63 @@ impl Inventory {
         };
         let container = object.ono;
         if self.walked {
-            self.compare_members(place, container, members);
+            self.compare_members(place, members);
             return Ok(());
         }
+        self.visit_members(place, container, members)
+    }
+
+    /// Visits the members of a block in a walk, and keeps that it lists them.
+    #[tactic(auto, using(crate::proofs::ListingLemmas::keeps_on))]
+    fn visit_members(
+        &mut self,
+        place: usize,
+        container: Ono,
+        members: &Members,
+    ) -> Result<(), NoMemory>
+        ensures walk { KeepsWalk self.old self.new }
+        ensures lists { IfOk result (λ u. KeepsList place members.now.items self.old.lists.items self.new.lists.items) }
+    {
+        self.keep_list(place, members)?;
         self.walk
             .put_members(container, numbers_of(members).as_slice())?;
-        for member in members.as_slice() {
+        self.add_all(members.as_slice())
+    }
+
+    /// Adds the members of a block.
+    fn add_all(&mut self, members: &[Member]) -> Result<(), NoMemory>
+        ensures walk { KeepsWalk self.old self.new }
+        ensures lists { self.new.lists ≡ self.old.lists }
+    {
+        for member in members {
             self.add_next(member.class)?;
         }
         Ok(())
     }
 
-    /// A block was listed behind a walk: where it lists something else than what was found in it, another walk is to begin.
-    #[tactic(auto, using(crate::proofs::ListingLemmas::compare_rules))]
-    fn compare_members(&mut self, place: usize, block: Ono, members: &Members)
-        ensures walk { KeepsWalk self.old self.new }
-        ensures compares { Compares block.0 members.now.items self.old self.new }
+    /// Keeps what a block lists in a walk.
+    #[tactic(auto, using(crate::proofs::ListingLemmas::keeps_list))]
+    fn keep_list(&mut self, place: usize, members: &Members) -> Result<(), NoMemory>
+        ensures lists { IfOk result (λ u. KeepsList place members.now.items self.old.lists.items self.new.lists.items) }
+        ensures rest { self.new ≡ record self.old { lists = self.new.lists } }
     {
-        if !self.lists(block, members) {
+        let Ok(members) = Vec::from_slice(self.alloc, members.as_slice()) else {
+            return Err(NoMemory);
+        };
+        match self.lists.push(Listed { place, members }) {
+            Ok(()) => Ok(()),
+            Err(_) => Err(NoMemory),
+        }
+    }
+
+    /// A block was listed behind a walk: where it lists something else than it listed in the walk, another one is to begin.
+    #[tactic(auto, using(crate::proofs::ListingLemmas::compare_rules))]
+    fn compare_members(&mut self, place: usize, members: &Members)
+        ensures walk { KeepsWalk self.old self.new }
+        ensures compares { Compares place members.now.items self.old self.new }
+        ensures rest { self.new ≡ record self.old { objects = self.new.objects; is_stale = self.new.is_stale } }
+    {
+        if !was_listed(self.lists.as_slice(), place, members.as_slice()) {
             self.is_stale = true;
         }
         self.show_listed(place);
@@ -408,22 +463,11 @@ impl Inventory {
 
     /// The members of a block were listed: there is no trouble, and no different controller locks it.
     fn show_listed(&mut self, place: usize)
-        ensures walk { KeepsWalk self.old self.new }
-        ensures stale { self.new.is_stale ≡ self.old.is_stale }
+        ensures { self.new ≡ record self.old { objects = self.new.objects } }
     {
         if let Some(shown) = self.objects.shown(place) {
             self.objects.show(place, shown_listed(shown));
         }
-    }
-
-    /// Whether a block lists what was found in it: its members, but for those that were found in other blocks alone, are
-    /// the objects that were found in this one, in their order, with their classes.
-    #[tactic(auto, using(crate::proofs::ListingLemmas::all_here))]
-    fn lists(&self, block: Ono, members: &Members) -> bool
-        ensures { Decides result (ListsSame block.0 self.now.objects.list members.now.items) }
-    {
-        let objects = self.objects.as_slice();
-        lists_left(objects, objects, block, members.as_slice())
     }
 
     /// Notes how an order ended: whose lock is on its object, and what the object is set to. The object's value, if it
@@ -460,73 +504,64 @@ impl Inventory {
     }
 }
 
-/// Whether a member that was listed is this object: it has its number and its class.
-fn is_member(object: &Object, member: &Member) -> bool
-    ensures { Decides result (listed_as object.now ≡ member.now) }
+/// Whether two members are the same: by their numbers and their classes.
+fn is_same(one: &Member, other: &Member) -> bool
+    ensures { Decides result (one.now ≡ other.now) }
 {
-    object.ono.0 == member.ono.0 && object.class == member.class
+    one.ono.0 == other.ono.0 && one.class == other.class
 }
 
-/// Whether an object was found in this block.
-fn is_in(object: &Object, block: Ono) -> bool
-    ensures { result ≡ is_in block.0 object.now }
+/// Whether no member is left.
+#[tactic(auto, using(crate::proofs::ListingLemmas::end_rules))]
+fn ends(members: &[Member]) -> bool
+    ensures { Decides result ([] ≡ members.now) }
 {
-    object.container.0 == block.0
-}
-
-/// Whether an object with this number was found.
-fn is_found(objects: &[Object], ono: Ono) -> bool
-    ensures { result ≡ is_found ono.0 objects.now }
-{
-    objects.iter().any(|object| object.ono.0 == ono.0)
-}
-
-/// Whether an object with this number was found in this block.
-fn is_found_in(objects: &[Object], block: Ono, ono: Ono) -> bool
-    ensures { result ≡ is_found_in block.0 ono.0 objects.now }
-{
-    objects.iter().any(|object| object.container.0 == block.0 && object.ono.0 == ono.0)
-}
-
-/// Whether an object with this number was found, but not in this block.
-fn is_elsewhere(objects: &[Object], block: Ono, ono: Ono) -> bool
-    ensures { result ≡ is_elsewhere block.0 objects.now ono.0 }
-{
-    is_found(objects, ono) && !is_found_in(objects, block, ono)
-}
-
-/// Whether all of these members were found, but not in this block.
-fn are_elsewhere(objects: &[Object], block: Ono, members: &[Member]) -> bool
-    ensures { result ≡ list_all (λ m. is_elsewhere block.0 objects.now m.ono.0) members.now }
-{
-    members
-        .iter()
-        .all(|member| is_elsewhere(objects, block, member.ono))
-}
-
-/// Whether these members, but for those that were found in other blocks alone, are those of the objects left that were
-/// found in this one.
-#[tactic(auto, using(crate::proofs::ListingLemmas::listing_rules))]
-fn lists_left(objects: &[Object], left: &[Object], block: Ono, members: &[Member]) -> bool
-    requires { list_all (is_here block.0 objects.now) (listed_in block.0 left.now) ≡ true }
-    ensures { Decides result (listed_in block.0 left.now ≡ filter (is_here block.0 objects.now) members.now) }
-{
-    let Some((object, behind)) = left.split_first() else {
-        return are_elsewhere(objects, block, members);
-    };
-    if !is_in(object, block) {
-        return lists_left(objects, behind, block, members);
+    match members.split_first() {
+        Some(_) => false,
+        None => true,
     }
-    let Some((member, others)) = members.split_first() else {
+}
+
+/// Whether two lists of members are the same, in the same order.
+#[tactic(auto, using(crate::proofs::ListingLemmas::same_rules))]
+fn are_same(some: &[Member], others: &[Member]) -> bool
+    ensures { Decides result (some.now ≡ others.now) }
+{
+    let Some((one, rest)) = some.split_first() else {
+        return ends(others);
+    };
+    let Some((other, more)) = others.split_first() else {
         return false;
     };
-    if is_member(object, member) {
-        return lists_left(objects, behind, block, others);
+    if !is_same(one, other) {
+        return false;
     }
-    if is_elsewhere(objects, block, member.ono) {
-        return lists_left(objects, left, block, others);
+    are_same(rest, more)
+}
+
+/// Whether a block listed these members, by what is kept of it.
+#[tactic(auto, using(crate::proofs::ListingLemmas::list_rules))]
+fn is_list_of(one: &Listed, place: usize, members: &[Member]) -> bool
+    ensures { Decides result (IsListOf place members.now one.now) }
+{
+    if one.place != place {
+        return false;
     }
-    false
+    are_same(one.members.as_slice(), members)
+}
+
+/// Whether a block listed these members in the walk of which these are the lists.
+#[tactic(auto, using(crate::proofs::ListingLemmas::listed_rules))]
+fn was_listed(lists: &[Listed], place: usize, members: &[Member]) -> bool
+    ensures { Decides result (WasListed place members.now lists.now) }
+{
+    let Some((first, rest)) = lists.split_first() else {
+        return false;
+    };
+    if is_list_of(first, place, members) {
+        return true;
+    }
+    was_listed(rest, place, members)
 }
 
 /// The numbers of members.

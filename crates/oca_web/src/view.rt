@@ -59,7 +59,6 @@ pub struct View {
     reach: Reach,
     next_handle: u32,
     first_handle: u32,
-    made: u64,
     ahead: u64,
     sent_before: u64,
     submitted_before: u64,
@@ -69,12 +68,13 @@ pub struct View {
 }
 
 impl View {
-    ghost use Rattle.std.specs.Prelude.{◌≡◌, ◌-◌, ◌==◌, ◌&&◌, IfOk, IfSome, length, slice_get};
+    ghost use Rattle.std.specs.Prelude.{◌≡◌, ◌-◌, ◌==◌, ◌&&◌, false, IfOk, IfSome, None, length, slice_get};
     ghost use Rattle.oca_net.specs.Ends.{one_more};
     ghost use Rattle.oca_web.specs.Orders.{AddsAll, AddsTicket, SettlesOrders, SubmitsOrders, has_orders, has_room_for, no_orders};
     ghost use Rattle.oca_web.specs.Bodies.{IsForWord};
     ghost use Rattle.oca_web.specs.Readings.{ConfirmsAsked, KeepsQuestion};
     ghost use Rattle.oca_web.specs.Views.{AsksQuestions, Continues, RenewsLost, RestsBehind, SubmitsAndAsks, TakesAnswers, TurnsAndSettles};
+    ghost use Rattle.oca_web.specs.Views.{TurnsHearing};
     ghost use Rattle.oca_web.specs.Views.{half_spent, moment_noted, next_with, orders_after, stood_still};
     ghost use Rattle.oca_web.specs.Walking.{BeginsAnew, KeepsWalk, StaysOver};
 
@@ -93,13 +93,13 @@ impl View {
         ensures next { IfOk result (λ view. view.next_handle ≡ first.0) }
         ensures ahead { IfOk result (λ view. view.ahead ≡ 0) }
         ensures now { IfOk result (λ view. view.news.now ≡ now) }
+        ensures heard { IfOk result (λ view. view.news.heard ≡ None) }
         ensures reach { IfOk result (λ view. view.reach ≡ record { device = device; span = span }) }
     {
         Ok(View {
             reach: Reach { device, span },
             first_handle: first.0,
             next_handle: first.0,
-            made: now,
             ahead: 0,
             sent_before: 0,
             submitted_before: 0,
@@ -202,6 +202,7 @@ impl View {
         ensures stood { result ≡ stood_still self.old.news.now self.new.news.now }
         ensures orders { self.new.orders ≡ orders_after result self.old.orders }
         ensures inventory { self.new.inventory ≡ self.old.inventory }
+        ensures heard { self.new.news.heard ≡ self.old.news.heard }
         ensures first { self.new.first_handle ≡ first.0 }
         ensures next { self.new.next_handle ≡ first.0 }
         ensures ahead { self.new.ahead ≡ self.new.news.now - moment }
@@ -211,7 +212,6 @@ impl View {
         self.sent_before = self.news.sent;
         self.first_handle = first.0;
         self.next_handle = first.0;
-        self.made = moment;
         self.ahead = self.news.now.saturating_sub(moment);
         stood_still
     }
@@ -242,6 +242,7 @@ impl View {
         ensures stood { result ≡ stood_still self.old.news.now self.new.news.now }
         ensures orders { self.new.orders ≡ orders_after result self.old.orders }
         ensures inventory { self.new.inventory ≡ self.old.inventory }
+        ensures heard { self.new.news.heard ≡ self.old.news.heard }
     {
         let before = self.news.now;
         self.news.now = before.max(self.ahead.saturating_add(moment));
@@ -311,15 +312,28 @@ impl View {
     /// then lack something.
     #[tactic(auto, using(crate::proofs::WalkLemmas::keeps_stays, crate::proofs::WalkLemmas::stays_on, crate::proofs::StepLemmas::answer_rules))]
     pub fn take_turn<E: End>(&mut self, panel: &mut Panel<E>) -> Result<(), NoMemory>
-        ensures orders { TurnsAndSettles self.old.orders panel.old self.new.orders panel.new }
+        ensures orders { TurnsAndSettles self.old.ahead self.old.news.heard self.old.orders panel.old self.new.news.heard
+            self.new.orders panel.new }
         ensures walk { StaysOver self.old.inventory self.new.inventory }
     {
-        let report = panel.turn_with_report();
-        self.news.keep_alives = self.news.keep_alives.saturating_add(report.keep_alives);
+        self.turn_once(panel);
         self.take_order_answers(panel)?;
-        self.take_answers(panel)?;
-        self.note_heard(panel.last_heard());
-        Ok(())
+        self.take_answers(panel)
+    }
+
+    /// Takes a turn, and notes whether the device was heard in it: a link that was never heard tells its own making.
+    fn turn_once<E: End>(&mut self, panel: &mut Panel<E>)
+        ensures turns { TurnsHearing self.old.ahead self.old.news.heard panel.old self.new.news.heard panel.new }
+        ensures rest { self.new ≡ record self.old { news = self.new.news } }
+    {
+        let before = panel.last_heard();
+        let report = panel.turn_with_report();
+        let after = panel.last_heard();
+        self.news.keep_alives = self.news.keep_alives.saturating_add(report.keep_alives);
+        if after != before {
+            self.news.heard = Some(self.ahead.saturating_add(after));
+            self.news.lost_since = None;
+        }
     }
 
     /// Does what must be done after a turn. If what was found is no longer right, another walk begins. If the link is
@@ -343,6 +357,7 @@ impl View {
     fn begin_if_stale(&mut self) -> Result<(), NoMemory>
         ensures rest { self.new ≡ record self.old { inventory = self.new.inventory } }
         ensures walk { BeginsAnew self.old.inventory self.new.inventory }
+        ensures fresh { self.old.inventory.is_stale ≡ false → self.new.inventory ≡ self.old.inventory }
     {
         if self.inventory.is_stale() {
             return self.inventory.begin_anew();
@@ -391,21 +406,11 @@ impl View {
         self.next_handle = self.next_handle.max(self.orders.next_handle());
     }
 
-    /// Notes when the device was heard: a link counts its own making.
-    fn note_heard(&mut self, heard: u64)
-        ensures orders { self.new.orders ≡ self.old.orders }
-        ensures inventory { self.new.inventory ≡ self.old.inventory }
-    {
-        if heard > self.made {
-            self.news.heard = Some(heard);
-            self.news.lost_since = None;
-        }
-    }
-
     /// Takes the answers to orders, and notes their results.
     fn take_order_answers<E: End>(&mut self, panel: &mut Panel<E>) -> Result<(), NoMemory>
         ensures orders { SettlesOrders self.old.orders panel.old self.new.orders panel.new }
         ensures walk { KeepsWalk self.old.inventory self.new.inventory }
+        ensures news { self.new.news ≡ self.old.news }
     {
         let settled = settle_orders(&mut self.orders, panel);
         for one in settled.as_slice() {
@@ -420,6 +425,7 @@ impl View {
         ensures orders { self.new.orders ≡ self.old.orders }
         ensures walk { StaysOver self.old.inventory self.new.inventory }
         ensures panel { TakesAnswers panel.old panel.new }
+        ensures news { self.new.news ≡ self.old.news }
     {
         let mut at = 0usize;
         for _ in 0..32u32 {
@@ -437,6 +443,7 @@ impl View {
         ensures orders { self.new.orders ≡ self.old.orders }
         ensures walk { KeepsWalk self.old.inventory self.new.inventory }
         ensures panel { TakesAnswers panel.old panel.new }
+        ensures news { self.new.news ≡ self.old.news }
         ensures moment { IfSome (slice_get self.old.inventory.asked.items at)
             (λ asked. ConfirmsAsked asked self.old.inventory self.new.inventory) }
     {
@@ -468,7 +475,6 @@ impl View {
             return Ok(());
         }
         panel.renew(self.reach.device, Handle(self.next_handle), self.reach.span);
-        self.made = panel.last_heard();
         self.news.lost = self.news.lost.saturating_add(1);
         self.news.lost_since = self.news.lost_since.or(Some(self.news.now));
         self.inventory.forget_asked();

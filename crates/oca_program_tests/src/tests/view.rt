@@ -1,5 +1,6 @@
-//! A view of a device goes on over another end once half of the handles are used, in memory.
-use super::coming::Coming::{self, Datagram};
+//! A view of a device goes on over another end once half of the handles are used, and tells when the device was heard, in
+//! memory.
+use super::coming::Coming::{self, Datagram, Quiet};
 use super::coming::end;
 use super::{Row, first_wrong, none_wrong};
 use oca_net::MemoryEnd;
@@ -218,4 +219,64 @@ impl Row for Changes {
 fn other_ends(rt: HostRuntime) {
     let alloc = rt.alloc();
     none_wrong(&rt, "other ends", &[first_wrong(alloc, CHANGES)]);
+}
+
+/// What comes to an end that took a turn before the view's link was made over it, at 10 ms, and when the view tells behind
+/// the next turn that the device was heard.
+pub struct Hearing {
+    coming: &'static [Coming],
+    heard: Option<u64>,
+}
+
+/// What the end gives before the link is made, and a datagram of the device.
+const BEFORE: Coming = Quiet(10);
+
+const HEARD: Coming = Datagram(
+    DEVICE,
+    b"\x3b\x00\x01\x00\x00\x00\x13\x03\x00\x01\x00\x00\x00\x0a\xff\xff\xff\xf9\x00\x00",
+    20,
+);
+
+pub const HEARINGS: &[Hearing] = &[
+    Hearing {
+        coming: &[BEFORE, Quiet(20)],
+        heard: None,
+    },
+    Hearing {
+        coming: &[BEFORE, HEARD],
+        heard: Some(20),
+    },
+];
+
+impl Hearing {
+    /// Whether a view that was made at 0 ms tells so behind a turn.
+    fn is_told(&self, view: &mut View, end: MemoryEnd) -> bool {
+        let mut before = Panel::open(DEVICE, end, Handle(FIRST), Span::default(), 0);
+        let _ = before.turn();
+        let end = before.into_end();
+        let mut panel = Panel::open(DEVICE, end, Handle(FIRST), Span::default(), 0);
+        panel.last_heard() == 10
+            && view.news().heard.is_none()
+            && view.take_turn(&mut panel).is_ok()
+            && view.news().heard == self.heard
+    }
+}
+
+impl Row for Hearing {
+    /// Whether it does.
+    fn agrees(&self, alloc: Global) -> bool {
+        match View::new(alloc, DEVICE, Span::default(), Handle(FIRST), 0) {
+            Ok(mut view) => match end(alloc, self.coming, 64, None) {
+                Some(end) => self.is_told(&mut view, end),
+                None => false,
+            },
+            Err(_) => false,
+        }
+    }
+}
+
+#[test]
+fn hearings(rt: HostRuntime) {
+    let alloc = rt.alloc();
+    none_wrong(&rt, "hearings", &[first_wrong(alloc, HEARINGS)]);
 }
