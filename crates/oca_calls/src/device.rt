@@ -69,8 +69,10 @@ impl DeviceBehind {
         }
     }
 
-    /// Adds an object, before the start. Returns `Done`. `Started` after the start, `BadText` if the role is not UTF-8,
-    /// otherwise the answer for the builder's fault ([`Answer::of_add`]): then nothing is added.
+    /// Adds an object with the number `ono` to the block `container`, before the start. `role` is its role, `lockable`
+    /// says whether it can be locked, and `kind` is its class with its first setting. Returns `Done`. `Started` after
+    /// the start, `BadText` if the role is not UTF-8, otherwise the answer for the builder's fault
+    /// ([`Answer::of_add`]): then nothing is added.
     pub fn add(
         &mut self,
         container: u32,
@@ -95,10 +97,11 @@ impl DeviceBehind {
         }
     }
 
-    /// Adds a switch, before the start. `names` are the names of its positions, 1 to 16, and `position` is the current
-    /// one, counted from 0. Returns `Done`; otherwise the first of these that applies, and nothing is added. `Started`
-    /// after the start. `BadRange` if there are more than 16 names. `BadText` if a name has more than 64 bytes, or the
-    /// role or a name is not UTF-8. Then the answer for the builder's fault ([`Answer::of_add`]).
+    /// Adds a switch with the number `ono` to the block `container`, before the start. `role` is its role, and
+    /// `lockable` says whether it can be locked. `names` are the names of its positions, 1 to 16, and `position` is the
+    /// current one, counted from 0. Returns `Done`; otherwise the first of these that applies, and nothing is added.
+    /// `Started` after the start. `BadRange` if there are more than 16 names. `BadText` if a name has more than 64
+    /// bytes, or the role or a name is not UTF-8. Then the answer for the builder's fault ([`Answer::of_add`]).
     pub fn add_switch(
         &mut self,
         container: u32,
@@ -129,8 +132,9 @@ impl DeviceBehind {
         self.add(container, ono, role, lockable, kind)
     }
 
-    /// Adds an object that a struct describes, before the start. Returns `Done`. `Started` after the start, otherwise
-    /// the answers of [`add_spec`](crate::spec_adding::add_spec): then nothing is added.
+    /// Adds the object that `words` describe, under the number `ono`, to the block `container`, before the start.
+    /// Returns `Done`. `Started` after the start, otherwise the answers of [`add_spec`](crate::spec_adding::add_spec):
+    /// then nothing is added.
     pub fn add_spec(&mut self, container: u32, ono: u32, words: &SpecWords) -> Answer
         ensures adds { (B : Store) → Builds self.old B →
             (B' : Store) × Builds self.new B' × SpecAddedBy result B B' container ono words.now }
@@ -429,10 +433,11 @@ impl DeviceBehind {
         }
     }
 
-    /// Sets, at the local front panel, whether the hardware of an object refuses to be changed. If it does, commands
-    /// that would write to the object are answered `ProcessingFailed`
-    /// ([`Device::set_failing`](oca_device::Device::set_failing)). Returns `Done`. `NotStarted` before the start, or
-    /// `NoObject` if no object has the number: then nothing is changed.
+    /// Sets, at the local front panel, whether the hardware of an object refuses changes (`failing`). While it does, a
+    /// command that writes to the object is answered `ProcessingFailed` and changes nothing; if the command is refused
+    /// for another reason too, the answer names that reason ([`Device::set_failing`](oca_device::Device::set_failing)).
+    /// Returns `Done`. `NotStarted` before the start, or `NoObject` if no object has the number: then nothing is
+    /// changed.
     pub fn set_failing(&mut self, ono: u32, failing: bool) -> Answer
         ensures tells { (w : DeviceSizes) (T : List Object) (E : List Event) → RunsBehind w self.old T E →
             ChangesFront w result self.new T E ono (ToFailing failing) (asked.SetEnabled failing) }
@@ -598,8 +603,8 @@ impl DeviceBehind {
     }
 
     /// Writes the description of the object at this index, by which it can be added again; indices count from 0 at the
-    /// root, in order of adding. Returns `Done`. `BadSize` if `out` does not say its size, `Nothing` after the last
-    /// object, or `NotStarted` before the start: then nothing is written.
+    /// root, in order of adding. Returns `Done`. `BadSize` if `out.size` is not the size of the struct, 1,248 bytes,
+    /// `Nothing` after the last object, or `NotStarted` before the start: then nothing is written.
     pub fn spec(&self, index: usize, out: &mut SpecWords) -> Answer
         ensures writes { (w : DeviceSizes) (T : List Object) (E : List Event) → RunsBehind w self.now T E →
             WritesSpec (state_after w T E).tree (info_at (state_after w T E).tree index) out.old out.new
@@ -614,8 +619,8 @@ impl DeviceBehind {
     }
 
     /// Writes the description of the object with this number, by which it can be added again. Returns `Done`. `BadSize`
-    /// if `out` does not say its size, `Nothing` if no object has the number, or `NotStarted` before the start: then
-    /// nothing is written.
+    /// if `out.size` is not the size of the struct, 1,248 bytes, `Nothing` if no object has the number, or `NotStarted`
+    /// before the start: then nothing is written.
     pub fn spec_of(&self, ono: u32, out: &mut SpecWords) -> Answer
         ensures writes { (w : DeviceSizes) (T : List Object) (E : List Event) → RunsBehind w self.now T E →
             WritesSpec (state_after w T E).tree (info_of_ono (state_after w T E).tree ono) out.old out.new
@@ -685,7 +690,7 @@ impl DeviceBehind {
         Answer::Done
     }
 
-    /// Writes whether the hardware of an object refuses to be changed. Returns `Done`. `NoObject` if no object has the
+    /// Writes whether the hardware of an object refuses changes. Returns `Done`. `NoObject` if no object has the
     /// number, or `NotStarted` before the start: then nothing is written.
     pub fn is_failing(&self, ono: u32, failing: &mut bool) -> Answer
         ensures writes { (w : DeviceSizes) (T : List Object) (E : List Event) → RunsBehind w self.now T E →
@@ -703,9 +708,10 @@ impl DeviceBehind {
         Answer::Done
     }
 
-    /// Writes how an object is set, without limits. The kind is 1 for a state, 2 for a position, 3 for a Boolean and 4
-    /// for an integer. With it come whether the number is negative, and its magnitude. Returns `Done`. `Nothing` for a
-    /// block and if no object has the number, or `NotStarted` before the start: then nothing is written.
+    /// Writes into `reading` how an object is set, without limits. The kind is 1 for a state, 2 for a position, 3 for a
+    /// Boolean and 4 for an integer. With it come whether the number is negative (0 or 1), and its magnitude (1 or 2
+    /// for a state, 0 or 1 for a Boolean). Returns `Done`. `Nothing` for a block and if no object has the number, or
+    /// `NotStarted` before the start: then nothing is written.
     pub fn reading(&self, ono: u32, reading: &mut Reading) -> Answer
         ensures writes { (w : DeviceSizes) (T : List Object) (E : List Event) → RunsBehind w self.now T E →
             WritesSetting (setting_at (state_after w T E).tree ono) reading.new (answer_number result) }

@@ -125,9 +125,9 @@ fn kind_with<'a>(reading: Reading, names: &'a [&'a str]) -> Kind<'a>
     }
 }
 
-/// The kind of object that these words hold: its class, its value and its limits. A switch gets these names of its
-/// positions. `None` if the words hold no reading, unless their class number is 1: then it is a block, and the rest is
-/// not looked at.
+/// The kind of object that `words` hold: its class, its value and its limits. `names` are the names of a switch's
+/// positions; other kinds ignore them. If the class number is 1, it is a block, and the rest of `words` is not looked
+/// at. Otherwise `None` if `words` hold no reading.
 pub fn kind_of<'a>(words: &ReadingWords, names: &'a [&'a str]) -> Option<Kind<'a>>
     ensures { GivesKind words.now (map (λ name. name.now) names.now) result }
 {

@@ -98,8 +98,9 @@ impl Link {
         }
     }
 
-    /// Submits a command, to be sent when it is due, and returns its handle (AES70-3). `count` is ParamCount, and `now`
-    /// the moment in milliseconds of the caller's clock.
+    /// Submits a command, to be sent when it is due, and returns its handle (AES70-3). `target` is the number of the
+    /// object, `count` is ParamCount, `params` are the encoded parameters, and `now` is the moment in milliseconds of
+    /// the caller's clock.
     ///
     /// Refusals, the first that applies, each of which changes nothing, not even the link's clock. `Lost` if the link
     /// is lost. `HandlesSpent` after the handle 4294967295. `SpanFull` if the next handle is not below the lowest one
@@ -191,9 +192,9 @@ impl Link {
     }
 
     /// Handles a datagram that came from the address `from` at the moment `now`, in milliseconds of the caller's clock,
-    /// and returns what became of it. `Stranger` if the address is not the device's. Otherwise `Malformed` if the bytes
-    /// are not well-formed (AES70-3). Otherwise `Answered` with how many commands in flight got their first answer, or
-    /// `NothingNew` if none did.
+    /// and returns what became of it. `Stranger` if the address or the port is not the device's. Otherwise `Malformed`
+    /// if the bytes are not well-formed (AES70-3). Otherwise `Answered` with how many commands in flight got their
+    /// first answer, or `NothingNew` if none did.
     ///
     /// The responses are handled in order. A response is stored if its handle is the handle of a command in flight
     /// without an answer. Commands and keep-alives are ignored. A stranger's or malformed datagram changes only the

@@ -263,13 +263,14 @@ impl Device {
         self.tree.unlock(ono)
     }
 
-    /// Sets, at the local front panel, whether the hardware of an object refuses to be changed; at first it does not.
-    /// If it does, each command that would write to the object, and that no other status refuses, is answered
-    /// `ProcessingFailed` and changes nothing. A duplicate gets its retained reply. Commands that read or lock are
-    /// answered as before, and the local front panel still changes the object. A store does not keep this.
+    /// Sets, at the local front panel, whether the hardware of an object refuses changes (`failing`). At first it does
+    /// not. While it does, a command that writes to the object is answered `ProcessingFailed` and changes nothing; if
+    /// the command is refused for another reason too, the answer names that reason. A duplicate gets its retained
+    /// reply. Commands that read or lock work as before, and the local front panel can still change the object. The
+    /// setting is not saved to a store. (AES70-3 has this status; when it is answered is the profile's choice.)
     ///
     /// Neither the clock nor a session is changed. Refusal: `NoObject` if no object has the number; then nothing is
-    /// changed. (AES70-3 has the status; when it comes is the profile's.)
+    /// changed.
     pub fn set_failing(&mut self, ono: Ono, failing: bool) -> Result<(), FrontFault>
         ensures represents { (w : DeviceSizes) (T : List Object) (E : List Event) → Represents w self.old T E →
             Represents w self.new T (Local ono.0 (ToFailing failing) ∷ E) }
@@ -281,8 +282,8 @@ impl Device {
         self.tree.set_failing(ono, failing)
     }
 
-    /// Whether the hardware of an object refuses to be changed, as [`Device::set_failing`] set it last; `false` if it
-    /// was never set. `None` if no object has the number.
+    /// Whether the hardware of an object refuses changes, as [`Device::set_failing`] last set it; `false` before the
+    /// first such call. `None` if no object has the number.
     pub fn is_failing(&self, ono: Ono) -> Option<bool>
         ensures failing { result ≡ failing_at self.now.tree ono.0 }
         ensures represented { (w : DeviceSizes) (T : List Object) (E : List Event) → Represents w self.now T E →
