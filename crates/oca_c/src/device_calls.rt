@@ -143,8 +143,8 @@ pub extern "C" fn oca_device_datagram_words(
 
 /// Moves the device's clock on to `now`, in milliseconds of the caller's clock. Locks of peers that are silent for more
 /// than three heartbeats are released, and sessions that are silent for more than 120,000 ms are forgotten. A moment
-/// earlier than one already seen counts as that one. Returns the number of an answer: `Done`; otherwise `Closed` if the
-/// struct is closed, or `NotStarted` before the start. Then nothing is changed.
+/// earlier than the latest one so far counts as that latest one. Returns the number of an answer: `Done`; otherwise
+/// `Closed` if the struct is closed, or `NotStarted` before the start. Then nothing is changed.
 #[unsafe(no_mangle)]
 pub extern "C" fn oca_device_tick(alloc: Global, handle: &mut DeviceHandle, now: u64) -> u32
     ensures closed { RefusesClosed handle.old.slot.inner handle.new.slot.inner result }

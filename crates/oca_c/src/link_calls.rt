@@ -72,8 +72,8 @@ pub extern "C" fn oca_link_close(alloc: Global, handle: &mut LinkHandle)
 /// ParamCount, and `params` are the encoded parameters. The call sends nothing: `oca_link_due` returns what must be
 /// sent. Returns the number of an answer: `Done`; otherwise the first of these that applies, and nothing is changed or
 /// written. `Closed` if the struct is closed, `Lost` if the link is lost, `HandlesSpent` after the handle 4294967295.
-/// Then `SpanFull` if the next handle is not below the lowest one in flight plus the span, `TooLong` if the parameters
-/// have more than 1,445 bytes.
+/// Then `SpanFull` if the next handle is not below the lowest one whose answer was not taken yet, plus the span,
+/// `TooLong` if the parameters have more than 1,445 bytes.
 #[unsafe(no_mangle)]
 pub extern "C" fn oca_link_submit(
     alloc: Global,

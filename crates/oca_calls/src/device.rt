@@ -215,8 +215,8 @@ impl DeviceBehind {
     /// Handles a datagram that came from a peer at the moment `now`, in milliseconds of the caller's clock, as
     /// [`Device::datagram_within`](oca_device::Device::datagram_within) does. The datagram's commands are executed, and
     /// sessions, locks and the list of what was written change accordingly. The answers replace the packets of the last
-    /// datagram, as many as there is room for ([`left_out`](DeviceBehind::left_out)). A moment earlier than one already
-    /// seen counts as that one.
+    /// datagram, as many as there is room for ([`left_out`](DeviceBehind::left_out)). A moment earlier than the latest
+    /// one so far counts as that latest one.
     ///
     /// The words of the verdict ([`words_of`](crate::words::words_of)) go to the front of `out`, as many as it has room
     /// for. Returns `Done`. `NotStarted` before the start: then nothing is changed or written.
@@ -244,8 +244,8 @@ impl DeviceBehind {
 
     /// Moves the device's clock on to `now`, in milliseconds of the caller's clock. Locks of peers that are silent for
     /// more than three heartbeats are released, and sessions that are silent for more than 120,000 ms are forgotten. A
-    /// moment earlier than one already seen counts as that one. Returns `Done`. `NotStarted` before the start: then
-    /// nothing is changed.
+    /// moment earlier than the latest one so far counts as that latest one. Returns `Done`. `NotStarted` before the
+    /// start: then nothing is changed.
     pub fn tick(&mut self, now: u64) -> Answer
         ensures serves { (w : DeviceSizes) (T : List Object) (E : List Event) → RunsBehind w self.old T E →
             RunsBehind w self.new T (Tick now ∷ E) × (result ≡ Done) }

@@ -29,8 +29,8 @@ impl LinkBehind {
     /// `handle`. `target` is the number of the object, `count` is ParamCount, and `params` are the encoded parameters.
     /// Returns the number of an answer, always `Done`. If the link refuses the command, it is the first of these that
     /// applies, and then nothing is changed or written. `Lost` if the link is lost. `HandlesSpent` after the handle
-    /// 4294967295. `SpanFull` if the next handle is not below the lowest one in flight plus the span. `TooLong` if the
-    /// parameters have more than 1,445 bytes.
+    /// 4294967295. `SpanFull` if the next handle is not below the lowest one whose answer was not taken yet, plus the
+    /// span. `TooLong` if the parameters have more than 1,445 bytes.
     pub fn submit(
         &mut self,
         target: Ono,

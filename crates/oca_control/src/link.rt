@@ -104,7 +104,7 @@ impl Link {
     ///
     /// Refusals, the first that applies, each of which changes nothing, not even the link's clock. `Lost` if the link
     /// is lost. `HandlesSpent` after the handle 4294967295. `SpanFull` if the next handle is not below the lowest one
-    /// in flight plus the span. `TooLong` if the parameters have more than 1,445 bytes.
+    /// whose answer was not taken yet, plus the span. `TooLong` if the parameters have more than 1,445 bytes.
     pub fn submit(
         &mut self,
         target: Ono,
@@ -198,8 +198,8 @@ impl Link {
     ///
     /// The responses are handled in order. A response is stored if its handle is the handle of a command in flight
     /// without an answer. Commands and keep-alives are ignored. A stranger's or malformed datagram changes only the
-    /// link's clock, which moves on to `now` in all cases. A moment earlier than one already seen counts as that one. A
-    /// lost link still stores answers.
+    /// link's clock, which moves on to `now` in all cases. A moment earlier than the latest one so far counts as that
+    /// latest one. A lost link still stores answers.
     pub fn datagram(&mut self, from: Peer, bytes: &[u8], now: u64) -> Reception
         ensures receives { ReceivesDatagram from bytes.now now self.old result self.new }
         ensures answer { (content : Option (List Msg)) → IsContent content bytes.now →

@@ -15,8 +15,8 @@ use oca_types::Packet;
 const WAIT_MS: u64 = 50;
 
 /// Whether a link is late at the moment `now`, in milliseconds of the link's clock: a command is unanswered, and was
-/// submitted more than 15,000 ms before (*profile*). Whether it was sent does not matter. A moment earlier than one
-/// already seen counts as that one.
+/// submitted more than 15,000 ms before (*profile*). Whether it was sent does not matter. A moment earlier than the
+/// latest one so far counts as that latest one.
 ///
 /// A link that is asked in time has its answer by then or is lost, so this finds a program that was suspended. A
 /// command must not act so long after it was submitted. Besides, a device that hears nothing for 120 seconds forgets

@@ -133,7 +133,7 @@ impl Device {
 
     /// Handles a datagram that came from a peer at the moment `now`, in milliseconds of the caller's clock, and returns
     /// what became of it. The outbox then holds the datagram's answers, all for that peer, and nothing else. A moment
-    /// earlier than one already seen counts as that one.
+    /// earlier than the latest one so far counts as that latest one.
     ///
     /// First the clock moves: locks of peers that are silent for more than three heartbeats are released, and sessions
     /// that are silent for more than 120,000 ms are forgotten. Then the verdict is one of three:
@@ -193,7 +193,7 @@ impl Device {
 
     /// Moves the device's clock on to `now`, in milliseconds of the caller's clock. Locks of peers that are silent for
     /// more than three heartbeats are released, and sessions that are silent for more than 120,000 ms are forgotten. A
-    /// moment earlier than one already seen counts as that one. The list of what was written stays.
+    /// moment earlier than the latest one so far counts as that latest one. The list of what was written stays.
     pub fn tick(&mut self, now: u64)
         ensures { (w : DeviceSizes) (T : List Object) (E : List Event) → Represents w self.old T E →
             Represents w self.new T (Tick now ∷ E) }

@@ -23,7 +23,7 @@ use oca_types::{Packet, Peer};
 /// clock moves on. A receive that fails is counted and does nothing else.
 ///
 /// The loop ends after `turns` turns. It ends earlier if the end is closed, which does not count as a turn; then
-/// nothing more is received. The outbox is emptied at the start and after each turn.
+/// nothing more is received. `outbox` is memory for the answers; it is emptied at the start and after each turn.
 pub fn serve<E: End>(device: &mut Device, end: &mut E, outbox: &mut Outbox, turns: u32) -> Report
     ensures served { ServesEnd device.old device.new (E.state end.old) (E.state end.new) result }
     ensures turns { result.turns ≤ turns }

@@ -186,8 +186,8 @@ impl Answer {
     }
 
     /// Reads the parameters of an answer to this method of an object of this class; `count` is ParamCount. Only the
-    /// answer to a get method of the value depends on the class. `None` if the parameters are not exactly such an
-    /// answer, or `count` is not the number that the method has.
+    /// answer to a get method of the value depends on the class. `None` if `count` is not the number of parameters that
+    /// this answer has, or `params` is not exactly such an answer.
     #[tactic(auto, unfolding(crate::specs::Answers::answer_in))]
     pub fn read(class: Class, method: Method, count: u8, params: &[u8]) -> Option<Answer>
         ensures { result ≡ answer_in class method count params.now }

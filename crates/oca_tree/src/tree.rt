@@ -317,7 +317,7 @@ impl Tree {
 
     /// What [`TreeBuilder::add_with`](crate::TreeBuilder::add_with) and [`with_root`](crate::TreeBuilder::with_root)
     /// restore of the object with this number: its label, whether it is enabled, and of a switch which of its positions
-    /// are. `None` if no object has the number.
+    /// are enabled. `None` if no object has the number.
     pub fn start_of(&self, ono: Ono) -> Option<Start<'_>>
         ensures { option_map stored_in result ≡ stored_at self.now ono.0 }
     {

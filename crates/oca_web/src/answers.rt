@@ -501,7 +501,8 @@ fn put_values(
 }
 
 /// The answer to `/values`: a JSON text with how the link is, and how the last orders ended. It also has the objects
-/// that changed after the change that the page knows (`told`). Refusal: `AllocError`, if memory was refused.
+/// that changed after the change that the page knows already; `told` says which change that is. Refusal: `AllocError`,
+/// if memory was refused.
 #[tactic(auto, using(crate::proofs::ResultLemmas::results_text))]
 pub fn values_json(alloc: Global, view: &View, told: &Told<'_>) -> Result<Vec<u8>, AllocError>
     ensures { IfOk result (λ v. EndsWithResults told.now.run told.now.ticket view.now.orders.results v.items) }

@@ -33,9 +33,9 @@ fn whole(status: StatusCode) -> Refusal
     Refusal { status, at: None }
 }
 
-/// Reads the orders of a body in JSON, 1 to 64 of them. Returns them with the last moment at which they may be
-/// submitted, in milliseconds of the program's clock. The moment is `None` if the body gives none. Nothing is ordered
-/// yet.
+/// Reads the orders of a body in JSON, 1 to 64 of them. `known` is what is known of the device, and `run` is the number
+/// of this run of the program. Returns the orders with the last moment at which they may be submitted, in milliseconds
+/// of the program's clock. The moment is `None` if the body gives none. Nothing is ordered yet.
 ///
 /// A refusal has the status to answer with, and the index of the order that is the reason, if one is. The status is 400
 /// if the body is not JSON of this form, or names no run of the program. The status is 409 if the body names another

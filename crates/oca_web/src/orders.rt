@@ -60,9 +60,9 @@ impl Orders {
         self.tickets.saturating_add(1)
     }
 
-    /// Adds an order after all others and returns its ticket. `last` is the moment, in milliseconds of the program's
-    /// clock, after which it must not be submitted. `None` if 256 orders wait already, or no ticket is left below 2^64:
-    /// then nothing is changed.
+    /// Adds an order to do `action` with the object `ono`, after all others, and returns its ticket. `last` is the
+    /// moment, in milliseconds of the program's clock, after which it must not be submitted. `None` if 256 orders wait
+    /// already, or no ticket is left below 2^64: then nothing is changed.
     pub fn add(&mut self, ono: Ono, action: Action, last: u64) -> Option<u64>
         ensures { AddsTicket ono action last self.old result self.new }
     {

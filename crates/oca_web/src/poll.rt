@@ -118,8 +118,8 @@ impl Poll {
     }
 
     /// Notes that a page asked for values at the moment `now`, in milliseconds of the program's clock. The page shows
-    /// `visible` objects (at most 512) from the place `first` on, and counts as open for 2,500 ms. At most 128 pages
-    /// are kept: if there are more, the one that asked longest ago is replaced.
+    /// `visible` objects (at most 512) from the place `first` on, which is counted from 0, and counts as open for 2,500
+    /// ms. At most 128 pages are kept: if there are more, the one that asked longest ago is replaced.
     pub fn open(&mut self, now: u64, first: usize, visible: usize)
         ensures { OpensPage now (page_asked now first visible) self.old.pages.items self.new.pages.items }
     {

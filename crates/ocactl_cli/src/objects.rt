@@ -92,12 +92,12 @@ fn position_of<E: End>(panel: &mut Panel<E>, ono: Ono, position: u16) -> ObjectL
 }
 
 /// Sets the objects, with at most `ahead` commands in flight at once. Prints the outcome of each, in the order of the
-/// pairs. First it looks for the value of each pair. If a word stands for no value of its object, or an object's class
-/// can't be read, nothing is set. Then only the lines of these objects are printed.
+/// pairs. First it looks for the value of each pair. If a word means no value of its object, or an object's class can't
+/// be read, nothing is set. Then only the lines of these objects are printed.
 ///
-/// Returns the exit status: 0 if all were set, 4 if an object refused, 2 if a word stands for no value, 3 if no answer
-/// came. Of several it is the most severe ([`max_severity`]). Failures: `Write` if a write failed; then commands in
-/// flight may be carried out or not. `NoMemory` if memory was refused.
+/// Returns the exit status: 0 if all were set, 4 if an object refused, 2 if a word means no value, 3 if no answer came.
+/// Of several it is the most severe ([`max_severity`]). Failures: `Write` if a write failed; then commands in flight
+/// may be carried out or not. `NoMemory` if memory was refused.
 pub fn set_all<E: End, W: Sink>(
     alloc: Global,
     panel: &mut Panel<E>,

@@ -157,8 +157,9 @@ impl<E: End> Session<E> {
         self.at_hand = None;
     }
 
-    /// Notes that a line is now handled. The first line after a read counts as read at the end's present moment. Each
-    /// other line counts as read then too, or when the line before it was submitted.
+    /// Notes that a line is now handled, and at which moment it counts as read. The first line after a read counts as
+    /// read at the end's present moment. A later line counts as read at the moment of the last submit since that read,
+    /// or together with the first line if nothing was submitted since.
     pub fn take_up(&mut self)
         ensures { TakesUp self.old self.new }
     {

@@ -21,7 +21,7 @@ const LISTENING_ROOM: usize = 130;
 const COUNT_ROOM: usize = 50;
 
 /// Prints the counts of a report as one line, and writes all that the printer holds. Refusal: `WriteFailed` if a write
-/// failed; then a first part of the text was written.
+/// failed; then only the beginning of the text may have been written.
 pub fn print_report<W: Sink>(report: &Report, printer: &mut Printer<W>) -> Result<(), WriteFailed>
     ensures { WritesOut result printer.old printer.new (report_text report.now) }
 {
@@ -42,7 +42,7 @@ fn put_report<W: Sink>(report: &Report, printer: &mut Printer<W>)
 
 /// Prints the counts of a report so far as one line that begins with `note: `, and writes all that the printer holds.
 /// The line also has the number of sessions (`sessions`) and of held locks (`locks`). Refusal: `WriteFailed` if a write
-/// failed; then a first part of the text was written.
+/// failed; then only the beginning of the text may have been written.
 pub fn print_stats<F: Sink>(
     report: &Report,
     sessions: u64,
@@ -144,7 +144,7 @@ pub fn put_count<W: Sink>(word: &[u8], count: u64, printer: &mut Printer<W>)
 }
 
 /// Prints the address and port where the device listens as one line, and writes all that the printer holds.
-/// `WriteFailed` if a write failed: then a first part of the text was written.
+/// `WriteFailed` if a write failed: then only the beginning of the text may have been written.
 pub fn print_listening<W: Sink>(local: Peer, printer: &mut Printer<W>) -> Result<(), WriteFailed>
     ensures { WritesOut result printer.old printer.new (listening_text local) }
 {
@@ -178,7 +178,7 @@ pub fn put_peer<W: Sink>(peer: Peer, printer: &mut Printer<W>)
 }
 
 /// Prints a word of at most 30 bytes (a premise) and a number in decimal digits, with nothing between them.
-/// `WriteFailed` if a write failed: then a first part of the text was written.
+/// `WriteFailed` if a write failed: then only the beginning of the text may have been written.
 pub fn print_count<W: Sink>(
     word: &[u8],
     count: u64,

@@ -55,8 +55,9 @@ pub fn serve_turns<E: End>(
 }
 
 /// Serves an end for `turns` turns (`None`: for 2^64 - 1), or until it is closed, and keeps the objects in a store.
-/// Returns how often each thing was done. The answers to a datagram that wrote to an object wait until the store holds
-/// the objects. If storing fails, they are dropped, as if the network had lost them.
+/// Returns how often each thing was done. `outbox` is memory for the answers to one datagram, and `keeping` holds the
+/// answers that wait. The answers to a datagram that wrote to an object wait until the store holds the objects. If
+/// storing fails, they are dropped, as if the network had lost them.
 pub fn serve_kept<E: End, S: Store>(
     device: &mut Device,
     end: &mut E,
@@ -210,8 +211,8 @@ fn print_progress<E: End, F: Sink>(
 }
 
 /// Prints the report so far as one line that begins with `note: `, and writes all that the printer holds. The line also
-/// has the number of sessions and of held locks. Refusal: `WriteFailed` if a write failed; then a first part of the
-/// text was written.
+/// has the number of sessions and of held locks. Refusal: `WriteFailed` if a write failed; then only the beginning of
+/// the text may have been written.
 pub fn print_progress_report<F: Sink>(
     report: &Report,
     device: &Device,

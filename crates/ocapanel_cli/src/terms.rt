@@ -22,9 +22,9 @@ pub struct Wishes {
     pub read_only: bool,
 }
 
-/// What the command line and the files that it names ask of the panel: its token, its units, and whether it takes no
-/// orders. Failures: `Read` if a file can't be read. `BadWords` if a line of a file is refused. `Socket` if the system
-/// gave no random numbers for the token. `NoMemory` if memory was refused.
+/// What the command line (`serving`) and the files that it names (`paths`) ask of the panel: its token, its units, and
+/// whether it takes no orders. Failures: `Read` if a file can't be read. `BadWords` if a line of a file is refused.
+/// `Socket` if the system gave no random numbers for the token. `NoMemory` if memory was refused.
 pub fn wishes_of<R: RandomSource + Files>(
     alloc: Global,
     rt: &R,
