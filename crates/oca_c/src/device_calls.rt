@@ -162,10 +162,10 @@ pub extern "C" fn oca_device_tick(alloc: Global, handle: &mut DeviceHandle, now:
     answer.number()
 }
 
-/// Writes the earliest moment at which a clock reading changes the objects or the sessions. This moment is in
-/// milliseconds of the caller's clock, and not before the device's present moment. Returns the number of an answer:
-/// `Done`; otherwise `Closed` if the struct is closed, `NotStarted` before the start, or `Nothing` if there is no such
-/// moment within 64 bits. Then nothing is changed or written.
+/// Writes into `moment` the earliest moment at which a clock reading changes the objects or the sessions. This moment
+/// is in milliseconds of the caller's clock, and not before the device's present moment. Returns the number of an
+/// answer: `Done`; otherwise `Closed` if the struct is closed, `NotStarted` before the start, or `Nothing` if there is
+/// no such moment within 64 bits. Then nothing is changed or written.
 #[unsafe(no_mangle)]
 pub extern "C" fn oca_device_next_lapse(
     alloc: Global,
@@ -187,9 +187,9 @@ pub extern "C" fn oca_device_next_lapse(
     answer.number()
 }
 
-/// Writes how many packets answer the last datagram: 0 to 122, and 0 before the first datagram. Returns the number of
-/// an answer: `Done`; otherwise `Closed` if the struct is closed, or `NotStarted` before the start. Then nothing is
-/// changed or written.
+/// Writes into `count` how many packets answer the last datagram: 0 to 122, and 0 before the first datagram. Returns
+/// the number of an answer: `Done`; otherwise `Closed` if the struct is closed, or `NotStarted` before the start. Then
+/// nothing is changed or written.
 #[unsafe(no_mangle)]
 pub extern "C" fn oca_device_packets(
     alloc: Global,
@@ -211,9 +211,9 @@ pub extern "C" fn oca_device_packets(
     answer.number()
 }
 
-/// Writes whether answers to the last datagram were left out because there was no room for them; false before the first
-/// datagram. Returns the number of an answer: `Done`; otherwise `Closed` if the struct is closed, or `NotStarted`
-/// before the start. Then nothing is changed or written.
+/// Writes into `left_out` whether answers to the last datagram were left out because there was no room for them; false
+/// before the first datagram. Returns the number of an answer: `Done`; otherwise `Closed` if the struct is closed, or
+/// `NotStarted` before the start. Then nothing is changed or written.
 #[unsafe(no_mangle)]
 pub extern "C" fn oca_device_left_out(
     alloc: Global,
@@ -295,9 +295,9 @@ pub extern "C" fn oca_device_written(
     answer.number()
 }
 
-/// Writes whether the answers to the last datagram must wait until the objects are stored. Returns the number of an
-/// answer: `Done`; otherwise `Closed` if the struct is closed, or `NotStarted` before the start. Then nothing is
-/// changed or written.
+/// Writes into `waits` whether the answers to the last datagram must wait until the objects are stored. Returns the
+/// number of an answer: `Done`; otherwise `Closed` if the struct is closed, or `NotStarted` before the start. Then
+/// nothing is changed or written.
 #[unsafe(no_mangle)]
 pub extern "C" fn oca_device_waits(
     alloc: Global,

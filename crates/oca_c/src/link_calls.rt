@@ -205,10 +205,10 @@ pub extern "C" fn oca_link_take(
     number
 }
 
-/// Writes the earliest moment at which something is due or the link is lost. This moment is in milliseconds of the
-/// caller's clock, and not before the latest moment that the link was given. Returns the number of an answer: `Done`;
-/// otherwise `Closed` if the struct is closed, or `Nothing` if that moment lies beyond 64 bits. Then nothing is changed
-/// or written.
+/// Writes into `moment` the earliest moment at which something is due or the link is lost. This moment is in
+/// milliseconds of the caller's clock, and not before the latest moment that the link was given. Returns the number of
+/// an answer: `Done`; otherwise `Closed` if the struct is closed, or `Nothing` if that moment lies beyond 64 bits. Then
+/// nothing is changed or written.
 #[unsafe(no_mangle)]
 pub extern "C" fn oca_link_next_due(alloc: Global, handle: &mut LinkHandle, moment: &mut u64) -> u32
     ensures closed { RefusesClosed handle.old.slot.inner handle.new.slot.inner result }
@@ -224,8 +224,9 @@ pub extern "C" fn oca_link_next_due(alloc: Global, handle: &mut LinkHandle, mome
     number
 }
 
-/// Writes the lowest handle whose answer came and was not taken yet. Returns the number of an answer: `Done`; otherwise
-/// `Closed` if the struct is closed, or `Nothing` if there is none. Then nothing is changed or written.
+/// Writes into `command` the lowest handle whose answer came and was not taken yet. Returns the number of an answer:
+/// `Done`; otherwise `Closed` if the struct is closed, or `Nothing` if there is none. Then nothing is changed or
+/// written.
 #[unsafe(no_mangle)]
 pub extern "C" fn oca_link_answered(
     alloc: Global,
@@ -270,8 +271,9 @@ pub extern "C" fn oca_link_in_flight(
     number
 }
 
-/// Writes the handle that the next command gets. Returns the number of an answer: `Done`; otherwise `Closed` if the
-/// struct is closed, or `Nothing` after the last handle, 4294967295. Then nothing is changed or written.
+/// Writes into `command` the handle that the next command gets. Returns the number of an answer: `Done`; otherwise
+/// `Closed` if the struct is closed, or `Nothing` after the last handle, 4294967295. Then nothing is changed or
+/// written.
 #[unsafe(no_mangle)]
 pub extern "C" fn oca_link_next_handle(
     alloc: Global,
@@ -291,9 +293,9 @@ pub extern "C" fn oca_link_next_handle(
     number
 }
 
-/// Writes the moment, in milliseconds of the caller's clock, at which the last well-formed datagram came from the
-/// device. Before the first one it is the moment of the opening. Returns the number of an answer: `Done`; otherwise
-/// `Closed` if the struct is closed. Then nothing is changed or written.
+/// Writes into `moment` the moment, in milliseconds of the caller's clock, at which the last well-formed datagram came
+/// from the device. Before the first one it is the moment of the opening. Returns the number of an answer: `Done`;
+/// otherwise `Closed` if the struct is closed. Then nothing is changed or written.
 #[unsafe(no_mangle)]
 pub extern "C" fn oca_link_last_heard(
     alloc: Global,
@@ -313,8 +315,8 @@ pub extern "C" fn oca_link_last_heard(
     number
 }
 
-/// Writes whether the link is lost: a command got no answer to 20 transmissions. Returns the number of an answer:
-/// `Done`; otherwise `Closed` if the struct is closed. Then nothing is changed or written.
+/// Writes into `lost` whether the link is lost: a command got no answer to 20 transmissions. Returns the number of an
+/// answer: `Done`; otherwise `Closed` if the struct is closed. Then nothing is changed or written.
 #[unsafe(no_mangle)]
 pub extern "C" fn oca_link_is_lost(alloc: Global, handle: &mut LinkHandle, lost: &mut bool) -> u32
     ensures closed { RefusesClosed handle.old.slot.inner handle.new.slot.inner result }
@@ -330,9 +332,9 @@ pub extern "C" fn oca_link_is_lost(alloc: Global, handle: &mut LinkHandle, lost:
     number
 }
 
-/// Writes whether the link is late at the moment `now`, in milliseconds of the caller's clock: a command is unanswered
-/// that was submitted more than 15,000 ms before. Whether it was sent does not matter. Returns the number of an answer:
-/// `Done`; otherwise `Closed` if the struct is closed. Then nothing is changed or written.
+/// Writes into `late` whether the link is late at the moment `now`, in milliseconds of the caller's clock: a command is
+/// unanswered that was submitted more than 15,000 ms before. Whether it was sent does not matter. Returns the number of
+/// an answer: `Done`; otherwise `Closed` if the struct is closed. Then nothing is changed or written.
 #[unsafe(no_mangle)]
 pub extern "C" fn oca_link_is_late(
     alloc: Global,

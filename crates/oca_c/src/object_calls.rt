@@ -13,8 +13,9 @@ use oca_calls::device_handle::DeviceHandle;
 use oca_calls::reading::Reading;
 use std::alloc::Global;
 
-/// Writes how many objects there are, the root included: 1 to 4,096. Returns the number of an answer: `Done`; otherwise
-/// `Closed` if the struct is closed, or `NotStarted` before the start. Then nothing is changed or written.
+/// Writes into `count` how many objects there are, the root included: 1 to 4,096. Returns the number of an answer:
+/// `Done`; otherwise `Closed` if the struct is closed, or `NotStarted` before the start. Then nothing is changed or
+/// written.
 #[unsafe(no_mangle)]
 pub extern "C" fn oca_device_objects(
     alloc: Global,
@@ -64,10 +65,10 @@ pub extern "C" fn oca_device_object_words(
     answer.number()
 }
 
-/// Writes the kind of an object's lock, and the address (an IPv4 address as a number, the first byte highest) and port
-/// of its holder. Kind 1 keeps other peers from all access, kind 2 from all but reading. Returns the number of an
-/// answer: `Done`; otherwise `Closed` if the struct is closed, `NotStarted` before the start, or `Nothing` if the
-/// object is not locked or not there. Then nothing is changed or written.
+/// Writes the kind of an object's lock into `kind`, and the address (an IPv4 address as a number, the first byte
+/// highest) and the port of its holder into `ip` and `port`. Kind 1 keeps other peers from all access, kind 2 from all
+/// but reading. Returns the number of an answer: `Done`; otherwise `Closed` if the struct is closed, `NotStarted`
+/// before the start, or `Nothing` if the object is not locked or not there. Then nothing is changed or written.
 #[unsafe(no_mangle)]
 pub extern "C" fn oca_device_lock(
     alloc: Global,
@@ -92,9 +93,9 @@ pub extern "C" fn oca_device_lock(
     answer.number()
 }
 
-/// Writes whether the hardware of an object refuses changes, as `oca_device_set_failing` last set it; false before the
-/// first such call. Returns the number of an answer: `Done`; otherwise `Closed` if the struct is closed, `NotStarted`
-/// before the start, or `NoObject` if there is no such object. Then nothing is changed or written.
+/// Writes into `failing` whether the hardware of an object refuses changes, as `oca_device_set_failing` last set it;
+/// false before the first such call. Returns the number of an answer: `Done`; otherwise `Closed` if the struct is
+/// closed, `NotStarted` before the start, or `NoObject` if there is no such object. Then nothing is changed or written.
 #[unsafe(no_mangle)]
 pub extern "C" fn oca_device_is_failing(
     alloc: Global,
@@ -143,8 +144,8 @@ pub extern "C" fn oca_device_setting(
     answer.number()
 }
 
-/// Writes how many peers have a session: 0 to 64. Returns the number of an answer: `Done`; otherwise `Closed` if the
-/// struct is closed, or `NotStarted` before the start. Then nothing is changed or written.
+/// Writes into `count` how many peers have a session: 0 to 64. Returns the number of an answer: `Done`; otherwise
+/// `Closed` if the struct is closed, or `NotStarted` before the start. Then nothing is changed or written.
 #[unsafe(no_mangle)]
 pub extern "C" fn oca_device_peers(
     alloc: Global,
@@ -166,10 +167,10 @@ pub extern "C" fn oca_device_peers(
     answer.number()
 }
 
-/// Writes the address (an IPv4 address as a number, the first byte highest) and the port of the peer of the session at
-/// this index. Sessions are counted from 0, in order of opening; if one is forgotten, the later ones move up. Returns
-/// the number of an answer: `Done`; otherwise `Closed` if the struct is closed, `NotStarted` before the start, or
-/// `Nothing` after the last session. Then nothing is changed or written.
+/// Writes into `ip` and `port` the address (an IPv4 address as a number, the first byte highest) and the port of the
+/// peer of the session at this index. Sessions are counted from 0, in order of opening; if one is forgotten, the later
+/// ones move up. Returns the number of an answer: `Done`; otherwise `Closed` if the struct is closed, `NotStarted`
+/// before the start, or `Nothing` after the last session. Then nothing is changed or written.
 #[unsafe(no_mangle)]
 pub extern "C" fn oca_device_peer(
     alloc: Global,

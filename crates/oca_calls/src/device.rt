@@ -260,9 +260,10 @@ impl DeviceBehind {
         Answer::Done
     }
 
-    /// Writes the earliest moment at which [`tick`](DeviceBehind::tick) would change the objects or the sessions. This
-    /// moment is in milliseconds of the caller's clock, and not before the device's present moment. Returns `Done`.
-    /// `Nothing` if there is no such moment within 64 bits, or `NotStarted` before the start: then nothing is written.
+    /// Writes into `moment` the earliest moment at which [`tick`](DeviceBehind::tick) would change the objects or the
+    /// sessions. This moment is in milliseconds of the caller's clock, and not before the device's present moment.
+    /// Returns `Done`. `Nothing` if there is no such moment within 64 bits, or `NotStarted` before the start: then
+    /// nothing is written.
     pub fn next_lapse(&self, moment: &mut u64) -> Answer
         ensures writes { (w : DeviceSizes) (T : List Object) (E : List Event) → RunsBehind w self.now T E →
             WritesNextLapse w (state_after w T E) moment.new (answer_number result) }
@@ -454,8 +455,8 @@ impl DeviceBehind {
         }
     }
 
-    /// Writes how many packets answer the last datagram: 0 to 122. Returns `Done`. `NotStarted` before the start: then
-    /// nothing is written.
+    /// Writes into `count` how many packets answer the last datagram: 0 to 122. Returns `Done`. `NotStarted` before the
+    /// start: then nothing is written.
     pub fn packets(&self, count: &mut usize) -> Answer
         ensures writes { IsSome self.now.device → (result ≡ Done) × (count.new ≡ length self.now.outbox.packets) }
         ensures building { self.now.device ≡ None → (result ≡ NotStarted) × (count.new ≡ count.old) }
@@ -467,8 +468,9 @@ impl DeviceBehind {
         Answer::Done
     }
 
-    /// Writes whether answers to the last datagram were left out because there was no room for them. The peer then
-    /// sends these commands again. Returns `Done`. `NotStarted` before the start: then nothing is written.
+    /// Writes into `left_out` whether answers to the last datagram were left out because there was no room for them.
+    /// The peer then sends these commands again. Returns `Done`. `NotStarted` before the start: then nothing is
+    /// written.
     pub fn left_out(&self, left_out: &mut bool) -> Answer
         ensures writes { IsSome self.now.device → (result ≡ Done) × (left_out.new ≡ self.now.outbox.is_cut) }
         ensures building { self.now.device ≡ None → (result ≡ NotStarted) × (left_out.new ≡ left_out.old) }
@@ -534,8 +536,8 @@ impl DeviceBehind {
         }
     }
 
-    /// Writes whether the answers to the last datagram must wait until the objects are stored. Returns `Done`.
-    /// `NotStarted` before the start: then nothing is written.
+    /// Writes into `waits` whether the answers to the last datagram must wait until the objects are stored. Returns
+    /// `Done`. `NotStarted` before the start: then nothing is written.
     pub fn waits(&self, waits: &mut bool) -> Answer
         ensures writes { IsSome self.now.device → (result ≡ Done) × (waits.new ≡ self.now.unstored.waits) }
         ensures building { self.now.device ≡ None → (result ≡ NotStarted) × (waits.new ≡ waits.old) }
@@ -564,8 +566,8 @@ impl DeviceBehind {
         Answer::Done
     }
 
-    /// Writes how many objects there are, the root included: 1 to 4,096. Returns `Done`. `NotStarted` before the start:
-    /// then nothing is written.
+    /// Writes into `count` how many objects there are, the root included: 1 to 4,096. Returns `Done`. `NotStarted`
+    /// before the start: then nothing is written.
     pub fn objects(&self, count: &mut usize) -> Answer
         ensures writes { (w : DeviceSizes) (T : List Object) (E : List Event) → RunsBehind w self.now T E →
             (result ≡ Done) × (count.new ≡ length (state_after w T E).tree) }
@@ -602,9 +604,9 @@ impl DeviceBehind {
         Answer::Done
     }
 
-    /// Writes the description of the object at this index, by which it can be added again; indices count from 0 at the
-    /// root, in order of adding. Returns `Done`. `BadSize` if `out.size` is not the size of the struct, 1,248 bytes,
-    /// `Nothing` after the last object, or `NotStarted` before the start: then nothing is written.
+    /// Writes into `spec` the description of the object at this index, by which it can be added again; indices count
+    /// from 0 at the root, in order of adding. Returns `Done`. `BadSize` if `out.size` is not the size of the struct,
+    /// 1,248 bytes, `Nothing` after the last object, or `NotStarted` before the start: then nothing is written.
     pub fn spec(&self, index: usize, out: &mut SpecWords) -> Answer
         ensures writes { (w : DeviceSizes) (T : List Object) (E : List Event) → RunsBehind w self.now T E →
             WritesSpec (state_after w T E).tree (info_at (state_after w T E).tree index) out.old out.new
@@ -618,9 +620,9 @@ impl DeviceBehind {
         read_spec(device.tree(), index, out)
     }
 
-    /// Writes the description of the object with this number, by which it can be added again. Returns `Done`. `BadSize`
-    /// if `out.size` is not the size of the struct, 1,248 bytes, `Nothing` if no object has the number, or `NotStarted`
-    /// before the start: then nothing is written.
+    /// Writes into `spec` the description of the object with this number, by which it can be added again. Returns
+    /// `Done`. `BadSize` if `out.size` is not the size of the struct, 1,248 bytes, `Nothing` if no object has the
+    /// number, or `NotStarted` before the start: then nothing is written.
     pub fn spec_of(&self, ono: u32, out: &mut SpecWords) -> Answer
         ensures writes { (w : DeviceSizes) (T : List Object) (E : List Event) → RunsBehind w self.now T E →
             WritesSpec (state_after w T E).tree (info_of_ono (state_after w T E).tree ono) out.old out.new
@@ -634,8 +636,8 @@ impl DeviceBehind {
         read_spec_of(device.tree(), Ono(ono), out)
     }
 
-    /// Writes how many peers have a session: 0 to 64. Returns `Done`. `NotStarted` before the start: then nothing is
-    /// written.
+    /// Writes into `count` how many peers have a session: 0 to 64. Returns `Done`. `NotStarted` before the start: then
+    /// nothing is written.
     pub fn peers(&self, count: &mut usize) -> Answer
         ensures writes { (w : DeviceSizes) (T : List Object) (E : List Event) → RunsBehind w self.now T E →
             (result ≡ Done) × (count.new ≡ length (known_after (state_after w T E))) }
@@ -649,9 +651,10 @@ impl DeviceBehind {
         Answer::Done
     }
 
-    /// Writes the address (an IPv4 address as a number, the first byte highest) and the port of the peer of the session
-    /// at this index. Sessions are counted from 0, in order of opening; if one is forgotten, the later ones move up.
-    /// Returns `Done`. `Nothing` after the last session, or `NotStarted` before the start: then nothing is written.
+    /// Writes into `ip` and `port` the address (an IPv4 address as a number, the first byte highest) and the port of
+    /// the peer of the session at this index. Sessions are counted from 0, in order of opening; if one is forgotten,
+    /// the later ones move up. Returns `Done`. `Nothing` after the last session, or `NotStarted` before the start: then
+    /// nothing is written.
     pub fn peer(&self, index: usize, ip: &mut u32, port: &mut u16) -> Answer
         ensures writes { (w : DeviceSizes) (T : List Object) (E : List Event) → RunsBehind w self.now T E →
             WritesPeer (slice_get (known_after (state_after w T E)) index) ip.new port.new (answer_number result) }
@@ -669,9 +672,10 @@ impl DeviceBehind {
         Answer::Done
     }
 
-    /// Writes the kind of an object's lock, and the address (an IPv4 address as a number, the first byte highest) and
-    /// port of its holder. Kind 1 keeps other peers from all access, kind 2 from all but reading. Returns `Done`.
-    /// `Nothing` if the object is not locked or not there, or `NotStarted` before the start: then nothing is written.
+    /// Writes the kind of an object's lock into `kind`, and the address (an IPv4 address as a number, the first byte
+    /// highest) and the port of its holder into `ip` and `port`. Kind 1 keeps other peers from all access, kind 2 from
+    /// all but reading. Returns `Done`. `Nothing` if the object is not locked or not there, or `NotStarted` before the
+    /// start: then nothing is written.
     pub fn lock(&self, ono: u32, kind: &mut u32, ip: &mut u32, port: &mut u16) -> Answer
         ensures writes { (w : DeviceSizes) (T : List Object) (E : List Event) → RunsBehind w self.now T E →
             WritesLock (lock_at (state_after w T E).tree ono) kind.new ip.new port.new (answer_number result) }
@@ -690,8 +694,8 @@ impl DeviceBehind {
         Answer::Done
     }
 
-    /// Writes whether the hardware of an object refuses changes. Returns `Done`. `NoObject` if no object has the
-    /// number, or `NotStarted` before the start: then nothing is written.
+    /// Writes into `failing` whether the hardware of an object refuses changes. Returns `Done`. `NoObject` if no object
+    /// has the number, or `NotStarted` before the start: then nothing is written.
     pub fn is_failing(&self, ono: u32, failing: &mut bool) -> Answer
         ensures writes { (w : DeviceSizes) (T : List Object) (E : List Event) → RunsBehind w self.now T E →
             WritesFailing (failing_at (state_after w T E).tree ono) failing.new (answer_number result) }

@@ -26,11 +26,12 @@ pub struct LinkBehind {
 
 impl LinkBehind {
     /// Submits a command at the moment `now`, in milliseconds of the caller's clock, and writes its handle into
-    /// `handle`. `target` is the number of the object, `count` is ParamCount, and `params` are the encoded parameters.
-    /// Returns the number of an answer, always `Done`. If the link refuses the command, it is the first of these that
-    /// applies, and then nothing is changed or written. `Lost` if the link is lost. `HandlesSpent` after the handle
-    /// 4294967295. `SpanFull` if the next handle is not below the lowest one whose answer was not taken yet, plus the
-    /// span. `TooLong` if the parameters have more than 1,445 bytes.
+    /// `handle`. `target` is the number of the object, `method` has the method's DefLevel and MethodIndex, `count` is
+    /// ParamCount, and `params` are the encoded parameters. Returns the number of an answer, always `Done`. If the link
+    /// refuses the command, it is the first of these that applies, and then nothing is changed or written. `Lost` if
+    /// the link is lost. `HandlesSpent` after the handle 4294967295. `SpanFull` if the next handle is not below the
+    /// lowest one whose answer was not taken yet, plus the span. `TooLong` if the parameters have more than 1,445
+    /// bytes.
     pub fn submit(
         &mut self,
         target: Ono,
@@ -160,9 +161,9 @@ impl LinkBehind {
         }
     }
 
-    /// Writes the earliest moment at which something is due or the link is lost. This moment is in milliseconds of the
-    /// caller's clock, and not before the latest moment that the link was given. Returns the number of an answer:
-    /// `Done`. `Nothing` if the moment lies beyond 64 bits: then nothing is written.
+    /// Writes into `moment` the earliest moment at which something is due or the link is lost. This moment is in
+    /// milliseconds of the caller's clock, and not before the latest moment that the link was given. Returns the number
+    /// of an answer: `Done`. `Nothing` if the moment lies beyond 64 bits: then nothing is written.
     pub fn next_due(&self, moment: &mut u64) -> u32
         ensures writes { WritesNextDue result moment.new self.now.link }
         ensures unwritten { (result ≡ 0) ⊎ (moment.new ≡ moment.old) }
@@ -176,8 +177,8 @@ impl LinkBehind {
         }
     }
 
-    /// Writes the lowest handle whose answer came and was not taken yet. Returns the number of an answer: `Done`.
-    /// `Nothing` if there is none: then nothing is written.
+    /// Writes into `handle` the lowest handle whose answer came and was not taken yet. Returns the number of an answer:
+    /// `Done`. `Nothing` if there is none: then nothing is written.
     pub fn answered(&self, handle: &mut u32) -> u32
         ensures writes { WritesNumber result handle.new (first_answered self.now.link.untaken) }
         ensures unwritten { (result ≡ 0) ⊎ (handle.new ≡ handle.old) }
@@ -200,8 +201,8 @@ impl LinkBehind {
         Answer::Done.number()
     }
 
-    /// Writes the handle that the next command gets. Returns the number of an answer: `Done`. `Nothing` after the last
-    /// handle, 4294967295: then nothing is written.
+    /// Writes into `handle` the handle that the next command gets. Returns the number of an answer: `Done`. `Nothing`
+    /// after the last handle, 4294967295: then nothing is written.
     pub fn next_handle(&self, handle: &mut u32) -> u32
         ensures writes { WritesNumber result handle.new self.now.link.next }
         ensures unwritten { (result ≡ 0) ⊎ (handle.new ≡ handle.old) }
@@ -215,8 +216,9 @@ impl LinkBehind {
         }
     }
 
-    /// Writes the moment, in milliseconds of the caller's clock, at which the last well-formed datagram came from the
-    /// device. Before the first one it is the moment of the opening. Returns the number of an answer, always `Done`.
+    /// Writes into `moment` the moment, in milliseconds of the caller's clock, at which the last well-formed datagram
+    /// came from the device. Before the first one it is the moment of the opening. Returns the number of an answer,
+    /// always `Done`.
     pub fn last_heard(&self, moment: &mut u64) -> u32
         ensures { (result ≡ 0) × (moment.new ≡ self.now.link.heard) }
     {
@@ -224,8 +226,8 @@ impl LinkBehind {
         Answer::Done.number()
     }
 
-    /// Writes whether the link is lost: a command got no answer to 20 transmissions. Returns the number of an answer,
-    /// always `Done`.
+    /// Writes into `lost` whether the link is lost: a command got no answer to 20 transmissions. Returns the number of
+    /// an answer, always `Done`.
     pub fn is_lost(&self, lost: &mut bool) -> u32
         ensures { (result ≡ 0) × (lost.new ≡ self.now.link.lost) }
     {
@@ -233,9 +235,9 @@ impl LinkBehind {
         Answer::Done.number()
     }
 
-    /// Writes whether the link is late at the moment `now`, in milliseconds of the caller's clock: a command is
-    /// unanswered that was submitted more than 15,000 ms before. Whether it was sent does not matter. Returns the
-    /// number of an answer, always `Done`.
+    /// Writes into `late` whether the link is late at the moment `now`, in milliseconds of the caller's clock: a
+    /// command is unanswered that was submitted more than 15,000 ms before. Whether it was sent does not matter.
+    /// Returns the number of an answer, always `Done`.
     pub fn is_late(&self, now: u64, late: &mut bool) -> u32
         ensures { (result ≡ 0) × (late.new ≡ late_at now self.now.link) }
     {

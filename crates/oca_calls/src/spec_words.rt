@@ -55,8 +55,8 @@ pub fn flags_of(bytes: &[u8]) -> ArrayVec<bool, MOST_POSITIONS>
     flags
 }
 
-/// These flags as bytes, at the front of an array of 16: 0 is false, any other byte is true. There must be at most 16
-/// (a premise).
+/// These flags as bytes, at the front of an array of 16: 0 is false and 1 is true; the bytes after them are 0. There
+/// must be at most 16 (a premise).
 pub fn bytes_of(flags: &[bool]) -> [u8; MOST_POSITIONS]
     requires { length flags.now ≤ 16 }
     ensures { map is_yes (take (length flags.now) result) ≡ flags.now }

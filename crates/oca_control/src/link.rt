@@ -99,8 +99,8 @@ impl Link {
     }
 
     /// Submits a command, to be sent when it is due, and returns its handle (AES70-3). `target` is the number of the
-    /// object, `count` is ParamCount, `params` are the encoded parameters, and `now` is the moment in milliseconds of
-    /// the caller's clock.
+    /// object, `method` has the method's DefLevel and MethodIndex, `count` is ParamCount, `params` are the encoded
+    /// parameters, and `now` is the moment in milliseconds of the caller's clock.
     ///
     /// Refusals, the first that applies, each of which changes nothing, not even the link's clock. `Lost` if the link
     /// is lost. `HandlesSpent` after the handle 4294967295. `SpanFull` if the next handle is not below the lowest one

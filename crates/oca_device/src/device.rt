@@ -158,10 +158,10 @@ impl Device {
         self.datagram_within(from, bytes, now, &mut outbox.first)
     }
 
-    /// Handles a datagram as [`Device::datagram`] does, with the same verdicts, and with an outbox that has room for a
-    /// chosen number of packets. The outbox then holds the first of the answers, as many as there is room for.
-    /// [`is_cut`](BoundedOutbox::is_cut) is true if others were left out. `now` is in milliseconds of the caller's
-    /// clock.
+    /// Handles a datagram that came from the peer `from` as [`Device::datagram`] does, with the same verdicts, and with
+    /// an outbox that has room for a chosen number of packets. The outbox then holds the first of the answers, as many
+    /// as there is room for. [`is_cut`](BoundedOutbox::is_cut) is true if others were left out. `now` is in
+    /// milliseconds of the caller's clock.
     ///
     /// All commands are executed, whether their answers have room or not. A peer that repeats a command whose answer
     /// was left out gets the retained reply, as after a loss. There are never more packets than the datagram has

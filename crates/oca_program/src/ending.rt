@@ -57,8 +57,8 @@ pub fn written(done: Result<(), WriteFailed>) -> Result<u8, Failure>
     }
 }
 
-/// The end of a run that only had to replay a script: exit status 0 if the script came to its end. Failures: `Line`,
-/// `Read`, `Write` or `TooMuch`, as the fault of the replay is.
+/// The end of a run that only had to replay a script; `done` is how the replay ended: exit status 0 if the script came
+/// to its end. Failures: `Line`, `Read`, `Write` or `TooMuch`, the one of the same name as the fault of the replay.
 pub fn replayed(done: Result<(), ReplayFault>) -> Result<u8, Failure>
     ensures { fault_in result ≡ when_replayed done }
 {

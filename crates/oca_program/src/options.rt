@@ -141,8 +141,9 @@ pub fn own_or(words: &ArgMatches<'_>, name: &str, other: u32) -> Option<u32>
     }
 }
 
-/// The text of `--help` or `--version`, if a command line that did not match asks for one. Failures: `BadWords` if it
-/// asks for neither; the failure has a note if there is memory for it. `NoMemory` if memory was refused.
+/// The text of `--help` or `--version`, if a command line that did not match asks for one; `error` is what `clap` says
+/// of it. Failures: `BadWords` if it asks for neither; the failure has a note if there is memory for it. `NoMemory` if
+/// memory was refused.
 pub fn help_or_failure(alloc: Global, error: &Error) -> Result<String, Failure>
     ensures text { IfOk result (λ _. asks_for_text (kind_of error.now) ≡ true) }
     ensures failure { IfErr result (λ failure. failure.fault ≡ words_fault (kind_of error.now)) }

@@ -65,8 +65,8 @@ pub struct FromReader<R> {
 }
 
 impl<R: Read> FromReader<R> {
-    /// A source over this reader, without a failed read. It assumes that no read waits, which is so for files and
-    /// memory.
+    /// A source over this reader; no read of it has failed yet. It assumes that no read waits, which is so for files
+    /// and memory.
     pub fn new(reader: R) -> FromReader<R>
         ensures reader { result.reader ≡ reader }
         ensures unfailed { result.failed ≡ false }
@@ -81,8 +81,8 @@ impl<R: Read> FromReader<R> {
         }
     }
 
-    /// A source over this reader, without a failed read. A read may wait, so the source asks the system whether the
-    /// reader's descriptor is ready.
+    /// A source over this reader; no read of it has failed yet. A read may wait, so the source asks the system whether
+    /// the reader's descriptor is ready.
     pub fn awaited(reader: R) -> FromReader<R>
     where
         R: AsRawFd,
@@ -173,7 +173,7 @@ pub struct ToWriter<W> {
 }
 
 impl<W: Write> ToWriter<W> {
-    /// A sink over this writer, without a failed write.
+    /// A sink over this writer; no write to it has failed yet.
     pub fn new(writer: W) -> ToWriter<W>
         ensures writer { result.writer ≡ writer }
         ensures unfailed { result.failed ≡ false }

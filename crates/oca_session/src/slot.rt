@@ -138,7 +138,7 @@ impl Slot {
         self.heard = moment;
     }
 
-    /// Sets the heartbeat, in milliseconds: to 250 if it is below that, and to 30,000 if it is above that.
+    /// Sets the heartbeat to `ms` milliseconds: to 250 if `ms` is below that, and to 30,000 if `ms` is above that.
     pub fn set_heartbeat(&mut self, ms: u64)
         ensures { self.new ≡ with_heartbeat ms self.old }
     {

@@ -58,7 +58,7 @@ fn polarity(word: &[u8]) -> Option<PolarityState>
     }
 }
 
-/// The Boolean for which a word stands: `on` is true, `off` is false. `None` for any other word.
+/// The Boolean that a word means: `on` is true, `off` is false. `None` for any other word.
 #[tactic(auto, unfolding(crate::specs::Lines::one_of))]
 pub fn truth(word: &[u8]) -> Option<bool>
     ensures { result ≡ one_of (codes "on") true (codes "off") false word.now }

@@ -89,8 +89,8 @@ impl Orders {
             && (count as u64) < u64::MAX - self.tickets
     }
 
-    /// Adds these orders after all others, in their order, and returns the ticket of the first; the others have the
-    /// tickets after it. `last` is the moment, in milliseconds of the program's clock, after which they must not be
+    /// Adds the orders `wanted` after all others, in their order, and returns the ticket of the first; the others have
+    /// the tickets after it. `last` is the moment, in milliseconds of the program's clock, after which they must not be
     /// submitted. `None` if there is no room for all of them ([`has_room`](Orders::has_room)): then nothing is changed.
     pub fn add_all(&mut self, wanted: &[Wanted], last: u64) -> Option<u64>
         ensures { AddsAll wanted.now last self.old result self.new }

@@ -104,8 +104,8 @@ impl Poll {
     ghost use Rattle.std.specs.Option.{option_map};
     ghost use Rattle.oca_web.specs.Polling.{OpensPage, ReadsAgain, has_open_page, page_asked, pause_of, shows};
 
-    /// A poll without a round and without a page. `now` is the present moment, in milliseconds of the program's clock.
-    /// The first round begins 25 ms later at the earliest.
+    /// A poll of which no round was begun, and for which no page is open. `now` is the present moment, in milliseconds
+    /// of the program's clock. The first round begins 25 ms later at the earliest.
     pub fn new(now: u64) -> Poll {
         Poll {
             pages: ArrayVec::new(),

@@ -296,8 +296,8 @@ impl View {
         self.orders.has_room(count)
     }
 
-    /// Adds these orders after all others, in their order, and returns the ticket of the first; the others have the
-    /// tickets after it. `last` is the moment, in milliseconds of the program's clock, after which they must not be
+    /// Adds the orders `wanted` after all others, in their order, and returns the ticket of the first; the others have
+    /// the tickets after it. `last` is the moment, in milliseconds of the program's clock, after which they must not be
     /// submitted. `None` if there is no room for all of them ([`has_room`](View::has_room)): then nothing is changed.
     pub fn order_all(&mut self, wanted: &[Wanted], last: u64) -> Option<u64>
         ensures orders { AddsAll wanted.now last self.old.orders result self.new.orders }

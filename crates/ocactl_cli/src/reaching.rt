@@ -35,7 +35,7 @@ pub struct LinkStart {
 ///
 /// At the program's own port, unless the command line gives a first handle, the device is first asked whether it
 /// answers commands from there. If it is heard and does not answer, the other of the two ports is used if it can be
-/// bound, and a note is printed.
+/// bound, and a note is printed to `faults`.
 ///
 /// Failures: `Socket` if the system refuses the socket, for example since its port is in use, or has no route to the
 /// device. `NoMemory` if memory was refused. The note has the system's reason and the port, if there is memory for it.

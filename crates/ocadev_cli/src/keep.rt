@@ -341,7 +341,7 @@ impl<'d, 'p, 'f, D, F: Sink> Drop for FileStore<'d, 'p, 'f, D, F> {
 }
 
 impl<'d, 'p, 'f, D: Disk, F: Sink> FileStore<'d, 'p, 'f, D, F> {
-    /// A store in the file at this path, on this disk, without a failed store. What is printed while it stores goes to
+    /// A store in the file at this path, on this disk; no store has failed yet. What is printed while it stores goes to
     /// `faults`; `tracing` says what that is.
     pub fn new(
         alloc: Global,

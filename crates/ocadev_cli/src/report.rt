@@ -40,9 +40,9 @@ fn put_report<W: Sink>(report: &Report, printer: &mut Printer<W>)
     printer.put(b"\n");
 }
 
-/// Prints the counts of a report so far as one line that begins with `note: `, and writes all that the printer holds.
-/// The line also has the number of sessions (`sessions`) and of held locks (`locks`). Refusal: `WriteFailed` if a write
-/// failed; then only the beginning of the text may have been written.
+/// Prints to `faults` the counts of a report so far as one line that begins with `note: `, and writes all that the
+/// printer holds. The line also has the number of sessions (`sessions`) and of held locks (`locks`). Refusal:
+/// `WriteFailed` if a write failed; then only the beginning of the text may have been written.
 pub fn print_stats<F: Sink>(
     report: &Report,
     sessions: u64,
@@ -143,8 +143,8 @@ pub fn put_count<W: Sink>(word: &[u8], count: u64, printer: &mut Printer<W>)
     printer.put_number(count);
 }
 
-/// Prints the address and port where the device listens as one line, and writes all that the printer holds.
-/// `WriteFailed` if a write failed: then only the beginning of the text may have been written.
+/// Prints the address and the port where the device listens (`local`) as one line, and writes all that the printer
+/// holds. `WriteFailed` if a write failed: then only the beginning of the text may have been written.
 pub fn print_listening<W: Sink>(local: Peer, printer: &mut Printer<W>) -> Result<(), WriteFailed>
     ensures { WritesOut result printer.old printer.new (listening_text local) }
 {

@@ -79,9 +79,9 @@ fn named(path: &Option<String>) -> Option<&str> {
     }
 }
 
-/// The terms of a panel at this address, with what the command line asks (`wishes`). Its run gets a number of 64 random
-/// bits, so that two runs have the same number only with a chance of 1 in 2^64. Failures: `Socket` if the system gave
-/// no random numbers, `NoMemory` if memory was refused.
+/// The terms of a panel that listens at `local`, with what the command line asks (`wishes`). Its run gets a number of
+/// 64 random bits, so that two runs have the same number only with a chance of 1 in 2^64. Failures: `Socket` if the
+/// system gave no random numbers, `NoMemory` if memory was refused.
 pub fn terms_of<R: RandomSource>(
     alloc: Global,
     rt: &R,
