@@ -93,8 +93,8 @@ pub extern "C" fn oca_device_add(
 /// Writes into `spec` the description of the object at this index, by which it can be added again; indices count from 0
 /// at the root, in order of adding. The object's lock is not written. Returns the number of an answer: `Done`;
 /// otherwise the first of these that applies, and nothing is changed or written. `Closed` if the struct is closed,
-/// `NotStarted` before the start, `BadSize` if `spec.size` is not the size of the struct, 1,248 bytes, `Nothing` after
-/// the last object.
+/// `NotStarted` before the start, `BadSize` if `spec.size` is not 1,248 (the size of the struct in bytes), `Nothing`
+/// after the last object.
 #[unsafe(no_mangle)]
 pub extern "C" fn oca_device_spec(
     alloc: Global,
@@ -122,7 +122,7 @@ pub extern "C" fn oca_device_spec(
 /// Writes into `spec` the description of the object with this number, by which it can be added again. The object's lock
 /// is not written. Returns the number of an answer: `Done`; otherwise the first of these that applies, and nothing is
 /// changed or written. `Closed` if the struct is closed, `NotStarted` before the start, `BadSize` if `spec.size` is not
-/// the size of the struct, 1,248 bytes, `Nothing` if there is no such object.
+/// 1,248 (the size of the struct in bytes), `Nothing` if there is no such object.
 #[unsafe(no_mangle)]
 pub extern "C" fn oca_device_spec_of(
     alloc: Global,

@@ -146,10 +146,10 @@ impl DeviceBehind {
         add_spec(builder, container, ono, words)
     }
 
-    /// Starts the device with the objects that were added. The device has reply windows of `window` commands, sessions
-    /// of `peers` peers, and room for `packets` packets that answer a datagram. Returns `Done`. `Started` if it is
-    /// started already, or `BadSize` unless the window and the peers are 1 to 64 and the packets 1 to 122: then nothing
-    /// is changed. `NoMemory` if memory was refused: then the objects are lost.
+    /// Starts the device with the objects that were added. The device has reply windows of `window` commands, room for
+    /// the sessions of `peers` peers, and room for `packets` packets that answer a datagram. Returns `Done`. `Started`
+    /// if it is started already, or `BadSize` unless the window and the peers are 1 to 64 and the packets 1 to 122:
+    /// then nothing is changed. `NoMemory` if memory was refused: then the objects are lost.
     pub fn start(&mut self, alloc: Global, window: u8, peers: u8, packets: usize) -> Answer
         ensures starts { (B : Store) → Builds self.old B → Starts result self.old self.new window peers packets B.list }
         ensures started { self.old.builder ≡ None → (result ≡ Started) × (self.new ≡ self.old) }
@@ -604,9 +604,9 @@ impl DeviceBehind {
         Answer::Done
     }
 
-    /// Writes into `spec` the description of the object at this index, by which it can be added again; indices count
-    /// from 0 at the root, in order of adding. Returns `Done`. `BadSize` if `out.size` is not the size of the struct,
-    /// 1,248 bytes, `Nothing` after the last object, or `NotStarted` before the start: then nothing is written.
+    /// Writes into `out` the description of the object at this index, by which it can be added again; indices count
+    /// from 0 at the root, in order of adding. Returns `Done`. `BadSize` if `out.size` is not 1,248 (the size of the
+    /// struct in bytes), `Nothing` after the last object, or `NotStarted` before the start: then nothing is written.
     pub fn spec(&self, index: usize, out: &mut SpecWords) -> Answer
         ensures writes { (w : DeviceSizes) (T : List Object) (E : List Event) → RunsBehind w self.now T E →
             WritesSpec (state_after w T E).tree (info_at (state_after w T E).tree index) out.old out.new
@@ -620,8 +620,8 @@ impl DeviceBehind {
         read_spec(device.tree(), index, out)
     }
 
-    /// Writes into `spec` the description of the object with this number, by which it can be added again. Returns
-    /// `Done`. `BadSize` if `out.size` is not the size of the struct, 1,248 bytes, `Nothing` if no object has the
+    /// Writes into `out` the description of the object with this number, by which it can be added again. Returns
+    /// `Done`. `BadSize` if `out.size` is not 1,248 (the size of the struct in bytes), `Nothing` if no object has the
     /// number, or `NotStarted` before the start: then nothing is written.
     pub fn spec_of(&self, ono: u32, out: &mut SpecWords) -> Answer
         ensures writes { (w : DeviceSizes) (T : List Object) (E : List Event) → RunsBehind w self.now T E →

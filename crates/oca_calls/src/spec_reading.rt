@@ -180,8 +180,8 @@ fn spec_of(tree: &Tree, object: &ObjectInfo) -> Option<SpecWords>
 }
 
 /// Writes into `out` the description of the object at this index, by which it can be added again; indices count from 0
-/// at the root, in order of adding. Returns `Done`. `BadSize` if `out.size` is not the size of the struct, 1,248 bytes,
-/// or `Nothing` after the last object: then nothing is written.
+/// at the root, in order of adding. Returns `Done`. `BadSize` if `out.size` is not 1,248 (the size of the struct in
+/// bytes), or `Nothing` after the last object: then nothing is written.
 pub fn read_spec(tree: &Tree, index: usize, out: &mut SpecWords) -> Answer
     ensures writes { WritesSpec tree.now (info_at tree.now index) out.old out.new (answer_number result) }
     ensures unwritten { (result ≡ Done) ⊎ (out.new ≡ out.old) }
@@ -190,8 +190,8 @@ pub fn read_spec(tree: &Tree, index: usize, out: &mut SpecWords) -> Answer
 }
 
 /// Writes into `out` the description of the object with this number, by which it can be added again. Returns `Done`.
-/// `BadSize` if `out.size` is not the size of the struct, 1,248 bytes, or `Nothing` if no object has the number: then
-/// nothing is written.
+/// `BadSize` if `out.size` is not 1,248 (the size of the struct in bytes), or `Nothing` if no object has the number:
+/// then nothing is written.
 pub fn read_spec_of(tree: &Tree, ono: Ono, out: &mut SpecWords) -> Answer
     ensures writes { WritesSpec tree.now (info_of_ono tree.now ono.0) out.old out.new (answer_number result) }
     ensures unwritten { (result ≡ Done) ⊎ (out.new ≡ out.old) }

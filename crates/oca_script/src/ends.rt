@@ -45,7 +45,7 @@ pub trait Sink {
     // Whether a write has failed.
     ghost failed: { Self → Bool };
 
-    /// Writes a first part of the bytes, and returns how many bytes these are: at least one, unless `bytes` is empty.
+    /// Writes some bytes from the beginning of `bytes`, and returns how many: at least one, unless `bytes` is empty.
     /// Refusal: `WriteFailed` if writing failed; then no byte was written.
     fn write(&mut self, bytes: &[u8]) -> Result<usize, WriteFailed>
         ensures within { WritesAtMost result bytes.now }
