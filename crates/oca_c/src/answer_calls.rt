@@ -57,9 +57,9 @@ pub extern "C" fn oca_members_read(params: &[u8], members: &mut Members) -> u32
 }
 
 /// Reads `params`, the parameters of an answer to GetClassIdentification (AES70-2), and writes into `id` the fields of
-/// the class identifier and the number of the class, 0 if the class is not of this profile. The class's version is
-/// ignored. Returns the number of `Done`. The number of `NoValue` if `params` is not exactly such an answer, or has
-/// more than 16 fields: then `id` is unchanged.
+/// the class identifier and the number of the class. The number is 0 if the class is not of this profile. The class's
+/// version is ignored. Returns the number of `Done`. The number of `NoValue` if `params` is not exactly such an answer,
+/// or has more than 16 fields: then `id` is unchanged.
 #[unsafe(no_mangle)]
 pub extern "C" fn oca_class_read(params: &[u8], id: &mut ClassId) -> u32
     ensures { WritesClass (class_id_in params.now) id.old id.new result }

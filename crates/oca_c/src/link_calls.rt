@@ -225,8 +225,8 @@ pub extern "C" fn oca_link_next_due(alloc: Global, handle: &mut LinkHandle, mome
 }
 
 /// Writes into `command` the lowest handle whose answer came and was not taken yet. Returns the number of an answer:
-/// `Done`; otherwise `Closed` if the struct is closed, or `Nothing` if there is none. Then nothing is changed or
-/// written.
+/// `Done`; otherwise `Closed` if the struct is closed, or `Nothing` if no answer waits to be taken. Then nothing is
+/// changed or written.
 #[unsafe(no_mangle)]
 pub extern "C" fn oca_link_answered(
     alloc: Global,

@@ -118,10 +118,10 @@ pub extern "C" fn oca_device_is_failing(
     answer.number()
 }
 
-/// Writes into `reading` how an object is set: a kind (1 a state, 2 a position, 3 a Boolean, 4 an integer), whether the
-/// number is negative (0 or 1), and its magnitude (1 or 2 for a state, 0 or 1 for a Boolean). Returns the number of an
-/// answer: `Done`; otherwise `Closed` if the struct is closed, `NotStarted` before the start, or `Nothing` for a block
-/// and if the object is not there. Then nothing is changed or written.
+/// Writes into `reading` how an object is set. The kind is 1 for a state, 2 for a position, 3 for a Boolean and 4 for
+/// an integer. With it come whether the number is negative (0 or 1), and its magnitude (1 or 2 for a state, 0 or 1 for
+/// a Boolean). Returns the number of an answer: `Done`; otherwise `Closed` if the struct is closed, `NotStarted` before
+/// the start, or `Nothing` for a block and if the object is not there. Then nothing is changed or written.
 #[unsafe(no_mangle)]
 pub extern "C" fn oca_device_setting(
     alloc: Global,

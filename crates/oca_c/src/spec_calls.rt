@@ -63,7 +63,7 @@ pub extern "C" fn oca_device_open_with(
 /// of these that applies, and nothing is changed. `Closed` if the device's struct is closed, `Started` after the start,
 /// `BadSize` if `spec` is of another version (another `size`, or `zeros` that are not 0), `BadRange` if it has more
 /// than 16 positions. Then `BadText` if the role, the label or a name has more than 64 bytes or is not UTF-8, `NoValue`
-/// if the reading is none that an object can have. Then `Full` if there is no room for another object, `Reserved` if
+/// if `spec.reading` is one that no object can have. Then `Full` if there is no room for another object, `Reserved` if
 /// the number is below 4,096, `Taken` if an object has the number. Then `NoSuchBlock` if the container is no block of
 /// the tree, `TooDeep` if the object would stand at depth 9 (block 100 is at depth 1). Then `BadText` if the role is
 /// empty. Last `BadRange` if the setting is outside its limits, or a switch has no position.

@@ -178,7 +178,7 @@ impl LinkBehind {
     }
 
     /// Writes into `handle` the lowest handle whose answer came and was not taken yet. Returns the number of an answer:
-    /// `Done`. `Nothing` if there is none: then nothing is written.
+    /// `Done`. `Nothing` if no answer waits to be taken: then nothing is written.
     pub fn answered(&self, handle: &mut u32) -> u32
         ensures writes { WritesNumber result handle.new (first_answered self.now.link.untaken) }
         ensures unwritten { (result ≡ 0) ⊎ (handle.new ≡ handle.old) }

@@ -21,15 +21,15 @@ use oca_pdu::law_one_list_of_messages;
 ///
 /// Sending: what is sent for a handle has the same bytes each time: a PDU of type 1 with its command alone. It is sent
 /// at most 20 times, at least 250 ms apart by the link's clock, which is the latest moment so far.
-/// [`due`](crate::Link::due) returns the lowest handle that is unanswered and was not sent for 250 ms. If there is
-/// none, it returns a keep-alive after 2,500 ms without sending, and otherwise nothing. The link is lost exactly if
-/// `due` finds a handle that was sent 20 times.
+/// [`due`](crate::Link::due) returns the lowest handle that is unanswered and was not sent for 250 ms. If there is no
+/// such handle, it returns a keep-alive if nothing was sent for 2,500 ms, and otherwise nothing. The link is lost
+/// exactly if `due` finds a handle that was sent 20 times.
 ///
 /// Answers: a take of a handle in flight returns the first answer to it that came in a well-formed datagram of the
-/// device since its submit. A take returns none if no answer came. It cannot tell whether the answer is to a command
-/// that an earlier link of this address and port had under this handle. `datagram` returns by the sender whether it is
-/// a stranger, and by the bytes whether they are well-formed. Otherwise it returns how many commands in flight got
-/// their first answer in it. The same bytes always have the same content.
+/// device since its submit. A take returns none if no answer came. The link cannot know whether the answer is to a
+/// command that an earlier link of this address and port had under this handle. `datagram` returns by the sender
+/// whether it is a stranger, and by the bytes whether they are well-formed. Otherwise it returns how many commands in
+/// flight got their first answer in it. The same bytes always have the same content.
 ///
 /// State: `last_heard` is the clock at the last well-formed datagram of the device, and before the first one that of
 /// the opening. `is_lost` is true if `due` has returned `Lost`. `answered` is the lowest handle in flight to which an

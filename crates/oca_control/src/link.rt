@@ -244,7 +244,7 @@ impl Link {
         }
     }
 
-    /// The lowest handle whose answer came and was not taken yet. `None` if there is none.
+    /// The lowest handle whose answer came and was not taken yet. `None` if no answer waits to be taken.
     pub fn answered(&self) -> Option<Handle>
         ensures { option_map (λ h. h.0) result ≡ first_answered self.now.untaken }
     {

@@ -252,14 +252,14 @@ impl<'a, C: Clock> UdpEnd<'a, C> {
         self.socket.now()
     }
 
-    /// Why the last receive that returned `Failed` did so. `None` if none has failed so far.
+    /// Why the last receive that returned `Failed` failed. `None` if none has failed so far.
     pub fn last_failed_receive(&self) -> Option<io::Error>
         ensures { result ≡ self.now.receive_fault }
     {
         self.failed_receive
     }
 
-    /// Why the last send that returned `false` did so. `None` if none has failed so far.
+    /// Why the last send that returned `false` failed. `None` if none has failed so far.
     pub fn last_failed_send(&self) -> Option<io::Error>
         ensures { result ≡ self.now.send_fault }
     {

@@ -171,7 +171,7 @@ impl<E: End> Panel<E> {
     }
 
     /// The lowest handle whose answer came and was not taken yet; [`try_finish`](Panel::try_finish) takes it. `None` if
-    /// there is none. So a program finds the answer to a command for which it stopped waiting.
+    /// no answer waits to be taken. So a program finds the answer to a command for which it stopped waiting.
     pub fn answered(&self) -> Option<Handle>
         ensures { option_map (λ h. h.0) result ≡ first_answered self.now.link.untaken }
     {
@@ -238,7 +238,8 @@ impl<E: End> Panel<E> {
 
     /// The outcome of the command under this handle, if it is known without a turn. The call does not wait. `Answered`
     /// with the answer, which is then taken. `Lost` if the link is lost and no answer is there;
-    /// [`unanswered`](Panel::unanswered) is then `true`. `None` if neither is so: then nothing is changed.
+    /// [`unanswered`](Panel::unanswered) is then `true`. `None` if no answer is there and the link is not lost: then
+    /// nothing is changed.
     pub fn try_finish(&mut self, handle: Handle) -> Option<Outcome>
         ensures { MaySettle result handle.0 self.old self.new }
     {

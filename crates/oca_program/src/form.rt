@@ -135,7 +135,7 @@ pub fn breaks(words: &ArgMatches<'_>, row: &OptionRow) -> bool
 }
 
 /// The first of the options `rows` that the command line (`words`) has with a value that does not have the option's
-/// form. `None` if there is none.
+/// form. `None` if each has its option's form.
 pub fn first_broken<'r>(words: &ArgMatches<'_>, rows: &'r [OptionRow]) -> Option<&'r OptionRow>
     ensures { option_copied result ≡ find (λ row. breaks_form words.now (row_fields row)) rows.now }
 {

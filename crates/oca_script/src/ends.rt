@@ -65,8 +65,8 @@ pub struct FromReader<R> {
 }
 
 impl<R: Read> FromReader<R> {
-    /// A source over this reader; no read of it has failed yet. It assumes that no read waits, which is so for files
-    /// and memory.
+    /// A source over this reader; no read of it has failed yet. It assumes that no read waits, as is true of files and
+    /// memory.
     pub fn new(reader: R) -> FromReader<R>
         ensures reader { result.reader ≡ reader }
         ensures unfailed { result.failed ≡ false }

@@ -80,8 +80,8 @@ pub fn field_text(quoted: bool, bytes: &[u8]) -> Option<Text>
 /// Reads the next field of a line as a text; returns the text and the rest of the line. `rest` is `None` if no field is
 /// left. The field is the text in quotes, or its bytes in hexadecimal digits, or `-` for the empty text
 /// ([`field_text`]). Refusals: `Form` if no field is left, or a quote is not closed, or not followed by a space or the
-/// line's end. `Text` if the field has neither form, or the text is longer than 64 bytes, is not UTF-8, or is in quotes
-/// and has a character that is printed as an escape (a backslash is allowed).
+/// line's end. `Text` if the field has none of these forms, or the text is longer than 64 bytes or is not UTF-8. `Text`
+/// also if a text in quotes has a character that is printed as an escape (a backslash is allowed).
 #[tactic(auto, unfolding(crate::specs::Stored::text_in_field))]
 pub fn text_at(rest: Option<&[u8]>) -> Result<(Text, Option<&[u8]>), ObjectFault>
     ensures { text_view result ≡ next_text (option_copied rest.entry) }

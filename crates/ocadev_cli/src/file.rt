@@ -33,7 +33,7 @@ impl<R: Read> TextFile<R> {
         }
     }
 
-    /// Why the last read that failed did so. `None` if no read has failed.
+    /// The reason of the last read that failed. `None` if no read has failed.
     pub fn reason(&self) -> Option<io::Error>
         ensures { result ≡ self.now.reason }
     {

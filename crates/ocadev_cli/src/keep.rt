@@ -55,9 +55,9 @@ pub fn starting<'a>(keep: Option<&'a str>, there: bool, asked: Objects<'a>) -> O
 }
 
 /// The objects with which a device starts. They come from the file at the path `keep`, in which the device's state is
-/// kept, if one is named and it exists (`there`), otherwise from the source that the options of the command line name
-/// (`asked`). `refusal` is why the file can't be kept ([`claimed`]); its fault must be `Read` (a premise). If it is
-/// given and the file exists, the file is not read, and `refusal` is returned.
+/// kept, if it exists (`there`). If it does not, or no file is named, they come from the source that the options of the
+/// command line name (`asked`). `refusal` is why the file can't be kept ([`claimed`]); its fault must be `Read` (a
+/// premise). If it is given and the file exists, the file is not read, and `refusal` is returned.
 ///
 /// Failures: `NoMemory` if memory was refused. Of a file `Read` if it can't be read, `TooMuch` if it has more than
 /// 16,777,216 bytes, and `Object` with its first line that has a fault. `Read` also if the file in which the state is
