@@ -96,7 +96,8 @@ pub fn wait_for<E: End>(link: &mut Link, end: &mut E, handle: Handle, turns: u32
 /// 4,294,967,295 turns, in case the end's clock stands still. After `Unanswered` the command stays in flight, as after
 /// [`wait_for`].
 ///
-/// A turn takes at most 50 ms at a socket. Datagrams from other senders do not end the wait.
+/// A turn begins only before `until`, and takes at most 50 ms at a socket. Datagrams from other senders do not end the
+/// wait.
 pub fn wait_until<E: End>(link: &mut Link, end: &mut E, handle: Handle, until: u64) -> Outcome
     ensures waits { WaitsUntil handle.0 until link.old result link.new (E.state end.old) (E.state end.new) }
     ensures receives { ReceivesInAWait (E.state end.old).receives (E.state end.new).receives }
@@ -117,10 +118,11 @@ pub fn wait_until<E: End>(link: &mut Link, end: &mut E, handle: Handle, until: u
     }
 }
 
-/// Waits for the answer under this handle, as [`wait_until`] does, for at most `milliseconds` from the present moment
-/// on. That is what [`now`](End::now) of the end returns, or the latest moment that the link was given if that is
-/// later. If `milliseconds` is 0, the call looks for the answer once and takes no turn. The results, and what stays
-/// after them, are those of `wait_until`.
+/// Waits for the answer under this handle, as [`wait_until`] does, until `milliseconds` have passed since the present
+/// moment. The present moment is what [`now`](End::now) of the end returns, or the latest moment that the link was
+/// given if that is later. The last turn may end later than that, at a socket by at most 50 ms. If `milliseconds` is 0,
+/// the call looks for the answer once and takes no turn. The results, and what stays after them, are those of
+/// `wait_until`.
 pub fn wait_while<E: End>(
     link: &mut Link,
     end: &mut E,

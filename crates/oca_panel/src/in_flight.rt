@@ -155,9 +155,9 @@ impl<T: Copy + Default> InFlight<T> {
         }
     }
 
-    /// Takes the first command out of the queue and waits for its answer, for at most the panel's `wait` milliseconds.
-    /// Returns its item, and its outcome as [`Panel::finish`] does. `None` if no command is in flight: then nothing is
-    /// changed.
+    /// Takes the first command out of the queue and waits for its answer, until the panel's `wait` milliseconds are
+    /// over. Returns its item, and its outcome as [`Panel::finish`] does. `None` if no command is in flight: then
+    /// nothing is changed.
     ///
     /// A command with the outcome `Unanswered` stays in flight at the panel. [`Panel::answered`] returns its handle
     /// once its answer has come.

@@ -193,7 +193,7 @@ impl<E: End> Panel<E> {
         self.unanswered
     }
 
-    /// Submits one command, sends it at once, and waits for its answer, for at most the panel's `wait` milliseconds.
+    /// Submits one command, sends it at once, and waits for its answer, until the panel's `wait` milliseconds are over.
     ///
     /// `Answered` with the answer, whatever its status. `Refused` with the reason if the link refuses the command
     /// ([`begin`](Panel::begin)): then nothing is changed or sent. That includes a link that is lost or late already.
@@ -221,7 +221,7 @@ impl<E: End> Panel<E> {
         begin(&mut self.link, &mut self.end, request)
     }
 
-    /// Waits for the answer under this handle, for at most the panel's `wait` milliseconds, and takes it.
+    /// Waits for the answer under this handle, until the panel's `wait` milliseconds are over, and takes it.
     ///
     /// `Answered` with the answer, whatever its status: its command is then removed. `Lost` as soon as the link is
     /// lost, or found late, and no answer is there. `Unanswered` if no answer comes in that time, and for a handle that

@@ -217,9 +217,9 @@ impl Clients {
     ///
     /// At most 128 connections are kept. If there are 128, one of them is closed to make room. That is the oldest one
     /// on which no request was admitted so far (admitted: with the right host and token). If there is no such
-    /// connection, it is the first on which no request is begun and nothing moved for more than 1,000 ms. Otherwise the
-    /// new connection is closed. The new connection is also closed if `poll` refuses it, or if memory was refused; a
-    /// connection that was closed for it stays closed.
+    /// connection, it is the first on which no request is begun and nothing moved for more than 1,000 ms. If there is
+    /// neither, the new connection is closed. The new connection is also closed if `poll` refuses it, or if memory was
+    /// refused; a connection that was closed for it stays closed.
     pub fn add(
         &mut self,
         stream: TcpStream,
