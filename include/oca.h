@@ -241,10 +241,10 @@ static inline struct oca_word oca_value_word(struct oca_value value) {
     return word;
 }
 
-/* Writes the value for which a word stands, of an object of the class with this number. The word is one of the class's words, as
- * oca_value_text writes them, or a number in decimal digits within the class's type. A number may begin with +, and of a signed type also
- * with -. For a switch the word is the number of a position, and not the position's name. OCA_NO_VALUE for any other word, for a block, and
- * if no class has the number: then nothing is written. */
+/* Writes the value that a word means for an object of the class with this number. The word is one of the class's words, as oca_value_text
+ * writes them, or a number in decimal digits within the class's type. A number may begin with +, and of a signed type also with -. For a
+ * switch the word is the number of a position, and not the position's name. OCA_NO_VALUE for any other word, for a block, and if no class
+ * has the number: then nothing is written. */
 enum oca_result oca_value_from_text(uint32_t class_number, const uint8_t *text, size_t text_len, struct oca_value *value) OCA_NONNULL;
 
 /* A request to an object: the level and the index of its method, ParamCount, and `size` bytes of parameters. */
@@ -279,24 +279,24 @@ static inline struct oca_name oca_name_of(const char *text) {
  * then only `len` is written. */
 enum oca_result oca_text_put(const struct oca_name *text, uint8_t *out, size_t out_len, size_t *len) OCA_NONNULL;
 
-/* Reads the text from the parameters of the answer to GetRole, GetLabel or GetPositionName. OCA_NO_VALUE if they are not exactly a text of
- * at most 64 bytes: then nothing is written. */
+/* Reads the text from the parameters of the answer to GetRole, GetLabel or GetPositionName. OCA_NO_VALUE if the parameters are not exactly
+ * a text of at most 64 bytes: then nothing is written. */
 enum oca_result oca_text_read(const uint8_t *params, size_t params_len, struct oca_name *text) OCA_NONNULL;
 
-/* Reads the names of a switch's positions from the parameters of the answer to GetPositionNames: in their order, at most 16. OCA_NO_VALUE
- * if they are not exactly such an answer: then nothing is written. */
+/* Reads the names of a switch's positions from the parameters of the answer to GetPositionNames: in their order. OCA_NO_VALUE if the
+ * parameters are not exactly such an answer, or have more than 16 names: then nothing is written. */
 struct oca_names { uint32_t count; struct oca_name names[16]; };
 enum oca_result oca_names_read(const uint8_t *params, size_t params_len, struct oca_names *names) OCA_NONNULL;
 
-/* Reads the numbers of a block's members from the parameters of the answer to GetMembers: in their order, at most 181. OCA_NO_VALUE if they
- * are not exactly such an answer: then nothing is written. */
+/* Reads the numbers of a block's members from the parameters of the answer to GetMembers: in their order, 181 at most, since an answer has
+ * room for no more. OCA_NO_VALUE if the parameters are not exactly such an answer: then nothing is written. */
 struct oca_members { uint32_t count, onos[181]; };
 enum oca_result oca_members_read(const uint8_t *params, size_t params_len, struct oca_members *members) OCA_NONNULL;
 
 /* The identifier of a class (OcaClassID, AES70-2): `count` fields, at most 16, and the number of the class in enum oca_class, 0 for a class
- * that is not of this profile. oca_class_read reads it from the parameters of the answer to GetClassIdentification. OCA_NO_VALUE if they
- * are not exactly such an answer: then nothing is written. oca_class_with returns the number of the class with these fields, 1 to 13, or 0.
- * */
+ * that is not of this profile. oca_class_read reads `params`, the parameters of an answer to GetClassIdentification, and writes the class
+ * into `id`; the class's version is ignored. OCA_NO_VALUE if `params` is not exactly such an answer, or has more than 16 fields: then `id`
+ * is unchanged. oca_class_with returns the number of the class with these fields, 1 to 13, or 0 if no class of this profile has them. */
 struct oca_class_id { uint16_t count, fields[16]; uint32_t class_number; };
 enum oca_result oca_class_read(const uint8_t *params, size_t params_len, struct oca_class_id *id) OCA_NONNULL;
 uint32_t oca_class_with(const uint16_t *fields, size_t fields_len) OCA_NONNULL;
@@ -338,12 +338,12 @@ static inline void oca_spec_position(struct oca_spec *spec, const char *name) {
     if (spec->positions < 17) spec->positions++;
 }
 
-/* Changes the description of an object to what was stored of it: its value, its label, and whether it is enabled. For a switch it also
- * changes the names of its positions and which are enabled. The role, the limits and whether it can be locked stay, so a new version of a
- * program may change those. Otherwise the first of these that applies, and then nothing is changed. OCA_BAD_SIZE if one of the structs is
- * of another size. OCA_OTHER_KIND if they are of two classes, or have two numbers of positions. OCA_BAD_RANGE if there are more than 16
- * positions. OCA_BAD_TEXT if a stored label or name is not UTF-8 or has more than 64 bytes. OCA_OUT_OF_RANGE if the stored value is none,
- * or the struct does not allow it. */
+/* Changes `spec`, the description of an object, to what was stored of it (`stored`): its value, its label, and whether it is enabled. For a
+ * switch it also changes the names of its positions and which are enabled. The role, the limits and whether it can be locked stay, so a new
+ * version of a program may change those. Otherwise the first of these that applies, and then nothing is changed. OCA_BAD_SIZE if one of the
+ * structs is of another size. OCA_OTHER_KIND if the two differ in their class or in their number of positions. OCA_BAD_RANGE if there are
+ * more than 16 positions. OCA_BAD_TEXT if a stored label or name is not UTF-8 or has more than 64 bytes. OCA_OUT_OF_RANGE if `stored` holds
+ * no value, or a value that the limits in `spec` do not allow. */
 enum oca_result oca_spec_restore(struct oca_spec *spec, const struct oca_spec *stored) OCA_NONNULL;
 
 /* ---- the device ---- */
@@ -371,10 +371,11 @@ static inline void oca_device_close_any(struct oca_device *device) {
 }
 #define oca_device_close(device) oca_device_close_any(device)
 
-/* Adds an object to the tree, before the start, in a block that is there (the root is the block 100). Otherwise the first of these that
- * applies, and then nothing is changed. OCA_CLOSED, or OCA_STARTED after the start. OCA_BAD_SIZE if the struct is of another size.
- * OCA_BAD_RANGE if it has more than 16 positions. OCA_BAD_TEXT if the role, the label or a name is not UTF-8 or has more than 64 bytes.
- * OCA_NO_VALUE if the reading is none that an object can have. Then what enum oca_result says of an addition. */
+/* Adds the object that `spec` describes to the tree under the number `ono`, before the start, in the block `container`, which must be there
+ * already (the root is the block 100). Otherwise the first of these that applies, and then nothing is changed. OCA_CLOSED, or OCA_STARTED
+ * after the start. OCA_BAD_SIZE if the struct is of another size. OCA_BAD_RANGE if it has more than 16 positions. OCA_BAD_TEXT if the role,
+ * the label or a name is not UTF-8 or has more than 64 bytes. OCA_NO_VALUE if the reading is none that an object can have. Then what enum
+ * oca_result says of an addition. */
 enum oca_result oca_device_add(struct oca_device *device, uint32_t container, uint32_t ono, const struct oca_spec *spec) OCA_CHECKED;
 
 /* Adds an object of one class to the tree, as oca_device_add does, with the fields one by one. `lockable` says whether it can be locked.
@@ -416,7 +417,8 @@ struct oca_verdict { uint32_t kind, executed, kept, old, reused, fault, at; };
 
 /* Handles a datagram that came from an address and a port at the moment `now`. Its answers are then the device's packets, all for its
  * sender, until the next datagram. The verdict is written to `verdict`; oca_device_datagram_words writes its first `words` words. A moment
- * earlier than one already seen counts as that one. OCA_CLOSED, or OCA_NOT_STARTED before the start: then nothing is changed or written. */
+ * earlier than the latest one so far counts as that latest one. OCA_CLOSED, or OCA_NOT_STARTED before the start: then nothing is changed or
+ * written. */
 enum oca_result oca_device_datagram_words(struct oca_device *device, uint32_t ip, uint16_t port, const uint8_t *bytes, size_t len, uint64_t now, uint32_t *verdict, size_t words) OCA_NONNULL;
 static inline enum oca_result oca_device_datagram(struct oca_device *device, uint32_t ip, uint16_t port, const uint8_t *bytes, size_t len, uint64_t now, struct oca_verdict *verdict) {
     return oca_device_datagram_words(device, ip, port, bytes, len, now, &verdict->kind, sizeof *verdict / sizeof verdict->kind);
@@ -492,15 +494,15 @@ enum oca_result oca_device_set_enabled(struct oca_device *device, uint32_t ono, 
  * locks, and may lock the object again. */
 enum oca_result oca_device_unlock(struct oca_device *device, uint32_t ono) OCA_NONNULL;
 
-/* Sets whether the hardware of an object refuses to be changed, until the next such call for the object. While it refuses, each command
- * that would write to the object, and that no other status refuses, is answered OCA_STATUS_PROCESSING_FAILED, and changes nothing. A
- * duplicate of an earlier command gets its retained reply. Commands that read or lock are answered as before, and the calls of the local
- * front panel change the object as before. No struct of this library stores it. OCA_NO_OBJECT if there is no such object: then nothing is
- * changed. */
+/* Sets whether the hardware of an object refuses changes (`failing`), until the next such call for the object; at first it does not. While
+ * it does, a command that writes to the object is answered OCA_STATUS_PROCESSING_FAILED and changes nothing; if the command is refused for
+ * another reason too, the answer names that reason. A duplicate of an earlier command gets its retained reply. Commands that read or lock
+ * work as before, and the calls of the local front panel still change the object. The setting is in no struct oca_spec and is not stored.
+ * OCA_NO_OBJECT if there is no such object: then nothing is changed. */
 enum oca_result oca_device_set_failing(struct oca_device *device, uint32_t ono, bool failing) OCA_NONNULL;
 
-/* Writes whether the hardware of an object refuses to be changed, as oca_device_set_failing set it last; false if it was not set since the
- * start. OCA_NO_OBJECT if there is no such object: then nothing is written. */
+/* Writes whether the hardware of an object refuses changes, as oca_device_set_failing last set it; false before the first such call.
+ * OCA_NO_OBJECT if there is no such object: then nothing is written. */
 enum oca_result oca_device_is_failing(struct oca_device *device, uint32_t ono, bool *failing) OCA_NONNULL;
 
 /* The setting of an object. Its kind is 1 for a state, 2 for a position, 3 for a Boolean (0 or 1) and 4 for an integer; `negative` is 1 if
@@ -523,12 +525,13 @@ static inline enum oca_result oca_device_object(struct oca_device *device, size_
 
 /* Writes the description of an object as it is now, by its index from 0 at the root in order of adding. An addition of this struct makes
  * the same object again, except that it is not locked and that its hardware does not refuse; for the root oca_device_open_with does so.
- * OCA_BAD_SIZE if the struct does not say its size; OCA_NOTHING after the last object: then nothing is written. So a device saves what was
- * set, by peers and at its local front panel. oca_device_object has the object's number and the number of its block. */
+ * OCA_BAD_SIZE if `spec->size` is not the struct's size (OCA_SPEC_INIT sets it); OCA_NOTHING after the last object: then nothing is
+ * written. So a device saves what was set, by peers and at its local front panel. oca_device_object has the object's number and the number
+ * of its block. */
 enum oca_result oca_device_spec(struct oca_device *device, size_t index, struct oca_spec *spec) OCA_NONNULL;
 
-/* Writes the description of the object with this number as it is now, as oca_device_spec does. OCA_BAD_SIZE if the struct does not say its
- * size; OCA_NOTHING if there is no such object: then nothing is written. */
+/* Writes the description of the object with this number as it is now, as oca_device_spec does. OCA_BAD_SIZE if `spec->size` is not the
+ * struct's size (OCA_SPEC_INIT sets it); OCA_NOTHING if there is no such object: then nothing is written. */
 enum oca_result oca_device_spec_of(struct oca_device *device, uint32_t ono, struct oca_spec *spec) OCA_NONNULL;
 
 /* Which peers have a session at the device's present moment: how many they are, 0 to 64, and the address and port of each, by its index
@@ -631,12 +634,13 @@ struct oca_link { void *at; bool is_open; };
 /* A closed one: struct oca_link link = OCA_LINK_INIT; */
 #define OCA_LINK_INIT {NULL, false}
 
-/* Opens a link to the device at the address `ip` (an IPv4 address as a number, the first byte highest) and the port `port`. `now` is the moment,
- * in milliseconds of the caller's clock. The link's first command gets the handle `first_handle`, and each later command the next one. A command
- * is refused while its handle would be `span` (1 to 32; 16 is usual) or more above the lowest handle in flight. `first_handle` must be above every
- * handle that the device heard from the same address and port before, unless nothing was sent from there for more than two minutes since.
- * Otherwise the first of these that applies, and then nothing is changed. OCA_OPEN if the struct is open already. OCA_BAD_SIZE if the span is
- * outside its range. OCA_NO_MEMORY if memory was refused. */
+/* Opens a link to the device at the address `ip` (an IPv4 address as a number, the first byte highest) and the port `port`. `now` is the
+ * moment, in milliseconds of the caller's clock. The link's first command gets the handle `first_handle`, and each later command the next
+ * one. A command is refused while its handle would be `span` (1 to 32; 16 is usual) or more above the lowest handle in flight (that of the
+ * oldest command whose answer was not taken). `first_handle` must be above every handle that the device heard from the same address and
+ * port before, unless nothing was sent from there for more than two minutes since. Otherwise the first of these that applies, and then
+ * nothing is changed. OCA_OPEN if the struct is open already. OCA_BAD_SIZE if the span is outside its range. OCA_NO_MEMORY if memory was
+ * refused. */
 enum oca_result oca_link_open(struct oca_link *link, uint32_t ip, uint16_t port, uint32_t first_handle, uint64_t now, uint8_t span) OCA_CHECKED;
 
 /* Closes a link and frees its memory. A closed one stays closed, and for a null pointer nothing is done. Commands in flight may still be
@@ -647,10 +651,11 @@ static inline void oca_link_close_any(struct oca_link *link) {
 }
 #define oca_link_close(link) oca_link_close_any(link)
 
-/* Submits a command with at most 1,445 bytes of parameters at the moment `now`, and writes its handle. `count` is ParamCount. Then call
- * oca_link_due. Otherwise the first of these that applies, and then nothing is changed or written. OCA_CLOSED if the struct is closed.
- * OCA_LOST if the link is lost. OCA_HANDLES_SPENT after the handle 4294967295. OCA_SPAN_FULL if the next handle is not below the lowest one
- * in flight plus the span. OCA_TOO_LONG if the parameters are longer. */
+/* Submits a command with at most 1,445 bytes of parameters at the moment `now`, and writes its handle. `target` is the number of the
+ * object, `level` and `index` name the method (DefLevel and MethodIndex), `count` is ParamCount, and `params` are the encoded parameters.
+ * Then call oca_link_due. Otherwise the first of these that applies, and then nothing is changed or written. OCA_CLOSED if the struct is
+ * closed. OCA_LOST if the link is lost. OCA_HANDLES_SPENT after the handle 4294967295. OCA_SPAN_FULL if the next handle is not below the
+ * lowest one whose answer was not taken yet, plus the span. OCA_TOO_LONG if the parameters are longer. */
 enum oca_result oca_link_submit(struct oca_link *link, uint32_t target, uint16_t level, uint16_t index, uint8_t count, const uint8_t *params, size_t params_len, uint64_t now, uint32_t *handle) OCA_CHECKED;
 
 /* Submits a request that sets or reads a value, as oca_set_request and oca_get_request make it, and writes the handle of the command. The
@@ -674,8 +679,8 @@ enum oca_due { OCA_DUE_NOTHING = 0, OCA_DUE_COMMAND = 1, OCA_DUE_KEEP_ALIVE = 2,
 enum oca_result oca_link_due(struct oca_link *link, uint64_t now, uint8_t *out, size_t out_len, size_t *len, uint32_t *due, uint32_t *handle) OCA_NONNULL;
 
 /* Handles a datagram that came from an address and a port at the moment `now`. `reception` says what it was: OCA_STRANGER if it came from
- * another address than the device's, OCA_MALFORMED if it is not well-formed. OCA_ANSWERED if `answered` commands in flight got their first
- * answer in it, and otherwise OCA_NOTHING_NEW. */
+ * another address or port than the device's, OCA_MALFORMED if it is not well-formed. OCA_ANSWERED if commands in flight got their first
+ * answer in it, and otherwise OCA_NOTHING_NEW. `answered` becomes how many commands got theirs. */
 enum oca_reception { OCA_NOTHING_NEW = 0, OCA_ANSWERED = 1, OCA_STRANGER = 2, OCA_MALFORMED = 3 };
 enum oca_result oca_link_datagram(struct oca_link *link, uint32_t ip, uint16_t port, const uint8_t *bytes, size_t len, uint64_t now, uint32_t *reception, uint32_t *answered) OCA_NONNULL;
 
@@ -706,9 +711,9 @@ enum oca_result oca_link_is_lost(struct oca_link *link, bool *lost) OCA_NONNULL;
  * */
 enum oca_result oca_link_is_late(struct oca_link *link, uint64_t now, bool *late) OCA_NONNULL;
 
-/* Takes the answer to a command, and removes the command: its status, its ParamCount, and its parameters. `out` must have room for 1,452
- * bytes. With less the result is always OCA_TOO_SMALL. OCA_NOTHING if there is no answer under the handle. After both nothing is changed or
- * written. */
+/* Takes the answer to the command under this handle, and removes the command. Writes the answer's status, its ParamCount (`count`), its
+ * parameters to the front of `out`, and their size in bytes (`len`). `out` must have room for 1,452 bytes. With less the result is always
+ * OCA_TOO_SMALL. OCA_NOTHING if there is no answer under the handle. After both nothing is changed or written. */
 enum oca_result oca_link_take(struct oca_link *link, uint32_t handle, uint32_t *status, uint32_t *count, uint8_t *out, size_t out_len, size_t *len) OCA_NONNULL;
 
 /* ---- the panel ---- */

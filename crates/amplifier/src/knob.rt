@@ -34,9 +34,9 @@ impl Knob {
         knob_with(word, rest)
     }
 
-    /// Turns the knob: sets its object at the local front panel, and the electronics follow. Refusals, the first that
-    /// applies: `NoObject` if there is no such object, `NoSetting` of a block, `OtherKind` of another class,
-    /// `OutOfRange` of a gain outside its limits. A refusal changes nothing.
+    /// Turns the knob: sets its object at the local front panel, and then the electronics (`channels`). Refusals, the
+    /// first that applies: `NoObject` if there is no such object, `NoSetting` if it is a block, `OtherKind` if it is of
+    /// another class, `OutOfRange` if a gain is outside its limits. A refusal changes nothing.
     pub fn turn(self, device: &mut Device, channels: &mut Channels) -> Result<(), SetFault>
         ensures sets { (w : DeviceSizes) (T : List Object) (E : List Event) → Represents w device.old T E →
             Represents w device.new T (Local self.ono.0 (ToValue self.value) ∷ E) }

@@ -12,11 +12,11 @@ use oca_tree::{Kind, MuteState, PolarityState};
 use std::alloc::Global;
 
 /// Adds an OcaBlock with the number `ono` to the block `container`, before the start. `role` is its role, and
-/// `lockable` says whether it can be locked. Returns `Done`; otherwise the first of these that applies, and nothing is
-/// changed. `Closed` if the struct is closed, `Started` after the start, `BadText` if the role is not UTF-8. Then
-/// `Full` if there is no room for another object, `Reserved` if the number is below 4,096, `Taken` if an object has the
-/// number. Then `NoSuchBlock` if the container is no block of the tree, `TooDeep` if the object would stand at depth 9
-/// (block 100 is at depth 1). Then `BadText` if the role is empty or has more than 64 bytes.
+/// `lockable` says whether it can be locked. Returns the number of an answer: `Done`; otherwise the first of these that
+/// applies, and nothing is changed. `Closed` if the struct is closed, `Started` after the start, `BadText` if the role
+/// is not UTF-8. Then `Full` if there is no room for another object, `Reserved` if the number is below 4,096, `Taken`
+/// if an object has the number. Then `NoSuchBlock` if the container is no block of the tree, `TooDeep` if the object
+/// would stand at depth 9 (block 100 is at depth 1). Then `BadText` if the role is empty or has more than 64 bytes.
 #[unsafe(no_mangle)]
 pub extern "C" fn oca_device_add_block(
     alloc: Global,
@@ -35,11 +35,12 @@ pub extern "C" fn oca_device_add_block(
 }
 
 /// Adds an OcaMute with the number `ono` to the block `container`, before the start. `role` is its role, and `lockable`
-/// says whether it can be locked. `muted` is its first state. Returns `Done`; otherwise the first of these that
-/// applies, and nothing is changed. `Closed` if the struct is closed, `Started` after the start, `BadText` if the role
-/// is not UTF-8. Then `Full` if there is no room for another object, `Reserved` if the number is below 4,096, `Taken`
-/// if an object has the number. Then `NoSuchBlock` if the container is no block of the tree, `TooDeep` if the object
-/// would stand at depth 9 (block 100 is at depth 1). Then `BadText` if the role is empty or has more than 64 bytes.
+/// says whether it can be locked. `muted` is its first state. Returns the number of an answer: `Done`; otherwise the
+/// first of these that applies, and nothing is changed. `Closed` if the struct is closed, `Started` after the start,
+/// `BadText` if the role is not UTF-8. Then `Full` if there is no room for another object, `Reserved` if the number is
+/// below 4,096, `Taken` if an object has the number. Then `NoSuchBlock` if the container is no block of the tree,
+/// `TooDeep` if the object would stand at depth 9 (block 100 is at depth 1). Then `BadText` if the role is empty or has
+/// more than 64 bytes.
 #[unsafe(no_mangle)]
 pub extern "C" fn oca_device_add_mute(
     alloc: Global,
@@ -72,12 +73,12 @@ pub extern "C" fn oca_device_add_mute(
 }
 
 /// Adds an OcaPolarity with the number `ono` to the block `container`, before the start. `role` is its role, and
-/// `lockable` says whether it can be locked. `inverted` is its first state. Returns `Done`; otherwise the first of
-/// these that applies, and nothing is changed. `Closed` if the struct is closed, `Started` after the start, `BadText`
-/// if the role is not UTF-8. Then `Full` if there is no room for another object, `Reserved` if the number is below
-/// 4,096, `Taken` if an object has the number. Then `NoSuchBlock` if the container is no block of the tree, `TooDeep`
-/// if the object would stand at depth 9 (block 100 is at depth 1). Then `BadText` if the role is empty or has more than
-/// 64 bytes.
+/// `lockable` says whether it can be locked. `inverted` is its first state. Returns the number of an answer: `Done`;
+/// otherwise the first of these that applies, and nothing is changed. `Closed` if the struct is closed, `Started` after
+/// the start, `BadText` if the role is not UTF-8. Then `Full` if there is no room for another object, `Reserved` if the
+/// number is below 4,096, `Taken` if an object has the number. Then `NoSuchBlock` if the container is no block of the
+/// tree, `TooDeep` if the object would stand at depth 9 (block 100 is at depth 1). Then `BadText` if the role is empty
+/// or has more than 64 bytes.
 #[unsafe(no_mangle)]
 pub extern "C" fn oca_device_add_polarity(
     alloc: Global,
@@ -112,13 +113,13 @@ pub extern "C" fn oca_device_add_polarity(
 
 /// Adds an OcaSwitch with the number `ono` to the block `container`, before the start. `role` is its role, and
 /// `lockable` says whether it can be locked. The switch has 1 to 16 positions with these names, all of them enabled.
-/// `position` is the one at which it stands first, counted from 0. Returns `Done`; otherwise the first of these that
-/// applies, and nothing is changed. `Closed` if the struct is closed, `Started` after the start, `BadRange` if there
-/// are more than 16 names. `BadText` if a name has more than 64 bytes, or the role or a name is not UTF-8. Then `Full`
-/// if there is no room for another object, `Reserved` if the number is below 4,096, `Taken` if an object has the
-/// number. Then `NoSuchBlock` if the container is no block of the tree, `TooDeep` if the object would stand at depth 9
-/// (block 100 is at depth 1). Then `BadText` if the role is empty or has more than 64 bytes. Last `BadRange` if there
-/// is no name, or none for the position.
+/// `position` is the one at which it stands first, counted from 0. Returns the number of an answer: `Done`; otherwise
+/// the first of these that applies, and nothing is changed. `Closed` if the struct is closed, `Started` after the
+/// start, `BadRange` if there are more than 16 names. `BadText` if a name has more than 64 bytes, or the role or a name
+/// is not UTF-8. Then `Full` if there is no room for another object, `Reserved` if the number is below 4,096, `Taken`
+/// if an object has the number. Then `NoSuchBlock` if the container is no block of the tree, `TooDeep` if the object
+/// would stand at depth 9 (block 100 is at depth 1). Then `BadText` if the role is empty or has more than 64 bytes.
+/// Last `BadRange` if there is no name, or none for the position.
 #[unsafe(no_mangle)]
 pub extern "C" fn oca_device_add_switch(
     alloc: Global,
@@ -144,12 +145,12 @@ pub extern "C" fn oca_device_add_switch(
 }
 
 /// Adds an OcaBooleanActuator with the number `ono` to the block `container`, before the start. `role` is its role, and
-/// `lockable` says whether it can be locked. `setting` is its first setting. Returns `Done`; otherwise the first of
-/// these that applies, and nothing is changed. `Closed` if the struct is closed, `Started` after the start, `BadText`
-/// if the role is not UTF-8. Then `Full` if there is no room for another object, `Reserved` if the number is below
-/// 4,096, `Taken` if an object has the number. Then `NoSuchBlock` if the container is no block of the tree, `TooDeep`
-/// if the object would stand at depth 9 (block 100 is at depth 1). Then `BadText` if the role is empty or has more than
-/// 64 bytes.
+/// `lockable` says whether it can be locked. `setting` is its first setting. Returns the number of an answer: `Done`;
+/// otherwise the first of these that applies, and nothing is changed. `Closed` if the struct is closed, `Started` after
+/// the start, `BadText` if the role is not UTF-8. Then `Full` if there is no room for another object, `Reserved` if the
+/// number is below 4,096, `Taken` if an object has the number. Then `NoSuchBlock` if the container is no block of the
+/// tree, `TooDeep` if the object would stand at depth 9 (block 100 is at depth 1). Then `BadText` if the role is empty
+/// or has more than 64 bytes.
 #[unsafe(no_mangle)]
 pub extern "C" fn oca_device_add_boolean(
     alloc: Global,
@@ -178,11 +179,12 @@ pub extern "C" fn oca_device_add_boolean(
 
 /// Adds an OcaInt8Actuator with the number `ono` to the block `container`, before the start. `role` is its role, and
 /// `lockable` says whether it can be locked. The object's first setting lies within `least` to `greatest`, as all later
-/// ones do. Returns `Done`; otherwise the first of these that applies, and nothing is changed. `Closed` if the struct
-/// is closed, `Started` after the start, `BadText` if the role is not UTF-8. Then `Full` if there is no room for
-/// another object, `Reserved` if the number is below 4,096, `Taken` if an object has the number. Then `NoSuchBlock` if
-/// the container is no block of the tree, `TooDeep` if the object would stand at depth 9 (block 100 is at depth 1).
-/// Then `BadText` if the role is empty or has more than 64 bytes. Last `BadRange` if the setting is outside its limits.
+/// ones do. Returns the number of an answer: `Done`; otherwise the first of these that applies, and nothing is changed.
+/// `Closed` if the struct is closed, `Started` after the start, `BadText` if the role is not UTF-8. Then `Full` if
+/// there is no room for another object, `Reserved` if the number is below 4,096, `Taken` if an object has the number.
+/// Then `NoSuchBlock` if the container is no block of the tree, `TooDeep` if the object would stand at depth 9 (block
+/// 100 is at depth 1). Then `BadText` if the role is empty or has more than 64 bytes. Last `BadRange` if the setting is
+/// outside its limits.
 #[unsafe(no_mangle)]
 pub extern "C" fn oca_device_add_int8(
     alloc: Global,
@@ -210,11 +212,12 @@ pub extern "C" fn oca_device_add_int8(
 
 /// Adds an OcaInt16Actuator with the number `ono` to the block `container`, before the start. `role` is its role, and
 /// `lockable` says whether it can be locked. The object's first setting lies within `least` to `greatest`, as all later
-/// ones do. Returns `Done`; otherwise the first of these that applies, and nothing is changed. `Closed` if the struct
-/// is closed, `Started` after the start, `BadText` if the role is not UTF-8. Then `Full` if there is no room for
-/// another object, `Reserved` if the number is below 4,096, `Taken` if an object has the number. Then `NoSuchBlock` if
-/// the container is no block of the tree, `TooDeep` if the object would stand at depth 9 (block 100 is at depth 1).
-/// Then `BadText` if the role is empty or has more than 64 bytes. Last `BadRange` if the setting is outside its limits.
+/// ones do. Returns the number of an answer: `Done`; otherwise the first of these that applies, and nothing is changed.
+/// `Closed` if the struct is closed, `Started` after the start, `BadText` if the role is not UTF-8. Then `Full` if
+/// there is no room for another object, `Reserved` if the number is below 4,096, `Taken` if an object has the number.
+/// Then `NoSuchBlock` if the container is no block of the tree, `TooDeep` if the object would stand at depth 9 (block
+/// 100 is at depth 1). Then `BadText` if the role is empty or has more than 64 bytes. Last `BadRange` if the setting is
+/// outside its limits.
 #[unsafe(no_mangle)]
 pub extern "C" fn oca_device_add_int16(
     alloc: Global,
@@ -242,11 +245,12 @@ pub extern "C" fn oca_device_add_int16(
 
 /// Adds an OcaInt32Actuator with the number `ono` to the block `container`, before the start. `role` is its role, and
 /// `lockable` says whether it can be locked. The object's first setting lies within `least` to `greatest`, as all later
-/// ones do. Returns `Done`; otherwise the first of these that applies, and nothing is changed. `Closed` if the struct
-/// is closed, `Started` after the start, `BadText` if the role is not UTF-8. Then `Full` if there is no room for
-/// another object, `Reserved` if the number is below 4,096, `Taken` if an object has the number. Then `NoSuchBlock` if
-/// the container is no block of the tree, `TooDeep` if the object would stand at depth 9 (block 100 is at depth 1).
-/// Then `BadText` if the role is empty or has more than 64 bytes. Last `BadRange` if the setting is outside its limits.
+/// ones do. Returns the number of an answer: `Done`; otherwise the first of these that applies, and nothing is changed.
+/// `Closed` if the struct is closed, `Started` after the start, `BadText` if the role is not UTF-8. Then `Full` if
+/// there is no room for another object, `Reserved` if the number is below 4,096, `Taken` if an object has the number.
+/// Then `NoSuchBlock` if the container is no block of the tree, `TooDeep` if the object would stand at depth 9 (block
+/// 100 is at depth 1). Then `BadText` if the role is empty or has more than 64 bytes. Last `BadRange` if the setting is
+/// outside its limits.
 #[unsafe(no_mangle)]
 pub extern "C" fn oca_device_add_int32(
     alloc: Global,
@@ -274,11 +278,12 @@ pub extern "C" fn oca_device_add_int32(
 
 /// Adds an OcaInt64Actuator with the number `ono` to the block `container`, before the start. `role` is its role, and
 /// `lockable` says whether it can be locked. The object's first setting lies within `least` to `greatest`, as all later
-/// ones do. Returns `Done`; otherwise the first of these that applies, and nothing is changed. `Closed` if the struct
-/// is closed, `Started` after the start, `BadText` if the role is not UTF-8. Then `Full` if there is no room for
-/// another object, `Reserved` if the number is below 4,096, `Taken` if an object has the number. Then `NoSuchBlock` if
-/// the container is no block of the tree, `TooDeep` if the object would stand at depth 9 (block 100 is at depth 1).
-/// Then `BadText` if the role is empty or has more than 64 bytes. Last `BadRange` if the setting is outside its limits.
+/// ones do. Returns the number of an answer: `Done`; otherwise the first of these that applies, and nothing is changed.
+/// `Closed` if the struct is closed, `Started` after the start, `BadText` if the role is not UTF-8. Then `Full` if
+/// there is no room for another object, `Reserved` if the number is below 4,096, `Taken` if an object has the number.
+/// Then `NoSuchBlock` if the container is no block of the tree, `TooDeep` if the object would stand at depth 9 (block
+/// 100 is at depth 1). Then `BadText` if the role is empty or has more than 64 bytes. Last `BadRange` if the setting is
+/// outside its limits.
 #[unsafe(no_mangle)]
 pub extern "C" fn oca_device_add_int64(
     alloc: Global,
@@ -306,11 +311,12 @@ pub extern "C" fn oca_device_add_int64(
 
 /// Adds an OcaUint8Actuator with the number `ono` to the block `container`, before the start. `role` is its role, and
 /// `lockable` says whether it can be locked. The object's first setting lies within `least` to `greatest`, as all later
-/// ones do. Returns `Done`; otherwise the first of these that applies, and nothing is changed. `Closed` if the struct
-/// is closed, `Started` after the start, `BadText` if the role is not UTF-8. Then `Full` if there is no room for
-/// another object, `Reserved` if the number is below 4,096, `Taken` if an object has the number. Then `NoSuchBlock` if
-/// the container is no block of the tree, `TooDeep` if the object would stand at depth 9 (block 100 is at depth 1).
-/// Then `BadText` if the role is empty or has more than 64 bytes. Last `BadRange` if the setting is outside its limits.
+/// ones do. Returns the number of an answer: `Done`; otherwise the first of these that applies, and nothing is changed.
+/// `Closed` if the struct is closed, `Started` after the start, `BadText` if the role is not UTF-8. Then `Full` if
+/// there is no room for another object, `Reserved` if the number is below 4,096, `Taken` if an object has the number.
+/// Then `NoSuchBlock` if the container is no block of the tree, `TooDeep` if the object would stand at depth 9 (block
+/// 100 is at depth 1). Then `BadText` if the role is empty or has more than 64 bytes. Last `BadRange` if the setting is
+/// outside its limits.
 #[unsafe(no_mangle)]
 pub extern "C" fn oca_device_add_uint8(
     alloc: Global,
@@ -338,11 +344,12 @@ pub extern "C" fn oca_device_add_uint8(
 
 /// Adds an OcaUint16Actuator with the number `ono` to the block `container`, before the start. `role` is its role, and
 /// `lockable` says whether it can be locked. The object's first setting lies within `least` to `greatest`, as all later
-/// ones do. Returns `Done`; otherwise the first of these that applies, and nothing is changed. `Closed` if the struct
-/// is closed, `Started` after the start, `BadText` if the role is not UTF-8. Then `Full` if there is no room for
-/// another object, `Reserved` if the number is below 4,096, `Taken` if an object has the number. Then `NoSuchBlock` if
-/// the container is no block of the tree, `TooDeep` if the object would stand at depth 9 (block 100 is at depth 1).
-/// Then `BadText` if the role is empty or has more than 64 bytes. Last `BadRange` if the setting is outside its limits.
+/// ones do. Returns the number of an answer: `Done`; otherwise the first of these that applies, and nothing is changed.
+/// `Closed` if the struct is closed, `Started` after the start, `BadText` if the role is not UTF-8. Then `Full` if
+/// there is no room for another object, `Reserved` if the number is below 4,096, `Taken` if an object has the number.
+/// Then `NoSuchBlock` if the container is no block of the tree, `TooDeep` if the object would stand at depth 9 (block
+/// 100 is at depth 1). Then `BadText` if the role is empty or has more than 64 bytes. Last `BadRange` if the setting is
+/// outside its limits.
 #[unsafe(no_mangle)]
 pub extern "C" fn oca_device_add_uint16(
     alloc: Global,
@@ -371,11 +378,12 @@ pub extern "C" fn oca_device_add_uint16(
 
 /// Adds an OcaUint32Actuator with the number `ono` to the block `container`, before the start. `role` is its role, and
 /// `lockable` says whether it can be locked. The object's first setting lies within `least` to `greatest`, as all later
-/// ones do. Returns `Done`; otherwise the first of these that applies, and nothing is changed. `Closed` if the struct
-/// is closed, `Started` after the start, `BadText` if the role is not UTF-8. Then `Full` if there is no room for
-/// another object, `Reserved` if the number is below 4,096, `Taken` if an object has the number. Then `NoSuchBlock` if
-/// the container is no block of the tree, `TooDeep` if the object would stand at depth 9 (block 100 is at depth 1).
-/// Then `BadText` if the role is empty or has more than 64 bytes. Last `BadRange` if the setting is outside its limits.
+/// ones do. Returns the number of an answer: `Done`; otherwise the first of these that applies, and nothing is changed.
+/// `Closed` if the struct is closed, `Started` after the start, `BadText` if the role is not UTF-8. Then `Full` if
+/// there is no room for another object, `Reserved` if the number is below 4,096, `Taken` if an object has the number.
+/// Then `NoSuchBlock` if the container is no block of the tree, `TooDeep` if the object would stand at depth 9 (block
+/// 100 is at depth 1). Then `BadText` if the role is empty or has more than 64 bytes. Last `BadRange` if the setting is
+/// outside its limits.
 #[unsafe(no_mangle)]
 pub extern "C" fn oca_device_add_uint32(
     alloc: Global,
@@ -404,11 +412,12 @@ pub extern "C" fn oca_device_add_uint32(
 
 /// Adds an OcaUint64Actuator with the number `ono` to the block `container`, before the start. `role` is its role, and
 /// `lockable` says whether it can be locked. The object's first setting lies within `least` to `greatest`, as all later
-/// ones do. Returns `Done`; otherwise the first of these that applies, and nothing is changed. `Closed` if the struct
-/// is closed, `Started` after the start, `BadText` if the role is not UTF-8. Then `Full` if there is no room for
-/// another object, `Reserved` if the number is below 4,096, `Taken` if an object has the number. Then `NoSuchBlock` if
-/// the container is no block of the tree, `TooDeep` if the object would stand at depth 9 (block 100 is at depth 1).
-/// Then `BadText` if the role is empty or has more than 64 bytes. Last `BadRange` if the setting is outside its limits.
+/// ones do. Returns the number of an answer: `Done`; otherwise the first of these that applies, and nothing is changed.
+/// `Closed` if the struct is closed, `Started` after the start, `BadText` if the role is not UTF-8. Then `Full` if
+/// there is no room for another object, `Reserved` if the number is below 4,096, `Taken` if an object has the number.
+/// Then `NoSuchBlock` if the container is no block of the tree, `TooDeep` if the object would stand at depth 9 (block
+/// 100 is at depth 1). Then `BadText` if the role is empty or has more than 64 bytes. Last `BadRange` if the setting is
+/// outside its limits.
 #[unsafe(no_mangle)]
 pub extern "C" fn oca_device_add_uint64(
     alloc: Global,

@@ -14,8 +14,9 @@ use oca_calls::words::put_bytes;
 use oca_model::{read_class_fields, read_members, read_names, read_text};
 use oca_types::{Params, Text, put_text};
 
-/// Reads the answer to GetRole, GetLabel or GetPositionName: the text that is all of the parameters. Returns `Done`;
-/// otherwise `NoValue` if the parameters are not exactly a text of at most 64 bytes, and then nothing is written.
+/// Reads `params`, the parameters of an answer to GetRole, GetLabel or GetPositionName (AES70-2), and writes the text
+/// that they are into `text`. Returns the number of `Done`. The number of `NoValue` if `params` is not exactly one text
+/// of at most 64 bytes: then `text` is unchanged.
 #[unsafe(no_mangle)]
 pub extern "C" fn oca_text_read(params: &[u8], text: &mut Name) -> u32
     ensures { WritesText (whole (text_at params.now)) text.old text.new result }
@@ -27,8 +28,9 @@ pub extern "C" fn oca_text_read(params: &[u8], text: &mut Name) -> u32
     Answer::Done.number()
 }
 
-/// Reads the answer to GetPositionNames: the names of the positions, in order, at most 16. Returns `Done`; otherwise
-/// `NoValue` if the parameters are not exactly such an answer, and then nothing is written.
+/// Reads `params`, the parameters of an answer to GetPositionNames (AES70-2), and writes into `names` the names of the
+/// positions, in order. Returns the number of `Done`. The number of `NoValue` if `params` is not exactly such an
+/// answer, or has more than 16 names or a name of more than 64 bytes: then `names` is unchanged.
 #[unsafe(no_mangle)]
 pub extern "C" fn oca_names_read(params: &[u8], names: &mut Names) -> u32
     ensures { WritesNames (switch_names_in params.now) names.old names.new result }
@@ -40,8 +42,9 @@ pub extern "C" fn oca_names_read(params: &[u8], names: &mut Names) -> u32
     Answer::Done.number()
 }
 
-/// Reads the answer to GetMembers: the numbers of the members, in order, at most 181. Returns `Done`; otherwise
-/// `NoValue` if the parameters are not exactly such an answer, and then nothing is written.
+/// Reads `params`, the parameters of an answer to GetMembers (AES70-2), and writes into `members` the numbers of the
+/// members, in order: 181 at most, since an answer has room for no more. Returns the number of `Done`. The number of
+/// `NoValue` if `params` is not exactly such an answer: then `members` is unchanged.
 #[unsafe(no_mangle)]
 pub extern "C" fn oca_members_read(params: &[u8], members: &mut Members) -> u32
     ensures { WritesMembers (members_in params.now) members.old members.new result }
@@ -53,9 +56,10 @@ pub extern "C" fn oca_members_read(params: &[u8], members: &mut Members) -> u32
     Answer::Done.number()
 }
 
-/// Reads the answer to GetClassIdentification: the fields of the class's identifier, at most 16, and the number of the
-/// class, 0 if it is not of this profile. Returns `Done`; otherwise `NoValue` if the parameters are not exactly such an
-/// answer, and then nothing is written.
+/// Reads `params`, the parameters of an answer to GetClassIdentification (AES70-2), and writes into `id` the fields of
+/// the class identifier and the number of the class. The number is 0 if the class is not of this profile. The class's
+/// version is ignored. Returns the number of `Done`. The number of `NoValue` if `params` is not exactly such an answer,
+/// or has more than 16 fields: then `id` is unchanged.
 #[unsafe(no_mangle)]
 pub extern "C" fn oca_class_read(params: &[u8], id: &mut ClassId) -> u32
     ensures { WritesClass (class_id_in params.now) id.old id.new result }
@@ -76,8 +80,9 @@ pub extern "C" fn oca_class_with(fields: &[u16]) -> u32
 }
 
 /// Encodes a text as the one parameter of SetLabel: writes its bytes to the front of `out`, and how many they are, 2 to
-/// 66, into `len`. Returns `Done`. Otherwise `NoValue` if the text has more than 64 bytes or is not UTF-8, and then
-/// nothing is written. `TooSmall` if `out` has no room for the bytes, and then only `len` is written.
+/// 66, into `len`. Returns the number of an answer: `Done`. Otherwise `NoValue` if the text has more than 64 bytes or
+/// is not UTF-8, and then nothing is written. `TooSmall` if `out` has no room for the bytes, and then only `len` is
+/// written.
 #[unsafe(no_mangle)]
 pub extern "C" fn oca_text_put(text: &Name, out: &mut [u8], len: &mut usize) -> u32
     ensures writes { WritesEncoding text.now out.old out.new len.new result }

@@ -24,9 +24,9 @@ use oca_types::Peer;
 use std::alloc::Global;
 
 /// Opens a device that has its root alone (the block 100), with room for `room` objects, the root counted: 1 to 4,096.
-/// The call takes the memory for them. Returns `Done`; otherwise the first of these that applies, and nothing is
-/// changed. `Open` if the struct is open already. `BadSize` if `room` is outside its range. `NoMemory` if memory was
-/// refused.
+/// The call takes the memory for them. Returns the number of an answer: `Done`; otherwise the first of these that
+/// applies, and nothing is changed. `Open` if the struct is open already. `BadSize` if `room` is outside its range.
+/// `NoMemory` if memory was refused.
 #[unsafe(no_mangle)]
 pub extern "C" fn oca_device_open(alloc: Global, handle: &mut DeviceHandle, room: u16) -> u32
     ensures open { IsSome handle.old.slot.inner → (result ≡ 10) × (handle.new.slot.inner ≡ handle.old.slot.inner) }
@@ -52,11 +52,11 @@ pub extern "C" fn oca_device_close(alloc: Global, handle: &mut DeviceHandle)
     handle.close(alloc);
 }
 
-/// Starts the device, with reply windows of `window` commands and sessions of `peers` peers. Each number is 1 to 64.
-/// The device has room for 122 packets that answer a datagram, which always suffices. No object can be added after it.
-/// Returns `Done`; otherwise the first of these that applies. `Closed` if the struct is closed, `Started` if the device
-/// is started already, `BadSize` if a size is outside its range: then nothing is changed. `NoMemory` if memory was
-/// refused: then the objects are lost, and the struct is closed.
+/// Starts the device, with reply windows of `window` commands and room for the sessions of `peers` peers. Each number
+/// is 1 to 64. The device has room for 122 packets that answer a datagram, which always suffices. No object can be
+/// added after it. Returns the number of an answer: `Done`; otherwise the first of these that applies. `Closed` if the
+/// struct is closed, `Started` if the device is started already, `BadSize` if a size is outside its range: then nothing
+/// is changed. `NoMemory` if memory was refused: then the objects are lost, and the struct is closed.
 #[unsafe(no_mangle)]
 pub extern "C" fn oca_device_start(
     alloc: Global,
@@ -72,11 +72,11 @@ pub extern "C" fn oca_device_start(
     oca_device_start_within(alloc, handle, window, peers, MOST_PACKETS)
 }
 
-/// Starts the device, with reply windows of `window` commands and sessions of `peers` peers, both 1 to 64. The device
-/// has room for `packets` packets that answer a datagram, 1 to 122, of some 1,480 bytes each. No object can be added
-/// after it. Returns `Done`; otherwise the first of these that applies. `Closed` if the struct is closed, `Started` if
-/// the device is started already, `BadSize` if a size is outside its range: then nothing is changed. `NoMemory` if
-/// memory was refused: then the objects are lost, and the struct is closed.
+/// Starts the device, with reply windows of `window` commands and room for the sessions of `peers` peers, both 1 to 64.
+/// The device has room for `packets` packets that answer a datagram, 1 to 122, of some 1,480 bytes each. No object can
+/// be added after it. Returns the number of an answer: `Done`; otherwise the first of these that applies. `Closed` if
+/// the struct is closed, `Started` if the device is started already, `BadSize` if a size is outside its range: then
+/// nothing is changed. `NoMemory` if memory was refused: then the objects are lost, and the struct is closed.
 #[unsafe(no_mangle)]
 pub extern "C" fn oca_device_start_within(
     alloc: Global,
@@ -102,11 +102,12 @@ pub extern "C" fn oca_device_start_within(
 /// `now` is the moment, in milliseconds of the caller's clock; a moment earlier than one already seen counts as that
 /// one. The answers replace the packets of the last datagram, as many as there is room for.
 ///
-/// The words of the verdict go to the front of `out`, as many as it has room for. The first is 0 if the datagram was
-/// served: then come how many commands were executed, duplicates, old and reused. It is 1 for a malformed datagram:
-/// after four zeros come the number of the fault (1 to 9) and its offset in bytes. It is 2 if there was no room for the
-/// sender. Returns `Done`; otherwise `Closed` if the struct is closed, or `NotStarted` before the start. Then nothing
-/// is changed or written.
+/// The words of the verdict go to the front of `out`, as many as it has room for. There are seven. If the datagram was
+/// served, the first is 0. Then come four counts of its commands (executed, duplicates, too old, and those that ask
+/// something else under a known handle) and two zeros. For a malformed datagram the first is 1; after four zeros come
+/// the number of the fault (1 to 9) and its offset in bytes. If there was no room for the sender, the first is 2, and
+/// the others are 0. Returns the number of an answer: `Done`; otherwise `Closed` if the struct is closed, or
+/// `NotStarted` before the start. Then nothing is changed or written.
 #[unsafe(no_mangle)]
 pub extern "C" fn oca_device_datagram_words(
     alloc: Global,
@@ -142,8 +143,8 @@ pub extern "C" fn oca_device_datagram_words(
 
 /// Moves the device's clock on to `now`, in milliseconds of the caller's clock. Locks of peers that are silent for more
 /// than three heartbeats are released, and sessions that are silent for more than 120,000 ms are forgotten. A moment
-/// earlier than one already seen counts as that one. Returns `Done`; otherwise `Closed` if the struct is closed, or
-/// `NotStarted` before the start. Then nothing is changed.
+/// earlier than the latest one so far counts as that latest one. Returns the number of an answer: `Done`; otherwise
+/// `Closed` if the struct is closed, or `NotStarted` before the start. Then nothing is changed.
 #[unsafe(no_mangle)]
 pub extern "C" fn oca_device_tick(alloc: Global, handle: &mut DeviceHandle, now: u64) -> u32
     ensures closed { RefusesClosed handle.old.slot.inner handle.new.slot.inner result }
@@ -161,10 +162,10 @@ pub extern "C" fn oca_device_tick(alloc: Global, handle: &mut DeviceHandle, now:
     answer.number()
 }
 
-/// Writes the earliest moment at which a clock reading changes the objects or the sessions. This moment is in
-/// milliseconds of the caller's clock, and not before the device's present moment. Returns `Done`; otherwise `Closed`
-/// if the struct is closed, `NotStarted` before the start, or `Nothing` if there is no such moment within 64 bits. Then
-/// nothing is changed or written.
+/// Writes into `moment` the earliest moment at which a clock reading changes the objects or the sessions. This moment
+/// is in milliseconds of the caller's clock, and not before the device's present moment. Returns the number of an
+/// answer: `Done`; otherwise `Closed` if the struct is closed, `NotStarted` before the start, or `Nothing` if there is
+/// no such moment within 64 bits. Then nothing is changed or written.
 #[unsafe(no_mangle)]
 pub extern "C" fn oca_device_next_lapse(
     alloc: Global,
@@ -186,8 +187,9 @@ pub extern "C" fn oca_device_next_lapse(
     answer.number()
 }
 
-/// Writes how many packets answer the last datagram: 0 to 122, and 0 before the first datagram. Returns `Done`;
-/// otherwise `Closed` if the struct is closed, or `NotStarted` before the start. Then nothing is changed or written.
+/// Writes into `count` how many packets answer the last datagram: 0 to 122, and 0 before the first datagram. Returns
+/// the number of an answer: `Done`; otherwise `Closed` if the struct is closed, or `NotStarted` before the start. Then
+/// nothing is changed or written.
 #[unsafe(no_mangle)]
 pub extern "C" fn oca_device_packets(
     alloc: Global,
@@ -209,9 +211,9 @@ pub extern "C" fn oca_device_packets(
     answer.number()
 }
 
-/// Writes whether answers to the last datagram were left out because there was no room for them; false before the first
-/// datagram. Returns `Done`; otherwise `Closed` if the struct is closed, or `NotStarted` before the start. Then nothing
-/// is changed or written.
+/// Writes into `left_out` whether answers to the last datagram were left out because there was no room for them; false
+/// before the first datagram. Returns the number of an answer: `Done`; otherwise `Closed` if the struct is closed, or
+/// `NotStarted` before the start. Then nothing is changed or written.
 #[unsafe(no_mangle)]
 pub extern "C" fn oca_device_left_out(
     alloc: Global,
@@ -234,9 +236,9 @@ pub extern "C" fn oca_device_left_out(
 }
 
 /// Copies a packet, by its index from 0, to the front of `out`, and writes its size in bytes, at most 1,472, into
-/// `len`. Returns `Done`; otherwise `Closed` if the struct is closed, `NotStarted` before the start, or `Nothing` after
-/// the last packet. Then nothing is changed or written. `TooSmall` if `out` has no room for the packet, and then only
-/// `len` is written.
+/// `len`. Returns the number of an answer: `Done`; otherwise `Closed` if the struct is closed, `NotStarted` before the
+/// start, or `Nothing` after the last packet. Then nothing is changed or written. `TooSmall` if `out` has no room for
+/// the packet, and then only `len` is written.
 #[unsafe(no_mangle)]
 pub extern "C" fn oca_device_packet(
     alloc: Global,
@@ -268,9 +270,9 @@ pub extern "C" fn oca_device_packet(
 }
 
 /// Copies the numbers of the objects that the last datagram wrote to to the front of `out`, in order, and writes into
-/// `count` how many they are, at most 86. Returns `Done`; otherwise `Closed` if the struct is closed, or `NotStarted`
-/// before the start. Then nothing is changed or written. `TooSmall` if `out` has no room for all: then it has the first
-/// of them, and `count` is written too.
+/// `count` how many they are, at most 86. Returns the number of an answer: `Done`; otherwise `Closed` if the struct is
+/// closed, or `NotStarted` before the start. Then nothing is changed or written. `TooSmall` if `out` has no room for
+/// all: then it has the first of them, and `count` is written too.
 #[unsafe(no_mangle)]
 pub extern "C" fn oca_device_written(
     alloc: Global,
@@ -293,8 +295,9 @@ pub extern "C" fn oca_device_written(
     answer.number()
 }
 
-/// Writes whether the answers to the last datagram must wait until the objects are stored. Returns `Done`; otherwise
-/// `Closed` if the struct is closed, or `NotStarted` before the start. Then nothing is changed or written.
+/// Writes into `waits` whether the answers to the last datagram must wait until the objects are stored. Returns the
+/// number of an answer: `Done`; otherwise `Closed` if the struct is closed, or `NotStarted` before the start. Then
+/// nothing is changed or written.
 #[unsafe(no_mangle)]
 pub extern "C" fn oca_device_waits(
     alloc: Global,
@@ -316,8 +319,8 @@ pub extern "C" fn oca_device_waits(
     answer.number()
 }
 
-/// Records that the objects are stored as they are now: no answers wait. Returns `Done`; otherwise `Closed` if the
-/// struct is closed, or `NotStarted` before the start. Then nothing is changed.
+/// Records that the objects are stored as they are now: no answers wait. Returns the number of an answer: `Done`;
+/// otherwise `Closed` if the struct is closed, or `NotStarted` before the start. Then nothing is changed.
 #[unsafe(no_mangle)]
 pub extern "C" fn oca_device_stored(alloc: Global, handle: &mut DeviceHandle) -> u32
     ensures closed { RefusesClosed handle.old.slot.inner handle.new.slot.inner result }

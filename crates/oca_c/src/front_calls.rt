@@ -15,9 +15,10 @@ use oca_tree::Value;
 use std::alloc::Global;
 
 /// Sets a mute (1 Muted, 2 Unmuted) or a polarity (1 NonInverted, 2 Inverted) at the local front panel. Locks do not
-/// prevent it. Returns `Done`; otherwise the first of these that applies, and nothing is changed. `Closed` if the
-/// struct is closed, `NotStarted` before the start, `NoObject` if there is no such object, `NoSetting` if it is a
-/// block. Then `OtherKind` if it is of another class, `OutOfRange` if `state` is neither 1 nor 2.
+/// prevent it. Returns the number of an answer: `Done`; otherwise the first of these that applies, and nothing is
+/// changed. `Closed` if the struct is closed, `NotStarted` before the start, `NoObject` if there is no such object,
+/// `NoSetting` if it is a block. Then `OtherKind` if it is of another class, `OutOfRange` if `state` is neither 1 nor
+/// 2.
 #[unsafe(no_mangle)]
 pub extern "C" fn oca_device_set_state(
     alloc: Global,
@@ -39,10 +40,10 @@ pub extern "C" fn oca_device_set_state(
     answer.number()
 }
 
-/// Sets a switch at the local front panel to a position, which is counted from 0. Locks do not prevent it. Returns
-/// `Done`; otherwise the first of these that applies, and nothing is changed. `Closed` if the struct is closed,
-/// `NotStarted` before the start, `NoObject` if there is no such object, `NoSetting` if it is a block. Then `OtherKind`
-/// if it is of another class, `OutOfRange` if the position is not there or disabled.
+/// Sets a switch at the local front panel to a position, which is counted from 0. Locks do not prevent it. Returns the
+/// number of an answer: `Done`; otherwise the first of these that applies, and nothing is changed. `Closed` if the
+/// struct is closed, `NotStarted` before the start, `NoObject` if there is no such object, `NoSetting` if it is a
+/// block. Then `OtherKind` if it is of another class, `OutOfRange` if the position is not there or disabled.
 #[unsafe(no_mangle)]
 pub extern "C" fn oca_device_set_position(
     alloc: Global,
@@ -59,10 +60,10 @@ pub extern "C" fn oca_device_set_position(
     set(alloc, handle, ono, Value::Switch(position))
 }
 
-/// Sets a Boolean actuator at the local front panel. Locks do not prevent it. Returns `Done`; otherwise the first of
-/// these that applies, and nothing is changed. `Closed` if the struct is closed, `NotStarted` before the start,
-/// `NoObject` if there is no such object, `NoSetting` if it is a block. Then `OtherKind` if it is of another class.
-/// `OutOfRange` never comes.
+/// Sets a Boolean actuator to `truth` at the local front panel. Locks do not prevent it. Returns the number of an
+/// answer: `Done`; otherwise the first of these that applies, and nothing is changed. `Closed` if the struct is closed,
+/// `NotStarted` before the start, `NoObject` if there is no such object, `NoSetting` if it is a block. Then `OtherKind`
+/// if it is of another class. `OutOfRange` never comes.
 #[unsafe(no_mangle)]
 pub extern "C" fn oca_device_set_truth(
     alloc: Global,
@@ -79,10 +80,10 @@ pub extern "C" fn oca_device_set_truth(
     set(alloc, handle, ono, Value::Boolean(truth))
 }
 
-/// Sets an actuator of integers, of any type, at the local front panel to a number of 64 bits with a sign. Locks do not
-/// prevent it. Returns `Done`; otherwise the first of these that applies, and nothing is changed. `Closed` if the
-/// struct is closed, `NotStarted` before the start, `NoObject` if there is no such object, `NoSetting` if it is a
-/// block. Then `OtherKind` if its class is not one of integers, `OutOfRange` if the number is outside the object's
+/// Sets an actuator of integers, whatever its type, to `number` at the local front panel. Locks do not prevent it.
+/// Returns the number of an answer: `Done`; otherwise the first of these that applies, and nothing is changed. `Closed`
+/// if the struct is closed, `NotStarted` before the start, `NoObject` if there is no such object, `NoSetting` if it is
+/// a block. Then `OtherKind` if its class is not one of integers, `OutOfRange` if the number is outside the object's
 /// limits.
 #[unsafe(no_mangle)]
 pub extern "C" fn oca_device_set_signed(
@@ -100,10 +101,10 @@ pub extern "C" fn oca_device_set_signed(
     set_integer(alloc, handle, ono, i128::from(number))
 }
 
-/// Sets an actuator of integers, of any type, at the local front panel to a number of 64 bits without a sign. Locks do
-/// not prevent it. Returns `Done`; otherwise the first of these that applies, and nothing is changed. `Closed` if the
-/// struct is closed, `NotStarted` before the start, `NoObject` if there is no such object, `NoSetting` if it is a
-/// block. Then `OtherKind` if its class is not one of integers, `OutOfRange` if the number is outside the object's
+/// Sets an actuator of integers, whatever its type, to `number` at the local front panel. Locks do not prevent it.
+/// Returns the number of an answer: `Done`; otherwise the first of these that applies, and nothing is changed. `Closed`
+/// if the struct is closed, `NotStarted` before the start, `NoObject` if there is no such object, `NoSetting` if it is
+/// a block. Then `OtherKind` if its class is not one of integers, `OutOfRange` if the number is outside the object's
 /// limits.
 #[unsafe(no_mangle)]
 pub extern "C" fn oca_device_set_unsigned(
@@ -121,11 +122,11 @@ pub extern "C" fn oca_device_set_unsigned(
     set_integer(alloc, handle, ono, i128::from(number))
 }
 
-/// Sets an object at the local front panel to a value, which must be of its class. Locks do not prevent it. Returns
-/// `Done`; otherwise the first of these that applies, and nothing is changed. `Closed` if the struct is closed,
-/// `NotStarted` before the start, `NoValue` if the struct holds no value. Then `NoObject` if there is no such object,
-/// `NoSetting` if it is a block, `OtherKind` if it is of another class. Last `OutOfRange` if the position is not there
-/// or disabled, or the number is outside the object's limits.
+/// Sets an object at the local front panel to a value, which must be of its class. Locks do not prevent it. Returns the
+/// number of an answer: `Done`; otherwise the first of these that applies, and nothing is changed. `Closed` if the
+/// struct is closed, `NotStarted` before the start, `NoValue` if `value` holds no value. Then `NoObject` if there is no
+/// such object, `NoSetting` if it is a block, `OtherKind` if it is of another class. Last `OutOfRange` if the position
+/// is not there or disabled, or the number is outside the object's limits.
 #[unsafe(no_mangle)]
 pub extern "C" fn oca_device_set(
     alloc: Global,
@@ -147,10 +148,10 @@ pub extern "C" fn oca_device_set(
     answer.number()
 }
 
-/// Gives an object a label of at most 64 bytes of UTF-8 at the local front panel. Locks do not prevent it. Returns
-/// `Done`; otherwise the first of these that applies, and nothing is changed. `Closed` if the struct is closed,
-/// `NotStarted` before the start, `BadText` if the bytes are not UTF-8. Then `NoObject` if there is no such object,
-/// `BadText` if the label is longer.
+/// Gives an object a label of at most 64 bytes of UTF-8 at the local front panel. Locks do not prevent it. Returns the
+/// number of an answer: `Done`; otherwise the first of these that applies, and nothing is changed. `Closed` if the
+/// struct is closed, `NotStarted` before the start, `BadText` if the bytes are not UTF-8. Then `NoObject` if there is
+/// no such object, `BadText` if the label is longer.
 #[unsafe(no_mangle)]
 pub extern "C" fn oca_device_set_label(
     alloc: Global,
@@ -172,9 +173,9 @@ pub extern "C" fn oca_device_set_label(
     answer.number()
 }
 
-/// Enables or disables an object at the local front panel. Locks do not prevent it. Returns `Done`; otherwise `Closed`
-/// if the struct is closed, `NotStarted` before the start, or `NoObject` if there is no such object. Then nothing is
-/// changed.
+/// Enables or disables an object at the local front panel. Locks do not prevent it. Returns the number of an answer:
+/// `Done`; otherwise `Closed` if the struct is closed, `NotStarted` before the start, or `NoObject` if there is no such
+/// object. Then nothing is changed.
 #[unsafe(no_mangle)]
 pub extern "C" fn oca_device_set_enabled(
     alloc: Global,
@@ -197,8 +198,9 @@ pub extern "C" fn oca_device_set_enabled(
 }
 
 /// Releases the lock of an object at the local front panel, whichever peer holds it. The peer gets no message. Returns
-/// `Done`; otherwise the first of these that applies, and nothing is changed. `Closed` if the struct is closed,
-/// `NotStarted` before the start, `NoObject` if there is no such object, `Nothing` if the object is not locked.
+/// the number of an answer: `Done`; otherwise the first of these that applies, and nothing is changed. `Closed` if the
+/// struct is closed, `NotStarted` before the start, `NoObject` if there is no such object, `Nothing` if the object is
+/// not locked.
 #[unsafe(no_mangle)]
 pub extern "C" fn oca_device_unlock(alloc: Global, handle: &mut DeviceHandle, ono: u32) -> u32
     ensures closed { RefusesClosed handle.old.slot.inner handle.new.slot.inner result }
@@ -215,10 +217,10 @@ pub extern "C" fn oca_device_unlock(alloc: Global, handle: &mut DeviceHandle, on
     answer.number()
 }
 
-/// Sets, at the local front panel, whether the hardware of an object refuses to be changed. If it does, each command
-/// that would write to the object, and that no other status refuses, is answered `ProcessingFailed` and changes
-/// nothing. Returns `Done`; otherwise `Closed` if the struct is closed, `NotStarted` before the start, or `NoObject` if
-/// there is no such object. Then nothing is changed.
+/// Sets, at the local front panel, whether the hardware of an object refuses changes (`failing`). While it does, a
+/// command that writes to the object is answered `ProcessingFailed` and changes nothing; if the command is refused for
+/// another reason too, the answer names that reason. Returns the number of an answer: `Done`; otherwise `Closed` if the
+/// struct is closed, `NotStarted` before the start, or `NoObject` if there is no such object. Then nothing is changed.
 #[unsafe(no_mangle)]
 pub extern "C" fn oca_device_set_failing(
     alloc: Global,

@@ -22,12 +22,13 @@ use std::alloc::Global;
 /// Opens a link to the device at the address `ip` (an IPv4 address as a number, the first byte highest) and the port
 /// `port`, and takes the memory for the link. `now` is the moment, in milliseconds of the caller's clock. The link's
 /// first command gets the handle `first_handle`, and each later command the next one. A command is refused while its
-/// handle would be `span` (1 to 32) or more above the lowest handle in flight.
+/// handle would be `span` (1 to 32) or more above the lowest handle in flight (that of the oldest command whose answer
+/// was not taken).
 ///
 /// `first_handle` must be above every handle that the device heard from the same address and port before, unless
-/// nothing was sent from there for more than two minutes since. Returns `Done`; otherwise the first of these that
-/// applies, and nothing is changed. `Open` if the struct is open already. `BadSize` if the span is outside its range.
-/// `NoMemory` if memory was refused.
+/// nothing was sent from there for more than two minutes since. Returns the number of an answer: `Done`; otherwise the
+/// first of these that applies, and nothing is changed. `Open` if the struct is open already. `BadSize` if the span is
+/// outside its range. `NoMemory` if memory was refused.
 #[unsafe(no_mangle)]
 pub extern "C" fn oca_link_open(
     alloc: Global,
@@ -67,10 +68,12 @@ pub extern "C" fn oca_link_close(alloc: Global, handle: &mut LinkHandle)
 }
 
 /// Submits a command at the moment `now`, in milliseconds of the caller's clock, and writes its handle into `command`.
-/// `count` is ParamCount. The call sends nothing: `oca_link_due` returns what must be sent. Returns `Done`; otherwise
-/// the first of these that applies, and nothing is changed or written. `Closed` if the struct is closed, `Lost` if the
-/// link is lost, `HandlesSpent` after the handle 4294967295. Then `SpanFull` if the next handle is not below the lowest
-/// one in flight plus the span, `TooLong` if the parameters have more than 1,445 bytes.
+/// `target` is the number of the object, `level` and `index` name the method (DefLevel and MethodIndex), `count` is
+/// ParamCount, and `params` are the encoded parameters. The call sends nothing: `oca_link_due` returns what must be
+/// sent. Returns the number of an answer: `Done`; otherwise the first of these that applies, and nothing is changed or
+/// written. `Closed` if the struct is closed, `Lost` if the link is lost, `HandlesSpent` after the handle 4294967295.
+/// Then `SpanFull` if the next handle is not below the lowest one whose answer was not taken yet, plus the span,
+/// `TooLong` if the parameters have more than 1,445 bytes.
 #[unsafe(no_mangle)]
 pub extern "C" fn oca_link_submit(
     alloc: Global,
@@ -107,8 +110,8 @@ pub extern "C" fn oca_link_submit(
 /// Puts what is due at the moment `now`, in milliseconds of the caller's clock, to the front of `out`; it must be sent
 /// to the device. The size of the packet, 0 to 1,472 bytes, goes into `len`. `kind` becomes 0 if nothing is due, 1 for
 /// a command, 2 for a keep-alive, 3 if the link is lost (`enum oca_due`). `command` becomes the handle of the command,
-/// or 0 if no command is due. Returns `Done`; otherwise `Closed` if the struct is closed, or `TooSmall` if `out` has
-/// fewer than 1,472 bytes, whatever is due. Then nothing is changed or written.
+/// or 0 if no command is due. Returns the number of an answer: `Done`; otherwise `Closed` if the struct is closed, or
+/// `TooSmall` if `out` has fewer than 1,472 bytes, whatever is due. Then nothing is changed or written.
 #[unsafe(no_mangle)]
 pub extern "C" fn oca_link_due(
     alloc: Global,
@@ -139,10 +142,11 @@ pub extern "C" fn oca_link_due(
 }
 
 /// Handles a datagram that came from the address `ip` (an IPv4 address as a number, the first byte highest) and a port.
-/// `now` is the moment, in milliseconds of the caller's clock. `kind` becomes 2 if it came from another address than
-/// the device's. Otherwise it becomes 3 if the datagram is malformed. Otherwise it becomes 1 if commands got their
-/// first answer in it, and 0 if none did (`enum oca_reception`). `answered` becomes how many commands did. Returns
-/// `Done`; otherwise `Closed` if the struct is closed. Then nothing is changed or written.
+/// `now` is the moment, in milliseconds of the caller's clock. `kind` becomes 2 if the datagram came from another
+/// address or port than the device's. Otherwise it becomes 3 if the datagram is malformed. Otherwise it becomes 1 if
+/// commands got their first answer in it, and 0 if none did (`enum oca_reception`). `answered` becomes how many
+/// commands got theirs. Returns the number of an answer: `Done`; otherwise `Closed` if the struct is closed. Then
+/// nothing is changed or written.
 #[unsafe(no_mangle)]
 pub extern "C" fn oca_link_datagram(
     alloc: Global,
@@ -169,10 +173,11 @@ pub extern "C" fn oca_link_datagram(
     number
 }
 
-/// Takes the answer to a command, and removes the command. Writes its status and its ParamCount, puts its parameters to
-/// the front of `out`, and their size into `len`. Returns `Done`; otherwise the first of these that applies, and
-/// nothing is changed or written. `Closed` if the struct is closed. `TooSmall` if `out` has fewer than 1,452 bytes,
-/// whatever the answer. `Nothing` if there is no answer under this handle.
+/// Takes the answer to the command under the handle `command`, and removes the command. Writes the answer's status into
+/// `status`, its ParamCount into `count`, its parameters to the front of `out`, and their size in bytes into `len`.
+/// Returns the number of an answer: `Done`; otherwise the first of these that applies, and nothing is changed or
+/// written. `Closed` if the struct is closed. `TooSmall` if `out` has fewer than 1,452 bytes, whatever the answer.
+/// `Nothing` if there is no answer under this handle.
 #[unsafe(no_mangle)]
 pub extern "C" fn oca_link_take(
     alloc: Global,
@@ -200,9 +205,10 @@ pub extern "C" fn oca_link_take(
     number
 }
 
-/// Writes the earliest moment at which something is due or the link is lost. This moment is in milliseconds of the
-/// caller's clock, and not before the latest moment that the link was given. Returns `Done`; otherwise `Closed` if the
-/// struct is closed, or `Nothing` if that moment lies beyond 64 bits. Then nothing is changed or written.
+/// Writes into `moment` the earliest moment at which something is due or the link is lost. This moment is in
+/// milliseconds of the caller's clock, and not before the latest moment that the link was given. Returns the number of
+/// an answer: `Done`; otherwise `Closed` if the struct is closed, or `Nothing` if that moment lies beyond 64 bits. Then
+/// nothing is changed or written.
 #[unsafe(no_mangle)]
 pub extern "C" fn oca_link_next_due(alloc: Global, handle: &mut LinkHandle, moment: &mut u64) -> u32
     ensures closed { RefusesClosed handle.old.slot.inner handle.new.slot.inner result }
@@ -218,8 +224,9 @@ pub extern "C" fn oca_link_next_due(alloc: Global, handle: &mut LinkHandle, mome
     number
 }
 
-/// Writes the lowest handle whose answer came and was not taken yet. Returns `Done`; otherwise `Closed` if the struct
-/// is closed, or `Nothing` if there is none. Then nothing is changed or written.
+/// Writes into `command` the lowest handle whose answer came and was not taken yet. Returns the number of an answer:
+/// `Done`; otherwise `Closed` if the struct is closed, or `Nothing` if no answer waits to be taken. Then nothing is
+/// changed or written.
 #[unsafe(no_mangle)]
 pub extern "C" fn oca_link_answered(
     alloc: Global,
@@ -240,8 +247,9 @@ pub extern "C" fn oca_link_answered(
     number
 }
 
-/// Writes whether the command under a handle was submitted and has no answer yet. The call writes false for a handle
-/// that no command has. Returns `Done`; otherwise `Closed` if the struct is closed. Then nothing is changed or written.
+/// Writes into `in_flight` whether the command under the handle `command` was submitted and has no answer yet: false
+/// also for a handle that no command has. Returns the number of an answer: `Done`; otherwise `Closed` if the struct is
+/// closed. Then nothing is changed or written.
 #[unsafe(no_mangle)]
 pub extern "C" fn oca_link_in_flight(
     alloc: Global,
@@ -263,8 +271,9 @@ pub extern "C" fn oca_link_in_flight(
     number
 }
 
-/// Writes the handle that the next command gets. Returns `Done`; otherwise `Closed` if the struct is closed, or
-/// `Nothing` after the last handle, 4294967295. Then nothing is changed or written.
+/// Writes into `command` the handle that the next command gets. Returns the number of an answer: `Done`; otherwise
+/// `Closed` if the struct is closed, or `Nothing` after the last handle, 4294967295. Then nothing is changed or
+/// written.
 #[unsafe(no_mangle)]
 pub extern "C" fn oca_link_next_handle(
     alloc: Global,
@@ -284,9 +293,9 @@ pub extern "C" fn oca_link_next_handle(
     number
 }
 
-/// Writes the moment, in milliseconds of the caller's clock, at which the last well-formed datagram came from the
-/// device. Before the first one it is the moment of the opening. Returns `Done`; otherwise `Closed` if the struct is
-/// closed. Then nothing is changed or written.
+/// Writes into `moment` the moment, in milliseconds of the caller's clock, at which the last well-formed datagram came
+/// from the device. Before the first one it is the moment of the opening. Returns the number of an answer: `Done`;
+/// otherwise `Closed` if the struct is closed. Then nothing is changed or written.
 #[unsafe(no_mangle)]
 pub extern "C" fn oca_link_last_heard(
     alloc: Global,
@@ -306,8 +315,8 @@ pub extern "C" fn oca_link_last_heard(
     number
 }
 
-/// Writes whether the link is lost: a command got no answer to 20 transmissions. Returns `Done`; otherwise `Closed` if
-/// the struct is closed. Then nothing is changed or written.
+/// Writes into `lost` whether the link is lost: a command got no answer to 20 transmissions. Returns the number of an
+/// answer: `Done`; otherwise `Closed` if the struct is closed. Then nothing is changed or written.
 #[unsafe(no_mangle)]
 pub extern "C" fn oca_link_is_lost(alloc: Global, handle: &mut LinkHandle, lost: &mut bool) -> u32
     ensures closed { RefusesClosed handle.old.slot.inner handle.new.slot.inner result }
@@ -323,9 +332,9 @@ pub extern "C" fn oca_link_is_lost(alloc: Global, handle: &mut LinkHandle, lost:
     number
 }
 
-/// Writes whether the link is late at the moment `now`, in milliseconds of the caller's clock: a command is unanswered
-/// that was submitted more than 15,000 ms before. Whether it was sent does not matter. Returns `Done`; otherwise
-/// `Closed` if the struct is closed. Then nothing is changed or written.
+/// Writes into `late` whether the link is late at the moment `now`, in milliseconds of the caller's clock: a command is
+/// unanswered that was submitted more than 15,000 ms before. Whether it was sent does not matter. Returns the number of
+/// an answer: `Done`; otherwise `Closed` if the struct is closed. Then nothing is changed or written.
 #[unsafe(no_mangle)]
 pub extern "C" fn oca_link_is_late(
     alloc: Global,

@@ -13,8 +13,9 @@ use oca_calls::device_handle::DeviceHandle;
 use oca_calls::reading::Reading;
 use std::alloc::Global;
 
-/// Writes how many objects there are, the root included: 1 to 4,096. Returns `Done`; otherwise `Closed` if the struct
-/// is closed, or `NotStarted` before the start. Then nothing is changed or written.
+/// Writes into `count` how many objects there are, the root included: 1 to 4,096. Returns the number of an answer:
+/// `Done`; otherwise `Closed` if the struct is closed, or `NotStarted` before the start. Then nothing is changed or
+/// written.
 #[unsafe(no_mangle)]
 pub extern "C" fn oca_device_objects(
     alloc: Global,
@@ -39,8 +40,8 @@ pub extern "C" fn oca_device_objects(
 /// Writes what the object at this index is; indices count from 0 at the root, in order of adding. To `out` go the
 /// object's number, its container's number (0 for the root), the number of its class (1 to 13, `enum oca_class`) and
 /// the size of its role in bytes. The object's role goes to `role`. Each is written as far as there is room. Returns
-/// `Done`; otherwise `Closed` if the struct is closed, `NotStarted` before the start, or `Nothing` after the last
-/// object. Then nothing is changed or written.
+/// the number of an answer: `Done`; otherwise `Closed` if the struct is closed, `NotStarted` before the start, or
+/// `Nothing` after the last object. Then nothing is changed or written.
 #[unsafe(no_mangle)]
 pub extern "C" fn oca_device_object_words(
     alloc: Global,
@@ -64,10 +65,10 @@ pub extern "C" fn oca_device_object_words(
     answer.number()
 }
 
-/// Writes the kind of an object's lock, and the address (an IPv4 address as a number, the first byte highest) and port
-/// of its holder. Kind 1 keeps other peers from all access, kind 2 from all but reading. Returns `Done`; otherwise
-/// `Closed` if the struct is closed, `NotStarted` before the start, or `Nothing` if the object is not locked or not
-/// there. Then nothing is changed or written.
+/// Writes the kind of an object's lock into `kind`, and the address (an IPv4 address as a number, the first byte
+/// highest) and the port of its holder into `ip` and `port`. Kind 1 keeps other peers from all access, kind 2 from all
+/// but reading. Returns the number of an answer: `Done`; otherwise `Closed` if the struct is closed, `NotStarted`
+/// before the start, or `Nothing` if the object is not locked or not there. Then nothing is changed or written.
 #[unsafe(no_mangle)]
 pub extern "C" fn oca_device_lock(
     alloc: Global,
@@ -92,9 +93,9 @@ pub extern "C" fn oca_device_lock(
     answer.number()
 }
 
-/// Writes whether the hardware of an object refuses to be changed, as `oca_device_set_failing` set it last; false if it
-/// was never set. Returns `Done`; otherwise `Closed` if the struct is closed, `NotStarted` before the start, or
-/// `NoObject` if there is no such object. Then nothing is changed or written.
+/// Writes into `failing` whether the hardware of an object refuses changes, as `oca_device_set_failing` last set it;
+/// false before the first such call. Returns the number of an answer: `Done`; otherwise `Closed` if the struct is
+/// closed, `NotStarted` before the start, or `NoObject` if there is no such object. Then nothing is changed or written.
 #[unsafe(no_mangle)]
 pub extern "C" fn oca_device_is_failing(
     alloc: Global,
@@ -117,9 +118,10 @@ pub extern "C" fn oca_device_is_failing(
     answer.number()
 }
 
-/// Writes how an object is set: a kind (1 a state, 2 a position, 3 a Boolean, 4 an integer), whether the number is
-/// negative, and its magnitude. Returns `Done`; otherwise `Closed` if the struct is closed, `NotStarted` before the
-/// start, or `Nothing` for a block and if the object is not there. Then nothing is changed or written.
+/// Writes into `reading` how an object is set. The kind is 1 for a state, 2 for a position, 3 for a Boolean and 4 for
+/// an integer. With it come whether the number is negative (0 or 1), and its magnitude (1 or 2 for a state, 0 or 1 for
+/// a Boolean). Returns the number of an answer: `Done`; otherwise `Closed` if the struct is closed, `NotStarted` before
+/// the start, or `Nothing` for a block and if the object is not there. Then nothing is changed or written.
 #[unsafe(no_mangle)]
 pub extern "C" fn oca_device_setting(
     alloc: Global,
@@ -142,8 +144,8 @@ pub extern "C" fn oca_device_setting(
     answer.number()
 }
 
-/// Writes how many peers have a session: 0 to 64. Returns `Done`; otherwise `Closed` if the struct is closed, or
-/// `NotStarted` before the start. Then nothing is changed or written.
+/// Writes into `count` how many peers have a session: 0 to 64. Returns the number of an answer: `Done`; otherwise
+/// `Closed` if the struct is closed, or `NotStarted` before the start. Then nothing is changed or written.
 #[unsafe(no_mangle)]
 pub extern "C" fn oca_device_peers(
     alloc: Global,
@@ -165,10 +167,10 @@ pub extern "C" fn oca_device_peers(
     answer.number()
 }
 
-/// Writes the address (an IPv4 address as a number, the first byte highest) and the port of the peer of the session at
-/// this index. Sessions are counted from 0, in order of opening; if one is forgotten, the later ones move up. Returns
-/// `Done`; otherwise `Closed` if the struct is closed, `NotStarted` before the start, or `Nothing` after the last
-/// session. Then nothing is changed or written.
+/// Writes into `ip` and `port` the address (an IPv4 address as a number, the first byte highest) and the port of the
+/// peer of the session at this index. Sessions are counted from 0, in order of opening; if one is forgotten, the later
+/// ones move up. Returns the number of an answer: `Done`; otherwise `Closed` if the struct is closed, `NotStarted`
+/// before the start, or `Nothing` after the last session. Then nothing is changed or written.
 #[unsafe(no_mangle)]
 pub extern "C" fn oca_device_peer(
     alloc: Global,

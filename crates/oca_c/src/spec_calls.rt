@@ -24,9 +24,10 @@ use oca_tree::{Room, TreeBuilder};
 use std::alloc::Global;
 
 /// Opens a device that has its root alone (the block 100), with room for `room` objects, the root counted: 1 to 4,096.
-/// The root has the label of the struct, and is enabled as the struct says. The call takes the memory for the objects.
-/// Returns `Done`; otherwise the first of these that applies, and nothing is changed. `Open` if the struct is open
-/// already. `BadSize` if `room` is outside its range, or the struct is of another version. `BadText` if the label has
+/// `root` has the root's label, and whether the root is enabled; of its other fields only `size` and `zeros` are looked
+/// at. The call takes the memory for the objects. Returns the number of an answer: `Done`; otherwise the first of these
+/// that applies, and nothing is changed. `Open` if the device's struct is open already. `BadSize` if `room` is outside
+/// its range, or `root` is of another version (another `size`, or `zeros` that are not 0). `BadText` if the label has
 /// more than 64 bytes or is not UTF-8. `NoMemory` if memory was refused.
 #[unsafe(no_mangle)]
 pub extern "C" fn oca_device_open_with(
@@ -57,14 +58,15 @@ pub extern "C" fn oca_device_open_with(
     }
 }
 
-/// Adds the object that the struct describes, with what was stored of it, to the block `container` under the number
-/// `ono`, before the start. Returns `Done`; otherwise the first of these that applies, and nothing is changed. `Closed`
-/// if the struct is closed, `Started` after the start, `BadSize` if the struct is of another version, `BadRange` if it
-/// has more than 16 positions. Then `BadText` if the role, the label or a name has more than 64 bytes or is not UTF-8,
-/// `NoValue` if the reading is none that an object can have. Then `Full` if there is no room for another object,
-/// `Reserved` if the number is below 4,096, `Taken` if an object has the number. Then `NoSuchBlock` if the container is
-/// no block of the tree, `TooDeep` if the object would stand at depth 9 (block 100 is at depth 1). Then `BadText` if
-/// the role is empty. Last `BadRange` if the setting is outside its limits, or a switch has no position.
+/// Adds the object that `spec` describes, with what was stored of it (its label, and what is enabled), to the block
+/// `container` under the number `ono`, before the start. Returns the number of an answer: `Done`; otherwise the first
+/// of these that applies, and nothing is changed. `Closed` if the device's struct is closed, `Started` after the start,
+/// `BadSize` if `spec` is of another version (another `size`, or `zeros` that are not 0), `BadRange` if it has more
+/// than 16 positions. Then `BadText` if the role, the label or a name has more than 64 bytes or is not UTF-8, `NoValue`
+/// if `spec.reading` is one that no object can have. Then `Full` if there is no room for another object, `Reserved` if
+/// the number is below 4,096, `Taken` if an object has the number. Then `NoSuchBlock` if the container is no block of
+/// the tree, `TooDeep` if the object would stand at depth 9 (block 100 is at depth 1). Then `BadText` if the role is
+/// empty. Last `BadRange` if the setting is outside its limits, or a switch has no position.
 #[unsafe(no_mangle)]
 pub extern "C" fn oca_device_add(
     alloc: Global,
@@ -88,10 +90,11 @@ pub extern "C" fn oca_device_add(
     answer.number()
 }
 
-/// Writes the description of the object at this index, by which it can be added again; indices count from 0 at the
-/// root, in order of adding. The object's lock is not written. Returns `Done`; otherwise the first of these that
-/// applies, and nothing is changed or written. `Closed` if the struct is closed, `NotStarted` before the start,
-/// `BadSize` if `spec` does not say its size, `Nothing` after the last object.
+/// Writes into `spec` the description of the object at this index, by which it can be added again; indices count from 0
+/// at the root, in order of adding. The object's lock is not written. Returns the number of an answer: `Done`;
+/// otherwise the first of these that applies, and nothing is changed or written. `Closed` if the struct is closed,
+/// `NotStarted` before the start, `BadSize` if `spec.size` is not 1,248 (the size of the struct in bytes), `Nothing`
+/// after the last object.
 #[unsafe(no_mangle)]
 pub extern "C" fn oca_device_spec(
     alloc: Global,
@@ -116,10 +119,10 @@ pub extern "C" fn oca_device_spec(
     answer.number()
 }
 
-/// Writes the description of the object with this number, by which it can be added again. The object's lock is not
-/// written. Returns `Done`; otherwise the first of these that applies, and nothing is changed or written. `Closed` if
-/// the struct is closed, `NotStarted` before the start, `BadSize` if `spec` does not say its size, `Nothing` if there
-/// is no such object.
+/// Writes into `spec` the description of the object with this number, by which it can be added again. The object's lock
+/// is not written. Returns the number of an answer: `Done`; otherwise the first of these that applies, and nothing is
+/// changed or written. `Closed` if the struct is closed, `NotStarted` before the start, `BadSize` if `spec.size` is not
+/// 1,248 (the size of the struct in bytes), `Nothing` if there is no such object.
 #[unsafe(no_mangle)]
 pub extern "C" fn oca_device_spec_of(
     alloc: Global,
@@ -144,12 +147,13 @@ pub extern "C" fn oca_device_spec_of(
     answer.number()
 }
 
-/// Changes the description of an object to what was stored of it: the value, the label, and whether it is enabled. For
-/// a switch it also changes the names of its positions and which are enabled. The role, the limits and whether it can
-/// be locked stay. Returns `Done`; otherwise the first of these that applies, and nothing is changed. `BadSize` if one
-/// of the structs is of another version. `OtherKind` if they are of two classes, or have two numbers of positions.
-/// `BadRange` if there are more than 16 positions. `BadText` if a stored label or name has more than 64 bytes or is not
-/// UTF-8. `OutOfRange` if the stored value is none, or the limits in `spec` do not allow it.
+/// Changes `spec`, the description of an object, to what was stored of it (`stored`): the value, the label, and whether
+/// it is enabled. For a switch it also changes the names of its positions and which are enabled. The role, the limits
+/// and whether it can be locked stay. Returns the number of an answer: `Done`; otherwise the first of these that
+/// applies, and nothing is changed. `BadSize` if one of the structs is of another version (another `size`, or `zeros`
+/// that are not 0). `OtherKind` if the two differ in their class or in their number of positions. `BadRange` if there
+/// are more than 16 positions. `BadText` if a stored label or name has more than 64 bytes or is not UTF-8. `OutOfRange`
+/// if `stored` holds no value, or a value that the limits in `spec` do not allow.
 #[unsafe(no_mangle)]
 pub extern "C" fn oca_spec_restore(spec: &mut SpecWords, stored: &SpecWords) -> u32
     ensures { (answer : AnswerItself) × (result ≡ answer_number answer) × RestoresSpec answer spec.old stored.now spec.new }

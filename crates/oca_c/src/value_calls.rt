@@ -11,8 +11,8 @@ use oca_calls::words::put_bytes;
 use oca_model::{Reading, get_request, set_request};
 
 /// Encodes a value as the one parameter of a set method (AES70-3): writes its bytes to the front of `out`, and how many
-/// they are, 1 to 8, into `len`. Returns `Done`. Otherwise `NoValue` if the struct holds no value, and then nothing is
-/// written. `TooSmall` if `out` has no room for the bytes, and then only `len` is written.
+/// they are, 1 to 8, into `len`. Returns the number of an answer: `Done`. Otherwise `NoValue` if `value` holds no
+/// value, and then nothing is written. `TooSmall` if `out` has no room for the bytes, and then only `len` is written.
 #[unsafe(no_mangle)]
 pub extern "C" fn oca_value_put(value: &ValueWords, out: &mut [u8], len: &mut usize) -> u32
     ensures writes { PutsWords value.now out.old out.new len.new result }
@@ -25,9 +25,9 @@ pub extern "C" fn oca_value_put(value: &ValueWords, out: &mut [u8], len: &mut us
     put_bytes(request.params.as_slice(), out, len).number()
 }
 
-/// Reads the answer to `oca_get_request` of the class with this number: the value with its limits. Returns `Done`.
-/// Otherwise `NoValue` if no class has the number, it is the number of a block, or the parameters are not exactly such
-/// an answer. Then nothing is written.
+/// Reads `params`, the parameters of an answer to `oca_get_request` of the class with this number, and writes the value
+/// with its limits into `reading`. Returns the number of an answer: `Done`. Otherwise `NoValue` if no class has the
+/// number, it is the number of a block, or the parameters are not exactly such an answer. Then nothing is written.
 #[unsafe(no_mangle)]
 pub extern "C" fn oca_value_read(
     class_number: u32,
@@ -47,8 +47,8 @@ pub extern "C" fn oca_value_read(
     Answer::Done.number()
 }
 
-/// Writes the request that sets an object to a value: the method, ParamCount and the parameters. Returns `Done`;
-/// otherwise `NoValue` if the struct holds no value, and then nothing is written.
+/// Writes into `request` the request that sets an object to a value: the method, ParamCount and the parameters. Returns
+/// the number of an answer: `Done`; otherwise `NoValue` if `value` holds no value, and then nothing is written.
 #[unsafe(no_mangle)]
 pub extern "C" fn oca_set_request(value: &ValueWords, request: &mut RequestWords) -> u32
     ensures writes { WritesSetOf value.now request.new result }
@@ -61,9 +61,9 @@ pub extern "C" fn oca_set_request(value: &ValueWords, request: &mut RequestWords
     Answer::Done.number()
 }
 
-/// Writes the request that reads how an object of the class with this number is set: the method, without parameters.
-/// Returns `Done`; otherwise `NoValue` if no class has the number, or it is the number of a block, and then nothing is
-/// written.
+/// Writes into `request` the request that reads how an object of the class with this number is set: the method, without
+/// parameters. Returns the number of an answer: `Done`; otherwise `NoValue` if no class has the number, or it is the
+/// number of a block, and then nothing is written.
 #[unsafe(no_mangle)]
 pub extern "C" fn oca_get_request(class_number: u32, request: &mut RequestWords) -> u32
     ensures writes { WritesGetOf class_number request.new result }
@@ -80,8 +80,8 @@ pub extern "C" fn oca_get_request(class_number: u32, request: &mut RequestWords)
 }
 
 /// Writes the word for a value, such as `muted` or `-60`, to the front of `out`, and how many bytes it has, 1 to 20,
-/// into `len`. Returns `Done`. Otherwise `NoValue` if the struct holds no value, and then nothing is written.
-/// `TooSmall` if `out` has no room for the word, and then only `len` is written.
+/// into `len`. Returns the number of an answer: `Done`. Otherwise `NoValue` if `value` holds no value, and then nothing
+/// is written. `TooSmall` if `out` has no room for the word, and then only `len` is written.
 #[unsafe(no_mangle)]
 pub extern "C" fn oca_value_text(value: &ValueWords, out: &mut [u8], len: &mut usize) -> u32
     ensures writes { WritesWordOf value.now out.old out.new len.new result }
@@ -92,10 +92,10 @@ pub extern "C" fn oca_value_text(value: &ValueWords, out: &mut [u8], len: &mut u
     put_word(*value, out, len).number()
 }
 
-/// Writes the value for which a word stands, of an object of the class with this number. The word is one of the class's
-/// words, or a number in decimal digits within the class's type. A number may begin with `+`, and of a signed type also
-/// with `-`. Returns `Done`; otherwise `NoValue` if no class has the number, it is the number of a block, or the word
-/// stands for no value of it. Then nothing is written.
+/// Writes into `value` the value that a word means for an object of the class with this number. The word is one of the
+/// class's words, or a number in decimal digits within the class's type. A number may begin with `+`, and of a signed
+/// type also with `-`. Returns the number of an answer: `Done`; otherwise `NoValue` if no class has the number, it is
+/// the number of a block, or the word means no value of it. Then nothing is written.
 #[unsafe(no_mangle)]
 pub extern "C" fn oca_value_from_text(class_number: u32, text: &[u8], value: &mut ValueWords) -> u32
     ensures writes { WritesNamed class_number text.now value.old value.new result }

@@ -7,8 +7,9 @@ use crate::device_handle::DeviceHandle;
 use oca_tree::Kind;
 use std::alloc::Global;
 
-/// Adds an object to the device of a handle, before its start. Returns the number of an [`Answer`]: `Closed` if the
-/// handle is closed, `Started` after the start. Otherwise it is what
+/// Adds an object with the number `ono` to the block `container` of a handle's device, before its start. `role` is the
+/// object's role, `lockable` says whether it can be locked, and `kind` is its class with its first setting. Returns the
+/// number of an [`Answer`]: `Closed` if the handle is closed, `Started` after the start. Otherwise it is what
 /// [`DeviceBehind::add`](crate::device::DeviceBehind::add) returns. If it is not `Done`, nothing is added.
 pub fn add(
     alloc: Global,

@@ -68,8 +68,8 @@ impl Answer {
         }
     }
 
-    /// The answer for an addition with what was stored, or a root with it, that was refused with this fault. `BadText`
-    /// for a label, `BadRange` for flags, otherwise the answer for the fault of the addition
+    /// The answer for an object or a root that was to be made with what was stored of it, and was refused with this
+    /// fault. `BadText` for `BadLabel`, `BadRange` for `BadFlags`, otherwise the answer for the fault in `Add`
     /// ([`of_add`](Answer::of_add)).
     pub fn of_start(fault: StartFault) -> Answer
         ensures { result ≡ start_answer fault }

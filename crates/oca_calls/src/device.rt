@@ -69,8 +69,10 @@ impl DeviceBehind {
         }
     }
 
-    /// Adds an object, before the start. Returns `Done`. `Started` after the start, `BadText` if the role is not UTF-8,
-    /// otherwise the answer for the builder's fault ([`Answer::of_add`]): then nothing is added.
+    /// Adds an object with the number `ono` to the block `container`, before the start. `role` is its role, `lockable`
+    /// says whether it can be locked, and `kind` is its class with its first setting. Returns `Done`. `Started` after
+    /// the start, `BadText` if the role is not UTF-8, otherwise the answer for the builder's fault
+    /// ([`Answer::of_add`]): then nothing is added.
     pub fn add(
         &mut self,
         container: u32,
@@ -95,10 +97,11 @@ impl DeviceBehind {
         }
     }
 
-    /// Adds a switch, before the start. `names` are the names of its positions, 1 to 16, and `position` is the current
-    /// one, counted from 0. Returns `Done`; otherwise the first of these that applies, and nothing is added. `Started`
-    /// after the start. `BadRange` if there are more than 16 names. `BadText` if a name has more than 64 bytes, or the
-    /// role or a name is not UTF-8. Then the answer for the builder's fault ([`Answer::of_add`]).
+    /// Adds a switch with the number `ono` to the block `container`, before the start. `role` is its role, and
+    /// `lockable` says whether it can be locked. `names` are the names of its positions, 1 to 16, and `position` is the
+    /// current one, counted from 0. Returns `Done`; otherwise the first of these that applies, and nothing is added.
+    /// `Started` after the start. `BadRange` if there are more than 16 names. `BadText` if a name has more than 64
+    /// bytes, or the role or a name is not UTF-8. Then the answer for the builder's fault ([`Answer::of_add`]).
     pub fn add_switch(
         &mut self,
         container: u32,
@@ -129,8 +132,9 @@ impl DeviceBehind {
         self.add(container, ono, role, lockable, kind)
     }
 
-    /// Adds an object that a struct describes, before the start. Returns `Done`. `Started` after the start, otherwise
-    /// the answers of [`add_spec`](crate::spec_adding::add_spec): then nothing is added.
+    /// Adds the object that `words` describe, under the number `ono`, to the block `container`, before the start.
+    /// Returns `Done`. `Started` after the start, otherwise the answers of [`add_spec`](crate::spec_adding::add_spec):
+    /// then nothing is added.
     pub fn add_spec(&mut self, container: u32, ono: u32, words: &SpecWords) -> Answer
         ensures adds { (B : Store) → Builds self.old B →
             (B' : Store) × Builds self.new B' × SpecAddedBy result B B' container ono words.now }
@@ -142,10 +146,10 @@ impl DeviceBehind {
         add_spec(builder, container, ono, words)
     }
 
-    /// Starts the device with the objects that were added. The device has reply windows of `window` commands, sessions
-    /// of `peers` peers, and room for `packets` packets that answer a datagram. Returns `Done`. `Started` if it is
-    /// started already, or `BadSize` unless the window and the peers are 1 to 64 and the packets 1 to 122: then nothing
-    /// is changed. `NoMemory` if memory was refused: then the objects are lost.
+    /// Starts the device with the objects that were added. The device has reply windows of `window` commands, room for
+    /// the sessions of `peers` peers, and room for `packets` packets that answer a datagram. Returns `Done`. `Started`
+    /// if it is started already, or `BadSize` unless the window and the peers are 1 to 64 and the packets 1 to 122:
+    /// then nothing is changed. `NoMemory` if memory was refused: then the objects are lost.
     pub fn start(&mut self, alloc: Global, window: u8, peers: u8, packets: usize) -> Answer
         ensures starts { (B : Store) → Builds self.old B → Starts result self.old self.new window peers packets B.list }
         ensures started { self.old.builder ≡ None → (result ≡ Started) × (self.new ≡ self.old) }
@@ -211,8 +215,8 @@ impl DeviceBehind {
     /// Handles a datagram that came from a peer at the moment `now`, in milliseconds of the caller's clock, as
     /// [`Device::datagram_within`](oca_device::Device::datagram_within) does. The datagram's commands are executed, and
     /// sessions, locks and the list of what was written change accordingly. The answers replace the packets of the last
-    /// datagram, as many as there is room for ([`left_out`](DeviceBehind::left_out)). A moment earlier than one already
-    /// seen counts as that one.
+    /// datagram, as many as there is room for ([`left_out`](DeviceBehind::left_out)). A moment earlier than the latest
+    /// one so far counts as that latest one.
     ///
     /// The words of the verdict ([`words_of`](crate::words::words_of)) go to the front of `out`, as many as it has room
     /// for. Returns `Done`. `NotStarted` before the start: then nothing is changed or written.
@@ -240,8 +244,8 @@ impl DeviceBehind {
 
     /// Moves the device's clock on to `now`, in milliseconds of the caller's clock. Locks of peers that are silent for
     /// more than three heartbeats are released, and sessions that are silent for more than 120,000 ms are forgotten. A
-    /// moment earlier than one already seen counts as that one. Returns `Done`. `NotStarted` before the start: then
-    /// nothing is changed.
+    /// moment earlier than the latest one so far counts as that latest one. Returns `Done`. `NotStarted` before the
+    /// start: then nothing is changed.
     pub fn tick(&mut self, now: u64) -> Answer
         ensures serves { (w : DeviceSizes) (T : List Object) (E : List Event) → RunsBehind w self.old T E →
             RunsBehind w self.new T (Tick now ∷ E) × (result ≡ Done) }
@@ -256,9 +260,10 @@ impl DeviceBehind {
         Answer::Done
     }
 
-    /// Writes the earliest moment at which [`tick`](DeviceBehind::tick) would change the objects or the sessions. This
-    /// moment is in milliseconds of the caller's clock, and not before the device's present moment. Returns `Done`.
-    /// `Nothing` if there is no such moment within 64 bits, or `NotStarted` before the start: then nothing is written.
+    /// Writes into `moment` the earliest moment at which [`tick`](DeviceBehind::tick) would change the objects or the
+    /// sessions. This moment is in milliseconds of the caller's clock, and not before the device's present moment.
+    /// Returns `Done`. `Nothing` if there is no such moment within 64 bits, or `NotStarted` before the start: then
+    /// nothing is written.
     pub fn next_lapse(&self, moment: &mut u64) -> Answer
         ensures writes { (w : DeviceSizes) (T : List Object) (E : List Event) → RunsBehind w self.now T E →
             WritesNextLapse w (state_after w T E) moment.new (answer_number result) }
@@ -429,10 +434,11 @@ impl DeviceBehind {
         }
     }
 
-    /// Sets, at the local front panel, whether the hardware of an object refuses to be changed. If it does, commands
-    /// that would write to the object are answered `ProcessingFailed`
-    /// ([`Device::set_failing`](oca_device::Device::set_failing)). Returns `Done`. `NotStarted` before the start, or
-    /// `NoObject` if no object has the number: then nothing is changed.
+    /// Sets, at the local front panel, whether the hardware of an object refuses changes (`failing`). While it does, a
+    /// command that writes to the object is answered `ProcessingFailed` and changes nothing; if the command is refused
+    /// for another reason too, the answer names that reason ([`Device::set_failing`](oca_device::Device::set_failing)).
+    /// Returns `Done`. `NotStarted` before the start, or `NoObject` if no object has the number: then nothing is
+    /// changed.
     pub fn set_failing(&mut self, ono: u32, failing: bool) -> Answer
         ensures tells { (w : DeviceSizes) (T : List Object) (E : List Event) → RunsBehind w self.old T E →
             ChangesFront w result self.new T E ono (ToFailing failing) (asked.SetEnabled failing) }
@@ -449,8 +455,8 @@ impl DeviceBehind {
         }
     }
 
-    /// Writes how many packets answer the last datagram: 0 to 122. Returns `Done`. `NotStarted` before the start: then
-    /// nothing is written.
+    /// Writes into `count` how many packets answer the last datagram: 0 to 122. Returns `Done`. `NotStarted` before the
+    /// start: then nothing is written.
     pub fn packets(&self, count: &mut usize) -> Answer
         ensures writes { IsSome self.now.device → (result ≡ Done) × (count.new ≡ length self.now.outbox.packets) }
         ensures building { self.now.device ≡ None → (result ≡ NotStarted) × (count.new ≡ count.old) }
@@ -462,8 +468,9 @@ impl DeviceBehind {
         Answer::Done
     }
 
-    /// Writes whether answers to the last datagram were left out because there was no room for them. The peer then
-    /// sends these commands again. Returns `Done`. `NotStarted` before the start: then nothing is written.
+    /// Writes into `left_out` whether answers to the last datagram were left out because there was no room for them.
+    /// The peer then sends these commands again. Returns `Done`. `NotStarted` before the start: then nothing is
+    /// written.
     pub fn left_out(&self, left_out: &mut bool) -> Answer
         ensures writes { IsSome self.now.device → (result ≡ Done) × (left_out.new ≡ self.now.outbox.is_cut) }
         ensures building { self.now.device ≡ None → (result ≡ NotStarted) × (left_out.new ≡ left_out.old) }
@@ -529,8 +536,8 @@ impl DeviceBehind {
         }
     }
 
-    /// Writes whether the answers to the last datagram must wait until the objects are stored. Returns `Done`.
-    /// `NotStarted` before the start: then nothing is written.
+    /// Writes into `waits` whether the answers to the last datagram must wait until the objects are stored. Returns
+    /// `Done`. `NotStarted` before the start: then nothing is written.
     pub fn waits(&self, waits: &mut bool) -> Answer
         ensures writes { IsSome self.now.device → (result ≡ Done) × (waits.new ≡ self.now.unstored.waits) }
         ensures building { self.now.device ≡ None → (result ≡ NotStarted) × (waits.new ≡ waits.old) }
@@ -559,8 +566,8 @@ impl DeviceBehind {
         Answer::Done
     }
 
-    /// Writes how many objects there are, the root included: 1 to 4,096. Returns `Done`. `NotStarted` before the start:
-    /// then nothing is written.
+    /// Writes into `count` how many objects there are, the root included: 1 to 4,096. Returns `Done`. `NotStarted`
+    /// before the start: then nothing is written.
     pub fn objects(&self, count: &mut usize) -> Answer
         ensures writes { (w : DeviceSizes) (T : List Object) (E : List Event) → RunsBehind w self.now T E →
             (result ≡ Done) × (count.new ≡ length (state_after w T E).tree) }
@@ -597,9 +604,9 @@ impl DeviceBehind {
         Answer::Done
     }
 
-    /// Writes the description of the object at this index, by which it can be added again; indices count from 0 at the
-    /// root, in order of adding. Returns `Done`. `BadSize` if `out` does not say its size, `Nothing` after the last
-    /// object, or `NotStarted` before the start: then nothing is written.
+    /// Writes into `out` the description of the object at this index, by which it can be added again; indices count
+    /// from 0 at the root, in order of adding. Returns `Done`. `BadSize` if `out.size` is not 1,248 (the size of the
+    /// struct in bytes), `Nothing` after the last object, or `NotStarted` before the start: then nothing is written.
     pub fn spec(&self, index: usize, out: &mut SpecWords) -> Answer
         ensures writes { (w : DeviceSizes) (T : List Object) (E : List Event) → RunsBehind w self.now T E →
             WritesSpec (state_after w T E).tree (info_at (state_after w T E).tree index) out.old out.new
@@ -613,9 +620,9 @@ impl DeviceBehind {
         read_spec(device.tree(), index, out)
     }
 
-    /// Writes the description of the object with this number, by which it can be added again. Returns `Done`. `BadSize`
-    /// if `out` does not say its size, `Nothing` if no object has the number, or `NotStarted` before the start: then
-    /// nothing is written.
+    /// Writes into `out` the description of the object with this number, by which it can be added again. Returns
+    /// `Done`. `BadSize` if `out.size` is not 1,248 (the size of the struct in bytes), `Nothing` if no object has the
+    /// number, or `NotStarted` before the start: then nothing is written.
     pub fn spec_of(&self, ono: u32, out: &mut SpecWords) -> Answer
         ensures writes { (w : DeviceSizes) (T : List Object) (E : List Event) → RunsBehind w self.now T E →
             WritesSpec (state_after w T E).tree (info_of_ono (state_after w T E).tree ono) out.old out.new
@@ -629,8 +636,8 @@ impl DeviceBehind {
         read_spec_of(device.tree(), Ono(ono), out)
     }
 
-    /// Writes how many peers have a session: 0 to 64. Returns `Done`. `NotStarted` before the start: then nothing is
-    /// written.
+    /// Writes into `count` how many peers have a session: 0 to 64. Returns `Done`. `NotStarted` before the start: then
+    /// nothing is written.
     pub fn peers(&self, count: &mut usize) -> Answer
         ensures writes { (w : DeviceSizes) (T : List Object) (E : List Event) → RunsBehind w self.now T E →
             (result ≡ Done) × (count.new ≡ length (known_after (state_after w T E))) }
@@ -644,9 +651,10 @@ impl DeviceBehind {
         Answer::Done
     }
 
-    /// Writes the address (an IPv4 address as a number, the first byte highest) and the port of the peer of the session
-    /// at this index. Sessions are counted from 0, in order of opening; if one is forgotten, the later ones move up.
-    /// Returns `Done`. `Nothing` after the last session, or `NotStarted` before the start: then nothing is written.
+    /// Writes into `ip` and `port` the address (an IPv4 address as a number, the first byte highest) and the port of
+    /// the peer of the session at this index. Sessions are counted from 0, in order of opening; if one is forgotten,
+    /// the later ones move up. Returns `Done`. `Nothing` after the last session, or `NotStarted` before the start: then
+    /// nothing is written.
     pub fn peer(&self, index: usize, ip: &mut u32, port: &mut u16) -> Answer
         ensures writes { (w : DeviceSizes) (T : List Object) (E : List Event) → RunsBehind w self.now T E →
             WritesPeer (slice_get (known_after (state_after w T E)) index) ip.new port.new (answer_number result) }
@@ -664,9 +672,10 @@ impl DeviceBehind {
         Answer::Done
     }
 
-    /// Writes the kind of an object's lock, and the address (an IPv4 address as a number, the first byte highest) and
-    /// port of its holder. Kind 1 keeps other peers from all access, kind 2 from all but reading. Returns `Done`.
-    /// `Nothing` if the object is not locked or not there, or `NotStarted` before the start: then nothing is written.
+    /// Writes the kind of an object's lock into `kind`, and the address (an IPv4 address as a number, the first byte
+    /// highest) and the port of its holder into `ip` and `port`. Kind 1 keeps other peers from all access, kind 2 from
+    /// all but reading. Returns `Done`. `Nothing` if the object is not locked or not there, or `NotStarted` before the
+    /// start: then nothing is written.
     pub fn lock(&self, ono: u32, kind: &mut u32, ip: &mut u32, port: &mut u16) -> Answer
         ensures writes { (w : DeviceSizes) (T : List Object) (E : List Event) → RunsBehind w self.now T E →
             WritesLock (lock_at (state_after w T E).tree ono) kind.new ip.new port.new (answer_number result) }
@@ -685,8 +694,8 @@ impl DeviceBehind {
         Answer::Done
     }
 
-    /// Writes whether the hardware of an object refuses to be changed. Returns `Done`. `NoObject` if no object has the
-    /// number, or `NotStarted` before the start: then nothing is written.
+    /// Writes into `failing` whether the hardware of an object refuses changes. Returns `Done`. `NoObject` if no object
+    /// has the number, or `NotStarted` before the start: then nothing is written.
     pub fn is_failing(&self, ono: u32, failing: &mut bool) -> Answer
         ensures writes { (w : DeviceSizes) (T : List Object) (E : List Event) → RunsBehind w self.now T E →
             WritesFailing (failing_at (state_after w T E).tree ono) failing.new (answer_number result) }
@@ -703,9 +712,10 @@ impl DeviceBehind {
         Answer::Done
     }
 
-    /// Writes how an object is set, without limits. The kind is 1 for a state, 2 for a position, 3 for a Boolean and 4
-    /// for an integer. With it come whether the number is negative, and its magnitude. Returns `Done`. `Nothing` for a
-    /// block and if no object has the number, or `NotStarted` before the start: then nothing is written.
+    /// Writes into `reading` how an object is set, without limits. The kind is 1 for a state, 2 for a position, 3 for a
+    /// Boolean and 4 for an integer. With it come whether the number is negative (0 or 1), and its magnitude (1 or 2
+    /// for a state, 0 or 1 for a Boolean). Returns `Done`. `Nothing` for a block and if no object has the number, or
+    /// `NotStarted` before the start: then nothing is written.
     pub fn reading(&self, ono: u32, reading: &mut Reading) -> Answer
         ensures writes { (w : DeviceSizes) (T : List Object) (E : List Event) → RunsBehind w self.now T E →
             WritesSetting (setting_at (state_after w T E).tree ono) reading.new (answer_number result) }

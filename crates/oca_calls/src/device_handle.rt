@@ -44,9 +44,9 @@ impl DeviceHandle {
         drop(self.take(alloc));
     }
 
-    /// Puts back a device for which a start was tried, with its answer. The handle must be closed (a premise). If the
-    /// answer is `NoMemory`, the objects are lost: the device is dropped and the handle stays closed. Otherwise the
-    /// handle is then open.
+    /// Puts back a device (`behind`) for which a start was tried; `answer` is how the start ended. The handle must be
+    /// closed (a premise). If the answer is `NoMemory`, the objects are lost: the device is dropped and the handle
+    /// stays closed. Otherwise the handle is then open.
     pub fn put_started(&mut self, behind: Box<DeviceBehind>, answer: Answer)
         requires { self.old.slot.inner ≡ None }
         ensures { self.new.slot.inner ≡ left_by_start answer behind.value }

@@ -36,7 +36,7 @@ fn has_integers(class: Class) -> bool
 
 /// The value of an object of this class by the number of its state: of a mute 1 Muted and 2 Unmuted, of a polarity 1
 /// NonInverted and 2 Inverted. `class` is `None` if there is no such object. Refusals: `NoObject` if `class` is `None`.
-/// `NoSetting` for a block. `OtherKind` for a class without states. `OutOfRange` for another number.
+/// `NoSetting` for a block. `OtherKind` for a class without states. `OutOfRange` if `state` is neither 1 nor 2.
 pub fn state_at(class: Option<Class>, state: u8) -> Result<Value, SetFault>
     ensures { FindsWith state_in has_states class state result }
 {

@@ -20,8 +20,8 @@ pub fn law_of_waits()
     ensures { WaitsAsKept }
 {}
 
-/// Law: take the word that is written for a value. Read as the word of the value's class, it stands for this value
-/// again. The function does nothing at run time.
+/// Law: take the word that is written for a value. Read as a word of the value's class, it gives this value again. The
+/// function does nothing at run time.
 #[tactic(auto, using(crate::proofs::WordsAgain::read_back))]
 pub fn law_of_words()
     ensures { WordsAreReadBack }

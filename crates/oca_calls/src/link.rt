@@ -25,11 +25,13 @@ pub struct LinkBehind {
 }
 
 impl LinkBehind {
-    /// Submits a command at the moment `now`, in milliseconds of the caller's clock, and writes its handle. `count` is
-    /// ParamCount. Returns the number of `Done`. If the link refuses the command, it returns the number of the first of
-    /// these that applies, and then nothing is changed or written. `Lost` if the link is lost. `HandlesSpent` after the
-    /// handle 4294967295. `SpanFull` if the next handle is not below the lowest one in flight plus the span. `TooLong`
-    /// if the parameters have more than 1,445 bytes.
+    /// Submits a command at the moment `now`, in milliseconds of the caller's clock, and writes its handle into
+    /// `handle`. `target` is the number of the object, `method` has the method's DefLevel and MethodIndex, `count` is
+    /// ParamCount, and `params` are the encoded parameters. Returns the number of an answer, always `Done`. If the link
+    /// refuses the command, it is the first of these that applies, and then nothing is changed or written. `Lost` if
+    /// the link is lost. `HandlesSpent` after the handle 4294967295. `SpanFull` if the next handle is not below the
+    /// lowest one whose answer was not taken yet, plus the span. `TooLong` if the parameters have more than 1,445
+    /// bytes.
     pub fn submit(
         &mut self,
         target: Ono,
@@ -69,8 +71,8 @@ impl LinkBehind {
     /// Puts what is due at the moment `now`, in milliseconds of the caller's clock, to the front of `out`. The size of
     /// the packet, 0 to 1,472 bytes, goes into `len`. `kind` becomes 0 if nothing is due, 1 for a command, 2 for a
     /// keep-alive, 3 if the link is lost. `handle` becomes the handle of the command, or 0 if no command is due.
-    /// Returns the number of `Done`. The number of `TooSmall` if `out` has fewer than 1,472 bytes: then nothing is
-    /// changed or written.
+    /// Returns the number of an answer: `Done`. `TooSmall` if `out` has fewer than 1,472 bytes: then nothing is changed
+    /// or written.
     pub fn due(
         &mut self,
         now: u64,
@@ -100,12 +102,12 @@ impl LinkBehind {
     }
 
     /// Handles a datagram that came from a peer at the moment `now`, in milliseconds of the caller's clock. `kind`
-    /// becomes 2 if it came from another address than the device's. Otherwise it becomes 3 if the datagram is not
-    /// well-formed. Otherwise it becomes 1 if commands got their first answer in it, and 0 if none did. `answered`
-    /// becomes how many commands did: 0 to 32.
+    /// becomes 2 if the datagram came from another address or port than the device's. Otherwise it becomes 3 if the
+    /// datagram is not well-formed. Otherwise it becomes 1 if commands got their first answer in it, and 0 if none did.
+    /// `answered` becomes how many commands got theirs: 0 to 32.
     ///
     /// An answer to a command in flight is stored, even if the link is lost. If `kind` becomes 2 or 3, only the link's
-    /// clock is changed. Returns the number of `Done`.
+    /// clock is changed. Returns the number of an answer, always `Done`.
     pub fn datagram(
         &mut self,
         from: Peer,
@@ -126,10 +128,10 @@ impl LinkBehind {
         Answer::Done.number()
     }
 
-    /// Takes the answer under a handle, and removes the command. Writes its status and its ParamCount, puts its
-    /// parameters to the front of `out`, and their size into `len`. Returns the number of `Done`. The number of
-    /// `TooSmall` if `out` has fewer than 1,452 bytes, or of `Nothing` if there is no answer: then nothing is changed
-    /// or written.
+    /// Takes the answer under the handle `handle`, and removes the command. Writes the answer's status into `status`,
+    /// its ParamCount into `count`, its parameters to the front of `out`, and their size in bytes into `len`. Returns
+    /// the number of an answer: `Done`. `TooSmall` if `out` has fewer than 1,452 bytes, or `Nothing` if there is no
+    /// answer under the handle: then nothing is changed or written.
     pub fn take(
         &mut self,
         handle: u32,
@@ -159,9 +161,9 @@ impl LinkBehind {
         }
     }
 
-    /// Writes the earliest moment at which something is due or the link is lost. This moment is in milliseconds of the
-    /// caller's clock, and not before the latest moment that the link was given. Returns the number of `Done`. The
-    /// number of `Nothing` if the moment lies beyond 64 bits: then nothing is written.
+    /// Writes into `moment` the earliest moment at which something is due or the link is lost. This moment is in
+    /// milliseconds of the caller's clock, and not before the latest moment that the link was given. Returns the number
+    /// of an answer: `Done`. `Nothing` if the moment lies beyond 64 bits: then nothing is written.
     pub fn next_due(&self, moment: &mut u64) -> u32
         ensures writes { WritesNextDue result moment.new self.now.link }
         ensures unwritten { (result ≡ 0) ⊎ (moment.new ≡ moment.old) }
@@ -175,8 +177,8 @@ impl LinkBehind {
         }
     }
 
-    /// Writes the lowest handle whose answer came and was not taken yet. Returns the number of `Done`. The number of
-    /// `Nothing` if there is none: then nothing is written.
+    /// Writes into `handle` the lowest handle whose answer came and was not taken yet. Returns the number of an answer:
+    /// `Done`. `Nothing` if no answer waits to be taken: then nothing is written.
     pub fn answered(&self, handle: &mut u32) -> u32
         ensures writes { WritesNumber result handle.new (first_answered self.now.link.untaken) }
         ensures unwritten { (result ≡ 0) ⊎ (handle.new ≡ handle.old) }
@@ -190,8 +192,8 @@ impl LinkBehind {
         }
     }
 
-    /// Writes whether the command under a handle was submitted and has no answer yet. The call writes false for a
-    /// handle that no command has. Returns the number of `Done`.
+    /// Writes into `in_flight` whether the command under the handle `handle` was submitted and has no answer yet: false
+    /// also for a handle that no command has. Returns the number of an answer, always `Done`.
     pub fn is_in_flight(&self, handle: u32, in_flight: &mut bool) -> u32
         ensures { (result ≡ 0) × (in_flight.new ≡ list_any (waits handle) self.now.link.untaken) }
     {
@@ -199,8 +201,8 @@ impl LinkBehind {
         Answer::Done.number()
     }
 
-    /// Writes the handle that the next command gets. Returns the number of `Done`. The number of `Nothing` after the
-    /// last handle, 4294967295: then nothing is written.
+    /// Writes into `handle` the handle that the next command gets. Returns the number of an answer: `Done`. `Nothing`
+    /// after the last handle, 4294967295: then nothing is written.
     pub fn next_handle(&self, handle: &mut u32) -> u32
         ensures writes { WritesNumber result handle.new self.now.link.next }
         ensures unwritten { (result ≡ 0) ⊎ (handle.new ≡ handle.old) }
@@ -214,8 +216,9 @@ impl LinkBehind {
         }
     }
 
-    /// Writes the moment, in milliseconds of the caller's clock, at which the last well-formed datagram came from the
-    /// device. Before the first one it is the moment of the opening. Returns the number of `Done`.
+    /// Writes into `moment` the moment, in milliseconds of the caller's clock, at which the last well-formed datagram
+    /// came from the device. Before the first one it is the moment of the opening. Returns the number of an answer,
+    /// always `Done`.
     pub fn last_heard(&self, moment: &mut u64) -> u32
         ensures { (result ≡ 0) × (moment.new ≡ self.now.link.heard) }
     {
@@ -223,7 +226,8 @@ impl LinkBehind {
         Answer::Done.number()
     }
 
-    /// Writes whether the link is lost: a command got no answer to 20 transmissions. Returns the number of `Done`.
+    /// Writes into `lost` whether the link is lost: a command got no answer to 20 transmissions. Returns the number of
+    /// an answer, always `Done`.
     pub fn is_lost(&self, lost: &mut bool) -> u32
         ensures { (result ≡ 0) × (lost.new ≡ self.now.link.lost) }
     {
@@ -231,9 +235,9 @@ impl LinkBehind {
         Answer::Done.number()
     }
 
-    /// Writes whether the link is late at the moment `now`, in milliseconds of the caller's clock: a command is
-    /// unanswered that was submitted more than 15,000 ms before. Whether it was sent does not matter. Returns the
-    /// number of `Done`.
+    /// Writes into `late` whether the link is late at the moment `now`, in milliseconds of the caller's clock: a
+    /// command is unanswered that was submitted more than 15,000 ms before. Whether it was sent does not matter.
+    /// Returns the number of an answer, always `Done`.
     pub fn is_late(&self, now: u64, late: &mut bool) -> u32
         ensures { (result ≡ 0) × (late.new ≡ late_at now self.now.link) }
     {

@@ -10,14 +10,15 @@ use crate::spec_words::SpecWords;
 use crate::value_words::{ReadingWords, ValueWords};
 use oca_model::Reading;
 
-/// Changes the description of an object to what was stored of it: the value, the label, and whether it is enabled. For
-/// a switch it also changes the names of its positions and which are enabled. The role, the limits and whether it can
-/// be locked stay.
+/// Changes `spec`, the description of an object, to what was stored of it (`stored`): the value, the label, and whether
+/// it is enabled. For a switch it also changes the names of its positions and which are enabled. The role, the limits
+/// and whether it can be locked stay.
 ///
 /// Returns `Done`; otherwise the first of these that applies, and then nothing is changed. `BadSize` if one of the two
-/// structs is of another version. `OtherKind` if they are of two classes, or have two numbers of positions. `BadRange`
-/// if there are more than 16 positions. `BadText` if a stored label or name has more than 64 bytes or is not UTF-8.
-/// `OutOfRange` if the stored value is none, or the limits in `spec` do not allow it.
+/// structs is of another version ([`is_of_this_version`](SpecWords::is_of_this_version)). `OtherKind` if the two differ
+/// in their class or in their number of positions. `BadRange` if there are more than 16 positions. `BadText` if a
+/// stored label or name has more than 64 bytes or is not UTF-8. `OutOfRange` if `stored` holds no value, or a value
+/// that the limits in `spec` do not allow.
 pub fn restore(spec: &mut SpecWords, stored: &SpecWords) -> Answer
     ensures { RestoresSpec result spec.old stored.now spec.new }
 {

@@ -55,8 +55,8 @@ pub fn flags_of(bytes: &[u8]) -> ArrayVec<bool, MOST_POSITIONS>
     flags
 }
 
-/// These flags as bytes, at the front of an array of 16: 0 is false, any other byte is true. There must be at most 16
-/// (a premise).
+/// These flags as bytes, at the front of an array of 16: 0 is false and 1 is true; the bytes after them are 0. There
+/// must be at most 16 (a premise).
 pub fn bytes_of(flags: &[bool]) -> [u8; MOST_POSITIONS]
     requires { length flags.now ≤ 16 }
     ensures { map is_yes (take (length flags.now) result) ≡ flags.now }
@@ -125,9 +125,9 @@ fn kind_with<'a>(reading: Reading, names: &'a [&'a str]) -> Kind<'a>
     }
 }
 
-/// The kind of object that these words hold: its class, its value and its limits. A switch gets these names of its
-/// positions. `None` if the words hold no reading, unless their class number is 1: then it is a block, and the rest is
-/// not looked at.
+/// The kind of object that `words` hold: its class, its value and its limits. `names` are the names of a switch's
+/// positions; other kinds ignore them. If the class number is 1, it is a block, and the rest of `words` is not looked
+/// at. Otherwise `None` if `words` hold no reading.
 pub fn kind_of<'a>(words: &ReadingWords, names: &'a [&'a str]) -> Option<Kind<'a>>
     ensures { GivesKind words.now (map (λ name. name.now) names.now) result }
 {

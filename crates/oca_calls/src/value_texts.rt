@@ -24,8 +24,9 @@ pub fn put_word(words: ValueWords, out: &mut [u8], len: &mut usize) -> Answer
     put_bytes(word_of(value).as_str().as_bytes(), out, len)
 }
 
-/// Writes the value for which a word stands, of an object of the class with this number. Returns `Done`. `NoValue` if
-/// no class has the number, or the word stands for no value of it: then nothing is written.
+/// Writes into `out` the value that a word such as `muted` or `-60` means for an object of the class with this number.
+/// Returns `Done`. `NoValue` if no class has the number, it is the number of a block, or the word means no value of the
+/// class: then nothing is written.
 pub fn read_word(class_number: u32, word: &[u8], out: &mut ValueWords) -> Answer
     ensures { WritesNamed class_number word.now out.old out.new (answer_number result) }
 {

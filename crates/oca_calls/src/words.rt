@@ -17,9 +17,9 @@ pub const VERDICT_WORDS: usize = 7;
 /// How many words tell of an object.
 pub const OBJECT_WORDS: usize = 4;
 
-/// The verdict as seven words. For a datagram that was served: 0, how many commands were executed, duplicates, old and
-/// reused, and two zeros. For a malformed one: 1, four zeros, the number of the fault (1 to 9) and its offset in bytes.
-/// If there was no room for the sender: 2 and six zeros.
+/// The verdict as seven words. For a datagram that was served: 0, four counts of its commands (executed, duplicates,
+/// too old, and those that ask something else under a known handle), and two zeros. For a malformed one: 1, four zeros,
+/// the number of the fault (1 to 9) and its offset in bytes. If there was no room for the sender: 2 and six zeros.
 pub fn words_of(verdict: Verdict) -> [u32; VERDICT_WORDS]
     ensures { result ≡ verdict_words verdict }
 {

@@ -61,12 +61,13 @@ pub fn begin<E: End>(
     Ok(handle)
 }
 
-/// Waits for the answer under this handle, and takes it. The call looks for the answer first, and then takes at most
-/// `turns` turns ([`turn`]). Each turn receives once, at a socket for at most 50 ms, even if the end is closed.
+/// Waits for the answer under this handle, for at most `turns` turns ([`turn`]), and takes the answer. Each turn
+/// receives once, at a socket for at most 50 ms, even if the end is closed.
 ///
-/// `Answered` as soon as the answer is there. `Lost` as soon as the link is lost, or a turn found it late, and no
-/// answer is there. `Unanswered` after `turns` turns, and then also for a handle that no command has. After
-/// `Unanswered` the command stays in flight: the link still sends it, and a later wait may take its answer.
+/// Before each turn, and after the last, the call checks, in this order: `Answered` if the answer is there. `Lost` if
+/// the link is lost, or the last turn found it late. After `turns` turns without either it is `Unanswered`. A handle
+/// that no command has is never answered. After `Unanswered` the command stays in flight: the link still sends it, and
+/// a later wait may take its answer.
 pub fn wait_for<E: End>(link: &mut Link, end: &mut E, handle: Handle, turns: u32) -> Outcome
     ensures waits { Waits handle.0 turns link.old result link.new (E.state end.old) (E.state end.new) }
     ensures receives { (E.state end.new).receives < last_u64 →
@@ -85,15 +86,18 @@ pub fn wait_for<E: End>(link: &mut Link, end: &mut E, handle: Handle, turns: u32
     }
 }
 
-/// Waits for the answer under this handle, and takes it, until the moment `until`, in milliseconds of the end's clock.
+/// Waits until the moment `until`, in milliseconds of the end's clock, for the answer under this handle, and takes the
+/// answer. The present moment is what [`now`](End::now) of the end returns, or the latest moment that the link was
+/// given if that is later.
 ///
-/// `Answered` and `Lost` as in [`wait_for`]. `Unanswered` as soon as the present moment is `until` or later, or a turn
-/// found the end closed. `Unanswered` also after 4,294,967,295 turns, so that the call ends even if the end's clock
-/// stops. After `Unanswered` the command stays in flight, as after [`wait_for`].
+/// Before each turn the call checks, in this order: `Answered` if the answer is there, even if `until` is past. `Lost`
+/// if the link is lost, or the last turn found it late. `Unanswered` if the last turn found the end closed, or the
+/// present moment is `until` or later. A handle that no command has is never answered. `Unanswered` also after
+/// 4,294,967,295 turns, in case the end's clock stands still. After `Unanswered` the command stays in flight, as after
+/// [`wait_for`].
 ///
-/// The present moment is what [`now`](End::now) of the end returns, or the latest that the link was given if that is
-/// later. A turn is begun only before `until`, and takes at most 50 ms at a socket. Datagrams from other senders do not
-/// end the wait.
+/// A turn begins only before `until`, and takes at most 50 ms at a socket. Datagrams from other senders do not end the
+/// wait.
 pub fn wait_until<E: End>(link: &mut Link, end: &mut E, handle: Handle, until: u64) -> Outcome
     ensures waits { WaitsUntil handle.0 until link.old result link.new (E.state end.old) (E.state end.new) }
     ensures receives { ReceivesInAWait (E.state end.old).receives (E.state end.new).receives }
@@ -114,8 +118,11 @@ pub fn wait_until<E: End>(link: &mut Link, end: &mut E, handle: Handle, until: u
     }
 }
 
-/// Waits for the answer under this handle, as [`wait_until`] does, for at most `milliseconds` from the present moment
-/// on. At 0 it looks once and takes no turn. The results, and what stays after them, are those of `wait_until`.
+/// Waits for the answer under this handle, as [`wait_until`] does, until `milliseconds` have passed since the present
+/// moment. The present moment is what [`now`](End::now) of the end returns, or the latest moment that the link was
+/// given if that is later. The last turn may end later than that, at a socket by at most 50 ms. If `milliseconds` is 0,
+/// the call looks for the answer once and takes no turn. The results, and what stays after them, are those of
+/// `wait_until`.
 pub fn wait_while<E: End>(
     link: &mut Link,
     end: &mut E,

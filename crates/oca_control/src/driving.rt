@@ -48,9 +48,9 @@ pub fn drive<E: End>(link: &mut Link, end: &mut E, turns: u32) -> DriveReport
     report
 }
 
-/// Sends the device everything that is due at the moment `now`, in milliseconds, and returns how often each thing was
-/// done; `turns` is 0 in it. A moment earlier than one already seen counts as that one. Nothing is received. A send
-/// that fails is counted.
+/// Sends the device everything that is due at the moment `now`, in milliseconds of the link's clock, and returns how
+/// often each thing was done; `turns` is 0 in it. A moment earlier than the latest one so far counts as that latest
+/// one. Nothing is received. A send that fails is counted.
 ///
 /// [`due`](Link::due) is called until it returns `Nothing` or `Lost`, and at most once more than the span. That reaches
 /// every command, since no more commands are in flight than the span (`law_of_histories`, `law_of_sending`). So

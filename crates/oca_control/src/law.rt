@@ -14,25 +14,26 @@ use oca_pdu::law_one_list_of_messages;
 /// [`Link`](crate::Link) this is a promise of every run of a link. The premise is a span of at least 1. The function
 /// does nothing at run time.
 ///
-/// Handles: each accepted command gets its own handle, and these rise by one from the first. The next handle is at most
-/// one in flight plus the span. A submit is refused in exactly four cases. The link is lost. No handle of 32 bits is
-/// left. The next handle is not below each one in flight plus the span. The parameters have more than 1,445 bytes.
+/// Handles: each accepted command gets its own handle, and these rise by one from the first. The next handle is above
+/// each handle in flight by at most the span. A submit is refused in exactly four cases. The link is lost. No handle of
+/// 32 bits is left. The next handle is not below each one in flight plus the span. The parameters have more than 1,445
+/// bytes.
 ///
 /// Sending: what is sent for a handle has the same bytes each time: a PDU of type 1 with its command alone. It is sent
 /// at most 20 times, at least 250 ms apart by the link's clock, which is the latest moment so far.
-/// [`due`](crate::Link::due) returns the lowest handle that is unanswered and was not sent for 250 ms. If there is
-/// none, it returns a keep-alive after 2,500 ms without sending, and otherwise nothing. The link is lost exactly if
-/// `due` finds a handle that was sent 20 times.
+/// [`due`](crate::Link::due) returns the lowest handle that is unanswered and was not sent for 250 ms. If there is no
+/// such handle, it returns a keep-alive if nothing was sent for 2,500 ms, and otherwise nothing. The link is lost
+/// exactly if `due` finds a handle that was sent 20 times.
 ///
 /// Answers: a take of a handle in flight returns the first answer to it that came in a well-formed datagram of the
-/// device since its submit. A take returns none if no answer came. It cannot tell whether the answer is to a command
-/// that an earlier link of this address and port had under this handle. `datagram` returns by the sender whether it is
-/// a stranger, and by the bytes whether they are well-formed. Otherwise it returns how many commands in flight got
-/// their first answer in it. Bytes have only one content.
+/// device since its submit. A take returns none if no answer came. The link cannot know whether the answer is to a
+/// command that an earlier link of this address and port had under this handle. `datagram` returns by the sender
+/// whether it is a stranger, and by the bytes whether they are well-formed. Otherwise it returns how many commands in
+/// flight got their first answer in it. The same bytes always have the same content.
 ///
 /// State: `last_heard` is the clock at the last well-formed datagram of the device, and before the first one that of
-/// the opening. `is_lost` is true if `due` returned so. `answered` is the lowest handle in flight to which an answer
-/// came.
+/// the opening. `is_lost` is true if `due` has returned `Lost`. `answered` is the lowest handle in flight to which an
+/// answer came.
 pub fn law_of_histories()
     ensures law { EveryHistoryIsLawful }
     ensures datagrams { EveryDatagramIsCounted }
@@ -49,9 +50,9 @@ pub fn law_of_answering()
     ensures { EveryAnswerIsKept }
 {}
 
-/// Law: a link goes on sending. A command is due while it is unanswered, and was never sent or last 250 ms ago or
-/// earlier. If k commands are due at a moment, each of them is sent within k calls of `due` at that moment, or the link
-/// is lost.
+/// Law: a link goes on sending. A command is due while it is unanswered, and was never sent, or was last sent 250 ms
+/// ago or earlier. If k commands are due at a moment, each of them is sent within k calls of `due` at that moment, or
+/// the link is lost.
 ///
 /// Take a link whose `due` is called at least every `ms` milliseconds from the submit of a command on, each time until
 /// it does not return `Send`. It sends the command within `ms` of its submit, and again less than `250 + ms` after each

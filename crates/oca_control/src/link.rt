@@ -98,12 +98,13 @@ impl Link {
         }
     }
 
-    /// Submits a command, to be sent when it is due, and returns its handle (AES70-3). `count` is ParamCount, and `now`
-    /// the moment in milliseconds of the caller's clock.
+    /// Submits a command, to be sent when it is due, and returns its handle (AES70-3). `target` is the number of the
+    /// object, `method` has the method's DefLevel and MethodIndex, `count` is ParamCount, `params` are the encoded
+    /// parameters, and `now` is the moment in milliseconds of the caller's clock.
     ///
     /// Refusals, the first that applies, each of which changes nothing, not even the link's clock. `Lost` if the link
     /// is lost. `HandlesSpent` after the handle 4294967295. `SpanFull` if the next handle is not below the lowest one
-    /// in flight plus the span. `TooLong` if the parameters have more than 1,445 bytes.
+    /// whose answer was not taken yet, plus the span. `TooLong` if the parameters have more than 1,445 bytes.
     pub fn submit(
         &mut self,
         target: Ono,
@@ -191,14 +192,14 @@ impl Link {
     }
 
     /// Handles a datagram that came from the address `from` at the moment `now`, in milliseconds of the caller's clock,
-    /// and returns what became of it. `Stranger` if the address is not the device's. Otherwise `Malformed` if the bytes
-    /// are not well-formed (AES70-3). Otherwise `Answered` with how many commands in flight got their first answer, or
-    /// `NothingNew` if none did.
+    /// and returns what became of it. `Stranger` if the address or the port is not the device's. Otherwise `Malformed`
+    /// if the bytes are not well-formed (AES70-3). Otherwise `Answered` with how many commands in flight got their
+    /// first answer, or `NothingNew` if none did.
     ///
     /// The responses are handled in order. A response is stored if its handle is the handle of a command in flight
     /// without an answer. Commands and keep-alives are ignored. A stranger's or malformed datagram changes only the
-    /// link's clock, which moves on to `now` in all cases. A moment earlier than one already seen counts as that one. A
-    /// lost link still stores answers.
+    /// link's clock, which moves on to `now` in all cases. A moment earlier than the latest one so far counts as that
+    /// latest one. A lost link still stores answers.
     pub fn datagram(&mut self, from: Peer, bytes: &[u8], now: u64) -> Reception
         ensures receives { ReceivesDatagram from bytes.now now self.old result self.new }
         ensures answer { (content : Option (List Msg)) → IsContent content bytes.now →
@@ -243,7 +244,7 @@ impl Link {
         }
     }
 
-    /// The lowest handle whose answer came and was not taken yet. `None` if there is none.
+    /// The lowest handle whose answer came and was not taken yet. `None` if no answer waits to be taken.
     pub fn answered(&self) -> Option<Handle>
         ensures { option_map (λ h. h.0) result ≡ first_answered self.now.untaken }
     {

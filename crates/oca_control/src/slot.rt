@@ -99,8 +99,8 @@ impl Slot {
         self.held
     }
 
-    /// Whether the slot holds a command that is due at the moment `now`, in milliseconds. It is due if it has no
-    /// answer, and was never sent or was sent 250 ms ago or earlier.
+    /// Whether the slot holds a command that is due at the moment `now`, in milliseconds of the link's clock. It is due
+    /// if it has no answer, and was never sent or was sent 250 ms ago or earlier.
     pub fn is_due(&self, now: u64) -> bool
         ensures { result ≡ held_is_due now self.now }
     {
@@ -109,16 +109,17 @@ impl Slot {
             && (self.times == 0 || now.saturating_sub(self.last) >= REPEAT_MS)
     }
 
-    /// Whether the slot holds a command that is late at the moment `now`, in milliseconds: it is unanswered, and was
-    /// submitted more than 15,000 ms before.
+    /// Whether the slot holds a command that is late at the moment `now`, in milliseconds of the link's clock: it is
+    /// unanswered, and was submitted more than 15,000 ms before.
     pub fn is_late(&self, now: u64) -> bool
         ensures { result ≡ held_is_late now self.now }
     {
         self.waits() && now.saturating_sub(self.submitted) > LONGEST_LIFE_MS
     }
 
-    /// The first moment, in milliseconds, at which the command is due: 0 if it was never sent, otherwise 250 ms after
-    /// it was sent last. `None` if that lies beyond 64 bits, or the slot holds no command without an answer.
+    /// The earliest moment, in milliseconds of the link's clock, from which on the command is due: 0 if it was never
+    /// sent, otherwise 250 ms after its last transmission. So the moment may be past. `None` if the slot holds no
+    /// command without an answer, or the moment does not fit 64 bits.
     pub fn due_from(&self) -> Option<u64>
         ensures { HoldsFrom (λ s. held_is_due s self.now) result }
     {
@@ -153,8 +154,9 @@ impl Slot {
         self.times < MOST_SENDINGS
     }
 
-    /// Puts a command into the slot, as submitted at the moment `now`, in milliseconds, and not sent yet. It must have
-    /// at most 1,445 bytes of parameters (a premise). What the slot held before is lost.
+    /// Puts a command into the slot, as submitted at the moment `now`, in milliseconds of the link's clock, and not
+    /// sent yet. `request` is the command; it must have at most 1,445 bytes of parameters (a premise). What the slot
+    /// held before is lost.
     pub fn put(&mut self, request: Request<'_>, now: u64)
         requires { length request.params.now ≤ most_command_parameter_bytes }
         ensures { self.new ≡ Some (new_held now (request_of request.entry)) }
@@ -172,8 +174,8 @@ impl Slot {
     }
 
     /// Puts the command into the packet under the handle `handle`, and counts a transmission at the moment `now`, in
-    /// milliseconds. The slot must hold a command that was sent fewer than 20 times, and the packet must be empty
-    /// (premises).
+    /// milliseconds of the link's clock. The slot must hold a command that was sent fewer than 20 times, and the packet
+    /// must be empty (premises).
     pub fn send_due(&mut self, handle: Handle, now: u64, packet: &mut Packet)
         requires few { IsSomeAnd self.old (λ k. k.times < most_sendings) }
         requires empty { packet.old.items ≡ [] }
@@ -193,8 +195,8 @@ impl Slot {
         self.last = now;
     }
 
-    /// Stores the answer to the command in the slot: its status, its ParamCount and its parameters, at most 1,452 bytes
-    /// (a premise). An earlier answer is lost.
+    /// Stores the answer to the command in the slot: its status, its ParamCount (`count`) and its parameters
+    /// (`params`), at most 1,452 bytes (a premise). An earlier answer is lost.
     pub fn store(&mut self, status: u8, count: u8, params: &[u8])
         requires { length params.now ≤ most_parameter_bytes }
         ensures { self.new

@@ -69,9 +69,9 @@ impl Table {
         self.low == self.next || self.next < self.low + u64::from(span)
     }
 
-    /// Adds a command after the others, under the next handle, as submitted at the moment `now`, in milliseconds. A
-    /// handle must be left, the next handle must lie below the lowest one in flight plus 32, and the parameters must
-    /// have at most 1,445 bytes (premises).
+    /// Adds a command after the others, under the next handle, as submitted at the moment `now`, in milliseconds of the
+    /// link's clock. A handle must be left, the next handle must lie below the lowest one in flight plus 32, and the
+    /// parameters must have at most 1,445 bytes (premises).
     pub fn submit(&mut self, request: Request<'_>, now: u64)
         requires left { self.old.next < 4294967296 }
         requires room { span_has_room 32 self.old.next self.old.untaken ≡ true }
@@ -86,9 +86,9 @@ impl Table {
     }
 
     /// Puts the due command with the lowest handle into the packet, which must be empty (a premise). The call counts a
-    /// transmission at the moment `now`, in milliseconds, and returns `Send` with the handle. `Lost` if that command
-    /// was sent 20 times: then the packet stays empty, and nothing is changed. `None` if no command is due: then
-    /// nothing is changed.
+    /// transmission at the moment `now`, in milliseconds of the link's clock, and returns `Send` with the handle.
+    /// `Lost` if that command was sent 20 times: then the packet stays empty, and nothing is changed. `None` if no
+    /// command is due: then nothing is changed.
     pub fn give_first(&mut self, now: u64, packet: &mut Packet) -> Option<Due>
         requires { packet.old.items ≡ [] }
         ensures answer { result ≡ option_map due_answer (first_decided now self.old.untaken) }
@@ -110,16 +110,17 @@ impl Table {
         Some(Due::Send(handle))
     }
 
-    /// Whether a command is late at the moment `now`, in milliseconds: it is unanswered, and was submitted more than
-    /// 15,000 ms before.
+    /// Whether a command is late at the moment `now`, in milliseconds of the link's clock: it is unanswered, and was
+    /// submitted more than 15,000 ms before.
     pub fn is_late(&self, now: u64) -> bool
         ensures { result ≡ list_any (is_late now) self.now.untaken }
     {
         some_late(&self.slots, self.low, self.next, now)
     }
 
-    /// The first moment, in milliseconds, at which a command is due. `None` if no command waits for an answer, or that
-    /// moment lies beyond 64 bits.
+    /// The earliest moment, in milliseconds of the link's clock, from which on some unanswered command is due: 0 if one
+    /// was never sent, otherwise 250 ms after the last transmission of the one whose last transmission is the oldest.
+    /// So the moment may be past. `None` if no command waits for an answer, or the moment does not fit 64 bits.
     pub fn due_from(&self) -> Option<u64>
         ensures { HoldsFrom (some_due self.now.untaken) result }
     {
@@ -146,8 +147,9 @@ impl Table {
         self.slots[at].waits()
     }
 
-    /// Stores an answer, of at most 1,452 bytes of parameters (a premise), and returns whether a command with this
-    /// handle waited for it. `false` if none did: then nothing is changed.
+    /// Stores an answer: its status, its ParamCount (`count`) and its parameters (`params`), at most 1,452 bytes (a
+    /// premise). Returns whether a command with this handle waited for it. `false` if none did: then nothing is
+    /// changed.
     pub fn answer(&mut self, handle: Handle, status: u8, count: u8, params: &[u8]) -> bool
         requires { length params.now ≤ most_parameter_bytes }
         ensures new { result ≡ list_any (waits handle.0) self.old.untaken }
@@ -188,8 +190,9 @@ impl Table {
     }
 }
 
-/// Apart from the method, since a loop over the slots leaves the table closed: from which moment on a command is due of
-/// those from `low` on and below `next`, where there is such a moment.
+/// The earliest moment, in milliseconds of the link's clock, from which on some unanswered command is due: 0 if one was
+/// never sent, otherwise 250 ms after the last transmission of the one whose last transmission is the oldest. So the
+/// moment may be past. `None` if no command waits for an answer, or the moment does not fit 64 bits.
 fn due_from(slots: &[Slot; 32], low: u64, next: u64) -> Option<u64>
     requires { low ≤ next }
     ensures { HoldsFrom (some_due (untaken_from low (next - low) slots.now)) result }

@@ -14,9 +14,9 @@ use oca_types::Packet;
 /// How long a turn receives at most, in milliseconds.
 const WAIT_MS: u64 = 50;
 
-/// Whether a link is late at the moment `now`, in milliseconds: a command is unanswered, and was submitted more than
-/// 15,000 ms before (*profile*). Whether it was sent does not matter. A moment earlier than one already seen counts as
-/// that one.
+/// Whether a link is late at the moment `now`, in milliseconds of the link's clock: a command is unanswered, and was
+/// submitted more than 15,000 ms before (*profile*). Whether it was sent does not matter. A moment earlier than the
+/// latest one so far counts as that latest one.
 ///
 /// A link that is asked in time has its answer by then or is lost, so this finds a program that was suspended. A
 /// command must not act so long after it was submitted. Besides, a device that hears nothing for 120 seconds forgets
@@ -29,9 +29,9 @@ pub fn is_late(link: &Link, now: u64) -> bool
     link.late_at(now)
 }
 
-/// Sends what is due at the moment `now`, in milliseconds, as [`send_due`] does, unless the link is late at that
-/// moment. If it is late, nothing is changed or sent, and `lost` is true in the report. If `lost` is false, nothing is
-/// left to send at that moment.
+/// Sends what is due at the moment `now`, in milliseconds of the link's clock, as [`send_due`] does, unless the link is
+/// late at that moment. If it is late, nothing is changed or sent, and `lost` is true in the report. If `lost` is
+/// false, nothing is left to send at that moment.
 pub fn send_in_time<E: End>(link: &mut Link, end: &mut E, now: u64) -> DriveReport
     ensures gives { SendsInTime now link.old link.new (E.state end.old) (E.state end.new) result }
     ensures left { result.lost ≡ false → NothingIsLeft link.new }

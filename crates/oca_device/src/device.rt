@@ -133,7 +133,7 @@ impl Device {
 
     /// Handles a datagram that came from a peer at the moment `now`, in milliseconds of the caller's clock, and returns
     /// what became of it. The outbox then holds the datagram's answers, all for that peer, and nothing else. A moment
-    /// earlier than one already seen counts as that one.
+    /// earlier than the latest one so far counts as that latest one.
     ///
     /// First the clock moves: locks of peers that are silent for more than three heartbeats are released, and sessions
     /// that are silent for more than 120,000 ms are forgotten. Then the verdict is one of three:
@@ -158,10 +158,10 @@ impl Device {
         self.datagram_within(from, bytes, now, &mut outbox.first)
     }
 
-    /// Handles a datagram as [`Device::datagram`] does, with the same verdicts, and with an outbox that has room for a
-    /// chosen number of packets. The outbox then holds the first of the answers, as many as there is room for.
-    /// [`is_cut`](BoundedOutbox::is_cut) is true if others were left out. `now` is in milliseconds of the caller's
-    /// clock.
+    /// Handles a datagram that came from the peer `from` as [`Device::datagram`] does, with the same verdicts, and with
+    /// an outbox that has room for a chosen number of packets. The outbox then holds the first of the answers, as many
+    /// as there is room for. [`is_cut`](BoundedOutbox::is_cut) is true if others were left out. `now` is in
+    /// milliseconds of the caller's clock.
     ///
     /// All commands are executed, whether their answers have room or not. A peer that repeats a command whose answer
     /// was left out gets the retained reply, as after a loss. There are never more packets than the datagram has
@@ -193,7 +193,7 @@ impl Device {
 
     /// Moves the device's clock on to `now`, in milliseconds of the caller's clock. Locks of peers that are silent for
     /// more than three heartbeats are released, and sessions that are silent for more than 120,000 ms are forgotten. A
-    /// moment earlier than one already seen counts as that one. The list of what was written stays.
+    /// moment earlier than the latest one so far counts as that latest one. The list of what was written stays.
     pub fn tick(&mut self, now: u64)
         ensures { (w : DeviceSizes) (T : List Object) (E : List Event) → Represents w self.old T E →
             Represents w self.new T (Tick now ∷ E) }
@@ -263,13 +263,14 @@ impl Device {
         self.tree.unlock(ono)
     }
 
-    /// Sets, at the local front panel, whether the hardware of an object refuses to be changed; at first it does not.
-    /// If it does, each command that would write to the object, and that no other status refuses, is answered
-    /// `ProcessingFailed` and changes nothing. A duplicate gets its retained reply. Commands that read or lock are
-    /// answered as before, and the local front panel still changes the object. A store does not keep this.
+    /// Sets, at the local front panel, whether the hardware of an object refuses changes (`failing`). At first it does
+    /// not. While it does, a command that writes to the object is answered `ProcessingFailed` and changes nothing; if
+    /// the command is refused for another reason too, the answer names that reason. A duplicate gets its retained
+    /// reply. Commands that read or lock work as before, and the local front panel can still change the object. The
+    /// setting is not saved to a store. (AES70-3 has this status; when it is answered is the profile's choice.)
     ///
     /// Neither the clock nor a session is changed. Refusal: `NoObject` if no object has the number; then nothing is
-    /// changed. (AES70-3 has the status; when it comes is the profile's.)
+    /// changed.
     pub fn set_failing(&mut self, ono: Ono, failing: bool) -> Result<(), FrontFault>
         ensures represents { (w : DeviceSizes) (T : List Object) (E : List Event) → Represents w self.old T E →
             Represents w self.new T (Local ono.0 (ToFailing failing) ∷ E) }
@@ -281,8 +282,8 @@ impl Device {
         self.tree.set_failing(ono, failing)
     }
 
-    /// Whether the hardware of an object refuses to be changed, as [`Device::set_failing`] set it last; `false` if it
-    /// was never set. `None` if no object has the number.
+    /// Whether the hardware of an object refuses changes, as [`Device::set_failing`] last set it; `false` before the
+    /// first such call. `None` if no object has the number.
     pub fn is_failing(&self, ono: Ono) -> Option<bool>
         ensures failing { result ≡ failing_at self.now.tree ono.0 }
         ensures represented { (w : DeviceSizes) (T : List Object) (E : List Event) → Represents w self.now T E →

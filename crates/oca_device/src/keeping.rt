@@ -166,8 +166,9 @@ impl fmt::Debug for Keeping {
 }
 
 /// Serves an end for at most `turns` turns, as [`serve_with`](crate::serve_with) does, and keeps the objects in a
-/// store. Returns how often each thing was done; a number that would pass 64 bits stays at its last value. The loop
-/// ends early if the end is closed. The outbox is then empty.
+/// store. Returns how often each thing was done; a number that would pass 64 bits stays at 2^64 - 1. The loop ends
+/// early if the end is closed. `outbox` is memory for the answers to one datagram, and is empty at the end; `keeping`
+/// holds the answers that wait.
 ///
 /// The answers to a datagram that wrote to an object wait until the store has confirmed that it holds the objects.
 /// While answers wait, further datagrams that have already come are served, in at most 64 turns. Then the objects are

@@ -6,9 +6,10 @@ use oca_session::Sessions;
 use oca_tree::Tree;
 use oca_types::sooner;
 
-/// The first moment, in milliseconds, at which the holder of some lock was silent for more than three of its
-/// heartbeats, if no peer is heard before. `None` if no holder of a lock has a session, or if that moment lies beyond
-/// 64 bits. If no object is locked, no object is looked at.
+/// The first moment, in milliseconds of the device's clock, at which the holder of some lock was silent for more than
+/// three of its heartbeats, if no peer is heard before. `sessions` say when each peer was heard. The moment may be
+/// past. `None` if no holder of a lock has a session, or if that moment lies beyond 64 bits. If no object is locked, no
+/// object is looked at.
 pub fn released_from(tree: &Tree, sessions: &Sessions) -> Option<u64>
     ensures { HoldsFrom (releases tree.now sessions.now.sessions) result }
 {

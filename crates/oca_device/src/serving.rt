@@ -23,7 +23,7 @@ use oca_types::{Packet, Peer};
 /// clock moves on. A receive that fails is counted and does nothing else.
 ///
 /// The loop ends after `turns` turns. It ends earlier if the end is closed, which does not count as a turn; then
-/// nothing more is received. The outbox is emptied at the start and after each turn.
+/// nothing more is received. `outbox` is memory for the answers; it is emptied at the start and after each turn.
 pub fn serve<E: End>(device: &mut Device, end: &mut E, outbox: &mut Outbox, turns: u32) -> Report
     ensures served { ServesEnd device.old device.new (E.state end.old) (E.state end.new) result }
     ensures turns { result.turns ≤ turns }
@@ -36,9 +36,9 @@ pub fn serve<E: End>(device: &mut Device, end: &mut E, outbox: &mut Outbox, turn
     serve_with(device, end, outbox, &mut none, turns)
 }
 
-/// Serves an end as [`serve`] does, and returns how often each thing was done. After the answers to a datagram were
-/// sent, the electronics are called with the objects and with the numbers of those that the datagram wrote to, which
-/// may be none.
+/// Serves an end for at most `turns` turns as [`serve`] does, with `outbox` as memory for the answers, and returns how
+/// often each thing was done. After the answers to a datagram were sent, the electronics are called with the objects
+/// and with the numbers of those that the datagram wrote to, which may be none.
 ///
 /// All sends come first, so failed sends delay the electronics, each for as long as the end takes. At a `UdpEnd` that
 /// is up to a millisecond a packet, and there are at most 122 packets.

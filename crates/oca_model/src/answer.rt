@@ -94,16 +94,17 @@ pub fn shape_of(method: Method) -> Shape
     }
 }
 
-/// Reads the answer to GetRole, GetLabel or GetPositionName: the text that is all of the parameters, at most 64 bytes
-/// of UTF-8. `None` if the parameters are not exactly such a text.
+/// Reads `params`, the parameters of an answer to GetRole, GetLabel or GetPositionName (AES70-2), and returns the text
+/// that they are. `None` if `params` is not exactly one text of at most 64 bytes of UTF-8.
 pub fn read_text(params: &[u8]) -> Option<Text>
     ensures { result ≡ whole (text_at params.now) }
 {
     whole(params)
 }
 
-/// Reads the answer to GetPositionNames: the names in the order of the positions, at most 16, of at most 64 bytes each.
-/// `None` if the parameters are not exactly such an answer.
+/// Reads `params`, the parameters of an answer to GetPositionNames (AES70-2), and returns the names in the order of the
+/// positions. `None` if `params` is not exactly such an answer, or has more than 16 names or a name of more than 64
+/// bytes.
 pub fn read_names(params: &[u8]) -> Option<Names>
     ensures { option_map (λ v. v.items) result ≡ switch_names_in params.now }
 {
@@ -185,8 +186,8 @@ impl Answer {
     }
 
     /// Reads the parameters of an answer to this method of an object of this class; `count` is ParamCount. Only the
-    /// answer to a get method of the value depends on the class. `None` if the parameters are not exactly such an
-    /// answer, or `count` is not the number that the method has.
+    /// answer to a get method of the value depends on the class. `None` if `count` is not the number of parameters that
+    /// this answer has, or `params` is not exactly such an answer.
     #[tactic(auto, unfolding(crate::specs::Answers::answer_in))]
     pub fn read(class: Class, method: Method, count: u8, params: &[u8]) -> Option<Answer>
         ensures { result ≡ answer_in class method count params.now }

@@ -125,9 +125,9 @@ impl<'a> Asked<'a> {
     /// does not check that the class has the method. The class determines only the type of the value of a set method. A
     /// list of names or flags has at most 16 entries, and a text at most 64 bytes. Texts are not copied.
     ///
-    /// Refusals: `Malformed` (the status ParameterError) if `count` is not the method's, or the bytes are not exactly
-    /// such parameters. `Malformed` also for the value of a block. `Unlisted` (ParameterOutOfRange) if a set method
-    /// gives a mute or a polarity a number that is no state.
+    /// Refusals: `Malformed` (the status ParameterError) if `count` is not the number of parameters that the method
+    /// has, or `params` is not exactly such parameters. `Malformed` also for the value of a block. `Unlisted`
+    /// (ParameterOutOfRange) if a set method gives a mute or a polarity a number that is no state.
     #[tactic(auto, unfolding(crate::specs::Requests::request_in, crate::specs::HeldRequests::asked_by))]
     pub fn read(
         class: Class,

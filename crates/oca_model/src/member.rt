@@ -121,8 +121,9 @@ pub(crate) fn take_class(cursor: &mut Cursor<'_>) -> Result<Option<Class>, ReadF
     Ok(class_with(fields.as_slice()))
 }
 
-/// Reads the answer to GetClassIdentification (AES70-2): the fields of the class's identifier, at most 16. The class
-/// and its version may be any. `None` if the parameters are not exactly such an answer.
+/// Reads `params`, the parameters of an answer to GetClassIdentification (AES70-2), and returns the fields of the
+/// class's identifier. The class may be any, and its version is ignored. `None` if `params` is not exactly such an
+/// answer, or has more than 16 fields.
 pub fn read_class_fields(params: &[u8]) -> Option<ClassFields>
     ensures { option_map (λ v. v.items) result ≡ class_id_in params.now }
 {
@@ -154,8 +155,8 @@ fn numbers_of(members: &[Member]) -> MemberNumbers
     numbers
 }
 
-/// Reads the answer to GetMembers: the numbers of the members, in order, at most 181. `None` if the parameters are not
-/// exactly such an answer.
+/// Reads `params`, the parameters of an answer to GetMembers (AES70-2), and returns the numbers of the members, in
+/// order: 181 at most, since an answer has room for no more. `None` if `params` is not exactly such an answer.
 pub fn read_members(params: &[u8]) -> Option<MemberNumbers>
     ensures { option_map (λ v. v.items) result ≡ members_in params.now }
 {

@@ -50,9 +50,9 @@ pub fn word_of(value: Value) -> Text
     }
 }
 
-/// The value for which a word stands, of an object of this class. The word is one of the class's words ([`word_of`]),
-/// or a number in decimal digits. A number may begin with `+`, and of a signed type also with `-`. The number must be
-/// within the class's type; that of a switch is 0 to 65,535. `None` for any other word, and for a block.
+/// The value that a word means for an object of this class. The word is one of the class's words ([`word_of`]), or a
+/// number in decimal digits. A number may begin with `+`, and of a signed type also with `-`. The number must be within
+/// the class's type; that of a switch is 0 to 65,535. `None` for any other word, and for a block.
 #[tactic(auto, unfolding(crate::specs::Words::IsRead, crate::specs::Words::word_of))]
 pub fn value_from_word(class: Class, word: &str) -> Option<Value>
     ensures { IsRead class word.now result }

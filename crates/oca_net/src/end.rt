@@ -51,8 +51,8 @@ pub trait End {
     fn now(&self) -> u64
         ensures { IsPresent result (state self.now) };
 
-    /// Sends a datagram of at most 1,472 bytes (a premise). `true` if the end took it, which does not say that it
-    /// arrives; `false` if sending failed.
+    /// Sends a datagram of at most 1,472 bytes (a premise) to the peer `to`. `true` if the end took it, which does not
+    /// say that it arrives; `false` if sending failed.
     fn send(&mut self, to: Peer, bytes: &[u8]) -> bool
         requires { length bytes.now ≤ largest_datagram }
         ensures { Sends result to bytes.now (state self.old) (state self.new) };

@@ -10,7 +10,7 @@ const WAIT_MS: u64 = 200;
 
 /// Whether the host of a peer refuses datagrams to the peer's port, as it does if no program has the port. The call
 /// binds a socket of its own at the address `ip` and a port of the system's choice. `ip` is an IPv4 address as a
-/// number, the first byte highest; 0 stands for all of the machine's. It sends the peer an empty datagram, which a
+/// number, the first byte highest; 0 means all addresses of the machine. It sends the peer an empty datagram, which a
 /// device ignores as malformed, and waits for the refusal for at most 200 ms. `false` if no refusal came, or the system
 /// failed: then nothing is known.
 pub fn is_refused<R: Net>(rt: &R, ip: u32, peer: Peer) -> bool {

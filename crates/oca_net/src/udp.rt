@@ -146,9 +146,9 @@ impl<'a, C: Clock> UdpEnd<'a, C> {
     /// `NoMemory` if the memory for the receive buffer was refused; otherwise `Io` if the system refused the socket.
     ///
     /// Bind a device at the address at which it is asked, and a controller by [`bind_towards`](UdpEnd::bind_towards).
-    /// Address 0 stands for all addresses of the machine: the system then chooses for each datagram from which address
-    /// it leaves. A device's answers may then leave from another address than was asked, and its controllers drop them.
-    /// A controller's transmissions of one command may leave from two addresses: these are two peers, and the device
+    /// Address 0 means all addresses of the machine: the system then chooses for each datagram from which address it
+    /// leaves. A device's answers may then leave from another address than was asked, and its controllers drop them. A
+    /// controller's transmissions of one command may leave from two addresses: these are two peers, and the device
     /// executes the command for each.
     pub fn bind(alloc: Global, rt: &'a C, ip: u32, port: u16) -> Result<UdpEnd<'a, C>, BindFault>
     where
@@ -162,8 +162,9 @@ impl<'a, C: Clock> UdpEnd<'a, C> {
         }
     }
 
-    /// An end bound as [`bind`](UdpEnd::bind) does it. Refusals: `NoMemory` if the memory for the receive buffer was
-    /// refused; otherwise `Io` with the system's reason if the system refused the socket.
+    /// An end bound at the address `ip` and the port `port` as [`bind`](UdpEnd::bind) does it. Refusals: `NoMemory` if
+    /// the memory for the receive buffer was refused; otherwise `Io` with the system's reason if the system refused the
+    /// socket.
     pub fn bind_with_reason(
         alloc: Global,
         rt: &'a C,
@@ -216,9 +217,9 @@ impl<'a, C: Clock> UdpEnd<'a, C> {
         }
     }
 
-    /// An end bound as [`bind_towards`](UdpEnd::bind_towards) does it. Refusals: `Io` with the system's reason if the
-    /// system has no route to the device, or refused the socket; `NoMemory` if the memory for the receive buffer was
-    /// refused.
+    /// An end for a controller of this device, bound at the port `port` as [`bind_towards`](UdpEnd::bind_towards) does
+    /// it. Refusals: `Io` with the system's reason if the system has no route to the device, or refused the socket;
+    /// `NoMemory` if the memory for the receive buffer was refused.
     pub fn bind_towards_with_reason(
         alloc: Global,
         rt: &'a C,
@@ -251,14 +252,14 @@ impl<'a, C: Clock> UdpEnd<'a, C> {
         self.socket.now()
     }
 
-    /// Why the last receive that returned `Failed` did so. `None` if none has failed so far.
+    /// Why the last receive that returned `Failed` failed. `None` if none has failed so far.
     pub fn last_failed_receive(&self) -> Option<io::Error>
         ensures { result ≡ self.now.receive_fault }
     {
         self.failed_receive
     }
 
-    /// Why the last send that returned `false` did so. `None` if none has failed so far.
+    /// Why the last send that returned `false` failed. `None` if none has failed so far.
     pub fn last_failed_send(&self) -> Option<io::Error>
         ensures { result ≡ self.now.send_fault }
     {

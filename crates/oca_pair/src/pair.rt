@@ -33,7 +33,7 @@ pub struct Transcript {
 }
 
 /// Runs a schedule as [`run_pair_with_sizes`] does, with reply windows of `window` commands and sessions of at most 16
-/// peers. The refusals are the same.
+/// peers. The other parameters and the refusals are those of that call.
 pub fn run_pair(
     alloc: Global,
     tree: Tree,
@@ -51,9 +51,9 @@ pub fn run_pair(
     run_pair_with_sizes(alloc, tree, Sizes { window, peers }, span, starts, steps)
 }
 
-/// Runs the steps of a schedule over a device and some links, and returns what each step did. The device is at
-/// 127.0.0.1:65000 and has these objects and sizes. There is a link with this span for each of `starts`, made at moment
-/// 0.
+/// Runs the steps of a schedule (`steps`) over a device and some links, and returns what each step did. The device is
+/// at 127.0.0.1:65000 and has these objects and sizes. There is a link with this span for each of `starts`, made at
+/// moment 0.
 ///
 /// Refusals, after which nothing of the run is returned. `SamePeer` if two starts have the same peer, or one has the
 /// device's; this is checked first. `BadStep` with the number, from 0, of the first step that is bad. A step is bad if

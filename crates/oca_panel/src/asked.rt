@@ -50,7 +50,8 @@ impl<E: End> Panel<E> {
     /// Submits the command that sets an object to a value, by the set method of the value's class, and sends it at
     /// once. Returns its handle, for [`finish_set`](Panel::finish_set). If the link becomes lost in this call, the
     /// command is not sent. Refusals, which change and send nothing: `Lost` if the link is lost or late, `HandlesSpent`
-    /// after the handle 4294967295. `SpanFull` if the next handle is not below the lowest one in flight plus the span.
+    /// after the handle 4294967295. `SpanFull` if the next handle is not below the lowest one whose answer was not
+    /// taken yet, plus the span.
     pub fn begin_set(&mut self, ono: Ono, value: Value) -> Result<Handle, ControlFault>
         ensures { BeginsSetting ono.0 value result self.old self.new }
     {

@@ -14,8 +14,8 @@ use oca_types::{Class, Handle, Method, Ono, Params};
 impl<E: End> Panel<E> {
     ghost use Rattle.oca_panel.specs.Beginnings.{BeginsAsking};
 
-    /// Submits a request to an object of this class, sends it at once, and returns its handle. If the link becomes lost
-    /// in this call, the command is not sent.
+    /// Submits the request `asked` to the object `ono`, which is of this class, sends it at once, and returns its
+    /// handle. If the link becomes lost in this call, the command is not sent.
     ///
     /// Refusals, which change and send nothing: `NoValue` if the class has no method for the request, or its parameters
     /// have more than 1,445 bytes. `NotSubmitted` with the link's reason ([`begin`](Panel::begin)).
@@ -48,7 +48,7 @@ impl<E: End> Panel<E> {
 
 /// Reads the answer to a method of an object of this class from the outcome of its command. Faults: `Refused` with the
 /// status if the status is not OK. `Unreadable` if the status is OK and the parameters are no answer to the method.
-/// `NotSubmitted` with the reason if the link refused the command. `Lost` and `Unanswered` if the outcome is so.
+/// `NotSubmitted` with the reason if the link refused the command. `Lost` or `Unanswered` if that is the outcome.
 pub fn answer_of(class: Class, method: Method, outcome: &Outcome) -> Result<Answer, Trouble>
     ensures { result ≡ model_answered class method outcome.now }
 {

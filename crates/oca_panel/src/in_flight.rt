@@ -133,8 +133,8 @@ impl<T: Copy + Default> InFlight<T> {
     ///
     /// Refusals, which change neither the queue nor the panel: `SpanFull` if 32 commands are in flight. Then those of
     /// [`Panel::begin`]: `Lost` if the link is lost or late, `HandlesSpent` after the handle 4294967295. `SpanFull` if
-    /// the next handle is not below the lowest one in flight plus the span, `TooLong` if the parameters have more than
-    /// 1,445 bytes.
+    /// the next handle is not below the lowest one whose answer was not taken yet, plus the span, `TooLong` if the
+    /// parameters have more than 1,445 bytes.
     pub fn begin_behind<E: End>(
         &mut self,
         panel: &mut Panel<E>,
@@ -155,8 +155,9 @@ impl<T: Copy + Default> InFlight<T> {
         }
     }
 
-    /// Takes the first command out of the queue and waits for its answer, for the panel's `wait` milliseconds. Returns
-    /// its item, and its outcome as [`Panel::finish`] does. `None` if no command is in flight: then nothing is changed.
+    /// Takes the first command out of the queue and waits for its answer, until the panel's `wait` milliseconds are
+    /// over. Returns its item, and its outcome as [`Panel::finish`] does. `None` if no command is in flight: then
+    /// nothing is changed.
     ///
     /// A command with the outcome `Unanswered` stays in flight at the panel. [`Panel::answered`] returns its handle
     /// once its answer has come.

@@ -26,7 +26,7 @@ impl<E: End> Panel<E> {
     /// Asks for the class of an object, by GetClassIdentification of OcaRoot (AES70-2). `NoValue` if the class is not
     /// of this profile.
     ///
-    /// Waits for the answer for the panel's `wait` milliseconds. Nothing is changed at the device. Faults
+    /// Waits for the answer until the panel's `wait` milliseconds are over. Nothing is changed at the device. Faults
     /// ([`Trouble`]): `Refused` with the status if the answer's status is not OK. `Unreadable` if the answer is not one
     /// to the command. `NotSubmitted` with the reason if the link refuses the command, as it does if it is lost or late
     /// already: the command is then not sent. `Lost` if the link is lost, or found late, during the wait. `Unanswered`
@@ -42,7 +42,7 @@ impl<E: End> Panel<E> {
     /// Asks for the fields of an object's class identifier, by GetClassIdentification of OcaRoot (AES70-2): at most 16.
     /// The class may be any.
     ///
-    /// Waits for the answer for the panel's `wait` milliseconds. Nothing is changed at the device. Faults
+    /// Waits for the answer until the panel's `wait` milliseconds are over. Nothing is changed at the device. Faults
     /// ([`Trouble`]): `Refused` with the status if the answer's status is not OK. `Unreadable` if the answer is not one
     /// to the command. `NotSubmitted` with the reason if the link refuses the command, as it does if it is lost or late
     /// already: the command is then not sent. `Lost` if the link is lost, or found late, during the wait. `Unanswered`
@@ -59,7 +59,7 @@ impl<E: End> Panel<E> {
     /// Asks how an object is set: first for its class, then for its value. `NoValue` for a block, and if the class is
     /// not of this profile.
     ///
-    /// Waits for each answer for the panel's `wait` milliseconds. Nothing is changed at the device. Faults
+    /// Waits for each answer until the panel's `wait` milliseconds are over. Nothing is changed at the device. Faults
     /// ([`Trouble`]): `Refused` with the status if the answer's status is not OK. `Unreadable` if the answer is not one
     /// to the command. `NotSubmitted` with the reason if the link refuses the command, as it does if it is lost or late
     /// already: the command is then not sent. `Lost` if the link is lost, or found late, during the wait. `Unanswered`
@@ -77,7 +77,7 @@ impl<E: End> Panel<E> {
     /// reading of a switch or an integer has the least and the greatest value too. `NoValue` for a block, and if the
     /// class is not of this profile.
     ///
-    /// Waits for each answer for the panel's `wait` milliseconds. Nothing is changed at the device. Faults
+    /// Waits for each answer until the panel's `wait` milliseconds are over. Nothing is changed at the device. Faults
     /// ([`Trouble`]): `Refused` with the status if the answer's status is not OK. `Unreadable` if the answer is not one
     /// to the command. `NotSubmitted` with the reason if the link refuses the command, as it does if it is lost or late
     /// already: the command is then not sent. `Lost` if the link is lost, or found late, during the wait. `Unanswered`
@@ -94,7 +94,7 @@ impl<E: End> Panel<E> {
     /// Asks how an object of this class is set, with the least and the greatest value of a switch or an integer. The
     /// object's class is not asked. `NoValue` for a block: then nothing is asked.
     ///
-    /// Waits for the answer for the panel's `wait` milliseconds. Nothing is changed at the device. Faults
+    /// Waits for the answer until the panel's `wait` milliseconds are over. Nothing is changed at the device. Faults
     /// ([`Trouble`]): `Refused` with the status if the answer's status is not OK. `Unreadable` if the answer is not one
     /// to the command. `NotSubmitted` with the reason if the link refuses the command, as it does if it is lost or late
     /// already: the command is then not sent. `Lost` if the link is lost, or found late, during the wait. `Unanswered`
@@ -114,11 +114,11 @@ impl<E: End> Panel<E> {
     /// Sets an object to a value, by the set method of the value's class (AES70-2). The object must be of this class.
     /// Otherwise the device refuses the command or takes it as a value of the object's own class.
     ///
-    /// Waits for the answer for the panel's `wait` milliseconds. Faults ([`Trouble`]): `Refused` with the status if the
-    /// answer's status is not OK: then nothing was changed. `NotSubmitted` with the reason if the link refuses the
-    /// command, as it does if it is lost or late already: then nothing was sent. `Lost` if the link is lost, or found
-    /// late, during the wait. `Unanswered` if no answer comes in that time; the command then stays in flight. After
-    /// `Lost` and `Unanswered` the command may have been carried out, or may still be.
+    /// Waits for the answer until the panel's `wait` milliseconds are over. Faults ([`Trouble`]): `Refused` with the
+    /// status if the answer's status is not OK: then nothing was changed. `NotSubmitted` with the reason if the link
+    /// refuses the command, as it does if it is lost or late already: then nothing was sent. `Lost` if the link is
+    /// lost, or found late, during the wait. `Unanswered` if no answer comes in that time; the command then stays in
+    /// flight. After `Lost` and `Unanswered` the command may have been carried out, or may still be.
     pub fn set(&mut self, ono: Ono, value: Value) -> Result<(), Trouble>
         ensures { SetsValue ono.0 value self.old self.new result }
     {
@@ -126,8 +126,8 @@ impl<E: End> Panel<E> {
         done_in(&outcome)
     }
 
-    /// Waits for the answer to a command that [`begin_set`](Panel::begin_set) began, for the panel's `wait`
-    /// milliseconds. Ok if the device carried it out.
+    /// Waits for the answer to a command that [`begin_set`](Panel::begin_set) began, until the panel's `wait`
+    /// milliseconds are over. Ok if the device carried it out.
     ///
     /// Faults ([`Trouble`]): `Refused` with the status if the answer's status is not OK: then nothing was changed.
     /// `Lost` if the link is lost or late. `Unanswered` if no answer comes in that time, and for a handle that no
@@ -143,11 +143,11 @@ impl<E: End> Panel<E> {
     /// Locks an object, by LockTotal of OcaRoot (AES70-2): other controllers can then neither read nor set it. The lock
     /// ends once the device hears nothing from this panel for more than 15,000 ms.
     ///
-    /// Waits for the answer for the panel's `wait` milliseconds. Faults ([`Trouble`]): `Refused` with the status if the
-    /// answer's status is not OK: then nothing was changed. `NotSubmitted` with the reason if the link refuses the
-    /// command, as it does if it is lost or late already: then nothing was sent. `Lost` if the link is lost, or found
-    /// late, during the wait. `Unanswered` if no answer comes in that time; the command then stays in flight. After
-    /// `Lost` and `Unanswered` the command may have been carried out, or may still be.
+    /// Waits for the answer until the panel's `wait` milliseconds are over. Faults ([`Trouble`]): `Refused` with the
+    /// status if the answer's status is not OK: then nothing was changed. `NotSubmitted` with the reason if the link
+    /// refuses the command, as it does if it is lost or late already: then nothing was sent. `Lost` if the link is
+    /// lost, or found late, during the wait. `Unanswered` if no answer comes in that time; the command then stays in
+    /// flight. After `Lost` and `Unanswered` the command may have been carried out, or may still be.
     #[tactic(auto, using(crate::proofs::RequestLemmas::ask_lock))]
     pub fn lock(&mut self, ono: Ono) -> Result<(), Trouble>
         ensures { Reads ono.0 Block LockTotal done_answered self.old self.new result }
@@ -158,11 +158,11 @@ impl<E: End> Panel<E> {
 
     /// Releases this panel's lock of an object, by Unlock of OcaRoot (AES70-2).
     ///
-    /// Waits for the answer for the panel's `wait` milliseconds. Faults ([`Trouble`]): `Refused` with the status if the
-    /// answer's status is not OK: then nothing was changed. `NotSubmitted` with the reason if the link refuses the
-    /// command, as it does if it is lost or late already: then nothing was sent. `Lost` if the link is lost, or found
-    /// late, during the wait. `Unanswered` if no answer comes in that time; the command then stays in flight. After
-    /// `Lost` and `Unanswered` the command may have been carried out, or may still be.
+    /// Waits for the answer until the panel's `wait` milliseconds are over. Faults ([`Trouble`]): `Refused` with the
+    /// status if the answer's status is not OK: then nothing was changed. `NotSubmitted` with the reason if the link
+    /// refuses the command, as it does if it is lost or late already: then nothing was sent. `Lost` if the link is
+    /// lost, or found late, during the wait. `Unanswered` if no answer comes in that time; the command then stays in
+    /// flight. After `Lost` and `Unanswered` the command may have been carried out, or may still be.
     #[tactic(auto, using(crate::proofs::RequestLemmas::ask_unlock))]
     pub fn unlock(&mut self, ono: Ono) -> Result<(), Trouble>
         ensures { Reads ono.0 Block Unlock done_answered self.old self.new result }
@@ -173,7 +173,7 @@ impl<E: End> Panel<E> {
 
     /// Asks for the label of an object, by GetLabel of OcaWorker (AES70-2): at most 64 bytes.
     ///
-    /// Waits for the answer for the panel's `wait` milliseconds. Nothing is changed at the device. Faults
+    /// Waits for the answer until the panel's `wait` milliseconds are over. Nothing is changed at the device. Faults
     /// ([`Trouble`]): `Refused` with the status if the answer's status is not OK. `Unreadable` if the answer is not one
     /// to the command. `NotSubmitted` with the reason if the link refuses the command, as it does if it is lost or late
     /// already: the command is then not sent. `Lost` if the link is lost, or found late, during the wait. `Unanswered`
@@ -188,11 +188,11 @@ impl<E: End> Panel<E> {
 
     /// Gives an object a label of at most 64 bytes, by SetLabel of OcaWorker (AES70-2).
     ///
-    /// Waits for the answer for the panel's `wait` milliseconds. Faults ([`Trouble`]): `Refused` with the status if the
-    /// answer's status is not OK: then nothing was changed. `NotSubmitted` with the reason if the link refuses the
-    /// command, as it does if it is lost or late already: then nothing was sent. `Lost` if the link is lost, or found
-    /// late, during the wait. `Unanswered` if no answer comes in that time; the command then stays in flight. After
-    /// `Lost` and `Unanswered` the command may have been carried out, or may still be.
+    /// Waits for the answer until the panel's `wait` milliseconds are over. Faults ([`Trouble`]): `Refused` with the
+    /// status if the answer's status is not OK: then nothing was changed. `NotSubmitted` with the reason if the link
+    /// refuses the command, as it does if it is lost or late already: then nothing was sent. `Lost` if the link is
+    /// lost, or found late, during the wait. `Unanswered` if no answer comes in that time; the command then stays in
+    /// flight. After `Lost` and `Unanswered` the command may have been carried out, or may still be.
     #[tactic(auto, using(crate::proofs::RequestLemmas::ask_set_label))]
     pub fn set_label(&mut self, ono: Ono, label: Text) -> Result<(), Trouble>
         ensures { Reads ono.0 Block (SetLabel label) done_answered self.old self.new result }
@@ -204,7 +204,7 @@ impl<E: End> Panel<E> {
 
     /// Asks for the role of an object, by GetRole of OcaRoot (AES70-2): at most 64 bytes.
     ///
-    /// Waits for the answer for the panel's `wait` milliseconds. Nothing is changed at the device. Faults
+    /// Waits for the answer until the panel's `wait` milliseconds are over. Nothing is changed at the device. Faults
     /// ([`Trouble`]): `Refused` with the status if the answer's status is not OK. `Unreadable` if the answer is not one
     /// to the command. `NotSubmitted` with the reason if the link refuses the command, as it does if it is lost or late
     /// already: the command is then not sent. `Lost` if the link is lost, or found late, during the wait. `Unanswered`
@@ -219,7 +219,7 @@ impl<E: End> Panel<E> {
 
     /// Asks whether an object is enabled, by GetEnabled of OcaWorker (AES70-2).
     ///
-    /// Waits for the answer for the panel's `wait` milliseconds. Nothing is changed at the device. Faults
+    /// Waits for the answer until the panel's `wait` milliseconds are over. Nothing is changed at the device. Faults
     /// ([`Trouble`]): `Refused` with the status if the answer's status is not OK. `Unreadable` if the answer is not one
     /// to the command. `NotSubmitted` with the reason if the link refuses the command, as it does if it is lost or late
     /// already: the command is then not sent. `Lost` if the link is lost, or found late, during the wait. `Unanswered`
@@ -235,7 +235,7 @@ impl<E: End> Panel<E> {
     /// Asks for the numbers of a block's members, by GetMembers of OcaBlock (AES70-2): in their order, at most 181.
     /// `Refused` with the status BufferOverflow if the block has more members than a response has room for.
     ///
-    /// Waits for the answer for the panel's `wait` milliseconds. Nothing is changed at the device. Faults
+    /// Waits for the answer until the panel's `wait` milliseconds are over. Nothing is changed at the device. Faults
     /// ([`Trouble`]): `Refused` with the status if the answer's status is not OK. `Unreadable` if the answer is not one
     /// to the command. `NotSubmitted` with the reason if the link refuses the command, as it does if it is lost or late
     /// already: the command is then not sent. `Lost` if the link is lost, or found late, during the wait. `Unanswered`
@@ -252,7 +252,7 @@ impl<E: End> Panel<E> {
     /// Asks for the name of a switch's position, by GetPositionName of OcaSwitch (AES70-2): at most 64 bytes.
     /// `position` is counted from 0. `Refused` with the status ParameterOutOfRange if the switch has no such position.
     ///
-    /// Waits for the answer for the panel's `wait` milliseconds. Nothing is changed at the device. Faults
+    /// Waits for the answer until the panel's `wait` milliseconds are over. Nothing is changed at the device. Faults
     /// ([`Trouble`]): `Refused` with the status if the answer's status is not OK. `Unreadable` if the answer is not one
     /// to the command. `NotSubmitted` with the reason if the link refuses the command, as it does if it is lost or late
     /// already: the command is then not sent. `Lost` if the link is lost, or found late, during the wait. `Unanswered`
@@ -268,7 +268,7 @@ impl<E: End> Panel<E> {
     /// Asks for the names of a switch's positions, by GetPositionNames of OcaSwitch (AES70-2): in their order, at most
     /// 16, of at most 64 bytes each.
     ///
-    /// Waits for the answer for the panel's `wait` milliseconds. Nothing is changed at the device. Faults
+    /// Waits for the answer until the panel's `wait` milliseconds are over. Nothing is changed at the device. Faults
     /// ([`Trouble`]): `Refused` with the status if the answer's status is not OK. `Unreadable` if the answer is not one
     /// to the command. `NotSubmitted` with the reason if the link refuses the command, as it does if it is lost or late
     /// already: the command is then not sent. `Lost` if the link is lost, or found late, during the wait. `Unanswered`

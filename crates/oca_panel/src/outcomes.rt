@@ -34,8 +34,8 @@ fn parameters_in(outcome: &Outcome) -> Result<&[u8], Trouble>
 }
 
 /// Ok if the command was answered with the status OK, whatever its parameters are. Faults: `Refused` with the status if
-/// it is another one. `NotSubmitted` with the reason if the link refused the command. `Lost` and `Unanswered` if the
-/// outcome is so.
+/// it is another one. `NotSubmitted` with the reason if the link refused the command. `Lost` or `Unanswered` if that is
+/// the outcome.
 pub fn done_in(outcome: &Outcome) -> Result<(), Trouble>
     ensures { result ≡ done_answered outcome.now }
 {

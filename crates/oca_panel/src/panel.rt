@@ -171,7 +171,7 @@ impl<E: End> Panel<E> {
     }
 
     /// The lowest handle whose answer came and was not taken yet; [`try_finish`](Panel::try_finish) takes it. `None` if
-    /// there is none. So a program finds the answer to a command for which it stopped waiting.
+    /// no answer waits to be taken. So a program finds the answer to a command for which it stopped waiting.
     pub fn answered(&self) -> Option<Handle>
         ensures { option_map (λ h. h.0) result ≡ first_answered self.now.link.untaken }
     {
@@ -193,7 +193,7 @@ impl<E: End> Panel<E> {
         self.unanswered
     }
 
-    /// Submits one command, sends it at once, and waits for its answer, for the panel's `wait` milliseconds.
+    /// Submits one command, sends it at once, and waits for its answer, until the panel's `wait` milliseconds are over.
     ///
     /// `Answered` with the answer, whatever its status. `Refused` with the reason if the link refuses the command
     /// ([`begin`](Panel::begin)): then nothing is changed or sent. That includes a link that is lost or late already.
@@ -213,15 +213,15 @@ impl<E: End> Panel<E> {
     /// [`InFlight::push`](crate::InFlight::push). If the link becomes lost in this call, the command is not sent.
     ///
     /// Refusals, the first that applies, which change and send nothing: `Lost` if the link is lost or late.
-    /// `HandlesSpent` after the handle 4294967295. `SpanFull` if the next handle is not below the lowest one in flight
-    /// plus the span. `TooLong` if the parameters have more than 1,445 bytes.
+    /// `HandlesSpent` after the handle 4294967295. `SpanFull` if the next handle is not below the lowest one whose
+    /// answer was not taken yet, plus the span. `TooLong` if the parameters have more than 1,445 bytes.
     pub fn begin(&mut self, request: Request<'_>) -> Result<Handle, ControlFault>
         ensures { BeginsIn (request_of request.entry) result self.old self.new }
     {
         begin(&mut self.link, &mut self.end, request)
     }
 
-    /// Waits for the answer under this handle, for the panel's `wait` milliseconds, and takes it.
+    /// Waits for the answer under this handle, until the panel's `wait` milliseconds are over, and takes it.
     ///
     /// `Answered` with the answer, whatever its status: its command is then removed. `Lost` as soon as the link is
     /// lost, or found late, and no answer is there. `Unanswered` if no answer comes in that time, and for a handle that
@@ -238,7 +238,8 @@ impl<E: End> Panel<E> {
 
     /// The outcome of the command under this handle, if it is known without a turn. The call does not wait. `Answered`
     /// with the answer, which is then taken. `Lost` if the link is lost and no answer is there;
-    /// [`unanswered`](Panel::unanswered) is then `true`. `None` if neither is so: then nothing is changed.
+    /// [`unanswered`](Panel::unanswered) is then `true`. `None` if no answer is there and the link is not lost: then
+    /// nothing is changed.
     pub fn try_finish(&mut self, handle: Handle) -> Option<Outcome>
         ensures { MaySettle result handle.0 self.old self.new }
     {

@@ -123,9 +123,9 @@ impl Walk {
     }
 
     /// Visits the next place: asks the object there for its class and its role, and a block for its members, which are
-    /// visited next. The call waits for each answer for the panel's `wait` milliseconds. An object that was visited
-    /// before is not asked ([`Found::Again`]). If the object does not answer a question, the [`Visit`] has the reason
-    /// in its place.
+    /// visited next. The call waits for each answer until the panel's `wait` milliseconds are over. An object that was
+    /// visited before is not asked ([`Found::Again`]). If the object does not answer a question, the [`Visit`] has the
+    /// reason in its place.
     ///
     /// `None` if no place is left, or 4,096 places were visited: then nothing is asked. Refusal: `NoMemory`, if memory
     /// was refused; after it the walk may leave objects out.

@@ -47,8 +47,8 @@ pub fn content(pdu_type: u8) -> Option<Content>
     }
 }
 
-/// Reads one message, a command or a response, from all of these bytes. There must be at least as many bytes as
-/// [`least`] says (a premise). The parameters of the message are a slice of the bytes.
+/// Reads one message, a command or a response as `kind` says, from all of these bytes. There must be at least as many
+/// bytes as [`least`] says (a premise). The parameters of the message are a slice of the bytes.
 pub fn read_message(kind: Kind, bytes: &[u8]) -> Message<'_>
     requires { least_size kind ≤ length bytes.now }
     ensures { msg_of result ≡ message_in kind bytes.now }

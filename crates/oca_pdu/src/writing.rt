@@ -218,8 +218,8 @@ pub fn extend_response(packet: &mut Packet, handle: Handle, reply: &Reply) -> Re
     Ok(())
 }
 
-/// Appends a PDU of one keep-alive (AES70-3) to the packet. Refusal: `TooLong` if the packet would have more than 1,472
-/// bytes; then the packet is unchanged.
+/// Appends a PDU of one keep-alive (AES70-3) to the packet. `form` is its heartbeat, in seconds or in milliseconds.
+/// Refusal: `TooLong` if the packet would have more than 1,472 bytes; then the packet is unchanged.
 pub fn write_keepalive(packet: &mut Packet, form: Form) -> Result<(), WriteFault>
     ensures room { IsOk result
         ↔ (length packet.old.items + length (pdu_encoding (OneKeepAlive form)) ≤ largest_datagram) }

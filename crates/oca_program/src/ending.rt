@@ -11,8 +11,8 @@ use clap::Error;
 use oca_script::{Printer, ReplayFault, Sink, WriteFailed};
 use std::alloc::Global;
 
-/// Returns the exit status of a run. After a failure it also prints the failure to `faults`. The status is then that of
-/// the fault: 2 for what was asked wrongly, 1 for what could not be done.
+/// Returns the exit status of a run: the one in `ended`. If `ended` is a failure, it is printed to `faults`, and the
+/// status is that of its fault: 2 for `BadWords`, `Line` and `Object`, otherwise 1.
 pub fn status_of<F: Sink>(ended: Result<u8, Failure>, faults: &mut Printer<F>) -> u8
     ensures status { result ≡ run_status (fault_in ended) }
     ensures fault { PrintsFault (fault_in ended) faults.old faults.new }
@@ -23,9 +23,9 @@ pub fn status_of<F: Sink>(ended: Result<u8, Failure>, faults: &mut Printer<F>) -
     }
 }
 
-/// Ends a run whose command line did not match. If the command line asks for `--help` or `--version`, the text is
-/// printed, and the exit status is 0. Failures: `BadWords` if it asks for neither. `NoMemory` if memory was refused.
-/// `Write` if a write failed.
+/// Ends a run whose command line did not match; `error` is what `clap` says of it. If the command line asks for
+/// `--help` or `--version`, the text is printed, and the exit status is 0. Failures: `BadWords` if it asks for neither.
+/// `NoMemory` if memory was refused. `Write` if a write failed.
 pub fn helped<W: Sink>(
     alloc: Global,
     error: &Error,
@@ -40,7 +40,7 @@ pub fn helped<W: Sink>(
 }
 
 /// Prints a text, and writes all that the printer holds. Returns the exit status 0. Failure: `Write` if a write failed;
-/// then a first part of the text was written.
+/// then only the beginning of the text may have been written.
 pub fn print_text<W: Sink>(text: &[u8], printer: &mut Printer<W>) -> Result<u8, Failure>
     ensures { PrintsText text.now (fault_in result) printer.old printer.new }
 {
@@ -57,8 +57,8 @@ pub fn written(done: Result<(), WriteFailed>) -> Result<u8, Failure>
     }
 }
 
-/// The end of a run that only had to replay a script: exit status 0 if the script came to its end. Failures: `Line`,
-/// `Read`, `Write` or `TooMuch`, as the fault of the replay is.
+/// The end of a run that only had to replay a script; `done` is how the replay ended: exit status 0 if the script came
+/// to its end. Failures: `Line`, `Read`, `Write` or `TooMuch`, the one of the same name as the fault of the replay.
 pub fn replayed(done: Result<(), ReplayFault>) -> Result<u8, Failure>
     ensures { fault_in result ≡ when_replayed done }
 {

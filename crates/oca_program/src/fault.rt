@@ -99,8 +99,8 @@ pub fn report<F: Sink>(failure: &Failure, faults: &mut Printer<F>) -> u8
     failure.fault.status()
 }
 
-/// Prints a line `note: ` with the first line of the text, and writes all that the printer holds. If that first line
-/// has more than 1,000 bytes, nothing is printed. A failed write is ignored.
+/// Prints to `faults` a line `note: ` with the first line of the text, and writes all that the printer holds. If that
+/// first line has more than 1,000 bytes, nothing is printed. A failed write is ignored.
 pub fn print_note<F: Sink>(note: &str, faults: &mut Printer<F>)
     ensures { (written : Result Unit Failed) × WritesOut written faults.old faults.new (note_text note.now) }
 {

@@ -58,8 +58,8 @@ impl Form {
         }
     }
 
-    /// The number that a text of this form stands for. `None` if the text does not have this form, or the form is not
-    /// one of numbers.
+    /// The number that a text of this form gives. `None` if the text does not have this form, or the form is not one of
+    /// numbers.
     pub fn number(self, text: &[u8]) -> Option<u64>
         ensures value { result ≡ number_by self text.now }
         ensures within { IfSome result (IsInForm self) }
@@ -123,8 +123,8 @@ pub(crate) fn own(text: &[u8]) -> Option<u32>
     }
 }
 
-/// Whether the command line has this option with a value that does not have the option's form. `false` if it does not
-/// have the option.
+/// Whether the command line (`words`) has the option `row` with a value that does not have the option's form. `false`
+/// if the command line does not have the option.
 pub fn breaks(words: &ArgMatches<'_>, row: &OptionRow) -> bool
     ensures { result ≡ breaks_form words.now (row_fields row.now) }
 {
@@ -134,16 +134,17 @@ pub fn breaks(words: &ArgMatches<'_>, row: &OptionRow) -> bool
     }
 }
 
-/// The first of these options that the command line has with a value that does not have the option's form. `None` if
-/// there is none.
+/// The first of the options `rows` that the command line (`words`) has with a value that does not have the option's
+/// form. `None` if each has its option's form.
 pub fn first_broken<'r>(words: &ArgMatches<'_>, rows: &'r [OptionRow]) -> Option<&'r OptionRow>
     ensures { option_copied result ≡ find (λ row. breaks_form words.now (row_fields row)) rows.now }
 {
     rows.iter().find(|row| breaks(words, row))
 }
 
-/// Checks that each of these options that the command line has, has its form. Failure: `BadWords` if one does not. The
-/// note names the first such option, its value and its form, if there is memory for the note.
+/// Checks the value of each of the options `rows` that the command line (`words`) has: it must have the option's form.
+/// Failure: `BadWords` if a value does not have it. The note names the first such option, its value and its form, if
+/// there is memory for the note.
 pub fn check(alloc: Global, words: &ArgMatches<'_>, rows: &[OptionRow]) -> Result<(), Failure>
     ensures ok { is_ok result ≡ fits words.now (map row_fields rows.now) }
     ensures err { IfErr result (λ failure. failure.fault ≡ BadWords) }

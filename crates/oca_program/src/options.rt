@@ -18,8 +18,8 @@ use oca_types::Peer;
 use std::alloc::{AllocError, Global};
 
 impl OptionRow {
-    /// The number that the command line gives for this option. `None` if it does not have the option, or the text does
-    /// not have the option's form.
+    /// The number that the command line (`words`) gives for this option. `None` if it does not have the option, or the
+    /// text does not have the option's form.
     pub fn number(&self, words: &ArgMatches<'_>) -> Option<u64>
         ensures value { result ≡ number_said words.now (row_fields self.now) }
         ensures within { IfSome result (IsInForm self.now.form) }
@@ -27,23 +27,23 @@ impl OptionRow {
         self.form.number(text_of(words, self.name)?.as_bytes())
     }
 
-    /// The address for a socket of this machine that the command line gives for this option, as a number with the first
-    /// byte highest. It is 0.0.0.0, or 1.0.0.0 to 223.255.255.255. `None` if the command line does not have the option,
-    /// or not in this form.
+    /// The address for a socket of this machine that the command line (`words`) gives for this option, as a number with
+    /// the first byte highest. It is 0.0.0.0, or 1.0.0.0 to 223.255.255.255. `None` if the command line does not have
+    /// the option, or the text does not have this form.
     pub fn own(&self, words: &ArgMatches<'_>) -> Option<u32>
         ensures { result ≡ own_said words.now (row_fields self.now) }
     {
         own(text_of(words, self.name)?.as_bytes())
     }
 
-    /// The text that the command line gives for this option. `None` if it does not have the option.
+    /// The text that the command line (`words`) gives for this option. `None` if it does not have the option.
     pub fn text<'a>(&self, words: &ArgMatches<'a>) -> Option<&'a str>
         ensures { option_map (λ t. t.now) result ≡ text_said words.now (row_fields self.now) }
     {
         text_of(words, self.name)
     }
 
-    /// Whether the command line has this flag.
+    /// Whether the command line (`words`) has this flag, an option without a value.
     pub fn is_set(&self, words: &ArgMatches<'_>) -> bool
         ensures { result ≡ has_flag words.now (row_fields self.now) }
     {
@@ -54,7 +54,7 @@ impl OptionRow {
     }
 }
 
-/// The text that the command line gives for the option `name`. `None` if it does not have the option.
+/// The text that the command line (`words`) gives for the option `name`. `None` if it does not have the option.
 #[tactic(auto, unfolding(crate::specs::Options::given))]
 pub fn text_of<'a>(words: &ArgMatches<'a>, name: &str) -> Option<&'a str>
     ensures { option_map (λ t. t.now) result ≡ given words.now name.now }
@@ -62,8 +62,8 @@ pub fn text_of<'a>(words: &ArgMatches<'a>, name: &str) -> Option<&'a str>
     words.get_str(name)
 }
 
-/// The number that the command line gives for the option `name`, of 1 to `most` decimal digits and at most `largest`.
-/// `None` if it does not have the option, or not in this form.
+/// The number that the command line (`words`) gives for the option `name`, of 1 to `most` decimal digits and at most
+/// `largest`. `None` if the command line does not have the option, or the text does not have this form.
 pub fn number_in(words: &ArgMatches<'_>, name: &str, most: usize, largest: u64) -> Option<u64>
     ensures value { result ≡ read_as (number_of most largest) (given words.now name.now) }
     ensures bound { IfSome result (λ n. n ≤ largest) }
@@ -71,9 +71,9 @@ pub fn number_in(words: &ArgMatches<'_>, name: &str, most: usize, largest: u64) 
     number(text_of(words, name)?.as_bytes(), most, largest)
 }
 
-/// The number that the command line gives for the option `name`, of 1 to `most` decimal digits and at most `largest`.
-/// It is `other` if the command line does not have the option; `other` must be at most `largest` (a premise). `None` if
-/// the option does not have this form.
+/// The number that the command line (`words`) gives for the option `name`, of 1 to `most` decimal digits and at most
+/// `largest`. It is `other` if the command line does not have the option; `other` must be at most `largest` (a
+/// premise). `None` if the text of the option does not have this form.
 pub fn number_or(
     words: &ArgMatches<'_>,
     name: &str,
@@ -91,8 +91,9 @@ pub fn number_or(
     }
 }
 
-/// The number that the command line gives for the option `name`, of 1 to `most` decimal digits and at most `largest`.
-/// `Some(None)` if the command line does not have the option. `None` if the option does not have this form.
+/// The number that the command line (`words`) gives for the option `name`, of 1 to `most` decimal digits and at most
+/// `largest`. `Some(None)` if the command line does not have the option. `None` if the text of the option does not have
+/// this form.
 pub fn number_if(
     words: &ArgMatches<'_>,
     name: &str,
@@ -111,25 +112,26 @@ pub fn number_if(
     }
 }
 
-/// The peer that the command line gives for the option `name` as `a.b.c.d:port`. `None` if it does not have the option,
-/// or not in this form.
+/// The peer that the command line (`words`) gives for the option `name` as `a.b.c.d:port`. `None` if the command line
+/// does not have the option, or the text does not have this form.
 pub fn peer_in(words: &ArgMatches<'_>, name: &str) -> Option<Peer>
     ensures { result ≡ read_as peer_of (given words.now name.now) }
 {
     peer(text_of(words, name)?.as_bytes())
 }
 
-/// The device that the command line gives for the option `name` as `a.b.c.d:port`. The address is 1.0.0.0 to
-/// 223.255.255.255, and the port is not 0. `None` if the command line does not have the option, or not in this form.
+/// The device that the command line (`words`) gives for the option `name` as `a.b.c.d:port`. The address is 1.0.0.0 to
+/// 223.255.255.255, and the port is not 0. `None` if the command line does not have the option, or the text does not
+/// have this form.
 pub fn host_in(words: &ArgMatches<'_>, name: &str) -> Option<Peer>
     ensures { result ≡ read_as host_of (given words.now name.now) }
 {
     host(text_of(words, name)?.as_bytes())
 }
 
-/// The address for a socket of this machine that the command line gives for the option `name`, as a number with the
-/// first byte highest. It is 0.0.0.0, or 1.0.0.0 to 223.255.255.255; `other` if the command line does not have the
-/// option. `None` if the option does not have this form.
+/// The address for a socket of this machine that the command line (`words`) gives for the option `name`, as a number
+/// with the first byte highest. It is 0.0.0.0, or 1.0.0.0 to 223.255.255.255; `other` if the command line does not have
+/// the option. `None` if the text of the option does not have this form.
 pub fn own_or(words: &ArgMatches<'_>, name: &str, other: u32) -> Option<u32>
     ensures { result ≡ read_or other own_of (given words.now name.now) }
 {
@@ -139,8 +141,9 @@ pub fn own_or(words: &ArgMatches<'_>, name: &str, other: u32) -> Option<u32>
     }
 }
 
-/// The text of `--help` or `--version`, if a command line that did not match asks for one. Failures: `BadWords` if it
-/// asks for neither; the failure has a note if there is memory for it. `NoMemory` if memory was refused.
+/// The text of `--help` or `--version`, if a command line that did not match asks for one; `error` is what `clap` says
+/// of it. Failures: `BadWords` if it asks for neither; the failure has a note if there is memory for it. `NoMemory` if
+/// memory was refused.
 pub fn help_or_failure(alloc: Global, error: &Error) -> Result<String, Failure>
     ensures text { IfOk result (λ _. asks_for_text (kind_of error.now) ≡ true) }
     ensures failure { IfErr result (λ failure. failure.fault ≡ words_fault (kind_of error.now)) }

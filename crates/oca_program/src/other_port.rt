@@ -6,8 +6,9 @@ use oca_script::{Printer, Sink};
 use oca_types::Peer;
 use std::alloc::Global;
 
-/// Prints the note that this device answers no command from `port`, and that the port `other` is used instead. Writes
-/// all that the printer holds. If there is no memory for the note, nothing is printed. A failed write is ignored.
+/// Prints to `faults` the note that this device answers no command from `port`, and that the port `other` is used
+/// instead. Writes all that the printer holds. If there is no memory for the note, nothing is printed. A failed write
+/// is ignored.
 pub fn note_other_port<F: Sink>(
     alloc: Global,
     device: Peer,

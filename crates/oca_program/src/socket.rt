@@ -85,8 +85,9 @@ fn fault_for(kind: io::ErrorKind) -> RunFault
     }
 }
 
-/// Prints the note of how many sends failed (`failed`), and why the last of them did. Writes all that the printer
-/// holds. Nothing is printed if `last` is `None`, or if there is no memory for the note. A failed write is ignored.
+/// Prints to `faults` the note of how many sends failed (`failed`), and why the last of them did. Writes all that the
+/// printer holds. Nothing is printed if `last` is `None`, or if there is no memory for the note. A failed write is
+/// ignored.
 pub fn note_failed_sends<F: Sink>(
     alloc: Global,
     failed: u64,

@@ -45,7 +45,7 @@ pub trait Sink {
     // Whether a write has failed.
     ghost failed: { Self → Bool };
 
-    /// Writes a first part of the bytes, and returns how many bytes these are: at least one, unless `bytes` is empty.
+    /// Writes some bytes from the beginning of `bytes`, and returns how many: at least one, unless `bytes` is empty.
     /// Refusal: `WriteFailed` if writing failed; then no byte was written.
     fn write(&mut self, bytes: &[u8]) -> Result<usize, WriteFailed>
         ensures within { WritesAtMost result bytes.now }
@@ -65,7 +65,7 @@ pub struct FromReader<R> {
 }
 
 impl<R: Read> FromReader<R> {
-    /// A source over this reader, without a failed read. It assumes that no read waits, which is so for files and
+    /// A source over this reader; no read of it has failed yet. It assumes that no read waits, as is true of files and
     /// memory.
     pub fn new(reader: R) -> FromReader<R>
         ensures reader { result.reader ≡ reader }
@@ -81,8 +81,8 @@ impl<R: Read> FromReader<R> {
         }
     }
 
-    /// A source over this reader, without a failed read. A read may wait, so the source asks the system whether the
-    /// reader's descriptor is ready.
+    /// A source over this reader; no read of it has failed yet. A read may wait, so the source asks the system whether
+    /// the reader's descriptor is ready.
     pub fn awaited(reader: R) -> FromReader<R>
     where
         R: AsRawFd,
@@ -173,7 +173,7 @@ pub struct ToWriter<W> {
 }
 
 impl<W: Write> ToWriter<W> {
-    /// A sink over this writer, without a failed write.
+    /// A sink over this writer; no write to it has failed yet.
     pub fn new(writer: W) -> ToWriter<W>
         ensures writer { result.writer ≡ writer }
         ensures unfailed { result.failed ≡ false }

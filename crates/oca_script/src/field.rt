@@ -10,8 +10,8 @@ use oca_types::Peer;
 /// Whatever digit follows a number of at most this, the result has 64 bits.
 const MOST_TENTH: u64 = (u64::MAX - 9) / 10;
 
-/// The number that a text of 1 to `most` decimal digits stands for; leading zeros count as digits. `None` if the text
-/// is anything else, or the number is above `largest`.
+/// The number that a text of 1 to `most` decimal digits gives; leading zeros count as digits. `None` if the text is
+/// anything else, or the number is above `largest`.
 #[tactic(auto, unfolding(crate::specs::Fields::number_of, crate::specs::Fields::at_most), using(crate::proofs::FieldLemmas::number_rules))]
 pub fn number(digits: &[u8], most: usize, largest: u64) -> Option<u64>
     ensures value { result ≡ number_of most largest digits.now }
@@ -99,8 +99,8 @@ fn octet_before(text: &[u8], end: u8) -> Option<(u64, &[u8])>
     Some((three, &text[4..]))
 }
 
-/// The moment, in milliseconds, that a text of 1 to 20 decimal digits stands for. `None` if the text is anything else,
-/// or the number does not fit in 64 bits.
+/// The moment, in milliseconds, that a text of 1 to 20 decimal digits gives. `None` if the text is anything else, or
+/// the number does not fit in 64 bits.
 pub fn moment(text: &[u8]) -> Option<u64>
     ensures { result ≡ moment_of text.now }
 {
@@ -193,9 +193,9 @@ pub fn peer_before(text: &[u8]) -> Option<(Peer, &[u8])>
     Some((peer, rest))
 }
 
-/// The bytes that a field stands for: `-` for no bytes, otherwise two hexadecimal digits of either case for each byte,
-/// at least one byte. They are put at the front of `room`, which must have at least half as many bytes as the text (a
-/// premise). `None` if the text is anything else; then discard what `room` holds.
+/// The bytes that a field of a line gives: `-` for no bytes, otherwise two hexadecimal digits of either case for each
+/// byte, at least one byte. They are put at the front of `room`, which must have at least half as many bytes as the
+/// text (a premise). `None` if the text is anything else; then discard what `room` holds.
 #[tactic(auto, unfolding(crate::specs::Fields::hex_of), using(crate::proofs::HexLemmas::hex_field_rules))]
 pub fn hex_bytes<'a>(text: &[u8], room: &'a mut [u8]) -> Option<&'a [u8]>
     requires { length text.now ≤ 2 * length room.old }

@@ -32,9 +32,10 @@ pub trait Language {
     // From a state a request leads to a state, and prints a text.
     ghost serves: { Self.State → Self.Request → Self.State → List ℕ → Type 0 };
 
-    /// Serves one line of a script, and prints its text. The line has at most 4,096 bytes (a premise). It is called for
-    /// no line that is empty, begins with `#` or is not ASCII. Refusals: `Line` with the fault of its fields; then
-    /// nothing is done or printed. `Write` if a write failed.
+    /// Serves one line of a script, and prints its text. `state` is what the request acts on, and `room` is memory for
+    /// serving it, whose old content does not matter. The line has at most 4,096 bytes (a premise). It is called for no
+    /// line that is empty, begins with `#` or is not ASCII. Refusals: `Line` with the fault of its fields; then nothing
+    /// is done or printed. `Write` if a write failed.
     fn serve_line<W: Sink>(
         state: &mut Self::State,
         room: &mut Self::Room,

@@ -52,8 +52,8 @@ impl<W: Sink> Printer<W> {
         &self.sink
     }
 
-    /// Writes all held bytes to the sink; then nothing is held. Refusal: `WriteFailed` if a write failed. Then a first
-    /// part of them was written, and what is still held is not known.
+    /// Writes all held bytes to the sink; then nothing is held. Refusal: `WriteFailed` if a write failed. Then only the
+    /// beginning of them may have been written, and what is still held is not known.
     pub fn flush(&mut self) -> Result<(), WriteFailed>
         ensures prints { Prints result self.old self.new [] }
         ensures empty { OnOk result (self.new.held ≡ []) }
@@ -62,8 +62,8 @@ impl<W: Sink> Printer<W> {
     }
 
     /// Makes room for `room` more bytes, at most 8,192 (a premise): if fewer are free, all held bytes are written to
-    /// the sink. Refusal: `WriteFailed` if a write failed. Then a first part of the held bytes was written, and what is
-    /// still held is not known.
+    /// the sink. Refusal: `WriteFailed` if a write failed. Then only the beginning of the held bytes may have been
+    /// written, and what is still held is not known.
     pub fn make_room(&mut self, room: usize) -> Result<(), WriteFailed>
         requires { room ≤ 8192 }
         ensures prints { Prints result self.old self.new [] }
@@ -73,7 +73,8 @@ impl<W: Sink> Printer<W> {
     }
 
     /// Prints the bytes, of any number: they are held, or written to the sink after what was held. Refusal:
-    /// `WriteFailed` if a write failed. Then a first part of both was written, and what is still held is not known.
+    /// `WriteFailed` if a write failed. Then only the beginning of both may have been written, and what is still held
+    /// is not known.
     pub fn print(&mut self, bytes: &[u8]) -> Result<(), WriteFailed>
         ensures { Prints result self.old self.new bytes.now }
     {
@@ -110,8 +111,8 @@ impl<W: Sink> Printer<W> {
     }
 }
 
-/// Writes all of the bytes to the sink. Refusal: `WriteFailed` if a write failed; then a first part of them was
-/// written.
+/// Writes all of the bytes to the sink. Refusal: `WriteFailed` if a write failed; then only the beginning of them may
+/// have been written.
 pub fn write_bytes<W: Sink>(sink: &mut W, bytes: &[u8]) -> Result<(), WriteFailed>
     ensures { WritesBytes result (output (W.contents sink.old) [] (W.failed sink.old))
         (output (W.contents sink.new) [] (W.failed sink.new)) bytes.now }

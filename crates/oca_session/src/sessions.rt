@@ -144,8 +144,8 @@ impl Sessions {
         index_of(&self.slots[..self.count], self.recent, peer).is_some()
     }
 
-    /// Moves the table's clock on to `now`, in milliseconds; an earlier moment counts as the present one. Each session
-    /// whose peer was not heard for more than 120,000 ms is then forgotten.
+    /// Moves the table's clock on to `now`, in milliseconds of the caller's clock; an earlier moment counts as the
+    /// present one. Each session whose peer was not heard for more than 120,000 ms is then forgotten.
     ///
     /// Returns the peers that were not heard for more than three of their heartbeats, in order of opening, the
     /// forgotten ones among them. Only the first 16 are returned, which are all if the table has room for at most 16
@@ -168,9 +168,10 @@ impl Sessions {
         peers
     }
 
-    /// Moves the table's clock on to `now`, in milliseconds; an earlier moment counts as the present one. Each session
-    /// whose peer was not heard for more than 120,000 ms is then forgotten. `peers` becomes all peers that were not
-    /// heard for more than three of their heartbeats, in order of opening, the forgotten ones among them.
+    /// Moves the table's clock on to `now`, in milliseconds of the caller's clock; an earlier moment counts as the
+    /// present one. Each session whose peer was not heard for more than 120,000 ms is then forgotten. `peers` becomes
+    /// all peers that were not heard for more than three of their heartbeats, in order of opening, the forgotten ones
+    /// among them.
     pub fn advance_into(&mut self, now: u64, peers: &mut ArrayVec<Peer, MOST_PEERS>)
         ensures lapsed { peers.new.items ≡ lapsed (present self.old now) self.old.sessions }
         ensures staying { self.new ≡ with_moment_and_sessions self.old (present self.old now)
@@ -200,10 +201,10 @@ impl Sessions {
         self.recent = self.recent.min(self.count.saturating_sub(1));
     }
 
-    /// Notes that a peer was heard at the moment `now`, in milliseconds; an earlier moment counts as the present one.
-    /// `Known` if the peer has a session: it then counts as heard now. `Opened` if a session was opened for it, the
-    /// last in order, with an empty window and a heartbeat of 5,000 ms. `NoRoom` if the table has no room for another
-    /// session: then only the present moment is changed.
+    /// Notes that a peer was heard at the moment `now`, in milliseconds of the caller's clock; an earlier moment counts
+    /// as the present one. `Known` if the peer has a session: it then counts as heard now. `Opened` if a session was
+    /// opened for it, the last in order, with an empty window and a heartbeat of 5,000 ms. `NoRoom` if the table has no
+    /// room for another session: then only the present moment is changed.
     pub fn hear(&mut self, peer: Peer, now: u64) -> Admission
         ensures hears { Hears peer (present self.old now) self.old result self.new }
         ensures known { IsKnownAfter result peer self.new.sessions }
@@ -251,16 +252,17 @@ impl Sessions {
         self.moment
     }
 
-    /// The first moment, in milliseconds, at which a session is forgotten if no peer is heard before. `None` if there
-    /// is no session, or that moment lies beyond 64 bits.
+    /// The first moment, in milliseconds of the caller's clock, at which a session is forgotten if no peer is heard
+    /// before. `None` if there is no session, or that moment lies beyond 64 bits.
     pub fn forgotten_from(&self) -> Option<u64>
         ensures { HoldsFrom (forgets self.now.sessions) result }
     {
         forgotten_from(&self.slots[..self.count])
     }
 
-    /// The first moment, in milliseconds, at which the peer was silent for more than three of its heartbeats, if it is
-    /// not heard before. `None` if the peer has no session, or that moment lies beyond 64 bits.
+    /// The first moment, in milliseconds of the caller's clock, at which the peer was silent for more than three of its
+    /// heartbeats, if it is not heard before. It may be past. `None` if the peer has no session, or that moment lies
+    /// beyond 64 bits.
     pub fn lapsed_from(&self, peer: Peer) -> Option<u64>
         ensures { HoldsFrom (lapses peer self.now.sessions) result }
     {

@@ -101,7 +101,7 @@ impl Slot {
     }
 
     /// The latest moment, in milliseconds, at which the peer is not yet silent for more than three of its heartbeats,
-    /// if it is not heard before.
+    /// if it is not heard before. It may be past.
     pub fn quiet_until(&self) -> u64
         ensures { result ≡ latest_of self.now }
     {
@@ -115,16 +115,16 @@ impl Slot {
         moment.saturating_sub(self.heard) <= LONGEST_SILENCE
     }
 
-    /// The first moment, in milliseconds, at which the peer was silent for more than three of its heartbeats. `None` if
-    /// that moment lies beyond 64 bits.
+    /// The first moment, in milliseconds, at which the peer was silent for more than three of its heartbeats, if it is
+    /// not heard before. It may be past. `None` if that moment lies beyond 64 bits.
     pub fn lapsed_from(&self) -> Option<u64>
         ensures { HoldsFrom (λ t. is_lapsed t self.now) result }
     {
         passes_from(self.heard, 3 * u64::from(self.heartbeat))
     }
 
-    /// The first moment, in milliseconds, at which the peer was silent for more than 120,000 ms. `None` if that moment
-    /// lies beyond 64 bits.
+    /// The first moment, in milliseconds, at which the peer was silent for more than 120,000 ms, if it is not heard
+    /// before. It may be past. `None` if that moment lies beyond 64 bits.
     pub fn forgotten_from(&self) -> Option<u64>
         ensures { HoldsFrom (λ t. not (stays t self.now)) result }
     {
@@ -138,7 +138,7 @@ impl Slot {
         self.heard = moment;
     }
 
-    /// Sets the heartbeat, in milliseconds: to 250 if it is below that, and to 30,000 if it is above that.
+    /// Sets the heartbeat to `ms` milliseconds: to 250 if `ms` is below that, and to 30,000 if `ms` is above that.
     pub fn set_heartbeat(&mut self, ms: u64)
         ensures { self.new ≡ with_heartbeat ms self.old }
     {

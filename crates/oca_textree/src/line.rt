@@ -130,10 +130,10 @@ pub fn behind<'a>(word: &[u8], line: &'a [u8]) -> Option<&'a [u8]>
     }
 }
 
-/// Adds the object that a line lists, after all others. An empty line and one that begins with `#` add nothing. The
-/// builder must have room for 4,096 objects (a premise). Refusal, which leaves the builder unchanged: the fault of the
-/// first field, from the left, that can't be read. If all can be read, the reason for which the tree refuses the
-/// object. [`ObjectFault`] says when each comes.
+/// Adds the object that a line lists, after all others ([`crate`] describes such a line). An empty line and one that
+/// begins with `#` add nothing. The builder must have room for 4,096 objects (a premise). Refusal, which leaves the
+/// builder unchanged: the fault of the first field, from the left, that can't be read. If all can be read, the reason
+/// for which the tree refuses the object. [`ObjectFault`] says when each comes.
 #[tactic(auto, unfolding(crate::specs::Stored::after_line))]
 pub fn add_line(builder: &mut TreeBuilder, line: &[u8]) -> Result<(), ObjectFault>
     requires { builder.old.room ≡ 4096 }

@@ -126,10 +126,11 @@ fn positions<'a>(
     }
 }
 
-/// Reads the end of a line: whether the object is enabled (`on` or `off`), and its label. Refusals, the first from the
-/// left: `Form` if no field is left, or a quote is not closed or is followed by anything but a space. `Value` if the
-/// word is neither `on` nor `off`. `Text` if the label is no text of at most 64 bytes. `Form` also if anything is left
-/// after the label.
+/// Reads the two last fields of a line: whether the object is enabled (`on` or `off`), and its label. `rest` is what is
+/// left of the line; it is `None` if no field is left. Refusals, the first from the left: `Form` if no field is left,
+/// or a quote is not closed, or not followed by a space or the line's end. `Value` if the word is neither `on` nor
+/// `off`. `Text` if the label is no text of at most 64 bytes ([`text_at`](crate::quoted::text_at)). `Form` also if
+/// anything is left after the label.
 #[tactic(auto, unfolding(crate::specs::Stored::start_at))]
 pub fn start_of(rest: Option<&[u8]>) -> Result<(bool, Text), ObjectFault>
     ensures { result ≡ start_at (option_copied rest.entry) }
@@ -291,10 +292,10 @@ fn add_of_class(
     add(builder, container, ono, kind, None, rest)
 }
 
-/// Adds the object that the fields of a line list, with all that was stored of it, after all others. The builder must
-/// have room for 4,096 objects (a premise). Refusal, which leaves the builder unchanged: the fault of the first field,
-/// from the left, that can't be read. If all can be read, the reason for which the tree refuses the object.
-/// [`ObjectFault`] says when each comes.
+/// Adds the object that the fields of a line list, with all that was stored of it, after all others ([`crate`]
+/// describes these fields). The builder must have room for 4,096 objects (a premise). Refusal, which leaves the builder
+/// unchanged: the fault of the first field, from the left, that can't be read. If all can be read, the reason for which
+/// the tree refuses the object. [`ObjectFault`] says when each comes.
 #[tactic(auto, using(crate::proofs::OrderLemmas::placed_rules))]
 pub fn add_stored(builder: &mut TreeBuilder, line: &[u8]) -> Result<(), ObjectFault>
     requires { builder.old.room ≡ 4096 }

@@ -58,7 +58,7 @@ fn polarity(word: &[u8]) -> Option<PolarityState>
     }
 }
 
-/// The Boolean for which a word stands: `on` is true, `off` is false. `None` for any other word.
+/// The Boolean that a word means: `on` is true, `off` is false. `None` for any other word.
 #[tactic(auto, unfolding(crate::specs::Lines::one_of))]
 pub fn truth(word: &[u8]) -> Option<bool>
     ensures { result ≡ one_of (codes "on") true (codes "off") false word.now }
@@ -190,13 +190,13 @@ fn place(name: &[u8], names: &[&str]) -> Option<u16>
     }
 }
 
-/// Reads the positions of a switch: their names, which are put into `names`, and the name of the current position.
-/// Returns the index of the current position, counted from 0, and the rest of the line. `names` must be empty before (a
-/// premise).
+/// Reads the two fields of a switch's positions. The first has their names, separated by commas, which are put into
+/// `names`; the second is the name of the current position. Returns the index of the current position, counted from 0,
+/// and the rest of the line. `rest` is `None` if no field is left. `names` must be empty before (a premise).
 ///
-/// Refusals, the first from the left: `Form` if no field is left, or a quote is not closed or is followed by anything
-/// but a space. `Text` if a name is no text of a position, `Range` at a seventeenth name. `Value` if the current
-/// position is none of the names. After a refusal discard `names`.
+/// Refusals, the first from the left: `Form` if a field is missing, or a quote is not closed, or not followed by a
+/// space or the line's end. `Text` if a name is not UTF-8 or has a character that is printed as an escape. `Range` at a
+/// seventeenth name. `Value` if the current position is none of the names. After a refusal discard `names`.
 #[tactic(auto, unfolding(crate::specs::Lines::positions_of))]
 pub fn positions<'a>(
     rest: Option<&'a [u8]>,
@@ -363,10 +363,13 @@ fn uint64_at(rest: Option<&[u8]>) -> Read<'_>
     Ok((kind, read.rest))
 }
 
-/// Reads the value of an object of this class, with its limits for an integer, and returns it and the rest of the line.
-/// A block has no value: nothing is read. The class must not be that of a switch (a premise). Refusals, the first from
-/// the left: `Form` if no field is left, or a quote is not closed or is followed by anything but a space. `Value` if
-/// the word is none of the class. `Number` if an integer is not of its form, or not within the class's type.
+/// Reads the value of an object of this class from the next fields of a line; returns it and the rest of the line.
+/// `rest` is `None` if no field is left. The value of a mute, a polarity or a Boolean is one word. An integer is three
+/// fields: the least, the greatest and the setting. Whether these three fit one another is not checked here. A block
+/// has no value: nothing is read. The class must not be that of a switch (a premise). The first fault from the left is
+/// returned. `Form` if a field is missing, or a quote is not closed, or not followed by a space or the line's end.
+/// `Value` if the word is not one of the class's words. `Number` if a field is not a decimal integer of at most 20
+/// digits, with `-` before it if it is negative, or is outside the class's type.
 #[tactic(auto, unfolding(crate::specs::Lines::value_at, oca_tree::specs::Building::value_of))]
 pub fn kind_at(class: Class, rest: Option<&[u8]>) -> Read<'_>
     requires { class ≡ Class.Switch → ⊥ }

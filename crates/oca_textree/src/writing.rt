@@ -532,8 +532,8 @@ fn print_line<W: Sink>(
 
 /// Prints a tree as a text that [`tree_from_text`](crate::tree_from_text) reads: one line for each object, in order.
 /// Locks are not written, nor whose hardware refuses. The printer may still hold a part of the text: [`Printer::flush`]
-/// writes it. Refusal: `WriteFailed` if a write failed. Then a first part of what the printer held and of the text was
-/// written, and the rest is lost.
+/// writes it. Refusal: `WriteFailed` if a write failed. Then only the beginning of what the printer held and of the
+/// text may have been written, and the rest is lost.
 #[tactic(auto, unfolding(crate::specs::Written::text_of))]
 pub fn print_tree<W: Sink>(tree: &Tree, printer: &mut Printer<W>) -> Result<(), WriteFailed>
     ensures { Prints result printer.old printer.new (text_of tree.now) }

@@ -477,9 +477,10 @@ impl TreeBuilder {
         TreeBuilder::holding(alloc, room, root_object())
     }
 
-    /// A builder as [`with_room`](TreeBuilder::with_room) makes it, whose root has the label that was stored and is
-    /// enabled or disabled as stored. Refusals, the first that applies: `BadLabel` if the label has more than 64 bytes.
-    /// `BadFlags` if there are any flags of positions, since a block has none. `Add(NoMemory)` if memory was refused.
+    /// A builder as [`with_room`](TreeBuilder::with_room) makes it, with what was stored of the root (`start`): its
+    /// label, and whether it is enabled. Refusals, the first that applies: `BadLabel` if the label has more than 64
+    /// bytes. `BadFlags` if there are any flags of positions, since a block has none. `Add(NoMemory)` if memory was
+    /// refused.
     pub fn with_root(
         alloc: Global,
         room: Room,
@@ -506,7 +507,8 @@ impl TreeBuilder {
         Ok(TreeBuilder { objects })
     }
 
-    /// Adds an object after all others: enabled, unlocked and with an empty label. The call takes no memory.
+    /// Adds the object that `spec` describes, with the number `ono`, to the block `container`, after all others. It is
+    /// enabled and unlocked, and has an empty label. The call takes no memory.
     ///
     /// Refusals, the first of [`AddFault`] that applies; the builder is then unchanged. `Full` if there is no room for
     /// another object, `Reserved` if the number is below 4096, `Taken` if another object has the number. `NoSuchBlock`
@@ -522,8 +524,9 @@ impl TreeBuilder {
         Ok(())
     }
 
-    /// Adds an object after all others, with what was stored of it: its label, whether it is enabled, and which of its
-    /// positions are. The object is unlocked. The call takes no memory.
+    /// Adds the object that `spec` describes, with the number `ono`, to the block `container`, after all others.
+    /// `start` is what was stored of it: its label, whether it is enabled, and of a switch which positions are enabled.
+    /// The object is unlocked. The call takes no memory.
     ///
     /// Refusals, the first that applies; the builder is then unchanged: `Add` with the reason for which
     /// [`add`](TreeBuilder::add) refuses the object. `BadLabel` if the label has more than 64 bytes. `BadFlags` if

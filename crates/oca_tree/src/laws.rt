@@ -10,7 +10,7 @@ ghost use Rattle.oca_tree.specs.TypedLaws.{RefusedKeepsTree, SettingsAreRead};
 use crate::tree::Tree;
 
 /// Law: the descendants of a block, which GetMembersRecursive lists (AES70-2), are exactly the objects whose chain of
-/// containers leads to that block. The law holds of every tree. The function does nothing at run time.
+/// containers leads to that block. The law holds for every tree. The function does nothing at run time.
 pub fn law_of_descendants(tree: &Tree)
     ensures { DescendantsFollowChains tree.now }
 {

@@ -204,10 +204,10 @@ impl Tree {
         unlock(&mut self.objects, &mut self.marks, ono)
     }
 
-    /// Sets, at the local front panel, whether the hardware of the object with this number refuses to be changed
-    /// (*profile*). If it does, each command that would write to the object, and that no other status refuses, is
-    /// answered `ProcessingFailed` and changes nothing. Refusal: `NoObject` if no object has the number; then nothing
-    /// is changed.
+    /// Sets, at the local front panel, whether the hardware of the object with this number refuses changes (`failing`;
+    /// *profile*). At first it does not. While it does, a command that writes to the object is answered
+    /// `ProcessingFailed` and changes nothing; if the command is refused for another reason too, the answer names that
+    /// reason. Refusal: `NoObject` if no object has the number; then nothing is changed.
     pub fn set_failing(&mut self, ono: Ono, failing: bool) -> Result<(), FrontFault>
         ensures tree { self.new ≡ after_change self.old ono.0 (ToFailing failing) }
         ensures refused { OnErr result (self.new ≡ self.old) }
@@ -284,8 +284,8 @@ impl Tree {
         object.lock
     }
 
-    /// Whether the hardware of the object with this number refuses to be changed, as [`set_failing`](Tree::set_failing)
-    /// set it last; `false` if it was never set. `None` if no object has the number.
+    /// Whether the hardware of the object with this number refuses changes, as [`set_failing`](Tree::set_failing) last
+    /// set it; `false` before the first such call. `None` if no object has the number.
     pub fn is_failing(&self, ono: Ono) -> Option<bool>
         ensures { result ≡ failing_at self.now ono.0 }
     {
@@ -317,7 +317,7 @@ impl Tree {
 
     /// What [`TreeBuilder::add_with`](crate::TreeBuilder::add_with) and [`with_root`](crate::TreeBuilder::with_root)
     /// restore of the object with this number: its label, whether it is enabled, and of a switch which of its positions
-    /// are. `None` if no object has the number.
+    /// are enabled. `None` if no object has the number.
     pub fn start_of(&self, ono: Ono) -> Option<Start<'_>>
         ensures { option_map stored_in result ≡ stored_at self.now ono.0 }
     {

@@ -85,8 +85,8 @@ impl<'a> Cursor<'a> {
         Ok(F::from_front(front))
     }
 
-    /// Takes a Uint8 (AES70-3): the cursor then stands after it. Refusal: `Short` if fewer than 1 byte is left; the
-    /// cursor is then unchanged.
+    /// Takes a Uint8 (AES70-3): the cursor then stands after it. Refusal: `Short` if no byte is left; the cursor is
+    /// then unchanged.
     pub fn take_u8(&mut self) -> Result<u8, ReadFault>
         ensures found { IfOk result (λ v. Takes (IsUnsignedEncoding w8) v (bytes_left self.old) (bytes_left self.new)) }
         ensures only { TakesEach (IsUnsignedEncoding w8) (bytes_left self.old) result (bytes_left self.new) }
@@ -136,8 +136,8 @@ impl<'a> Cursor<'a> {
         self.take::<u64>()
     }
 
-    /// Takes an Int8 (AES70-3): the cursor then stands after it. Refusal: `Short` if fewer than 1 byte is left; the
-    /// cursor is then unchanged.
+    /// Takes an Int8 (AES70-3): the cursor then stands after it. Refusal: `Short` if no byte is left; the cursor is
+    /// then unchanged.
     pub fn take_i8(&mut self) -> Result<i8, ReadFault>
         ensures found { IfOk result (λ v. Takes (IsSignedEncoding w8) v (bytes_left self.old) (bytes_left self.new)) }
         ensures only { TakesEach (IsSignedEncoding w8) (bytes_left self.old) result (bytes_left self.new) }

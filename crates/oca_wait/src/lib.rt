@@ -29,8 +29,8 @@ pub struct Ready {
 /// null device always is. If a signal ends the wait early, neither is ready. More than 2,147,483,647 ms (some 24 days)
 /// counts as 2,147,483,647 ms.
 ///
-/// `None` stands for a descriptor that is not waited for; if both are `None`, the call waits for the whole time.
-/// Refusal: the system's error, for example if the limit on open descriptors (RLIMIT_NOFILE) is below 2.
+/// A descriptor that is `None` is not waited for; if both are `None`, the call waits for the whole time. Refusal: the
+/// system's error, for example if the limit on open descriptors (RLIMIT_NOFILE) is below 2.
 pub fn wait_for(input: Option<RawFd>, beside: Option<RawFd>, milliseconds: u64) -> io::Result<Ready>
     ensures input { IfOk result (λ ready. input ≡ None → ready.input ≡ false) }
     ensures beside { IfOk result (λ ready. beside ≡ None → ready.beside ≡ false) }

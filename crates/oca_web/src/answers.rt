@@ -222,9 +222,9 @@ fn put_tree(alloc: Global, out: &mut Writer, view: &View, terms: &Terms) -> Resu
     out.end_object()
 }
 
-/// The answer to `/tree`: a JSON text with the walk, the device, the units of values, all objects and this run. The
-/// objects stand in the order in which they were found, a block before its members. Refusal: `AllocError`, if memory
-/// was refused.
+/// The answer to `/tree`, from what is known (`view`) and the terms of the service (`terms`): a JSON text with the
+/// walk, the device, the units of values, all objects and this run. The objects stand in the order in which they were
+/// found, a block before its members. Refusal: `AllocError`, if memory was refused.
 #[tactic(auto, using(crate::proofs::ResultLemmas::tree_text))]
 pub fn tree_json(alloc: Global, view: &View, terms: &Terms) -> Result<Vec<u8>, AllocError>
     ensures { IfOk result (λ v. EndsWithRun terms.now.run v.items) }
@@ -500,8 +500,9 @@ fn put_values(
     out.end_object()
 }
 
-/// The answer to `/values`: a JSON text with how the link is, and how the last orders ended. It also has the objects
-/// that changed after the change that the page knows (`told`). Refusal: `AllocError`, if memory was refused.
+/// The answer to `/values`, from what is known (`view`): a JSON text with how the link is, and how the last orders
+/// ended. It also has the objects that changed after the change that the page knows already; `told` says which change
+/// that is. Refusal: `AllocError`, if memory was refused.
 #[tactic(auto, using(crate::proofs::ResultLemmas::results_text))]
 pub fn values_json(alloc: Global, view: &View, told: &Told<'_>) -> Result<Vec<u8>, AllocError>
     ensures { IfOk result (λ v. EndsWithResults told.now.run told.now.ticket view.now.orders.results v.items) }
@@ -528,8 +529,9 @@ fn put_tickets(out: &mut Writer, ticket: u64, wanted: &[Wanted]) -> Result<(), A
     }
 }
 
-/// The answer to `/orders`: a JSON text with a ticket for each of these orders, from `first` on. All tickets must be
-/// below 2^64 (a premise). Refusal: `AllocError`, if memory was refused.
+/// The answer to `/orders`: a JSON text with a ticket for each of the orders `wanted`. The first has the ticket
+/// `first`, and each other one the next number. All tickets must be below 2^64 (a premise). Refusal: `AllocError`, if
+/// memory was refused.
 #[tactic(auto, using(crate::proofs::TicketLemmas::tickets_text))]
 pub fn tickets_json(alloc: Global, first: u64, wanted: &[Wanted]) -> Result<Vec<u8>, AllocError>
     requires { first + length wanted.now ≤ 18446744073709551615 }

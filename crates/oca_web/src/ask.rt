@@ -43,8 +43,8 @@ impl Ask {
         }
     }
 
-    /// The method by which this question is asked. The value is asked by the get method of a setting, whichever class
-    /// the object has.
+    /// The method by which this question is asked. For the value it is `GetSetting`, whatever the object's class: the
+    /// answers of all get methods of a value are read alike.
     pub fn method(self) -> Method
         ensures { result ≡ method_of_ask self }
     {

@@ -19,8 +19,9 @@ pub fn leaves_half(lowest: Option<u32>, next: u32, span: u8) -> bool
     }
 }
 
-/// Asks an object of this class one question, unless `may` is false, and returns the handle of the command. The command
-/// only reads. `None` if `may` is false, or the panel refuses the command: then nothing is changed or sent.
+/// Asks the object `ono` of this class one question, and returns the handle of the command, which only reads. `class`
+/// is `None` if it is not of this profile. `None` if `may` is false, or the panel refuses the command: then nothing is
+/// changed or sent.
 pub fn ask_one<E: End>(
     panel: &mut Panel<E>,
     ono: Ono,

@@ -298,9 +298,9 @@ impl Inventory {
         }
     }
 
-    /// Notes the answer to a question that was submitted at `moment`, in milliseconds of the program's clock, or later.
-    /// The answer to a question of an earlier walk changes nothing. Refusal: `NoMemory`, if memory was refused; what is
-    /// known may then lack something.
+    /// Notes the answer to a question, or why there is none. The question was submitted at the moment `moment`, in
+    /// milliseconds of the program's clock, or later. The answer to a question of an earlier walk changes nothing.
+    /// Refusal: `NoMemory`, if memory was refused; what is known may then lack something.
     #[tactic(auto, using(crate::proofs::AgeLemmas::moment_rules))]
     pub fn learn(
         &mut self,
@@ -470,10 +470,11 @@ impl Inventory {
         }
     }
 
-    /// Notes how an order ended: whose lock is on its object, and what the object is set to. The object's value, if it
-    /// has one, is asked again; after an order for a label, the label is. An answer to the same question that is still
-    /// in flight is not used, since it may be older than the order. An order for an object that is not known changes
-    /// nothing. Refusal: `NoMemory`, if memory was refused; the object may then not be asked again.
+    /// Notes how an order ended (`done`): whose lock is on its object, and what the object is set to. Then the device
+    /// is asked again: for the object's label after an order for a label, otherwise for its value, if it has one. An
+    /// answer to the same question that is still in flight is not used, since it may be older than the order. An order
+    /// for an object that is not known changes nothing. Refusal: `NoMemory`, if memory was refused; the object may then
+    /// not be asked again.
     pub fn learn_order(&mut self, order: Order, done: Result<(), Trouble>) -> Result<(), NoMemory>
         ensures { KeepsWalk self.old self.new }
     {

@@ -33,14 +33,17 @@ fn whole(status: StatusCode) -> Refusal
     Refusal { status, at: None }
 }
 
-/// Reads the orders of a body in JSON, 1 to 64 of them. Returns them with the last moment at which they may be
-/// submitted, in milliseconds of the program's clock. The moment is `None` if the body gives none. Nothing is ordered
-/// yet.
+/// Reads the orders of a body in JSON. The body is an object with `run`, the number of a run of the program as a text,
+/// and `orders`, a list of 1 to 64 orders; it may also have `before`, the last moment. Each order has the number `ono`
+/// of its object, and one of `set` with a word, `label` with a text, `lock` with true and `unlock` with true. `known`
+/// is what is known of the device, and `run` is the number of this run of the program. Returns the orders with the last
+/// moment at which they may be submitted, in milliseconds of the program's clock. The moment is `None` if the body
+/// gives none. Nothing is ordered yet.
 ///
-/// A refusal has the status to answer with, and the index of the order that is the reason, if one is. The status is 400
-/// if the body is not JSON of this form, or names no run of the program. The status is 409 if the body names another
-/// run than `run`. The status is 404 if an order's object is not known. The status is 422 if an order's word is no
-/// value of its object, or its label is too long or has a control character. The status is 503 if memory was refused
+/// A refusal has the status to answer with, for the first fault that is found, and the index of the order that has it,
+/// if one has. The status is 400 if the body or an order does not have this form. The status is 409 if the body names
+/// another run than `run`. The status is 404 if an order's object is not known. The status is 422 if an order's word is
+/// no value of its object, or its label is too long or has a control character. The status is 503 if memory was refused
 /// for the orders.
 pub fn orders_in(
     alloc: Global,

@@ -33,7 +33,7 @@ impl Objects {
     ghost use Rattle.std.specs.Prelude.{slice_get};
     ghost use Rattle.std.specs.Option.{option_map};
 
-    /// A list without objects, and without a change. The call takes no memory yet.
+    /// A list without objects, whose last change has the number 0. The call takes no memory yet.
     pub fn new(alloc: Global) -> Objects
         ensures { result ≡ record { list = []; changes = 0 } }
     {

@@ -60,9 +60,9 @@ impl Orders {
         self.tickets.saturating_add(1)
     }
 
-    /// Adds an order after all others and returns its ticket. `last` is the moment, in milliseconds of the program's
-    /// clock, after which it must not be submitted. `None` if 256 orders wait already, or no ticket is left below 2^64:
-    /// then nothing is changed.
+    /// Adds an order to do `action` with the object `ono`, after all others, and returns its ticket. `last` is the
+    /// moment, in milliseconds of the program's clock, after which it must not be submitted. `None` if 256 orders wait
+    /// already, or no ticket is left below 2^64: then nothing is changed.
     pub fn add(&mut self, ono: Ono, action: Action, last: u64) -> Option<u64>
         ensures { AddsTicket ono action last self.old result self.new }
     {
@@ -89,8 +89,8 @@ impl Orders {
             && (count as u64) < u64::MAX - self.tickets
     }
 
-    /// Adds these orders after all others, in their order, and returns the ticket of the first; the others have the
-    /// tickets after it. `last` is the moment, in milliseconds of the program's clock, after which they must not be
+    /// Adds the orders `wanted` after all others, in their order, and returns the ticket of the first; the others have
+    /// the tickets after it. `last` is the moment, in milliseconds of the program's clock, after which they must not be
     /// submitted. `None` if there is no room for all of them ([`has_room`](Orders::has_room)): then nothing is changed.
     pub fn add_all(&mut self, wanted: &[Wanted], last: u64) -> Option<u64>
         ensures { AddsAll wanted.now last self.old result self.new }

@@ -104,8 +104,8 @@ impl Poll {
     ghost use Rattle.std.specs.Option.{option_map};
     ghost use Rattle.oca_web.specs.Polling.{OpensPage, ReadsAgain, has_open_page, page_asked, pause_of, shows};
 
-    /// A poll without a round and without a page. `now` is the present moment, in milliseconds of the program's clock.
-    /// The first round begins 25 ms later at the earliest.
+    /// A poll of which no round was begun, and for which no page is open. `now` is the present moment, in milliseconds
+    /// of the program's clock. The first round begins 25 ms later at the earliest.
     pub fn new(now: u64) -> Poll {
         Poll {
             pages: ArrayVec::new(),
@@ -118,8 +118,8 @@ impl Poll {
     }
 
     /// Notes that a page asked for values at the moment `now`, in milliseconds of the program's clock. The page shows
-    /// `visible` objects (at most 512) from the place `first` on, and counts as open for 2,500 ms. At most 128 pages
-    /// are kept: if there are more, the one that asked longest ago is replaced.
+    /// `visible` objects (at most 512) from the place `first` on, which is counted from 0, and counts as open for 2,500
+    /// ms. At most 128 pages are kept: if there are more, the one that asked longest ago is replaced.
     pub fn open(&mut self, now: u64, first: usize, visible: usize)
         ensures { OpensPage now (page_asked now first visible) self.old.pages.items self.new.pages.items }
     {

@@ -103,8 +103,8 @@ pub fn settle_orders<E: End>(orders: &mut Orders, panel: &mut Panel<E>) -> Array
     all
 }
 
-/// Returns whether the link is lost or late. If it is, the orders in flight are noted as lost, which may have been
-/// carried out. Those that wait are noted as not sent. If it is not, nothing is changed.
+/// Returns whether the link is lost or late. If it is, the orders in flight are noted as lost (they may have been
+/// carried out), and those that wait as not sent. If it is not, nothing is changed.
 pub fn lose_orders<E: End>(orders: &mut Orders, panel: &Panel<E>) -> bool
     ensures { LosesOrders result panel.now orders.old orders.new }
 {

@@ -223,7 +223,8 @@ impl View {
         self.ahead
     }
 
-    /// Notes that a page asked for values at the present moment, and shows `visible` objects from the place `first` on.
+    /// Notes that a page asked for values at the present moment, and shows `visible` objects (at most 512) from the
+    /// place `first` on, which is counted from 0.
     pub fn open(&mut self, first: usize, visible: usize)
         ensures { self.new.orders ≡ self.old.orders }
     {
@@ -259,9 +260,8 @@ impl View {
         self.inventory.class_of(ono).is_some()
     }
 
-    /// The value for which a word stands, of the object with this number. Refusals: `NoObject` if no object with this
-    /// number is known. `NoValue` if its class is unknown or has no value, or the word stands for no value of the
-    /// class.
+    /// The value that a word means for the object with this number. Refusals: `NoObject` if no object with this number
+    /// is known. `NoValue` if its class is unknown or has no value, or the word means no value of the class.
     pub fn value_named(&self, ono: Ono, word: &str) -> Result<Value, NoOrder>
         ensures { IfOk result (IsForWord word.now) }
     {
@@ -279,9 +279,9 @@ impl View {
         self.orders.next_ticket()
     }
 
-    /// Adds an order after all others and returns its ticket. `last` is the moment, in milliseconds of the program's
-    /// clock, after which it must not be submitted. `None` if 256 orders wait already, or no ticket is left below 2^64:
-    /// then nothing is changed.
+    /// Adds an order to do `action` with the object `ono`, after all others, and returns its ticket. `last` is the
+    /// moment, in milliseconds of the program's clock, after which it must not be submitted. `None` if 256 orders wait
+    /// already, or no ticket is left below 2^64: then nothing is changed.
     pub fn order(&mut self, ono: Ono, action: Action, last: u64) -> Option<u64>
         ensures orders { AddsTicket ono action last self.old.orders result self.new.orders }
         ensures rest { self.new ≡ record self.old { orders = self.new.orders } }
@@ -297,8 +297,8 @@ impl View {
         self.orders.has_room(count)
     }
 
-    /// Adds these orders after all others, in their order, and returns the ticket of the first; the others have the
-    /// tickets after it. `last` is the moment, in milliseconds of the program's clock, after which they must not be
+    /// Adds the orders `wanted` after all others, in their order, and returns the ticket of the first; the others have
+    /// the tickets after it. `last` is the moment, in milliseconds of the program's clock, after which they must not be
     /// submitted. `None` if there is no room for all of them ([`has_room`](View::has_room)): then nothing is changed.
     pub fn order_all(&mut self, wanted: &[Wanted], last: u64) -> Option<u64>
         ensures orders { AddsAll wanted.now last self.old.orders result self.new.orders }

@@ -9,7 +9,7 @@ pub trait BoundEnd: End {
     /// The address and the port at which the end is bound.
     fn local(&self) -> Peer;
 
-    /// Why the last send that failed did so. `None` if no send has failed.
+    /// The reason of the last send that failed. `None` if no send has failed.
     fn last_failed_send(&self) -> Option<io::Error>;
 }
 

@@ -23,8 +23,8 @@ pub fn outcome_status(outcome: &Outcome) -> u8
     }
 }
 
-/// Prints the outcome of a command as one line. Refusal: `WriteFailed` if a write failed; then a first part of the line
-/// was written.
+/// Prints the outcome of a command as one line. Refusal: `WriteFailed` if a write failed; then only the beginning of
+/// the line may have been written.
 pub fn print_outcome<W: Sink>(
     outcome: &Outcome,
     printer: &mut Printer<W>,

@@ -21,9 +21,9 @@ use std::alloc::Global;
 /// How many bytes of the input are read at a time.
 const PIECE: usize = 4096;
 
-/// Locks the objects one after another, keeps those locks until the input ends, and then releases them. Prints the
-/// outcome of each lock, and later of each release. Returns the exit status, the more severe of both. If no object was
-/// locked, the input is not read.
+/// Locks the objects `onos` one after another, keeps those locks until the input ends, and then releases them. Prints
+/// the outcome of each lock, and later of each release. Returns the exit status, the more severe of both. If no object
+/// was locked, the input is not read.
 ///
 /// Failures: `Write` if a write failed, `NoMemory` if there was no memory to list the objects. Locks that are held then
 /// are not released: the device releases them once it does not hear this program for long enough.

@@ -36,8 +36,8 @@ pub enum ObjectLine {
 }
 
 /// Prints the line of an object, and writes all that the printer holds. Returns the exit status for what the line
-/// shows: 0 for a value or `ok`, otherwise that of [`status_of`]. Refusal: `WriteFailed` if a write failed; then a
-/// first part of the text was written.
+/// shows: 0 for a value or `ok`, otherwise that of [`status_of`]. Refusal: `WriteFailed` if a write failed; then only
+/// the beginning of the text may have been written.
 pub fn report_object<W: Sink>(
     ono: Ono,
     line: &ObjectLine,
@@ -234,8 +234,8 @@ fn object_status(line: &ObjectLine) -> u8
 }
 
 /// The exit status for an object with which something failed. 4 if the device refused, the answer is not readable, or
-/// the object has no value. 2 if a word stands for no value. 3 if the command was not submitted, the link is lost, or
-/// no answer came.
+/// the object has no value. 2 if a word means no value. 3 if the command was not submitted, the link is lost, or no
+/// answer came.
 pub fn status_of(trouble: Trouble) -> u8
     ensures { result ≡ trouble_status trouble }
 {

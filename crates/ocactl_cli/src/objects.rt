@@ -29,9 +29,9 @@ pub struct Pair {
     pub word: Text,
 }
 
-/// Reads the objects one after another, and prints the value of each. Returns the exit status: 0 if all were read, 4 if
-/// an object refused or has no value, 3 if no answer came. Of several it is the most severe ([`max_severity`]).
-/// Refusal: `WriteFailed` if a write failed; the objects whose lines come before were asked.
+/// Reads the objects `onos` one after another, and prints the value of each. Returns the exit status: 0 if all were
+/// read, 4 if an object refused or has no value, 3 if no answer came. Of several it is the most severe
+/// ([`max_severity`]). Refusal: `WriteFailed` if a write failed; the objects whose lines come before were asked.
 pub fn get_all<E: End, W: Sink>(
     panel: &mut Panel<E>,
     onos: &[Ono],
@@ -91,13 +91,13 @@ fn position_of<E: End>(panel: &mut Panel<E>, ono: Ono, position: u16) -> ObjectL
     }
 }
 
-/// Sets the objects, with at most `ahead` commands in flight at once. Prints the outcome of each, in the order of the
-/// pairs. First it looks for the value of each pair. If a word stands for no value of its object, or an object's class
-/// can't be read, nothing is set. Then only the lines of these objects are printed.
+/// Sets the objects to the values of `pairs`, with at most `ahead` commands in flight at once. Prints the outcome of
+/// each, in the order of the pairs. First it looks for the value of each pair. If a word means no value of its object,
+/// or an object's class can't be read, nothing is set. Then only the lines of these objects are printed.
 ///
-/// Returns the exit status: 0 if all were set, 4 if an object refused, 2 if a word stands for no value, 3 if no answer
-/// came. Of several it is the most severe ([`max_severity`]). Failures: `Write` if a write failed; then commands in
-/// flight may be carried out or not. `NoMemory` if memory was refused.
+/// Returns the exit status: 0 if all were set, 4 if an object refused, 2 if a word means no value, 3 if no answer came.
+/// Of several it is the most severe ([`max_severity`]). Failures: `Write` if a write failed; then commands in flight
+/// may be carried out or not. `NoMemory` if memory was refused.
 pub fn set_all<E: End, W: Sink>(
     alloc: Global,
     panel: &mut Panel<E>,
@@ -216,9 +216,9 @@ fn report_missing<W: Sink>(
     })
 }
 
-/// Locks the objects one after another if `locks` is true, otherwise releases their locks, and prints the outcome of
-/// each. An object whose command would be submitted more than 15,000 ms after the command before it is left out: `not
-/// sent`.
+/// Locks the objects `onos` one after another if `locks` is true, otherwise releases their locks, and prints the
+/// outcome of each. An object whose command would be submitted more than 15,000 ms after the command before it is left
+/// out: `not sent`.
 ///
 /// Returns the exit status: 0 if all was done, 4 if an object refused, 3 if no answer came or an object was left out.
 /// Of several it is the most severe ([`max_severity`]). Refusal: `WriteFailed` if a write failed; the objects whose

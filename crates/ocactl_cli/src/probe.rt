@@ -32,8 +32,8 @@ fn echoes<E: End>(panel: &mut Panel<Watched<E>>, device: Peer) -> bool
     panel.end().heard().is_some()
 }
 
-/// If `asks` is true, sends the device up to four keep-alives, and returns whether the device was heard. `false` if it
-/// was not. If `asks` is false, nothing is sent, and the result is `false`.
+/// If `asks` is true, sends the device up to four keep-alives over the panel's end, and returns whether the device was
+/// heard. If `asks` is false, nothing is sent, and the result is `false`.
 #[tactic(auto, using(crate::proofs::BesideLemmas::not_asked))]
 pub fn is_there_where<E: End>(asks: bool, panel: &mut Panel<Watched<E>>, device: Peer) -> bool
     ensures beside { AsksIfThere device panel.old.end_state panel.new.end_state }

@@ -28,13 +28,14 @@ pub struct LinkStart {
     pub now: u64,
 }
 
-/// Binds the socket for a device, and returns how the link begins and the socket. If the command line gives a port, it
-/// is bound there. Otherwise it is bound at the program's own port, one of two that take turns. If that port is in use,
-/// the system chooses another one. With `own_alone` it does not: then neither of the program's two ports may be in use.
+/// Binds the socket for the device of `reach`, and returns how the link begins and the socket. If the command line
+/// gives a port, the socket is bound there. Otherwise it is bound at the program's own port, one of two that take
+/// turns. If that port is in use, the system chooses another one. If `own_alone` is true, it does not: the call then
+/// fails if one of the program's two ports is in use.
 ///
 /// At the program's own port, unless the command line gives a first handle, the device is first asked whether it
 /// answers commands from there. If it is heard and does not answer, the other of the two ports is used if it can be
-/// bound, and a note is printed.
+/// bound, and a note is printed to `faults`.
 ///
 /// Failures: `Socket` if the system refuses the socket, for example since its port is in use, or has no route to the
 /// device. `NoMemory` if memory was refused. The note has the system's reason and the port, if there is memory for it.

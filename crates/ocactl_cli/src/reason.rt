@@ -55,10 +55,10 @@ fn unheard(is_there: bool, is_refused: bool) -> Reason
     }
 }
 
-/// If a command got no answer over a panel (`silent`), prints what is known of the reason. First comes why a send
-/// failed, if one has. Then comes when the device was last heard, or that the machine has lost the address of the
-/// socket. A device that was never heard is first asked once more by keep-alives. If it is still not heard, its host is
-/// asked whether a program has its port.
+/// If a command got no answer over a panel (`silent`), prints to `faults` what is known of the reason. `reach` has the
+/// address of the device. First comes why a send failed, if one has. Then comes when the device was last heard, or that
+/// the machine has lost the address of the socket. A device that was never heard is first asked once more by
+/// keep-alives. If it is still not heard, its host is asked whether a program has its port.
 ///
 /// If `silent` is false, nothing is done. If there is no memory for a line, it is not printed. A failed write is
 /// ignored.
@@ -104,8 +104,8 @@ fn note_silence<N: Net, E: BoundEnd, F: Sink>(
     print_reason(alloc, device, own, reason, faults);
 }
 
-/// If a command got no answer over an end without a panel (`silent`), prints what is known of the reason, as
-/// [`note_no_answer`] does. The device and its host are not asked. If `silent` is false, nothing is done.
+/// If a command got no answer over an end without a panel (`silent`), prints to `faults` what is known of the reason,
+/// as [`note_no_answer`] does. The device and its host are not asked. If `silent` is false, nothing is done.
 pub fn note_unanswered<N: Net, E: BoundEnd, F: Sink>(
     alloc: Global,
     system: &N,

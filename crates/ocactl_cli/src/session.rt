@@ -113,7 +113,7 @@ impl<E: End> Session<E> {
         self.in_flight.len()
     }
 
-    /// How many commands may still be in flight so that one more can be submitted: 0 to 31.
+    /// How many commands may be in flight at most when one more is submitted: 0 to 31.
     pub fn left(&self) -> usize
         ensures value { result ≡ self.now.ahead - 1 }
         ensures most { result < 32 }
@@ -150,15 +150,16 @@ impl<E: End> Session<E> {
         self.refused = true;
     }
 
-    /// Notes that a read follows, so that no line was read and not yet submitted.
+    /// Notes that a read follows: all lines that were read before were handled.
     pub fn await_line(&mut self)
         ensures { self.new ≡ record self.old { at_hand = None } }
     {
         self.at_hand = None;
     }
 
-    /// Notes that a line is now handled. The first line after a read counts as read at the end's present moment. Each
-    /// other line counts as read then too, or when the line before it was submitted.
+    /// Notes that a line is now handled, and at which moment it counts as read. The first line after a read counts as
+    /// read at the end's present moment. A later line counts as read at the moment of the last submit since that read,
+    /// or together with the first line if nothing was submitted since.
     pub fn take_up(&mut self)
         ensures { TakesUp self.old self.new }
     {
@@ -245,8 +246,9 @@ impl<E: End> Session<E> {
 }
 
 impl<E: BoundEnd> Session<Watched<E>> {
-    /// If the link is lost or late now, prints what is known of the reason, as [`note_no_answer`] does. A device that
-    /// was never heard is first asked whether it is there. If the link is neither, nothing is done.
+    /// If the link is lost or late now, prints to `faults` what is known of the reason, as [`note_no_answer`] does.
+    /// `reach` has the address of the device. A device that was never heard is first asked whether it is there. If the
+    /// link is neither, nothing is done.
     #[tactic(auto, using(crate::proofs::BesideLemmas::still_waits))]
     pub fn note_silence<N: Net, F: Sink>(
         &mut self,

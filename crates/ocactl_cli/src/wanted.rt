@@ -11,11 +11,11 @@ use oca_panel::{Panel, Trouble};
 use oca_script::Escaped;
 use oca_types::{Class, Ono, Text};
 
-/// The value for which a word stands, of the object with this number. The device is asked for the object's class. For a
+/// The value that a word means for the object with this number. The device is asked for the object's class. For a
 /// switch, if the word is no number, it is also asked for the names of the positions. Nothing is set.
 ///
-/// Faults: `NoValue` if the object is a block or its class is not of this profile. `NoSuchWord` if the word stands for
-/// no value of the object. `Refused`, `Unreadable`, `NotSubmitted`, `Lost` and `Unanswered` as in [`Panel::class`].
+/// Faults: `NoValue` if the object is a block or its class is not of this profile. `NoSuchWord` if the word means no
+/// value of the object. `Refused`, `Unreadable`, `NotSubmitted`, `Lost` and `Unanswered` as in [`Panel::class`].
 pub fn wanted<E: End>(panel: &mut Panel<E>, ono: Ono, word: &str) -> Result<Value, Trouble>
     ensures { FindsValue ono.0 word.now panel.old panel.new result }
 {

@@ -59,8 +59,8 @@ pub struct Reach {
 }
 
 impl Reach {
-    /// A new link to the device, made at the moment `now`, in milliseconds. Its first command gets the first handle of
-    /// the command line, or `first_handle` if the command line gives none.
+    /// A new link to the device, made at the moment `now`, in milliseconds of the end's clock. Its first command gets
+    /// the first handle of the command line, or `first_handle` if the command line gives none.
     pub fn link(&self, first_handle: u32, now: u64) -> Link
         ensures { result ≡ new_link
             self.now.device (first_handle_for self.now.first_handle first_handle) now (span_size self.now.span) }

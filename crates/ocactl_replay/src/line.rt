@@ -30,7 +30,7 @@ pub enum Line<'a> {
 }
 
 /// Prints a line, as PROTOCOL.md lists it. A packet that is due must have at most 1,472 bytes (a premise). Refusal:
-/// `WriteFailed` if a write failed; then a first part of the text was written.
+/// `WriteFailed` if a write failed; then only the beginning of the text may have been written.
 pub fn print_line<W: Sink>(printer: &mut Printer<W>, line: Line<'_>) -> Result<(), WriteFailed>
     requires { LineWithin line }
     ensures { Prints result printer.old printer.new (reply_line_text line.entry) }

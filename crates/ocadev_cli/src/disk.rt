@@ -21,7 +21,8 @@ pub trait Disk {
     /// What the disk says of itself.
     ghost state: { Self → DiskState };
 
-    /// Writes the objects to a new file, beside the old one. Err with the system's error if the system refuses.
+    /// Writes the objects to a new file, in the folder of the old one. Err with the system's error if the system
+    /// refuses.
     fn write_new(&mut self, tree: &Tree) -> io::Result<()>
         ensures { Tries WritesNew (is_ok result) tree.now (state self.old) (state self.new) };
 

@@ -100,10 +100,12 @@ fn is_new(turn: &Report) -> bool
     turn.executed != 0 && turn.kept == 0 && turn.old == 0 && turn.reused == 0
 }
 
-/// Prints which objects the commands of a turn's datagram locked and unlocked, and which commands were refused, in
-/// their order. `statuses` are the statuses of its responses. Nothing is printed of commands that ask for no response.
-/// Nothing is printed either if some command of the datagram was not executed in this turn. Refusal: `WriteFailed` if a
-/// write failed; then a first part of the text was written.
+/// Prints to `faults`, for each command of a datagram in order, which object it locked or unlocked, or that it was
+/// refused and with which status. `turn` is the report of the turn that handled the datagram, `bytes` is the datagram,
+/// and `statuses` are the statuses of the responses to it, in order. A command that asks for no response is left out.
+/// If any command of the datagram was not executed in this turn (a duplicate, an old one, one that reuses a handle, or
+/// no room for the sender), nothing at all is printed. Refusal: `WriteFailed` if a write failed; then the beginning of
+/// the text may have been written.
 pub fn print_effects<F: Sink>(
     turn: &Report,
     bytes: &[u8],

@@ -22,7 +22,7 @@ impl<R: Drop> Drop for TextFile<R> {
 }
 
 impl<R: Read> TextFile<R> {
-    /// A source over this reader, without a failed read.
+    /// A source over this reader; no read of it has failed yet.
     pub fn new(reader: R) -> TextFile<R>
         ensures reader { result.reader ≡ reader }
         ensures unfailed { result.reason ≡ None }
@@ -33,7 +33,7 @@ impl<R: Read> TextFile<R> {
         }
     }
 
-    /// Why the last read that failed did so. `None` if no read has failed.
+    /// The reason of the last read that failed. `None` if no read has failed.
     pub fn reason(&self) -> Option<io::Error>
         ensures { result ≡ self.now.reason }
     {

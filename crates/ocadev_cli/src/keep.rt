@@ -30,8 +30,8 @@ use std::{fs, io};
 /// The most bytes of the last line of a file in which a state is kept.
 const END_ROOM: usize = 40;
 
-/// Whether the file in which the state is kept exists. `false` if no file is named. `true` also if the system does not
-/// say: then the file is read, so that its fault is printed.
+/// Whether the file at the path `keep`, in which the state is kept, exists. `false` if `keep` is `None`. `true` also if
+/// the system does not say: then the file is read, so that its fault is printed.
 pub fn is_there<F: Files>(files: &F, keep: Option<&str>) -> bool {
     let Some(path) = keep else {
         return false;
@@ -42,8 +42,9 @@ pub fn is_there<F: Files>(files: &F, keep: Option<&str>) -> bool {
     }
 }
 
-/// Chooses the source of a device's objects at its start. It is the file in which the state is kept, if one is named
-/// and exists. Otherwise it is the source that the options of the command line name (`asked`).
+/// Chooses the source of a device's objects at its start. It is the file at the path `keep`, in which the state is
+/// kept, if one is named and it exists (`there`). Otherwise it is the source that the options of the command line name
+/// (`asked`).
 pub fn starting<'a>(keep: Option<&'a str>, there: bool, asked: Objects<'a>) -> Objects<'a>
     ensures { object_source result ≡ starting_objects (option_copied keep.entry) there (object_source asked.entry) }
 {
@@ -53,10 +54,10 @@ pub fn starting<'a>(keep: Option<&'a str>, there: bool, asked: Objects<'a>) -> O
     }
 }
 
-/// The objects with which a device starts. They come from the file in which its state is kept, if one is named and
-/// exists, otherwise from the source that the options of the command line name (`asked`). `refusal` is why the file
-/// can't be kept ([`claimed`]); its fault must be `Read` (a premise). If it is given and the file exists, the file is
-/// not read, and `refusal` is returned.
+/// The objects with which a device starts. They come from the file at the path `keep`, in which the device's state is
+/// kept, if it exists (`there`). If it does not, or no file is named, they come from the source that the options of the
+/// command line name (`asked`). `refusal` is why the file can't be kept ([`claimed`]); its fault must be `Read` (a
+/// premise). If it is given and the file exists, the file is not read, and `refusal` is returned.
 ///
 /// Failures: `NoMemory` if memory was refused. Of a file `Read` if it can't be read, `TooMuch` if it has more than
 /// 16,777,216 bytes, and `Object` with its first line that has a fault. `Read` also if the file in which the state is
@@ -147,8 +148,9 @@ fn unreadable(alloc: Global, path: &str, reason: io::Error) -> Failure
     }
 }
 
-/// Locks the file FILE in which the state is to be kept for this device alone, if one is named. It locks the file
-/// FILE.lock beside it, until the file returned is dropped. FILE.lock is made if it does not exist.
+/// Locks the file FILE, in which the state is to be kept, for this device alone. `keep` is its path, or `None` if no
+/// file is named. It locks the file FILE.lock beside it, until the file returned is dropped. FILE.lock is made if it
+/// does not exist.
 ///
 /// Returns the lock, or the failure `Read`. It fails if FILE, FILE.new or FILE.lock exists and is no plain file, as a
 /// folder, a FIFO or a symbolic link. It fails if FILE.lock can't be made or locked, if another device has it, or if
@@ -282,8 +284,8 @@ pub struct Keeping<'a> {
 }
 
 impl<'a> Keeping<'a> {
-    /// The state of keeping objects in the file at this path, or of keeping them nowhere if no file is named. The call
-    /// takes the memory for the answers that will wait. Refusal: `NoMemory`, if memory was refused.
+    /// The state of keeping objects in the file at the path `keep`, or of keeping them nowhere if it is `None`. The
+    /// call takes the memory for the answers that will wait. Refusal: `NoMemory`, if memory was refused.
     pub fn new<F: Files>(
         alloc: Global,
         files: &F,
@@ -339,8 +341,8 @@ impl<'d, 'p, 'f, D, F: Sink> Drop for FileStore<'d, 'p, 'f, D, F> {
 }
 
 impl<'d, 'p, 'f, D: Disk, F: Sink> FileStore<'d, 'p, 'f, D, F> {
-    /// A store in the file at this path, on this disk, without a failed store. What is printed while it stores goes to
-    /// `faults`.
+    /// A store in the file at this path, on this disk; no store has failed yet. What is printed while it stores goes to
+    /// `faults`; `tracing` says what that is.
     pub fn new(
         alloc: Global,
         path: &'p str,
@@ -454,9 +456,10 @@ impl<'d, 'p, 'f, D: Disk, F: Sink> Store for FileStore<'d, 'p, 'f, D, F> {
 }
 
 /// Serves an end for `turns` turns (`None`: for 2^64 - 1), or until it is closed, and keeps the objects in a file on a
-/// disk. Returns how often each thing was done. The answers to a datagram that wrote to an object wait until all steps
-/// of [`write_over`](crate::disk::write_over) were done. If a step fails, these answers are dropped, as if the network
-/// had lost them.
+/// disk. Returns how often each thing was done. `outbox` is memory for the answers to one datagram, and `waiting` holds
+/// the answers that wait. The answers to a datagram that wrote to an object wait until all steps of
+/// [`write_over`](crate::disk::write_over) were done. If a step fails, these answers are dropped, as if the network had
+/// lost them.
 pub fn serve_stored<E: End, D: Disk, F: Sink>(
     device: &mut Device,
     end: &mut E,

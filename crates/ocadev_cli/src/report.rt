@@ -21,7 +21,7 @@ const LISTENING_ROOM: usize = 130;
 const COUNT_ROOM: usize = 50;
 
 /// Prints the counts of a report as one line, and writes all that the printer holds. Refusal: `WriteFailed` if a write
-/// failed; then a first part of the text was written.
+/// failed; then only the beginning of the text may have been written.
 pub fn print_report<W: Sink>(report: &Report, printer: &mut Printer<W>) -> Result<(), WriteFailed>
     ensures { WritesOut result printer.old printer.new (report_text report.now) }
 {
@@ -40,9 +40,9 @@ fn put_report<W: Sink>(report: &Report, printer: &mut Printer<W>)
     printer.put(b"\n");
 }
 
-/// Prints the counts of a report so far as one line that begins with `note: `, and writes all that the printer holds.
-/// The line also has the number of sessions (`sessions`) and of held locks (`locks`). Refusal: `WriteFailed` if a write
-/// failed; then a first part of the text was written.
+/// Prints to `faults` the counts of a report so far as one line that begins with `note: `, and writes all that the
+/// printer holds. The line also has the number of sessions (`sessions`) and of held locks (`locks`). Refusal:
+/// `WriteFailed` if a write failed; then only the beginning of the text may have been written.
 pub fn print_stats<F: Sink>(
     report: &Report,
     sessions: u64,
@@ -131,8 +131,8 @@ fn put_calls<W: Sink>(report: &Report, printer: &mut Printer<W>)
     put_count(b" failed-sends ", report.failed_sends, printer);
 }
 
-/// Holds a word and a number in decimal digits, with nothing between them. There must be room for the word and 20 bytes
-/// more (a premise).
+/// Holds in the printer a word and a number (`count`) in decimal digits, with nothing between them, and writes nothing.
+/// There must be room for the word and 20 bytes more (a premise).
 pub fn put_count<W: Sink>(word: &[u8], count: u64, printer: &mut Printer<W>)
     requires { length printer.old.held + length word.now + 20 ≤ 8192 }
     ensures value { printer.new ≡ output printer.old.contents (printer.old.held ++ word.now ++ decimal count)
@@ -143,8 +143,8 @@ pub fn put_count<W: Sink>(word: &[u8], count: u64, printer: &mut Printer<W>)
     printer.put_number(count);
 }
 
-/// Prints the address and port where the device listens as one line, and writes all that the printer holds.
-/// `WriteFailed` if a write failed: then a first part of the text was written.
+/// Prints the address and the port where the device listens (`local`) as one line, and writes all that the printer
+/// holds. `WriteFailed` if a write failed: then only the beginning of the text may have been written.
 pub fn print_listening<W: Sink>(local: Peer, printer: &mut Printer<W>) -> Result<(), WriteFailed>
     ensures { WritesOut result printer.old printer.new (listening_text local) }
 {
@@ -163,7 +163,8 @@ fn put_listening<W: Sink>(local: Peer, printer: &mut Printer<W>)
     printer.put(b"\n");
 }
 
-/// Holds a peer, `a.b.c.d:port` in decimal digits. There must be room for 110 bytes (a premise).
+/// Holds in the printer a peer, `a.b.c.d:port` in decimal digits, and writes nothing. There must be room for 110 bytes
+/// (a premise).
 pub fn put_peer<W: Sink>(peer: Peer, printer: &mut Printer<W>)
     requires { length printer.old.held + 110 ≤ 8192 }
     ensures value { printer.new ≡ output printer.old.contents (printer.old.held ++ peer_text peer) printer.old.failed }
@@ -177,8 +178,8 @@ pub fn put_peer<W: Sink>(peer: Peer, printer: &mut Printer<W>)
     put_count(b":", u64::from(peer.port), printer);
 }
 
-/// Prints a word of at most 30 bytes (a premise) and a number in decimal digits, with nothing between them.
-/// `WriteFailed` if a write failed: then a first part of the text was written.
+/// Prints a word of at most 30 bytes (a premise) and a number (`count`) in decimal digits, with nothing between them.
+/// `WriteFailed` if a write failed: then only the beginning of the text may have been written.
 pub fn print_count<W: Sink>(
     word: &[u8],
     count: u64,

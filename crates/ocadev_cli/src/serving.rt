@@ -20,7 +20,7 @@ use oca_script::{Printer, Sink, WriteFailed};
 const ROUNDS: u64 = 4_294_967_297;
 
 /// Serves an end until it is closed, or for 2^64 - 1 turns, which no run reaches. Returns how often each thing was
-/// done.
+/// done. `outbox` is memory for the answers.
 pub fn serve_on<E: End>(device: &mut Device, end: &mut E, outbox: &mut Outbox) -> Report
     ensures served { ServesOn device.old device.new (E.state end.old) (E.state end.new) result }
     ensures turns { result.turns ≤ last_u64 }
@@ -38,7 +38,8 @@ pub fn serve_on<E: End>(device: &mut Device, end: &mut E, outbox: &mut Outbox) -
     report
 }
 
-/// Serves an end for `turns` turns, or until it is closed. Returns how often each thing was done.
+/// Serves an end for `turns` turns, or until it is closed. Returns how often each thing was done. `outbox` is memory
+/// for the answers.
 pub fn serve_turns<E: End>(
     device: &mut Device,
     end: &mut E,
@@ -55,8 +56,9 @@ pub fn serve_turns<E: End>(
 }
 
 /// Serves an end for `turns` turns (`None`: for 2^64 - 1), or until it is closed, and keeps the objects in a store.
-/// Returns how often each thing was done. The answers to a datagram that wrote to an object wait until the store holds
-/// the objects. If storing fails, they are dropped, as if the network had lost them.
+/// Returns how often each thing was done. `outbox` is memory for the answers to one datagram, and `keeping` holds the
+/// answers that wait. The answers to a datagram that wrote to an object wait until the store holds the objects. If
+/// storing fails, they are dropped, as if the network had lost them.
 pub fn serve_kept<E: End, S: Store>(
     device: &mut Device,
     end: &mut E,
@@ -162,8 +164,9 @@ impl Tracing {
     }
 }
 
-/// Serves an end for `turns` turns, or until it is closed, and prints a line for each datagram and the report so far,
-/// as `tracing` says. Returns how often each thing was done. A failed write of these lines is ignored.
+/// Serves an end for `turns` turns, or until it is closed, and prints to `faults` a line for each datagram and the
+/// report so far, as `tracing` says. Returns how often each thing was done. `outbox` is memory for the answers. A
+/// failed write of these lines is ignored.
 pub fn serve_traced<E: End, F: Sink>(
     device: &mut Device,
     end: &mut Watched<E>,
@@ -209,9 +212,9 @@ fn print_progress<E: End, F: Sink>(
     }
 }
 
-/// Prints the report so far as one line that begins with `note: `, and writes all that the printer holds. The line also
-/// has the number of sessions and of held locks. Refusal: `WriteFailed` if a write failed; then a first part of the
-/// text was written.
+/// Prints to `faults` the report so far as one line that begins with `note: `, and writes all that the printer holds.
+/// The line also has the number of sessions and of held locks. Refusal: `WriteFailed` if a write failed; then only the
+/// beginning of the text may have been written.
 pub fn print_progress_report<F: Sink>(
     report: &Report,
     device: &Device,
@@ -225,7 +228,7 @@ pub fn print_progress_report<F: Sink>(
     print_stats(report, sessions, locks, faults)
 }
 
-/// The sum of two reports; a number that would pass 64 bits stays at its last value.
+/// The sum of two reports; a number that would pass 64 bits stays at 2^64 - 1.
 pub fn sum(a: Report, b: Report) -> Report
     ensures { result ≡ capped (added a b) }
 {

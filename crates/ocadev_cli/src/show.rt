@@ -14,8 +14,8 @@ use oca_types::class_fields;
 const OBJECT_ROOM: usize = 600;
 
 /// Prints a line for each object, in order of adding: its ONo, its class identifier, the ONo of its container (0 for
-/// the root), and its role. Writes all that the printer holds. `WriteFailed` if a write failed: then a first part of
-/// the text was written.
+/// the root), and its role. Writes all that the printer holds. `WriteFailed` if a write failed: then only the beginning
+/// of the text may have been written.
 pub fn show<W: Sink>(tree: &Tree, printer: &mut Printer<W>) -> Result<(), WriteFailed>
     ensures { WritesOut result printer.old printer.new (tree_text tree.now) }
 {
@@ -24,7 +24,7 @@ pub fn show<W: Sink>(tree: &Tree, printer: &mut Printer<W>) -> Result<(), WriteF
 }
 
 /// Prints the objects as a text that `--tree` reads, and writes all that the printer holds. `WriteFailed` if a write
-/// failed: then a first part of the text was written.
+/// failed: then only the beginning of the text may have been written.
 pub fn show_text<W: Sink>(tree: &Tree, printer: &mut Printer<W>) -> Result<(), WriteFailed>
     ensures { WritesOut result printer.old printer.new (text_of tree.now) }
 {

@@ -126,11 +126,12 @@ impl<E: End> End for Watched<E> {
     }
 }
 
-/// Prints a line for the datagram of a turn, and writes all that the printer holds. The line has the sender, what
-/// became of the datagram, the objects that it wrote to, and how many answers could not be sent. It also has what its
-/// commands locked and unlocked, and which were refused. For a datagram of more than 1,472 bytes the line is
-/// `oversize`. Nothing is printed if no datagram came. Refusal: `WriteFailed` if a write failed; then a first part of
-/// the text was written.
+/// Prints to `faults` a line for the datagram of a turn, and writes all that the printer holds. `watched` has the
+/// datagram, `turn` is the report of the turn, and `written` are the objects that the datagram wrote to. The line has
+/// the sender, what became of the datagram, the objects that it wrote to, and how many answers could not be sent. It
+/// also has what its commands locked and unlocked, and which were refused. For a datagram of more than 1,472 bytes the
+/// line is `oversize`. Nothing is printed if no datagram came. Refusal: `WriteFailed` if a write failed; then only the
+/// beginning of the text may have been written.
 pub fn print_turn<E: End, F: Sink>(
     watched: &Watched<E>,
     turn: &Report,
@@ -150,9 +151,10 @@ pub fn print_turn<E: End, F: Sink>(
     )
 }
 
-/// Prints the line of [`print_turn`] for what was heard in a turn. If that is a datagram, `bytes` are its bytes and
-/// `statuses` the statuses of its responses. Nothing is printed if no datagram came. Refusal: `WriteFailed` if a write
-/// failed; then a first part of the text was written.
+/// Prints to `faults` the line of [`print_turn`] for what was heard in a turn. `turn` is the report of the turn, and
+/// `written` are the objects that its datagram wrote to. If that is a datagram, `bytes` are its bytes and `statuses`
+/// the statuses of its responses. Nothing is printed if no datagram came. Refusal: `WriteFailed` if a write failed;
+/// then only the beginning of the text may have been written.
 pub fn print_heard<F: Sink>(
     heard: Heard,
     bytes: &[u8],

@@ -126,8 +126,9 @@ fn datagram<W: Sink>(
 /// the script has more than 16,777,216 bytes, and no line within them is bad. `Read` if a read failed in this call, of
 /// a source that had not failed before. `Write` if a write failed in this call, of a sink that had not failed before.
 ///
-/// After `Line` and `TooMuch` all lines before were replayed and their text was written. After `Read` and `Write` some
-/// first lines were; at `Write` only a first part of their text was written.
+/// After `Line` and `TooMuch` all lines before were replayed and their text was written. After `Read` and `Write` the
+/// lines up to some line were replayed, and no later ones. After `Write` only the beginning of their text may have been
+/// written.
 pub fn replay<R: Source, W: Sink>(
     device: &mut Device,
     outbox: &mut Outbox,

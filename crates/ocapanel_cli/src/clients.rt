@@ -104,10 +104,11 @@ impl Client {
         Ok(read || written)
     }
 
-    /// Reads, answers and writes on each connection that is ready, and closes those that ended or are late at the
-    /// moment `now`, in milliseconds of the program's clock. A connection is late if nothing moved on it for more than
-    /// 30,000 ms. It is also late if a request is not whole, or an answer is not taken, for more than 5,000 ms. A new
-    /// connection counts as one whose request is begun: it is late 5,000 ms after its beginning even if no byte came.
+    /// Reads, answers by `site` and writes on each connection that is ready, and closes those that ended or are late at
+    /// the moment `now`, in milliseconds of the program's clock. A connection is late if nothing moved on it for more
+    /// than 30,000 ms. It is also late if a request is not whole, or an answer is not taken, for more than 5,000 ms. A
+    /// new connection counts as one whose request is begun: it is late 5,000 ms after its beginning even if no byte
+    /// came.
     fn serve(&mut self, site: &mut Site, now: u64) -> Stands {
         let ticket = site.view().next_ticket();
         site.doubt(self.doubts);
@@ -210,15 +211,15 @@ impl Clients {
         }
     }
 
-    /// Adds a new connection at the moment `now`, in milliseconds of the program's clock, and lets `poll` wait for it.
-    /// `keys` are the random keys for the map of its request's headers. `doubts` says that the connection may have come
-    /// while the program was suspended.
+    /// Adds a new connection (`stream`) at the moment `now`, in milliseconds of the program's clock, and lets `poll`
+    /// wait for it. `keys` are the random keys for the map of its request's headers. `doubts` says that the connection
+    /// may have come while the program was suspended.
     ///
     /// At most 128 connections are kept. If there are 128, one of them is closed to make room. That is the oldest one
     /// on which no request was admitted so far (admitted: with the right host and token). If there is no such
-    /// connection, it is the first on which no request is begun and nothing moved for more than 1,000 ms. Otherwise the
-    /// new connection is closed. The new connection is also closed if `poll` refuses it, or if memory was refused; a
-    /// connection that was closed for it stays closed.
+    /// connection, it is the first on which no request is begun and nothing moved for more than 1,000 ms. If there is
+    /// neither, the new connection is closed. The new connection is also closed if `poll` refuses it, or if memory was
+    /// refused; a connection that was closed for it stays closed.
     pub fn add(
         &mut self,
         stream: TcpStream,
@@ -333,9 +334,9 @@ impl Clients {
         }
     }
 
-    /// Reads, answers and writes on each connection that is ready, and closes those that ended or are late at the
-    /// moment `now`, in milliseconds of the program's clock. A connection is late if nothing moved on it for more than
-    /// 30,000 ms. It is also late if a request is not whole, or an answer is not taken, for more than 5,000 ms.
+    /// Reads, answers by `site` and writes on each connection that is ready, and closes those that ended or are late at
+    /// the moment `now`, in milliseconds of the program's clock. A connection is late if nothing moved on it for more
+    /// than 30,000 ms. It is also late if a request is not whole, or an answer is not taken, for more than 5,000 ms.
     pub fn serve(&mut self, site: &mut Site, now: u64) {
         self.more = false;
         let mut place = 0usize;

@@ -37,10 +37,11 @@ const ANSWER_MS: u64 = 4;
 /// The longest wait, in milliseconds: as often, connections on which nothing moves are looked at.
 const LONGEST_WAIT_MS: u64 = 1000;
 
-/// Reads the files, binds the sockets, and then serves until a call of the system fails or memory is refused. Ok only
-/// after 2^64 - 1 sockets for the device, which no run reaches. Failures: `Read` if a file can't be read. `BadWords` if
-/// a file has something that is refused. `Socket` if the system refused a socket, a wait or random numbers. `NoMemory`
-/// if memory was refused.
+/// `serving` is what the command line asks for, and `paths` are the files that it names. The call reads the files,
+/// binds the sockets, and then serves until a call of the system fails or memory is refused. Ok only after 2^64 - 1
+/// sockets for the device, which no run reaches. Failures: `Read` if a file can't be read. `BadWords` if a file has
+/// something that is refused. `Socket` if the system refused a socket, a wait or random numbers. `NoMemory` if memory
+/// was refused.
 pub fn serve<R: Net + RandomSource + Files, N: Net + Clock, F: Sink>(
     alloc: Global,
     rt: &R,

@@ -22,9 +22,9 @@ pub struct Wishes {
     pub read_only: bool,
 }
 
-/// What the command line and the files that it names ask of the panel: its token, its units, and whether it takes no
-/// orders. Failures: `Read` if a file can't be read. `BadWords` if a line of a file is refused. `Socket` if the system
-/// gave no random numbers for the token. `NoMemory` if memory was refused.
+/// What the command line (`serving`) and the files that it names (`paths`) ask of the panel: its token, its units, and
+/// whether it takes no orders. Failures: `Read` if a file can't be read. `BadWords` if a line of a file is refused.
+/// `Socket` if the system gave no random numbers for the token. `NoMemory` if memory was refused.
 pub fn wishes_of<R: RandomSource + Files>(
     alloc: Global,
     rt: &R,
@@ -79,9 +79,9 @@ fn named(path: &Option<String>) -> Option<&str> {
     }
 }
 
-/// The terms of a panel at this address, with what the command line asks (`wishes`). Its run gets a number of 64 random
-/// bits, so that two runs have the same number only with a chance of 1 in 2^64. Failures: `Socket` if the system gave
-/// no random numbers, `NoMemory` if memory was refused.
+/// The terms of a panel that listens at `local`, with what the command line asks (`wishes`). Its run gets a number of
+/// 64 random bits, so that two runs have the same number only with a chance of 1 in 2^64. Failures: `Socket` if the
+/// system gave no random numbers, `NoMemory` if memory was refused.
 pub fn terms_of<R: RandomSource>(
     alloc: Global,
     rt: &R,

@@ -9,9 +9,10 @@ impl<E: End> Panel<E> {
     ghost use Rattle.oca_types.specs.Sizes.{span_size};
     ghost use Rattle.oca_panel.specs.Renewals.{IsFoundLost, IsRenewed, TurnsWith};
 
-    /// Replaces the link by a new one over the same end, made at the end's present moment as [`Panel::open`] makes one.
-    /// Use it if the link is lost or late. Commands of the old link are not sent again, and their answers are not
-    /// taken. The handle `first` must be above all handles of the old link.
+    /// Replaces the link by a new one to the device at this address, over the same end, made at the end's present
+    /// moment as [`Panel::open`] makes one. `first` is the handle of its first command, and `span` is its span. Use it
+    /// if the link is lost or late. Commands of the old link are not sent again, and their answers are not taken.
+    /// `first` must be above all handles of the old link.
     pub fn renew(&mut self, device: Peer, first: Handle, span: Span)
         ensures { IsRenewed device first.0 (span_size span) self.old self.new }
     {

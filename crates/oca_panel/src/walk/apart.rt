@@ -26,8 +26,9 @@ impl Walk {
         }
     }
 
-    /// Adds the members of a block to the places of the walk, before all others and in their order. Nothing is asked of
-    /// the device. Refusal: `NoMemory`, if memory was refused; after it the walk may leave objects out.
+    /// Adds the members of the block `container` to the places of the walk, before all others and in their order.
+    /// Nothing is asked of the device. Refusal: `NoMemory`, if memory was refused; after it the walk may leave objects
+    /// out.
     pub fn put_members(&mut self, container: Ono, members: &[u32]) -> Result<(), NoMemory>
         ensures { IfOk result
             (λ u. self.new ≡ record self.old { waiting = self.old.waiting ++ places_of container members.now }) }
