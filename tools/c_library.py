@@ -30,6 +30,7 @@ from pathlib import Path
 
 sys.path.insert(0, str(Path(__file__).resolve().parent.parent / "gate"))
 import reference
+import c_rows
 from checks import Checks
 from embedded import bound_at
 from own_ports import free_port
@@ -73,9 +74,10 @@ def flags(prefix, lib="lib"):
 def compile_all(made, prefix):
     """The three programs in both languages, from the installed files."""
     cflags, shared = flags(prefix)
+    c_rows.test("c_library", made)
     for language, compiler in LANGUAGES.items():
         libs = [*shared, f"-Wl,-rpath,{prefix}/lib"] if language == "c11" else [f"{prefix}/lib/liboca.a"]
-        for name, source in (("device", "examples/c/device.c"), ("panel", "examples/c/panel.c"), ("calls", "tools/c_library.c")):
+        for name, source in (("device", "examples/c/device.c"), ("panel", "examples/c/panel.c"), ("calls", made / "c_library.c")):
             text = made / f"{name}.c"
             shutil.copy(TOP / source, text)
             subprocess.run([*compiler, *STRICT, *cflags, "-o", made / f"{name}-{language}", text, "-x", "none", *libs], cwd=made, check=True)
@@ -123,10 +125,11 @@ def against_the_programs(checks, made, folder):
 def panels(checks, made, prefix, folder):
     """The panel of c/panel.c over a network of its own, strictly compiled, as it is and under the sanitizers, and at `ocadev`: it finds the
     objects that `ocactl` finds."""
+    test = c_rows.test("c_library_panel", made)
     for language, compiler in LANGUAGES.items():
         for name, more in ((f"network-{language}", []), (f"network-{language}-sanitized", SANITIZED)):
             subprocess.run([*compiler, *STRICT, "-Wconversion", *more, f"-I{prefix}/include", "-Doca_link_datagram=handed", "-o", made / name,
-                            TOP / "tools/c_library_panel.c", TOP / "c/panel.c", "-x", "none", prefix / "lib/liboca.a"], check=True)
+                            test, TOP / "c/panel.c", "-x", "none", prefix / "lib/liboca.a"], check=True)
             out, status = said_by([made / name])
             counts = re.search(r"(\d+) passed, (\d+) failed\n$", out)
             checks.same(f"the panel of the library ({name})", (counts and counts[2], status), ("0", 0))
@@ -146,7 +149,7 @@ def each_call_sanitized(checks, made, prefix):
     """Each call, and the C of the library under the sanitizers."""
     program = made / "calls-sanitized"
     parts = [TOP / f"c/{name}.c" for name in PARTS]
-    subprocess.run(["cc", "-std=c11", *STRICT[1:], *SANITIZED, f"-I{prefix}/include", "-o", program, HERE / "c_library.c", *parts, prefix / "lib/liboca.a"], check=True)
+    subprocess.run(["cc", "-std=c11", *STRICT[1:], *SANITIZED, f"-I{prefix}/include", "-o", program, made / "c_library.c", *parts, prefix / "lib/liboca.a"], check=True)
     out, status = said_by([program])
     counts = re.search(r"(\d+) passed, (\d+) failed\n$", out)
     checks.same("each call under the sanitizers", (counts and counts[2], status), ("0", 0))
@@ -804,7 +807,7 @@ def on_arm(checks, made):
         return print(f"NOT TRIED: AArch64, without {' and '.join(tools)}")
     prefix = made / "arm"
     installs_for_arm(checks, made, prefix, library(ARM))
-    for name, source in (("device", "examples/c/device.c"), ("panel", "examples/c/panel.c"), ("calls", "tools/c_library.c")):
+    for name, source in (("device", "examples/c/device.c"), ("panel", "examples/c/panel.c"), ("calls", made / "c_library.c")):
         subprocess.run(["aarch64-linux-gnu-gcc", "-std=c11", *STRICT, f"-I{prefix}/include", "-o", made / f"{name}-arm", TOP / source,
                         f"{prefix}/{OF_ARM}/liboca.a"], check=True)
     emulated = ["qemu-aarch64", "-L", "/usr/aarch64-linux-gnu"]
@@ -890,11 +893,11 @@ def main():
             checks.same("the panel under valgrind", said_by([*careful, made / "panel-c11", port]), (PANEL, 0))
             checks.same("the device under valgrind", (run.communicate(timeout=120)[0], run.returncode), (AMPLIFIER, 0))
         arena = made / "arena"
-        subprocess.run(["cc", "-std=c11", "-DARENA=(6u<<20)", *STRICT, f"-I{prefix}/include", "-o", arena, TOP / "tools/c_library.c", TOP / "examples/c/heap.c",
+        subprocess.run(["cc", "-std=c11", "-DARENA=(6u<<20)", *STRICT, f"-I{prefix}/include", "-o", arena, made / "c_library.c", TOP / "examples/c/heap.c",
                         f"{prefix}/lib/liboca_c.a"], check=True)
         checks.same("each call over an arena", said_by([arena])[1], 0)
         counted = made / "counted"
-        subprocess.run(["cc", "-std=c11", "-DCOUNTS_BLOCKS", *STRICT, f"-I{prefix}/include", "-o", counted, TOP / "tools/c_library.c", f"{prefix}/lib/liboca_c.a"],
+        subprocess.run(["cc", "-std=c11", "-DCOUNTS_BLOCKS", *STRICT, f"-I{prefix}/include", "-o", counted, made / "c_library.c", f"{prefix}/lib/liboca_c.a"],
                        check=True)
         checks.same("each call, and each block of memory is given back", said_by([counted])[1], 0)
     print(f"{checks.passed} passed, {checks.failed} failed")
