@@ -44,10 +44,7 @@ def stores(checks, made):
             words = [*compiler, *STRICT[:3], *more, STRICT[-1], "-o", program, test, TOP / "c/store.c", *wraps]
             subprocess.run(words, check=True)
             run = subprocess.run([program], cwd=place, capture_output=True, text=True, timeout=120)
-            counts = re.search(r"(\d+) passed, (\d+) failed\n$", run.stdout)
-            checks.same(f"the store ({language}{kind})", (counts and counts[2], run.returncode, run.stderr), ("0", 0, ""))
-            checks.passed += int(counts[1]) if counts else 0
-            print(run.stdout, end="") if run.returncode else None
+            checks.counted(f"the store ({language}{kind})", run.stdout, run.returncode, run.stderr)
 
 
 WITHOUT = """#define OCA_NO_POSIX
