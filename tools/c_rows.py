@@ -35,7 +35,7 @@ def prototypes():
 CALLS = prototypes()
 
 
-def with_number(word, kind="const uint8_t *"):
+def with_number(word, kind):
     """The two arguments that an array or a text is, and the number of its items."""
     name, number = re.fullmatch(rf"({A_TEXT}|[^:]*)(?::(.*))?", word).groups()
     number = number and re.sub(r"^\((.*)\)$", r"\1", number)
