@@ -30,7 +30,8 @@ from pathlib import Path
 
 sys.path.insert(0, str(Path(__file__).resolve().parent.parent / "gate"))
 import reference
-from checks import Checks
+import c_rows
+from checks import Checks, layered
 from embedded import bound_at
 from own_ports import free_port
 from peers import Lossy
@@ -73,9 +74,10 @@ def flags(prefix, lib="lib"):
 def compile_all(made, prefix):
     """The three programs in both languages, from the installed files."""
     cflags, shared = flags(prefix)
+    c_rows.test("c_library", made)
     for language, compiler in LANGUAGES.items():
         libs = [*shared, f"-Wl,-rpath,{prefix}/lib"] if language == "c11" else [f"{prefix}/lib/liboca.a"]
-        for name, source in (("device", "examples/c/device.c"), ("panel", "examples/c/panel.c"), ("calls", "tools/c_library.c")):
+        for name, source in (("device", "examples/c/device.c"), ("panel", "examples/c/panel.c"), ("calls", made / "c_library.c")):
             text = made / f"{name}.c"
             shutil.copy(TOP / source, text)
             subprocess.run([*compiler, *STRICT, *cflags, "-o", made / f"{name}-{language}", text, "-x", "none", *libs], cwd=made, check=True)
@@ -123,15 +125,12 @@ def against_the_programs(checks, made, folder):
 def panels(checks, made, prefix, folder):
     """The panel of c/panel.c over a network of its own, strictly compiled, as it is and under the sanitizers, and at `ocadev`: it finds the
     objects that `ocactl` finds."""
+    test = c_rows.test("c_library_panel", made)
     for language, compiler in LANGUAGES.items():
         for name, more in ((f"network-{language}", []), (f"network-{language}-sanitized", SANITIZED)):
             subprocess.run([*compiler, *STRICT, "-Wconversion", *more, f"-I{prefix}/include", "-Doca_link_datagram=handed", "-o", made / name,
-                            TOP / "tools/c_library_panel.c", TOP / "c/panel.c", "-x", "none", prefix / "lib/liboca.a"], check=True)
-            out, status = said_by([made / name])
-            counts = re.search(r"(\d+) passed, (\d+) failed\n$", out)
-            checks.same(f"the panel of the library ({name})", (counts and counts[2], status), ("0", 0))
-            checks.passed += int(counts[1]) if counts else 0
-            print(out, end="") if status else None
+                            test, TOP / "c/panel.c", "-x", "none", prefix / "lib/liboca.a"], check=True)
+            checks.counted(f"the panel of the library ({name})", *said_by([made / name]))
     for words in ([], ["--tree", TOP / "examples/stagebox.tree"]):
         run, port = serving([f"{folder}/ocadev", "serve", "--port", 0, "--turns", 100000, *words])
         told = said_by([f"{folder}/ocactl", "tree", "--device", f"127.0.0.1:{port}", "--port", free_port()])
@@ -146,12 +145,8 @@ def each_call_sanitized(checks, made, prefix):
     """Each call, and the C of the library under the sanitizers."""
     program = made / "calls-sanitized"
     parts = [TOP / f"c/{name}.c" for name in PARTS]
-    subprocess.run(["cc", "-std=c11", *STRICT[1:], *SANITIZED, f"-I{prefix}/include", "-o", program, HERE / "c_library.c", *parts, prefix / "lib/liboca.a"], check=True)
-    out, status = said_by([program])
-    counts = re.search(r"(\d+) passed, (\d+) failed\n$", out)
-    checks.same("each call under the sanitizers", (counts and counts[2], status), ("0", 0))
-    checks.passed += int(counts[1]) if counts else 0
-    print(out, end="") if status else None
+    subprocess.run(["cc", "-std=c11", *STRICT[1:], *SANITIZED, f"-I{prefix}/include", "-o", program, made / "c_library.c", *parts, prefix / "lib/liboca.a"], check=True)
+    checks.counted("each call under the sanitizers", *said_by([program]))
 
 
 def random_calls(checks, made, prefix):
@@ -168,6 +163,18 @@ def random_calls(checks, made, prefix):
             name, *results = line.split()
             unsaid = {int(it) for it in results} - {RESULTS[it] for it in reference.answers_of(name)}
             checks.same(f"what {name} answered and its page does not say", unsaid, set())
+
+
+def asks(handle, ono, level, index, params=b"", count=0):
+    """The datagram of a command."""
+    message = struct.pack(">IIIHHB", 17 + len(params), handle, ono, level, index, count) + params
+    return b"\x3b" + struct.pack(">HIBH", 1, 9 + len(message), 1, 1) + message
+
+
+def answers(handle, status, params=b"", count=0):
+    """The datagram of a response."""
+    message = struct.pack(">IIBB", 10 + len(params), handle, status, count) + params
+    return b"\x3b" + struct.pack(">HIBH", 1, 9 + len(message), 3, 1) + message
 
 
 def full_datagram(checks, made):
@@ -193,14 +200,12 @@ def oversize(checks, made):
         run, port = serving(words)
         commands = b"".join(struct.pack(">IIIHHB", 17, handle, 4097, 4, 1, 0) for handle in range(1, 87))
         large = b"\x3b" + struct.pack(">HIBH", 1, 9 + len(commands), 1, 86) + commands + b"\x3b"
-        one = b"\x3b" + struct.pack(">HIBH", 1, 26, 1, 1) + struct.pack(">IIIHHB", 17, 99, 4097, 4, 1, 0)
         with socket.socket(socket.AF_INET, socket.SOCK_DGRAM) as end:
             end.settimeout(30)
-            for data in (large, one):
+            for data in (large, asks(99, 4097, 4, 1)):
                 end.sendto(data, ("127.0.0.1", int(port)))
             got = end.recv(2000)
-        wanted = b"\x3b" + struct.pack(">HIBH", 1, 20, 3, 1) + struct.pack(">IIBB", 11, 99, 0, 1) + b"\1"
-        checks.same(f"the {name} behind a datagram that is too large", (len(large), got), (1473, wanted))
+        checks.same(f"the {name} behind a datagram that is too large", (len(large), got), (1473, answers(99, 0, b"\1", 1)))
         run.communicate(timeout=120)
 
 
@@ -290,9 +295,8 @@ class Asker:
 
     def ask(self, ono, level, index, params=b"", count=0, tries=40):
         self.handle += 1
-        message = struct.pack(">IIIHHB", 17 + len(params), self.handle, ono, level, index, count) + params
         for _ in range(tries):
-            self.end.sendto(b"\x3b" + struct.pack(">HIBH", 1, 9 + len(message), 1, 1) + message, self.to)
+            self.end.sendto(asks(self.handle, ono, level, index, params, count), self.to)
             try:
                 data = self.end.recv(2000)
             except OSError:
@@ -380,7 +384,7 @@ def calls_of_a_mixer(made, kept, turns, **settings):
     calls in all are waited for."""
     calls = made / f"calls for {kept.name}"
     run = subprocess.Popen([made / "mixer-plain", kept, "0", "600"], stdin=subprocess.PIPE, stdout=subprocess.PIPE, stderr=subprocess.PIPE, text=True,
-                           env=dict(os.environ, LD_PRELOAD=str(made / "calls.so"), CALLS=str(calls), **settings))
+                           env=dict(os.environ, LD_PRELOAD=str(made / "unreliable.so"), CALLS=str(calls), **settings))
     listening(run)
     made_so_far = lambda: calls.read_text().splitlines() if calls.exists() else []
     for line, count in turns:
@@ -413,9 +417,8 @@ def kept_safely(checks, made):
 
 def asked_once(asker, ono, level, index, params=b"", count=0):
     """The status of a command that is sent once more under its handle, and nothing where no answer comes in a second."""
-    message = struct.pack(">IIIHHB", 17 + len(params), asker.handle, ono, level, index, count) + params
     asker.end.settimeout(1)
-    asker.end.sendto(b"\x3b" + struct.pack(">HIBH", 1, 9 + len(message), 1, 1) + message, asker.to)
+    asker.end.sendto(asks(asker.handle, ono, level, index, params, count), asker.to)
     try:
         return asker.end.recv(2000)[18]
     except OSError:
@@ -507,7 +510,7 @@ def mixers(checks, made, prefix):
     """The mixer as it is, over addresses and undefined behaviour, over threads, and under valgrind; and as C++."""
     subprocess.run(["c++", "-x", "c++", "-std=c++17", *STRICT, f"-I{prefix}/include", "-c", "-o", made / "mixer.o", TOP / "examples/c/mixer.c"], check=True)
     (made / "held.c").write_text(HELD)
-    subprocess.run(["cc", "-O1", "-Wall", "-shared", "-fPIC", "-o", made / "calls.so", HERE / "unreliable.c", "-ldl"], check=True)
+    layered(made, "unreliable")
     mixer, whole = [TOP / "examples/c/mixer.c"], [TOP / "examples/c/mixer.c", *(TOP / f"c/{name}.c" for name in PARTS)]
     for name, more, of in (("plain", ["-O2"], mixer), ("sanitized", SANITIZED, whole), ("threads", ["-O1", "-g", "-fsanitize=thread"], whole),
                            ("held", ["-O2", f"-I{TOP}"], [made / "held.c"])):
@@ -524,11 +527,10 @@ def mixers(checks, made, prefix):
 
 def refused_memory(checks, made):
     """Each request for memory refused in turn: the program says so and ends, or does without."""
-    layer = made / "unreliable.so"
-    subprocess.run(["cc", "-O1", "-Wall", "-shared", "-fPIC", "-o", layer, HERE / "unreliable.c", "-ldl"], check=True)
+    layer = layered(made, "unreliable")
     for words, refused in (([made / "device-c11", 0, 0], "not started: 8\n"), ([made / "panel-c11", 9], "not opened: 8\n")):
         counts = made / "counts"
-        settings = dict(LD_PRELOAD=str(layer), COUNTS=str(counts))
+        settings = dict(LD_PRELOAD=layer, COUNTS=str(counts))
         quick = dict(settings, FAIL_SEND="1000", ERRNO="101")
         subprocess.run([str(w) for w in words], env=dict(os.environ, **quick), capture_output=True, timeout=120)
         requests = int(counts.read_text().split()[0])
@@ -756,18 +758,6 @@ class Board:
         return data if head[2:] == struct.pack(">IH", ip, port) else (head, data)
 
 
-def asks(handle, ono, level, index, params=b"", count=0):
-    """The datagram of a command."""
-    message = struct.pack(">IIIHHB", 17 + len(params), handle, ono, level, index, count) + params
-    return b"\x3b" + struct.pack(">HIBH", 1, 9 + len(message), 1, 1) + message
-
-
-def answers(handle, status, params=b"", count=0):
-    """The datagram of a response."""
-    message = struct.pack(">IIBB", 10 + len(params), handle, status, count) + params
-    return b"\x3b" + struct.pack(">HIBH", 1, 9 + len(message), 3, 1) + message
-
-
 # What the device without an operating system is asked, by commands of one peer, and what it answers.
 BARE = [(asks(1, 4097, 4, 2, b"\2", 1), answers(1, 0)), (asks(1, 4097, 4, 2, b"\2", 1), answers(1, 0)), (asks(2, 4097, 4, 1), answers(2, 0, b"\2", 1)),
         (asks(3, 4098, 5, 2, struct.pack(">h", 101), 1), answers(3, 7)), (asks(4, 4098, 5, 2, struct.pack(">h", -600), 1), answers(4, 0)),
@@ -804,7 +794,7 @@ def on_arm(checks, made):
         return print(f"NOT TRIED: AArch64, without {' and '.join(tools)}")
     prefix = made / "arm"
     installs_for_arm(checks, made, prefix, library(ARM))
-    for name, source in (("device", "examples/c/device.c"), ("panel", "examples/c/panel.c"), ("calls", "tools/c_library.c")):
+    for name, source in (("device", "examples/c/device.c"), ("panel", "examples/c/panel.c"), ("calls", made / "c_library.c")):
         subprocess.run(["aarch64-linux-gnu-gcc", "-std=c11", *STRICT, f"-I{prefix}/include", "-o", made / f"{name}-arm", TOP / source,
                         f"{prefix}/{OF_ARM}/liboca.a"], check=True)
     emulated = ["qemu-aarch64", "-L", "/usr/aarch64-linux-gnu"]
@@ -865,11 +855,7 @@ def main():
         on_arm(checks, made)
         on_the_first_kind(checks, made)
         for language in LANGUAGES:
-            out, status = said_by([made / f"calls-{language}"])
-            counts = re.search(r"(\d+) passed, (\d+) failed\n$", out)
-            checks.same(f"each call ({language})", (counts and counts[2], status), ("0", 0))
-            checks.passed += int(counts[1]) if counts else 0
-            print(out, end="") if status else None
+            checks.counted(f"each call ({language})", *said_by([made / f"calls-{language}"]))
         against_each_other(checks, made)
         against_the_programs(checks, made, folder)
         panels(checks, made, prefix, folder)
@@ -883,18 +869,17 @@ def main():
         refused_memory(checks, made)
         if shutil.which("valgrind"):
             careful = ["valgrind", "-q", "--error-exitcode=99", "--leak-check=full"]
-            out, status = said_by([*careful, made / "calls-c11"])
-            checks.same("each call under valgrind", status, 0)
+            checks.same("each call under valgrind", said_by([*careful, made / "calls-c11"])[1], 0)
             checks.same("the panel of the library under valgrind", said_by([*careful, made / "network-c11"])[1], 0)
             run, port = serving([*careful, made / "device-c11", 0, 8])
             checks.same("the panel under valgrind", said_by([*careful, made / "panel-c11", port]), (PANEL, 0))
             checks.same("the device under valgrind", (run.communicate(timeout=120)[0], run.returncode), (AMPLIFIER, 0))
         arena = made / "arena"
-        subprocess.run(["cc", "-std=c11", "-DARENA=(6u<<20)", *STRICT, f"-I{prefix}/include", "-o", arena, TOP / "tools/c_library.c", TOP / "examples/c/heap.c",
+        subprocess.run(["cc", "-std=c11", "-DARENA=(6u<<20)", *STRICT, f"-I{prefix}/include", "-o", arena, made / "c_library.c", TOP / "examples/c/heap.c",
                         f"{prefix}/lib/liboca_c.a"], check=True)
         checks.same("each call over an arena", said_by([arena])[1], 0)
         counted = made / "counted"
-        subprocess.run(["cc", "-std=c11", "-DCOUNTS_BLOCKS", *STRICT, f"-I{prefix}/include", "-o", counted, TOP / "tools/c_library.c", f"{prefix}/lib/liboca_c.a"],
+        subprocess.run(["cc", "-std=c11", "-DCOUNTS_BLOCKS", *STRICT, f"-I{prefix}/include", "-o", counted, made / "c_library.c", f"{prefix}/lib/liboca_c.a"],
                        check=True)
         checks.same("each call, and each block of memory is given back", said_by([counted])[1], 0)
     print(f"{checks.passed} passed, {checks.failed} failed")

@@ -15,6 +15,7 @@ import sys
 import tempfile
 from pathlib import Path
 
+import c_rows
 from checks import Checks
 
 TOP = Path(__file__).resolve().parent.parent
@@ -35,18 +36,15 @@ def needed(made):
 
 def stores(checks, made):
     """Each test of c_store.c, in a folder of its own."""
-    wraps = [f"-Wl,--wrap={name}" for name in WRAPPED]
+    wraps, test = [f"-Wl,--wrap={name}" for name in WRAPPED], c_rows.test("c_store", made)
     for language, compiler in LANGUAGES.items():
         for kind, more in (("", ["-O2"]), (" sanitized", SANITIZED)):
             program, place = made / f"store-{language}{kind.strip()}", made / f"place-{language}{kind.strip()}"
             place.mkdir()
-            words = [*compiler, *STRICT[:3], *more, STRICT[-1], "-o", program, TOP / "tools/c_store.c", TOP / "c/store.c", *wraps]
+            words = [*compiler, *STRICT[:3], *more, STRICT[-1], "-o", program, test, TOP / "c/store.c", *wraps]
             subprocess.run(words, check=True)
             run = subprocess.run([program], cwd=place, capture_output=True, text=True, timeout=120)
-            counts = re.search(r"(\d+) passed, (\d+) failed\n$", run.stdout)
-            checks.same(f"the store ({language}{kind})", (counts and counts[2], run.returncode, run.stderr), ("0", 0, ""))
-            checks.passed += int(counts[1]) if counts else 0
-            print(run.stdout, end="") if run.returncode else None
+            checks.counted(f"the store ({language}{kind})", run.stdout, run.returncode, run.stderr)
 
 
 WITHOUT = """#define OCA_NO_POSIX

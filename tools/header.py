@@ -17,6 +17,7 @@ TOP = Path(__file__).resolve().parent.parent
 sys.path.insert(0, str(TOP / "gate"))
 import api
 import reference
+from checks import Checks
 from tables import data
 
 CALLS = TOP / "crates/oca_c/src"
@@ -304,30 +305,19 @@ def made_pages():
 
 
 def main():
-    header = (TOP / "include/oca.h").read_text()
-    compared, wrong = differences(header)
-    texts = made_pages()
-    pages, unsaid = pages_wrong(header, texts)
-    page, made = api.PAGE.read_text(), api.made()
-    lines, unlisted = list_wrong(page, made)
-    compared, wrong = compared + pages + lines, wrong + unsaid + unlisted
-    for line in wrong:
-        print(f"include/oca.h: {line}")
-    found = [header.count(there) == 1 and len(differences(header.replace(there, other))[1]) > 0 for there, other in DATA.wrong]
-    for (there, other), is_found in zip(DATA.wrong, found):
-        if not is_found:
-            print(f"not found: {other!r} in place of {there!r}")
-    for it in DATA.wrong_pages:
-        found.append(is_page_found(header, texts, *it))
-        if not found[-1]:
-            print(f"not found: {it[2]!r} in place of {it[1]!r} in the page of {it[0]}")
+    header, texts, checks = (TOP / "include/oca.h").read_text(), made_pages(), Checks()
+    made = api.made()
+    for compared, wrong in (differences(header), pages_wrong(header, texts), list_wrong(api.PAGE.read_text(), made)):
+        checks.all_but(compared, [f"include/oca.h: {line}" for line in wrong])
+    for there, other in DATA.wrong:
+        is_found = header.count(there) == 1 and len(differences(header.replace(there, other))[1]) > 0
+        checks.expect(f"not found: {other!r} in place of {there!r}", is_found)
+    for name, there, other in DATA.wrong_pages:
+        checks.expect(f"not found: {other!r} in place of {there!r} in the page of {name}", is_page_found(header, texts, name, there, other))
     for there, other in DATA.wrong_lists:
-        found.append(made.count(there) == 1 and len(list_wrong(made.replace(there, other), made)[1]) > 0)
-        if not found[-1]:
-            print(f"not found: {other!r} in place of {there!r} in the list")
-    failed = len(wrong) + found.count(False)
-    print(f"{compared - len(wrong) + sum(found)} passed, {failed} failed")
-    return 1 if failed else 0
+        is_found = made.count(there) == 1 and len(list_wrong(made.replace(there, other), made)[1]) > 0
+        checks.expect(f"not found: {other!r} in place of {there!r} in the list", is_found)
+    return checks.verdict()
 
 
 if __name__ == "__main__":

@@ -1,0 +1,105 @@
+"""Tests in C of the library for C, made of rows of data. Other tools use it; it has no `main`.
+
+A file tools/rows/NAME_calls.toml has tables `part`. Each is a function in C: its `name`, what it `takes`, what it `has` (declarations), and its `rows`;
+with a word `when` it is empty unless this word is defined. A row is
+
+    [WHAT, CALL, RESULT]              a call of the library, and what it answers, without OCA_
+    [WHAT, CALL, RESULT, .., HOLDS]   the same, further calls, each with what it answers, and what holds behind them
+    [WHAT, VALUE, WANTED]             a value in C, and what it must be
+    [WHAT, HOLDS]                     what must hold, in C
+    DONE                              what is done in between: a call, or a statement in C
+    {for = HEAD, rows = [..]}         rows that are gone through so often; `if` and `while` are alike
+
+WHAT is a text, or behind `= ` a value in C. A call is its name without oca_ and a word for each argument; where a pointer is to be given, the word is
+what it points to. Where bytes or items are given with their number, a word is a text in quotes, an array, or one of them and the number with a
+colon between. A word that holds blanks stands in parentheses."""
+import re
+import shutil
+from pathlib import Path
+
+from tables import data
+
+HERE = Path(__file__).resolve().parent
+WORD = re.compile(r'(?:"(?:\\.|[^"\\])*"|\((?:[^()]|\((?:[^()]|\([^()]*\))*\))*\)|[^\s"()])+')
+A_TEXT = r'"(?:\\.|[^"\\])*"'
+ALONE = re.compile(r"struct oca_(device|link|socket|server|store|panel|flight) \*")  # a pointer to one, whatever number stands behind it
+
+
+def prototypes():
+    """Of each call of the header, by its name without oca_: what it answers, and the type of each argument."""
+    text = re.sub(r"/\*.*?\*/", "", (HERE.parent / "include/oca.h").read_text(), flags=re.DOTALL)
+    found = re.findall(r"^(?:static inline )?((?:const |enum |struct )*\w+ \*?)oca_(\w+)\(([^()]*)\)", text, re.MULTILINE)
+    return {name: (answers, [re.sub(r"\w+$", "", it.strip()) for it in takes.split(",") if it != "void"]) for answers, name, takes in found}
+
+
+CALLS = prototypes()
+
+
+def with_number(word, kind):
+    """The two arguments that an array or a text is, and the number of its items."""
+    name, number = re.fullmatch(rf"({A_TEXT}|[^:]*)(?::(.*))?", word).groups()
+    number = number and re.sub(r"^\((.*)\)$", r"\1", number)
+    if name[0] == '"':
+        number = number or str(len(re.sub(r"\\(x[0-9a-f]{2}|[0-7]{1,3}|.)", "-", name[1:-1]).encode()))
+        return name if "void" in kind else f"text({name})", number
+    return name, number or f"sizeof {name}"
+
+
+def called(said, pointers, result=""):
+    """The call that these words are, in C; None where they are none."""
+    name, *words = WORD.findall(said)
+    answers, takes = CALLS.get(name, ("", ()))
+    given = []
+    for word in words if takes else ():
+        kind, behind = [*takes, ""][len(given):len(given) + 2]
+        if "*" in kind and behind == "size_t " and not ALONE.match(kind):
+            given += with_number(word, kind)
+        elif "*" in kind and kind != "const char *":
+            given.append(word if word in pointers or word == "NULL" else f"&{word}")
+        else:
+            given.append(word[1:-1] if re.fullmatch(r"\([^()]* [^()]*\)", word) else word)
+    if name in CALLS and len(given) == len(takes):
+        return f"oca_{name}({', '.join(given)})" + (".asked" if answers == "struct oca_outcome " and str(result)[:6] == "ASKED_" else "")
+    return None
+
+
+def in_c(wanted):
+    return f"OCA_{wanted}" if re.fullmatch("[A-Z][A-Z0-9_]+", str(wanted)) else str(wanted)
+
+
+def check(row, pointers):
+    """The check that a row is, in C."""
+    what, *items = row
+    what = what[2:] if what[:2] == "= " else f'"{what}"'
+    if len(items) == 2:
+        return f"same({what}, {called(items[0], pointers, items[1]) or items[0]}, {in_c(items[1])});"
+    said = []
+    while items:
+        item, result = items[0], in_c(items[1]) if len(items) > 1 else ""
+        call = called(item, pointers, items[1]) if result else None
+        said.append(f"{call} == {result}" if call else item)
+        items = items[2 if call else 1:]
+    return f"same({what}, {' && '.join(said)}, 1);"
+
+
+def lines(rows, pointers):
+    for row in rows:
+        if isinstance(row, str):
+            yield f"{called(row, pointers) or row};"
+        elif isinstance(row, dict):
+            (kind, head), (_, inner) = row.items()
+            yield from (f"{kind} ({head}) {{", *lines(inner, pointers), "}")
+        else:
+            yield check(row, pointers)
+
+
+def function(name, rows, takes="void", has=(), when=""):
+    """The function in C that a part is."""
+    text = f"static void {name}({takes}) {{\n" + "\n".join([*(f"{it};" for it in has), *lines(rows, re.findall(r"\*(\w+)", takes))]) + "\n}\n"
+    return f"#ifdef {when}\n{text}#else\nstatic void {name}(void) {{}}\n#endif\n" if when else text
+
+
+def test(name, place):
+    """Puts the test tools/NAME.c into this folder, with the functions of tools/rows/NAME_calls.toml beside it; answers where the test is."""
+    (place / f"{name}_calls.h").write_text("".join(function(**part) for part in data(f"{name}_calls").part))
+    return shutil.copy(HERE / f"{name}.c", place)
