@@ -378,7 +378,7 @@ static inline void oca_device_close_any(struct oca_device *device) {
  * oca_result says of an addition. */
 enum oca_result oca_device_add(struct oca_device *device, uint32_t container, uint32_t ono, const struct oca_spec *spec) OCA_CHECKED;
 
-/* Adds an object of one class to the tree, as oca_device_add does, with the fields one by one: `container` is the number of its block,
+/* Adds an object of one class to the tree, as oca_device_add does, with the fields one by one. `container` is the number of its block,
  * `ono` its own number, and `role` its role, 1 to 64 bytes of UTF-8. `lockable` says whether it can be locked. `muted`, `inverted` and
  * `setting` are its first state or setting. An integer lies within `least` to `greatest`, now and later. */
 enum oca_result oca_device_add_block(struct oca_device *device, uint32_t container, uint32_t ono, const uint8_t *role, size_t role_len, bool lockable) OCA_CHECKED;
