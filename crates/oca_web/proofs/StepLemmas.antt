@@ -17,7 +17,7 @@ use Rattle.oca_web.specs.declared.inventory.Inventory.{Inventory}
 use Rattle.oca_web.specs.declared.view.View.{View}
 use Rattle.oca_web.specs.Asking.{AsksOne}
 use Rattle.oca_web.specs.Readings.{KeepsAsked}
-use Rattle.oca_web.specs.Views.{Asks, AsksQuestions, NoneAsked, OneAsked, next_behind, target_of, TakesAnswer, TakesAnswers, NoneTaken, OneTaken}
+use Rattle.oca_web.specs.Views.{AsksAtPlace, AsksQuestions, NoneAsked, OneAsked, next_behind, target_of, TakesAnswer, TakesAnswers, NoneTaken, OneTaken}
 use Rattle.oca_web.specs.declared.order.Sent.{Sent}
 use Rattle.oca_web.specs.Orders.{OrdersState, Steps, OneMore, SubmitsOrder, SubmitsFirst, SettlesOne, SettlesAt, NoneIsLeft}
 
@@ -109,12 +109,12 @@ has_room b n e le f = grind (arith, nat_tests)
 
 pub asks_nowhere : (question : Question) (o : Option (Ono × Option Class)) (old new : View) (p q : PanelState)
     → o ≡ option_map target_of (slice_get old.inventory.objects.list question.place) → o ≡ None → new ≡ old → q ≡ p
-    → Asks question true old p new q
+    → AsksAtPlace question true old p new q
 asks_nowhere question o old new p q e n same stays = rw (sym e, n) (refl, same, stays)
 
 pub asks_not : (question : Question) (o : Option (Ono × Option Class)) (t : Ono × Option Class) (may : Bool) (h : Option Handle) (old new : View)
     (p q : PanelState) → o ≡ option_map target_of (slice_get old.inventory.objects.list question.place) → o ≡ Some t
-    → AsksOne may t.0.0 t.1 question.ask h p q → h ≡ None → new ≡ old → Asks question false old p new q
+    → AsksOne may t.0.0 t.1 question.ask h p q → h ≡ None → new ≡ old → AsksAtPlace question false old p new q
 asks_not question o t may h old new p q e s asks n same = rw (sym e, s) (same, rw n at asks)
 
 pub asks_this : (question : Question) (o : Option (Ono × Option Class)) (t : Ono × Option Class) (may : Bool) (h : Option Handle) (handle : Handle)
@@ -122,7 +122,7 @@ pub asks_this : (question : Question) (o : Option (Ono × Option Class)) (t : On
     → AsksOne may t.0.0 t.1 question.ask h p q → h ≡ Some handle → OnTrue may (length old.inventory.asked.items < 32)
     → KeepsAsked handle question old.news.now old.inventory.asked.items new.inventory.asked.items
     → new.inventory ≡ record old.inventory { asked = new.inventory.asked } → new.next_handle ≡ next_behind old.next_handle handle.0
-    → new ≡ record old { inventory = new.inventory; next_handle = new.next_handle } → Asks question true old p new q
+    → new ≡ record old { inventory = new.inventory; next_handle = new.next_handle } → AsksAtPlace question true old p new q
 asks_this question o t may h handle old new p q e s asks n room kept inventory next rest =
     let asked : AsksOne may t.0.0 t.1 question.ask (Some handle) p q = rw n at asks in
     let left : length old.inventory.asked.items < 32 = rw asked.0 at room in

@@ -21,8 +21,8 @@ abbrev pub ShowsFrom : Option Shown → (place : ℕ) → (Shown → Shown) → 
 ShowsFrom None place made old new = new ≡ old
 ShowsFrom (Some s) place made old new = ShowsAt place (made s) old new
 
-abbrev pub ShowsMade : (place : ℕ) → (Shown → Shown) → ObjectsState → ObjectsState → Type 0
-ShowsMade place made old new = ShowsFrom (shown_at place old) place made old new
+abbrev pub BecomesShown : (place : ℕ) → (Shown → Shown) → ObjectsState → ObjectsState → Type 0
+BecomesShown place made old new = ShowsFrom (shown_at place old) place made old new
 
 -- whether an object shows why this of it was not answered
 abbrev pub shows_trouble_of : Ask → Bool
@@ -44,7 +44,7 @@ shown_troubled ask t s = if says_locked t then record s { lock = locks.Other }
 -- WHY SOMETHING WAS NOT ANSWERED: behind a walk, because the device is another one by now; and else the object shows it.
 abbrev pub NotesTrouble : Bool → (place : ℕ) → Ask → Trouble → Inventory → Inventory → Type 0
 NotesTrouble true place ask t old new = new ≡ record old { is_stale = true }
-NotesTrouble false place ask t old new = ShowsMade place (shown_troubled ask t) old.objects new.objects
+NotesTrouble false place ask t old new = BecomesShown place (shown_troubled ask t) old.objects new.objects
     × (new ≡ record old { objects = new.objects })
 
 abbrev pub LearnsTrouble : (place : ℕ) → Ask → Trouble → Inventory → Inventory → Type 0
@@ -53,7 +53,7 @@ LearnsTrouble place ask t old new = NotesTrouble (old.walked && tells_of_another
 -- AN ORDER ENDED: its object shows what is made of what it showed. What is asked of it again, and which answers are not
 -- learned, is another matter; all else is as it was.
 pub record LearnsOrderAt (place : ℕ) (order : Order) (done : Result Unit Trouble) (old new : Inventory) : Type 0 where
-  pub objects : ShowsMade place (shown_ordered order done) old.objects new.objects
+  pub objects : BecomesShown place (shown_ordered order done) old.objects new.objects
   pub rest : new ≡ record old { objects = new.objects; asked = new.asked; waiting = new.waiting }
 
 -- its object is the first that was found with its number; where none was, nothing changed

@@ -126,8 +126,8 @@ AsksFrom (Some o) question false old before new after = (new ≡ old) × (after 
 abbrev pub target_of : Object → Ono × Option Class
 target_of o = (o.ono, o.class)
 
-abbrev pub Asks : Question → Bool → View → PanelState → View → PanelState → Type 0
-Asks question done old before new after =
+abbrev pub AsksAtPlace : Question → Bool → View → PanelState → View → PanelState → Type 0
+AsksAtPlace question done old before new after =
     AsksFrom (option_map target_of (slice_get old.inventory.objects.list question.place)) question done old before new after
 
 -- Where the link is lost or late, all orders are noted as lost, and the panel goes on with another link to the same

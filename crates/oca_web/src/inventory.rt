@@ -50,7 +50,7 @@ impl Inventory {
     ghost use Rattle.std.specs.Prelude.{◌≡◌, ◌≢◌, ◌==◌, ◌≤◌, true, length, IfOk, OnSome, remove};
     ghost use Rattle.std.specs.Option.{option_map};
     ghost use Rattle.oca_web.specs.Views.{target_of};
-    ghost use Rattle.oca_web.specs.Learning.{LearnsOrder, LearnsTrouble, ShowsMade};
+    ghost use Rattle.oca_web.specs.Learning.{LearnsOrder, LearnsTrouble, BecomesShown};
     ghost use Rattle.oca_web.specs.Shows.{shown_listed, shown_read};
     ghost use Rattle.oca_web.specs.Listing.{Compares, ComparesAt, KeepsList};
     ghost use Rattle.oca_web.specs.Readings.{AsksAgain, ConfirmsBy, IsOfMoment, KeepsAsked, KeepsMoment};
@@ -359,7 +359,7 @@ impl Inventory {
 
     /// An object is enabled, or not.
     fn show_enabled(&mut self, place: usize, enabled: bool)
-        ensures shows { ShowsMade place (λ s. record s { enabled = enabled }) self.old.objects self.new.objects }
+        ensures shows { BecomesShown place (λ s. record s { enabled = enabled }) self.old.objects self.new.objects }
         ensures rest { self.new ≡ record self.old { objects = self.new.objects } }
     {
         if let Some(shown) = self.objects.shown(place) {
@@ -369,7 +369,7 @@ impl Inventory {
 
     /// An object was read by a question that was submitted at this moment or later: no different controller locks it.
     fn show_reading(&mut self, place: usize, reading: Reading, moment: u64)
-        ensures shows { ShowsMade place (λ s. shown_read s reading moment) self.old.objects self.new.objects }
+        ensures shows { BecomesShown place (λ s. shown_read s reading moment) self.old.objects self.new.objects }
         ensures moment { IsOfMoment place moment self.new }
         ensures rest { self.new ≡ record self.old { objects = self.new.objects } }
     {
@@ -459,7 +459,7 @@ impl Inventory {
     fn compare_members(&mut self, place: usize, members: &Members)
         ensures walk { KeepsWalk self.old self.new }
         ensures compares { Compares place members.now.items self.old self.new }
-        ensures shows { ShowsMade place shown_listed self.old.objects self.new.objects }
+        ensures shows { BecomesShown place shown_listed self.old.objects self.new.objects }
         ensures rest { self.new ≡ record self.old { objects = self.new.objects; is_stale = self.new.is_stale } }
     {
         if !was_listed(self.lists.as_slice(), place, members.as_slice()) {
@@ -470,7 +470,7 @@ impl Inventory {
 
     /// The members of a block were listed: there is no trouble, and no different controller locks it.
     fn show_listed(&mut self, place: usize)
-        ensures shows { ShowsMade place shown_listed self.old.objects self.new.objects }
+        ensures shows { BecomesShown place shown_listed self.old.objects self.new.objects }
         ensures rest { self.new ≡ record self.old { objects = self.new.objects } }
     {
         if let Some(shown) = self.objects.shown(place) {

@@ -74,7 +74,7 @@ impl View {
     ghost use Rattle.oca_web.specs.Bodies.{IsForWord};
     ghost use Rattle.oca_web.specs.Readings.{ConfirmsAsked};
     ghost use Rattle.oca_web.specs.Views.{AsksQuestions, Continues, RenewsLost, RestsBehind, SubmitsAndAsks, TakesAnswers, TurnsAndSettles};
-    ghost use Rattle.oca_web.specs.Views.{Asks, TakesAnswer, TurnsHearing};
+    ghost use Rattle.oca_web.specs.Views.{AsksAtPlace, TakesAnswer, TurnsHearing};
     ghost use Rattle.std.specs.Bool.{OnTrue};
     ghost use Rattle.oca_web.specs.Views.{half_spent, moment_noted, next_with, orders_after, stood_still};
     ghost use Rattle.oca_web.specs.Walking.{BeginsAnew, KeepsWalk, StaysOver};
@@ -510,7 +510,7 @@ impl View {
         ensures orders { self.new.orders ≡ self.old.orders }
         ensures walk { KeepsWalk self.old.inventory self.new.inventory }
         ensures panel { AsksQuestions self.old.next_handle panel.old self.new.next_handle panel.new }
-        ensures asks { Asks question result self.old panel.old self.new panel.new }
+        ensures asks { AsksAtPlace question result self.old panel.old self.new panel.new }
     {
         let Some((ono, class)) = self.inventory.target_of(question.place) else {
             return true;
