@@ -196,10 +196,11 @@ impl Link {
     /// if the bytes are not well-formed (AES70-3). Otherwise `Answered` with how many commands in flight got their
     /// first answer, or `NothingNew` if none did.
     ///
-    /// The responses are handled in order. A response is stored if its handle is the handle of a command in flight
-    /// without an answer. Commands and keep-alives are ignored. A stranger's or malformed datagram changes only the
-    /// link's clock, which moves on to `now` in all cases. A moment earlier than the latest one so far counts as that
-    /// latest one. A lost link still stores answers.
+    /// In all cases the link's clock moves on to `now`. A moment earlier than the latest one so far counts as that
+    /// latest one. A stranger's or malformed datagram changes nothing else. Any other datagram sets
+    /// [`last_heard`](Link::last_heard) to this moment, and its responses are handled in order. A response is stored if
+    /// its handle is the handle of a command in flight without an answer. Commands and keep-alives in the datagram have
+    /// no other effect. A lost link still stores answers.
     pub fn datagram(&mut self, from: Peer, bytes: &[u8], now: u64) -> Reception
         ensures receives { ReceivesDatagram from bytes.now now self.old result self.new }
         ensures answer { (content : Option (List Msg)) → IsContent content bytes.now →

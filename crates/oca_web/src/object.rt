@@ -131,8 +131,8 @@ pub fn limits_of(reading: Reading) -> Option<(Value, Value)> {
     }
 }
 
-/// The reading of an object after it was set to this value: the value, with the same limits. If the value is of another
-/// class, the reading is returned as it is.
+/// The reading of an object after it was set to this value: the value, with the same limits. The limits are not
+/// checked: the value may be outside them. If the value is of another class, the reading is returned as it is.
 pub fn reading_with(reading: Reading, value: Value) -> Reading
     ensures { result ≡ reading_set_to reading value }
 {
