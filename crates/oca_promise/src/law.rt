@@ -53,8 +53,9 @@ pub fn law_of_calls()
 /// [`law_of_calls`]. The function does nothing at run time.
 ///
 /// Once: each answer is that of the only execution of the command that was begun under this handle. This execution lies
-/// between the begin and the taking of the answer, and no call between takes this answer. In time: none of these calls
-/// sends while the link is late. Refused: a command that was refused with a status changed no object.
+/// between the begin and the taking of the answer. If no stranger's datagram was delivered, no call between takes this
+/// answer. In time: if no stranger's datagram was delivered, none of these calls sends while the link is late. Refused:
+/// a command that was refused with a status changed no object.
 ///
 /// Set: if the command to set is answered OK, the object was set to the value, if it is of the value's class. Reading:
 /// what was read is how the object read at a moment between, if it is of the class that was given. Answer: what is read
