@@ -342,8 +342,9 @@ static inline void oca_spec_position(struct oca_spec *spec, const char *name) {
  * switch it also changes the names of its positions and which are enabled. The role, the limits and whether it can be locked stay, so a new
  * version of a program may change those. Otherwise the first of these that applies, and then nothing is changed. OCA_BAD_SIZE if one of the
  * structs is of another size. OCA_OTHER_KIND if the two differ in their class or in their number of positions. OCA_BAD_RANGE if there are
- * more than 16 positions. OCA_BAD_TEXT if a stored label or name is not UTF-8 or has more than 64 bytes. OCA_OUT_OF_RANGE if `stored` holds
- * no value, or a value that the limits in `spec` do not allow. */
+ * more than 16 positions. OCA_BAD_TEXT if a stored label or name is not UTF-8 or has more than 64 bytes. OCA_OUT_OF_RANGE if the
+ * object is no block and the value in `stored` is not one of its class, or is not allowed by the limits in `spec` (for a switch: is not below
+ * the number of positions). For a block the value is not looked at. */
 enum oca_result oca_spec_restore(struct oca_spec *spec, const struct oca_spec *stored) OCA_NONNULL;
 
 /* ---- the device ---- */
@@ -640,9 +641,9 @@ struct oca_link { void *at; bool is_open; };
  * moment, in milliseconds of the caller's clock. The link's first command gets the handle `first_handle`, and each later command the next
  * one. A command is refused while its handle would be `span` (1 to 32; 16 is usual) or more above the lowest handle in flight (that of the
  * oldest command whose answer was not taken). `first_handle` must be above every handle that the device heard from the same address and
- * port before, unless nothing was sent from there for more than two minutes since. Otherwise the first of these that applies, and then
- * nothing is changed. OCA_OPEN if the struct is open already. OCA_BAD_SIZE if the span is outside its range. OCA_NO_MEMORY if memory was
- * refused. */
+ * port. Handles from before a pause of more than two minutes, in which nothing was sent from there, do not count. Otherwise the first of
+ * these that applies, and then nothing is changed. OCA_OPEN if the struct is open already. OCA_BAD_SIZE if the span is outside its range.
+ * OCA_NO_MEMORY if memory was refused. */
 enum oca_result oca_link_open(struct oca_link *link, uint32_t ip, uint16_t port, uint32_t first_handle, uint64_t now, uint8_t span) OCA_CHECKED;
 
 /* Closes a link and frees its memory. A closed one stays closed, and for a null pointer nothing is done. Commands in flight may still be

@@ -52,9 +52,9 @@ pub extern "C" fn oca_device_close(alloc: Global, handle: &mut DeviceHandle)
     handle.close(alloc);
 }
 
-/// Starts the device, with reply windows of `window` commands and room for the sessions of `peers` peers. Each number
-/// is 1 to 64. The device has room for 122 packets that answer a datagram, which always suffices. No object can be
-/// added after it. Returns the number of an answer: `Done`; otherwise the first of these that applies. `Closed` if the
+/// Starts the device, with reply windows of `window` commands (1 to 64) and room for the sessions of `peers` peers (1
+/// to 64). The device has room for 122 packets that answer a datagram, which always suffices. After the start no object
+/// can be added. Returns the number of an answer: `Done`; otherwise the first of these that applies. `Closed` if the
 /// struct is closed, `Started` if the device is started already, `BadSize` if a size is outside its range: then nothing
 /// is changed. `NoMemory` if memory was refused: then the objects are lost, and the struct is closed.
 #[unsafe(no_mangle)]
@@ -72,11 +72,12 @@ pub extern "C" fn oca_device_start(
     oca_device_start_within(alloc, handle, window, peers, MOST_PACKETS)
 }
 
-/// Starts the device, with reply windows of `window` commands and room for the sessions of `peers` peers, both 1 to 64.
-/// The device has room for `packets` packets that answer a datagram, 1 to 122, of some 1,480 bytes each. No object can
-/// be added after it. Returns the number of an answer: `Done`; otherwise the first of these that applies. `Closed` if
-/// the struct is closed, `Started` if the device is started already, `BadSize` if a size is outside its range: then
-/// nothing is changed. `NoMemory` if memory was refused: then the objects are lost, and the struct is closed.
+/// Starts the device, with reply windows of `window` commands (1 to 64) and room for the sessions of `peers` peers (1
+/// to 64). The device has room for `packets` packets that answer a datagram, 1 to 122, of some 1,480 bytes each. After
+/// the start no object can be added. Returns the number of an answer: `Done`; otherwise the first of these that
+/// applies. `Closed` if the struct is closed, `Started` if the device is started already, `BadSize` if a size is
+/// outside its range: then nothing is changed. `NoMemory` if memory was refused: then the objects are lost, and the
+/// struct is closed.
 #[unsafe(no_mangle)]
 pub extern "C" fn oca_device_start_within(
     alloc: Global,

@@ -22,13 +22,12 @@ use std::alloc::Global;
 /// Opens a link to the device at the address `ip` (an IPv4 address as a number, the first byte highest) and the port
 /// `port`, and takes the memory for the link. `now` is the moment, in milliseconds of the caller's clock. The link's
 /// first command gets the handle `first_handle`, and each later command the next one. A command is refused while its
-/// handle would be `span` (1 to 32) or more above the lowest handle in flight (that of the oldest command whose answer
-/// was not taken).
+/// handle would be `span` (1 to 32) or more above the lowest handle in flight.
 ///
-/// `first_handle` must be above every handle that the device heard from the same address and port before, unless
-/// nothing was sent from there for more than two minutes since. Returns the number of an answer: `Done`; otherwise the
-/// first of these that applies, and nothing is changed. `Open` if the struct is open already. `BadSize` if the span is
-/// outside its range. `NoMemory` if memory was refused.
+/// `first_handle` must be above every handle that the device heard from the same address and port. Handles from before
+/// a pause of more than two minutes, in which nothing was sent from there, do not count. Returns the number of an
+/// answer: `Done`; otherwise the first of these that applies, and nothing is changed. `Open` if the struct is open
+/// already. `BadSize` if the span is outside its range. `NoMemory` if memory was refused.
 #[unsafe(no_mangle)]
 pub extern "C" fn oca_link_open(
     alloc: Global,

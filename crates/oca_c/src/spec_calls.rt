@@ -153,7 +153,8 @@ pub extern "C" fn oca_device_spec_of(
 /// applies, and nothing is changed. `BadSize` if one of the structs is of another version (another `size`, or `zeros`
 /// that are not 0). `OtherKind` if the two differ in their class or in their number of positions. `BadRange` if there
 /// are more than 16 positions. `BadText` if a stored label or name has more than 64 bytes or is not UTF-8. `OutOfRange`
-/// if `stored` holds no value, or a value that the limits in `spec` do not allow.
+/// if the object is no block and the value in `stored` is not one of its class, or is not allowed by the limits in
+/// `spec` (for a switch: is not below the number of positions). For a block the value is not looked at.
 #[unsafe(no_mangle)]
 pub extern "C" fn oca_spec_restore(spec: &mut SpecWords, stored: &SpecWords) -> u32
     ensures { (answer : AnswerItself) × (result ≡ answer_number answer) × RestoresSpec answer spec.old stored.now spec.new }

@@ -712,10 +712,10 @@ impl DeviceBehind {
         Answer::Done
     }
 
-    /// Writes into `reading` how an object is set, without limits. The kind is 1 for a state, 2 for a position, 3 for a
-    /// Boolean and 4 for an integer. With it come whether the number is negative (0 or 1), and its magnitude (1 or 2
-    /// for a state, 0 or 1 for a Boolean). Returns `Done`. `Nothing` for a block and if no object has the number, or
-    /// `NotStarted` before the start: then nothing is written.
+    /// Writes into `reading` how the object `ono` is set, without limits. `kind` is 1 for a state, 2 for a position, 3
+    /// for a Boolean and 4 for an integer. With it come whether the value is below 0 (`negative`, 0 or 1), and its
+    /// absolute value (`magnitude`: 1 or 2 for a state, 0 or 1 for a Boolean). Returns `Done`. `NotStarted` before the
+    /// start, or `Nothing` if the object is a block, or no object has the number `ono`: then nothing is written.
     pub fn reading(&self, ono: u32, reading: &mut Reading) -> Answer
         ensures writes { (w : DeviceSizes) (T : List Object) (E : List Event) → RunsBehind w self.now T E →
             WritesSetting (setting_at (state_after w T E).tree ono) reading.new (answer_number result) }

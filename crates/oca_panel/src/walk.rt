@@ -122,10 +122,10 @@ impl Walk {
         })
     }
 
-    /// Visits the next place: asks the object there for its class and its role, and a block for its members, which are
-    /// visited next. The call waits for each answer until the panel's `wait` milliseconds are over. An object that was
-    /// visited before is not asked ([`Found::Again`]). If the object does not answer a question, the [`Visit`] has the
-    /// reason in its place.
+    /// Visits the next place: asks the object there for its class, then for its role, and a block then for its members,
+    /// which are visited next. The call waits for each of these answers for at most the panel's `wait` milliseconds. If
+    /// a question gets no usable answer, the [`Visit`] has the reason in place of the answer. An object that was
+    /// visited before is not asked ([`Found::Again`]).
     ///
     /// `None` if no place is left, or 4,096 places were visited: then nothing is asked. Refusal: `NoMemory`, if memory
     /// was refused; after it the walk may leave objects out.

@@ -119,9 +119,10 @@ impl Tree {
         }
     }
 
-    /// Executes a command of the peer (AES70-2; the order of the statuses is the profile's). Returns the status,
-    /// ParamCount, and whether the command wrote to its object. `out` then holds the answer's parameters, and nothing
-    /// else. With another status than OK no object is changed, `out` is empty, and the count is 0.
+    /// Executes a command of the peer (AES70-2). Returns the status, ParamCount, and whether the command wrote to its
+    /// object. If several statuses apply, the profile says which of them is returned. What `out` held before is lost;
+    /// it then holds the answer's parameters, and nothing else. With another status than OK no object is changed, `out`
+    /// is empty, and the count is 0.
     #[inline(always)]
     pub fn execute(&mut self, peer: Peer, command: &Command<'_>, out: &mut Params) -> Done
         ensures tree { self.new ≡ (execution self.old peer (fields_of command.now)).tree }

@@ -307,9 +307,11 @@ impl Inventory {
         }
     }
 
-    /// Notes the answer to a question, or why there is none. The question was submitted at the moment `moment`, in
-    /// milliseconds of the program's clock, or later. The answer to a question of an earlier walk changes nothing.
-    /// Refusal: `NoMemory`, if memory was refused; what is known may then lack something.
+    /// Notes `answer`: the answer to `question`, or the reason why there is none. `moment`, in milliseconds of the
+    /// program's clock, is not later than the submit of the question; the reading in an answer gets this moment. A
+    /// question of an earlier walk changes nothing. If the reason shows, after a walk, that another device answers by
+    /// now, another walk is asked for. Refusal: `NoMemory`, if memory was refused; what is known may then lack members
+    /// of a block.
     #[tactic(auto, using(crate::proofs::AgeLemmas::moment_rules))]
     pub fn learn(
         &mut self,

@@ -9,8 +9,8 @@ use std::rt::Files;
 const MOST_BYTES: usize = 65_536;
 
 /// The first bytes of the file at a path: all if there are fewer than 65,536, otherwise at least 65,536 and at most
-/// 66,047. Failure: `Read` if the file can't be read or memory was refused. The reason is its note, if there is memory
-/// for it.
+/// 66,047. Failure: `Read` if the file can't be read or memory was refused. Its note names the path and the reason, if
+/// there is memory for the note.
 pub fn bytes_of<F: Files>(alloc: Global, files: &F, path: &str) -> Result<Vec<u8>, Failure> {
     match fs::open(files, path) {
         Ok(mut file) => match bytes_in(alloc, &mut file) {
