@@ -61,7 +61,8 @@ def tells_what_failed(folder):
              "1 1 cat well; echo 'NOT TRIED: v is not installed'; echo 'u/a.edit: NOT TRIED: its check hung'; echo '1 passed, 2 failed'")
     trial = edits.Trial(SimpleNamespace(folder=folder, name="a"), folder)
     of = {"must_pass": True, "is_refused": False, "is_misnamed": False, "says": "still proved", "path": folder / "a.edit"}
-    trial.edits = [SimpleNamespace(why=why, **of) for why in (answered([]).reason(None), "still proved: FAILED, it is WRONG: NOT TRIED")]
+    reasons = edits.Answer(of_prover([]), ()).reason(None), "still proved: FAILED, it is WRONG: NOT TRIED"
+    trial.edits = [SimpleNamespace(why=why, **of) for why in reasons]
     well = "".join(f"{line}\n" for line in said(trial.told)[1].splitlines())
     (folder / "well").write_text(well)
     told = gate_over(folder, steps.replace("cat well", f"cat '{folder}/well'"))[2]

@@ -378,8 +378,9 @@ static inline void oca_device_close_any(struct oca_device *device) {
  * oca_result says of an addition. */
 enum oca_result oca_device_add(struct oca_device *device, uint32_t container, uint32_t ono, const struct oca_spec *spec) OCA_CHECKED;
 
-/* Adds an object of one class to the tree, as oca_device_add does, with the fields one by one. `lockable` says whether it can be locked.
- * `muted`, `inverted` and `setting` are its first state or setting. An integer lies within `least` to `greatest`, now and later. */
+/* Adds an object of one class to the tree, as oca_device_add does, with the fields one by one. `container` is the number of its block,
+ * `ono` its own number, and `role` its role, 1 to 64 bytes of UTF-8. `lockable` says whether it can be locked. `muted`, `inverted` and
+ * `setting` are its first state or setting. An integer lies within `least` to `greatest`, now and later. */
 enum oca_result oca_device_add_block(struct oca_device *device, uint32_t container, uint32_t ono, const uint8_t *role, size_t role_len, bool lockable) OCA_CHECKED;
 enum oca_result oca_device_add_mute(struct oca_device *device, uint32_t container, uint32_t ono, const uint8_t *role, size_t role_len, bool lockable, bool muted) OCA_CHECKED;
 enum oca_result oca_device_add_polarity(struct oca_device *device, uint32_t container, uint32_t ono, const uint8_t *role, size_t role_len, bool lockable, bool inverted) OCA_CHECKED;
@@ -393,8 +394,9 @@ enum oca_result oca_device_add_uint16(struct oca_device *device, uint32_t contai
 enum oca_result oca_device_add_uint32(struct oca_device *device, uint32_t container, uint32_t ono, const uint8_t *role, size_t role_len, bool lockable, uint32_t setting, uint32_t least, uint32_t greatest) OCA_CHECKED;
 enum oca_result oca_device_add_uint64(struct oca_device *device, uint32_t container, uint32_t ono, const uint8_t *role, size_t role_len, bool lockable, uint64_t setting, uint64_t least, uint64_t greatest) OCA_CHECKED;
 
-/* Adds a switch with 1 to 16 positions, which are all enabled, as oca_device_add does. `position` is the one at which it stands first,
- * counted from 0. */
+/* Adds a switch with 1 to 16 positions, which are all enabled, as oca_device_add does. `container` is the number of its block, `ono` its
+ * own number, `role` its role, and `names` are the names of its positions. `lockable` says whether it can be locked. `position` is the one
+ * at which it stands first, counted from 0. */
 enum oca_result oca_device_add_switch(struct oca_device *device, uint32_t container, uint32_t ono, const uint8_t *role, size_t role_len, bool lockable, const struct oca_name *names, size_t names_len, uint16_t position) OCA_CHECKED;
 
 /* Starts the device. `window` is for how many commands of one peer it keeps the replies: 1 to 64; 32 is usual, and it must be at least
@@ -941,9 +943,9 @@ uint64_t oca_socket_now(void);
  * closed. */
 enum oca_socket_result oca_socket_open(struct oca_socket *own, uint32_t ip, uint16_t port) OCA_LOOKED_AT;
 
-/* Opens a panel's socket, at the one address from which the system reaches the device, and this port (0: the system chooses one). Each
- * transmission of a command leaves from there, or is not sent. OCA_SOCKET_OPEN leaves an open socket as it is; any other failure leaves it
- * closed, for example if there is no route. */
+/* Opens a panel's socket, at the one address from which the system reaches the device at `device_ip` and `device_port`, and at the port
+ * `port` (0: the system chooses one). Each transmission of a command leaves from there, or is not sent. OCA_SOCKET_OPEN leaves an open
+ * socket as it is; any other failure leaves it closed, for example if there is no route. */
 enum oca_socket_result oca_socket_open_towards(struct oca_socket *own, uint32_t device_ip, uint16_t device_port, uint16_t port) OCA_LOOKED_AT;
 
 /* Closes a socket. A closed one stays closed, and for a null pointer nothing is done. */
@@ -957,7 +959,8 @@ enum oca_socket_result oca_socket_wait(struct oca_socket *own, uint64_t until);
  * room for 1,473 bytes one of more than 1,472 is noticed. OCA_SOCKET_NOTHING if none has come: then nothing is written. */
 enum oca_socket_result oca_socket_receive(struct oca_socket *own, uint8_t *out, size_t out_len, size_t *len, uint32_t *ip, uint16_t *port) OCA_LOOKED_AT;
 
-/* Sends a datagram, without waiting. OCA_SOCKET_SYSTEM if the system has no room for it or refuses it: then it is not sent. */
+/* Sends the datagram `bytes` to the address `ip` and the port `port`, without waiting. OCA_SOCKET_SYSTEM if the system has no room for it
+ * or refuses it: then it is not sent. */
 enum oca_socket_result oca_socket_send(struct oca_socket *own, const uint8_t *bytes, size_t len, uint32_t ip, uint16_t port);
 
 /* The end of a panel over a socket that was opened towards its device, for oca_panel_open. The socket stays where it is until the panel is

@@ -99,8 +99,8 @@ pub extern "C" fn oca_device_start_within(
 }
 
 /// Handles a datagram that came from the address `ip` (an IPv4 address as a number, the first byte highest) and a port.
-/// `now` is the moment, in milliseconds of the caller's clock; a moment earlier than one already seen counts as that
-/// one. The answers replace the packets of the last datagram, as many as there is room for.
+/// `now` is the moment, in milliseconds of the caller's clock; a moment earlier than the latest one so far counts as
+/// that latest one. The answers replace the packets of the last datagram, as many as there is room for.
 ///
 /// The words of the verdict go to the front of `out`, as many as it has room for. There are seven. If the datagram was
 /// served, the first is 0. Then come four counts of its commands (executed, duplicates, too old, and those that ask

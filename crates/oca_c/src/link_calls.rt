@@ -107,11 +107,12 @@ pub extern "C" fn oca_link_submit(
     number
 }
 
-/// Puts what is due at the moment `now`, in milliseconds of the caller's clock, to the front of `out`; it must be sent
-/// to the device. The size of the packet, 0 to 1,472 bytes, goes into `len`. `kind` becomes 0 if nothing is due, 1 for
-/// a command, 2 for a keep-alive, 3 if the link is lost (`enum oca_due`). `command` becomes the handle of the command,
-/// or 0 if no command is due. Returns the number of an answer: `Done`; otherwise `Closed` if the struct is closed, or
-/// `TooSmall` if `out` has fewer than 1,472 bytes, whatever is due. Then nothing is changed or written.
+/// Puts the next packet that is due at the moment `now`, in milliseconds of the caller's clock, to the front of `out`;
+/// the caller must send it to the device. Each call puts one packet there: call again until `kind` is 0 or 3. `len`
+/// becomes the size of the packet, at most 1,472 bytes, and 0 if there is none. `kind` becomes 0 if nothing is due, 1
+/// for a command, 2 for a keep-alive, 3 if the link is lost (`enum oca_due`). `command` becomes the handle of the
+/// command, or 0 if no command is due. Returns the number of an answer: `Done`; otherwise `Closed` if the struct is
+/// closed, or `TooSmall` if `out` has fewer than 1,472 bytes, whatever is due. Then nothing is changed or written.
 #[unsafe(no_mangle)]
 pub extern "C" fn oca_link_due(
     alloc: Global,

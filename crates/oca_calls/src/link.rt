@@ -68,11 +68,12 @@ impl LinkBehind {
         }
     }
 
-    /// Puts what is due at the moment `now`, in milliseconds of the caller's clock, to the front of `out`. The size of
-    /// the packet, 0 to 1,472 bytes, goes into `len`. `kind` becomes 0 if nothing is due, 1 for a command, 2 for a
-    /// keep-alive, 3 if the link is lost. `handle` becomes the handle of the command, or 0 if no command is due.
-    /// Returns the number of an answer: `Done`. `TooSmall` if `out` has fewer than 1,472 bytes: then nothing is changed
-    /// or written.
+    /// Puts the next packet that is due at the moment `now`, in milliseconds of the caller's clock, to the front of
+    /// `out`. Each call puts one packet there: call again until `kind` is 0 or 3. `len` becomes the size of the packet,
+    /// at most 1,472 bytes, and 0 if there is none. `kind` becomes 0 if nothing is due, 1 for a command, 2 for a
+    /// keep-alive, 3 if the link is lost. `handle` becomes the handle of the command, or 0 if no command is due. A
+    /// moment earlier than the latest one so far counts as that latest one. Returns the number of an answer: `Done`.
+    /// `TooSmall` if `out` has fewer than 1,472 bytes: then nothing is changed or written.
     pub fn due(
         &mut self,
         now: u64,

@@ -75,15 +75,15 @@ impl Model for Link {
 }
 
 impl Link {
-    /// A link to the device at this address. `now` is the moment of its making, in milliseconds of the caller's clock.
-    /// The link's first command gets the handle `first_handle`. Each later handle is one higher, and lies below the
-    /// lowest handle in flight plus the span.
+    /// A link to the device at this address. `now` is the moment at which it is made, in milliseconds of the caller's
+    /// clock. The link's first command gets the handle `first_handle`. Each later handle is one higher, and lies below
+    /// the lowest handle in flight plus the span.
     ///
     /// A device remembers what it executed for an address and port until it has heard nothing from there for 120
     /// seconds. So the first handle must be above all handles that an earlier link used from this address and port in
-    /// that time. Otherwise the device does not answer a handle that it counts as old, or that another command had. A
-    /// late answer to a command of an earlier link would also be taken for one to this link's command under that
-    /// handle.
+    /// that time. Otherwise the device may not answer a command, because it counts its handle as old, or another
+    /// command had that handle. A late answer to a command of an earlier link would also be taken for one to this
+    /// link's command under that handle.
     pub fn new(device: Peer, first_handle: Handle, now: u64, span: Span) -> Link
         ensures { result ≡ new_link device first_handle.0 now (span_size span) }
     {
@@ -196,10 +196,11 @@ impl Link {
     /// if the bytes are not well-formed (AES70-3). Otherwise `Answered` with how many commands in flight got their
     /// first answer, or `NothingNew` if none did.
     ///
-    /// The responses are handled in order. A response is stored if its handle is the handle of a command in flight
-    /// without an answer. Commands and keep-alives are ignored. A stranger's or malformed datagram changes only the
-    /// link's clock, which moves on to `now` in all cases. A moment earlier than the latest one so far counts as that
-    /// latest one. A lost link still stores answers.
+    /// In all cases the link's clock moves on to `now`. A moment earlier than the latest one so far counts as that
+    /// latest one. A stranger's or malformed datagram changes nothing else. Any other datagram sets
+    /// [`last_heard`](Link::last_heard) to this moment, and its responses are handled in order. A response is stored if
+    /// its handle is the handle of a command in flight without an answer. Commands and keep-alives in the datagram have
+    /// no other effect. A lost link still stores answers.
     pub fn datagram(&mut self, from: Peer, bytes: &[u8], now: u64) -> Reception
         ensures receives { ReceivesDatagram from bytes.now now self.old result self.new }
         ensures answer { (content : Option (List Msg)) → IsContent content bytes.now →

@@ -142,9 +142,9 @@ pub fn first_broken<'r>(words: &ArgMatches<'_>, rows: &'r [OptionRow]) -> Option
     rows.iter().find(|row| breaks(words, row))
 }
 
-/// Checks the value of each of the options `rows` that the command line (`words`) has: it must have the option's form.
-/// Failure: `BadWords` if a value does not have it. The note names the first such option, its value and its form, if
-/// there is memory for the note.
+/// Checks each of the options `rows` that the command line `words` has: the value must have the form of the option.
+/// Failure: `BadWords` if a value does not have this form. If there is memory for it, the note of the failure names the
+/// first such option in the order of `rows`, its value, and the form.
 pub fn check(alloc: Global, words: &ArgMatches<'_>, rows: &[OptionRow]) -> Result<(), Failure>
     ensures ok { is_ok result ≡ fits words.now (map row_fields rows.now) }
     ensures err { IfErr result (λ failure. failure.fault ≡ BadWords) }

@@ -120,7 +120,8 @@ fn is_skipped(line: &[u8]) -> bool
     }
 }
 
-/// The part of a line after this word and one space. `None` if the line does not begin with both.
+/// The part of a line after this word and one space; the word must have no space. `None` if the line does not begin
+/// with the word and a space.
 pub fn behind<'a>(word: &[u8], line: &'a [u8]) -> Option<&'a [u8]>
     ensures { option_copied result ≡ behind_word word.now line.entry.now }
 {

@@ -1,13 +1,23 @@
 -- One step more.
-use Rattle.std.proofs.Common.{◌≡◌, ◌+◌, ◌≤◌, ℕ, [], ◌∷◌, length, length-append, ap, arith, inl, Bool, true, false, Option, Some, None, Result}
+use Rattle.std.proofs.Common.{◌≡◌, ◌≢◌, ◌+◌, ◌≤◌, ◌<◌, ℕ, [], ◌∷◌, length, length-append, ap, arith, inl, refl, sym, ◌∙◌, Bool, true, false, Option, Some, None, Result}
+use Rattle.std.proofs.lemmas.Bool.Decides.{nat_tests}
+use Rattle.std.specs.Bool.{OnTrue}
+use Rattle.std.specs.Prelude.{◌==◌, OnSome, remove, slice_get}
+use Rattle.std.specs.Option.{option_map}
 use Rattle.oca_types.specs.declared.class.Class.{Class}
 use Rattle.oca_types.specs.declared.words.Handle.{Handle}
+use Rattle.oca_types.specs.declared.words.Ono.{Ono}
 use Rattle.oca_control.specs.declared.outcome.Outcome.{Outcome}
 use Rattle.oca_panel.specs.declared.trouble.Trouble.{Trouble}
 use Rattle.oca_panel.specs.Panels.{PanelState, MaySettle}
 use Rattle.oca_web.specs.declared.ask.Ask.{Ask}
+use Rattle.oca_web.specs.declared.ask.Asked.{Asked}
+use Rattle.oca_web.specs.declared.ask.Question.{Question}
+use Rattle.oca_web.specs.declared.inventory.Inventory.{Inventory}
+use Rattle.oca_web.specs.declared.view.View.{View}
 use Rattle.oca_web.specs.Asking.{AsksOne}
-use Rattle.oca_web.specs.Views.{AsksQuestions, NoneAsked, OneAsked, next_behind, TakesAnswers, NoneTaken, OneTaken}
+use Rattle.oca_web.specs.Readings.{KeepsAsked}
+use Rattle.oca_web.specs.Views.{AsksAtPlace, AsksQuestions, NoneAsked, OneAsked, next_behind, target_of, TakesAnswer, TakesAnswers, NoneTaken, OneTaken}
 use Rattle.oca_web.specs.declared.order.Sent.{Sent}
 use Rattle.oca_web.specs.Orders.{OrdersState, Steps, OneMore, SubmitsOrder, SubmitsFirst, SettlesOne, SettlesAt, NoneIsLeft}
 
@@ -68,3 +78,61 @@ asks_on n m k p q r a NoneAsked = a
 asks_on n m k p q r a (OneAsked {m = l} {q = s} ono of ask handle before one) = OneAsked ono of ask handle (asks_on n m l p q s a before) one
 
 pub ruleset question_rules = (asks_none, asks_one, asks_on)
+
+-- ---- one answer, and one question
+
+pub takes_nowhere : (at : ℕ) (o : Option Asked) (old new : Inventory) (p q : PanelState) → o ≡ slice_get old.asked.items at → o ≡ None → new ≡ old → q ≡ p
+    → TakesAnswer at old p new q
+takes_nowhere at o old new p q e n same stays = rw (sym e, n) (same, stays)
+
+pub takes_nothing : (at : ℕ) (o : Option Asked) (asked : Asked) (outcome : Option Outcome) (old new : Inventory) (p q : PanelState)
+    → o ≡ slice_get old.asked.items at → o ≡ Some asked → MaySettle outcome asked.handle.0 p q → outcome ≡ None → new ≡ old → TakesAnswer at old p new q
+takes_nothing at o asked outcome old new p q e s h n same = rw (sym e, s) (None, rw n at h, same)
+
+pub takes_this : (at : ℕ) (o : Option Asked) (asked : Asked) (outcome : Option Outcome) (x : Outcome) (old settled new : Inventory) (p q : PanelState)
+    → o ≡ slice_get old.asked.items at → o ≡ Some asked → MaySettle outcome asked.handle.0 p q → outcome ≡ Some x
+    → OnSome (slice_get old.asked.items at) (settled.asked.items ≡ remove old.asked.items at) → settled ≡ record old { asked = settled.asked }
+    → (asked.question.epoch ≢ settled.epoch → new ≡ settled) → TakesAnswer at old p new q
+takes_this at o asked outcome x old settled new p q e s h n r rest earlier =
+    let there : slice_get old.asked.items at ≡ Some asked = sym e ∙ s in
+    let removed : settled.asked.items ≡ remove old.asked.items at = rw there at r in
+    rw there (
+      Some x,
+      rw n at h,
+      record { settled = settled; asked_left = removed; rest = rest; earlier = earlier },
+    )
+
+pub ruleset take_rules = (takes_nowhere, takes_nothing, takes_this)
+
+pub has_room : (b : Bool) (n : ℕ) → b ≡ (n == 32) → n ≤ 32 → b ≡ false → n < 32
+has_room b n e le f = grind (arith, nat_tests)
+
+pub asks_nowhere : (question : Question) (o : Option (Ono × Option Class)) (old new : View) (p q : PanelState)
+    → o ≡ option_map target_of (slice_get old.inventory.objects.list question.place) → o ≡ None → new ≡ old → q ≡ p
+    → AsksAtPlace question true old p new q
+asks_nowhere question o old new p q e n same stays = rw (sym e, n) (refl, same, stays)
+
+pub asks_not : (question : Question) (o : Option (Ono × Option Class)) (t : Ono × Option Class) (may : Bool) (h : Option Handle) (old new : View)
+    (p q : PanelState) → o ≡ option_map target_of (slice_get old.inventory.objects.list question.place) → o ≡ Some t
+    → AsksOne may t.0.0 t.1 question.ask h p q → h ≡ None → new ≡ old → AsksAtPlace question false old p new q
+asks_not question o t may h old new p q e s asks n same = rw (sym e, s) (same, rw n at asks)
+
+pub asks_this : (question : Question) (o : Option (Ono × Option Class)) (t : Ono × Option Class) (may : Bool) (h : Option Handle) (handle : Handle)
+    (old new : View) (p q : PanelState) → o ≡ option_map target_of (slice_get old.inventory.objects.list question.place) → o ≡ Some t
+    → AsksOne may t.0.0 t.1 question.ask h p q → h ≡ Some handle → OnTrue may (length old.inventory.asked.items < 32)
+    → KeepsAsked handle question old.news.now old.inventory.asked.items new.inventory.asked.items
+    → new.inventory ≡ record old.inventory { asked = new.inventory.asked } → new.next_handle ≡ next_behind old.next_handle handle.0
+    → new ≡ record old { inventory = new.inventory; next_handle = new.next_handle } → AsksAtPlace question true old p new q
+asks_this question o t may h handle old new p q e s asks n room kept inventory next rest =
+    let asked : AsksOne may t.0.0 t.1 question.ask (Some handle) p q = rw n at asks in
+    let left : length old.inventory.asked.items < 32 = rw asked.0 at room in
+    rw (sym e, s) (record {
+      handle = handle;
+      begins = asked.1;
+      kept = kept.0 left;
+      inventory = inventory;
+      next = next;
+      rest = rest;
+    })
+
+pub ruleset ask_rules = (asks_nowhere, asks_not, asks_this)

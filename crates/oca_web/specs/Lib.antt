@@ -4,6 +4,7 @@ pub mod Objects
 pub mod Shows
 pub mod Labels
 pub mod Listing
+pub mod Learning
 pub mod Polling
 pub mod Readings
 pub mod Orders

@@ -32,11 +32,6 @@ KeepsAsked handle question moment old new =
     (length old < 32 → new ≡ old ++ record { handle = handle; question = question; moment = moment } ∷ [])
     × (32 ≤ length old → new ≡ old)
 
--- it is kept so under its handle, or was not submitted
-abbrev pub KeepsQuestion : Question → (moment : ℕ) → Inventory → Inventory → Type 0
-KeepsQuestion question moment old new = (new.asked.items ≡ old.asked.items)
-    ⊎ ((handle : Handle) × KeepsAsked handle question moment old.asked.items new.asked.items)
-
 -- ---- which readings are told as old
 
 -- A READING IS OLD where more than 1,000 ms passed since the moment behind which the device had it.

@@ -1,13 +1,17 @@
 -- What an object shows behind an answer (*profile*).
-use Rattle.std.specs.Prelude.{◌≡◌, ◌⊎◌, ℕ, ◌-◌, ◌==◌, ◌||◌, Bool, true, false, List, codes, Option, Some, None}
+use Rattle.std.specs.Prelude.{ℕ, ◌-◌, ◌==◌, ◌||◌, Bool, true, false, if◌then◌else◌, List, codes, Option, Some, None, Result, Ok, Err}
 use Rattle.oca_types.specs.declared.class.Class.{Class}
 use Rattle.oca_types.specs.declared.class.Class.TheVariants as class
 use Rattle.oca_model.specs.declared.reading.Reading.{Reading}
+use Rattle.oca_model.specs.declared.value.Value.{Value}
+use Rattle.oca_model.specs.Settings.{reading_set_to}
 use Rattle.oca_panel.specs.declared.trouble.Trouble.{Trouble}
 use Rattle.oca_panel.specs.declared.trouble.Trouble.TheVariants as trouble
 use Rattle.oca_web.specs.declared.object.Lock.{Lock}
 use Rattle.oca_web.specs.declared.object.Lock.TheVariants as locks
 use Rattle.oca_web.specs.declared.object.Shown.{Shown}
+use Rattle.oca_web.specs.declared.order.Action.{Action}
+use Rattle.oca_web.specs.declared.order.Action.TheVariants as actions
 use Rattle.oca_web.specs.declared.order.Order.{Order}
 
 -- WHOSE LOCK IS ON AN OBJECT THAT ANSWERED: a different controller's would have kept the answer back, so it is this
@@ -22,19 +26,50 @@ abbrev pub shown_read : Shown → Reading → (moment : ℕ) → Shown
 shown_read s reading moment =
     record s { reading = Some reading; confirmed = moment; trouble = None; lock = lock_behind s.lock }
 
--- THE READING STAYS as it was, and so does its moment: nothing confirmed it.
-pub record KeepsReading (old new : Shown) : Type 0 where
-  pub reading : new.reading ≡ old.reading
-  pub confirmed : new.confirmed ≡ old.confirmed
-
 -- THE MOMENT BEHIND WHICH AN ORDER WAS CARRIED OUT, where it was: its last one is at most 5,000 ms behind the moment at
 -- which its request was read, and it was submitted behind that.
 abbrev pub carried_out_behind : Order → ℕ
 carried_out_behind order = order.last - 5000
 
--- what an object shows behind an order: the reading stays, or it is the one that was ordered, as of that moment
-abbrev pub ShowsOrder : Order → Shown → Shown → Type 0
-ShowsOrder order old new = KeepsReading old new ⊎ (new.confirmed ≡ carried_out_behind order)
+-- why it was refused: a different controller's lock is on the object (AES70-2, OcaStatus)
+abbrev pub says_locked : Trouble → Bool
+says_locked (trouble.Refused status) = status == 3
+says_locked trouble.Unreadable = false
+says_locked trouble.NoValue = false
+says_locked trouble.NoSuchWord = false
+says_locked (trouble.NotSubmitted fault) = false
+says_locked trouble.Lost = false
+says_locked trouble.Unanswered = false
+
+abbrev pub lock_refused : Trouble → Lock → Lock
+lock_refused t before = if says_locked t then locks.Other else before
+
+-- WHOSE LOCK IS ON AN OBJECT behind an order that ended so
+abbrev pub lock_after : Action → Result Unit Trouble → Lock → Lock
+lock_after action (Err t) before = lock_refused t before
+lock_after actions.Lock (Ok u) before = locks.Own
+lock_after actions.Unlock (Ok u) before = locks.Free
+lock_after (actions.Set value) (Ok u) before = before
+lock_after (actions.Rename label) (Ok u) before = before
+
+-- an object that had a reading has the one that was ordered, with the limits that it had, as of this moment
+abbrev pub shown_set : Value → ℕ → Option Reading → Shown → Shown
+shown_set value moment None s = s
+shown_set value moment (Some r) s = record s { reading = Some (reading_set_to r value); confirmed = moment }
+
+abbrev pub shown_done : Action → Result Unit Trouble → ℕ → Shown → Shown
+shown_done action (Err t) moment s = s
+shown_done (actions.Set value) (Ok u) moment s = shown_set value moment s.reading s
+shown_done actions.Lock (Ok u) moment s = s
+shown_done actions.Unlock (Ok u) moment s = s
+shown_done (actions.Rename label) (Ok u) moment s = s
+
+-- WHAT AN OBJECT SHOWS BEHIND AN ORDER that ended so: the reading and its moment stay, unless the order set it; whose lock
+-- is on it; and all else as it was.
+abbrev pub shown_ordered : Order → Result Unit Trouble → Shown → Shown
+shown_ordered order done s = record (shown_done order.action done (carried_out_behind order) s) {
+  lock = lock_after order.action done s.lock;
+}
 
 -- a block whose members were listed
 abbrev pub shown_listed : Shown → Shown

@@ -1,17 +1,24 @@
 -- What a view of a device does over its panel (*profile*).
-use Rattle.std.specs.Prelude.{◌≡◌, ◌⊎◌, ℕ, ◌+◌, ◌-◌, ◌*◌, ◌==◌, min, max, nat_le, nat_lt, Bool, true, false, if◌then◌else◌, Option, Result, Ok}
-use Rattle.std.specs.Prelude.{Err, Some}
+use Rattle.std.specs.Prelude.{◌≡◌, ◌≢◌, ◌⊎◌, ℕ, ◌+◌, ◌-◌, ◌*◌, ◌==◌, min, max, nat_le, nat_lt, Bool, true, false, if◌then◌else◌, Option, Result, Ok}
+use Rattle.std.specs.Prelude.{Err, Some, None, [], ◌∷◌, ◌++◌, remove, slice_get}
+use Rattle.std.specs.Option.{option_map}
 use Rattle.oca_types.specs.declared.words.NoMemory.{NoMemory}
 use Rattle.oca_types.specs.declared.words.Handle.{Handle}
+use Rattle.oca_types.specs.declared.words.Ono.{Ono}
 use Rattle.oca_types.specs.declared.class.Class.{Class}
 use Rattle.oca_types.specs.Sizes.{span_size}
 use Rattle.oca_control.specs.declared.report.DriveReport.{DriveReport}
 use Rattle.oca_control.specs.declared.outcome.Outcome.{Outcome}
-use Rattle.oca_panel.specs.Panels.{PanelState, SettlesIn}
+use Rattle.oca_panel.specs.Panels.{MaySettle, PanelState, SettlesIn}
 use Rattle.oca_panel.specs.Renewals.{IsRenewed, TurnsWith}
 use Rattle.oca_panel.specs.Beginnings.{BeginsAsking}
 use Rattle.oca_web.specs.declared.ask.Ask.{Ask}
+use Rattle.oca_web.specs.declared.ask.Asked.{Asked}
+use Rattle.oca_web.specs.declared.ask.Question.{Question}
+use Rattle.oca_web.specs.declared.inventory.Inventory.{Inventory}
+use Rattle.oca_web.specs.declared.object.Object.{Object}
 use Rattle.oca_web.specs.declared.view.Reach.{Reach}
+use Rattle.oca_web.specs.declared.view.View.{View}
 use Rattle.oca_web.specs.Asking.{class_for, request_of_ask}
 use Rattle.oca_web.specs.Orders.{OrdersState, above_all, LosesOrders, NoneIsLeft, SettlesOrders, SubmitsOrders, with_passed, without_waiting}
 
@@ -72,6 +79,56 @@ pub record TurnsAndSettles (ahead : ℕ) (heard : Option ℕ) (old : OrdersState
   pub turns : TurnsHearing ahead heard before new_heard turned
   pub settles : SettlesOrders old turned new settled
   pub answers : TakesAnswers settled after
+
+-- ---- one question
+
+-- A QUESTION IN FLIGHT WAS ANSWERED: it is in flight no longer, and if it is of an earlier walk nothing else changed. (What
+-- is learned of the answer is another matter.)
+pub record LeavesAsked (at : ℕ) (asked : Asked) (old new : Inventory) : Type 0 where
+  pub settled : Inventory
+  pub asked_left : settled.asked.items ≡ remove old.asked.items at
+  pub rest : settled ≡ record old { asked = settled.asked }
+  pub earlier : asked.question.epoch ≢ settled.epoch → new ≡ settled
+
+abbrev pub LeavesWhere : Option Outcome → (at : ℕ) → Asked → Inventory → Inventory → Type 0
+LeavesWhere None at asked old new = new ≡ old
+LeavesWhere (Some outcome) at asked old new = LeavesAsked at asked old new
+
+-- ITS ANSWER IS TAKEN under its own handle, where it is there; else nothing changed.
+abbrev pub TakesFrom : Option Asked → (at : ℕ) → Inventory → PanelState → Inventory → PanelState → Type 0
+TakesFrom None at old before new after = (new ≡ old) × (after ≡ before)
+TakesFrom (Some asked) at old before new after =
+    (outcome : Option Outcome) × MaySettle outcome asked.handle.0 before after × LeavesWhere outcome at asked old new
+
+-- the question in flight at this place
+abbrev pub TakesAnswer : (at : ℕ) → Inventory → PanelState → Inventory → PanelState → Type 0
+TakesAnswer at old before new after = TakesFrom (slice_get old.asked.items at) at old before new after
+
+-- THIS QUESTION WAS ASKED of the object at its place, by the methods of its class: it is kept with the handle of its
+-- command and the present moment, and the view's next handle is above that one. Nothing else changed.
+pub record AsksThis (question : Question) (ono : Ono) (of : Option Class) (old : View) (before : PanelState) (new : View)
+    (after : PanelState) : Type 0 where
+  pub handle : Handle
+  pub begins : BeginsAsking ono.0 (class_for of) (request_of_ask question.ask) (Ok handle) before after
+  pub kept : new.inventory.asked.items
+      ≡ old.inventory.asked.items ++ record { handle = handle; question = question; moment = old.news.now } ∷ []
+  pub inventory : new.inventory ≡ record old.inventory { asked = new.inventory.asked }
+  pub next : new.next_handle ≡ next_behind old.next_handle handle.0
+  pub rest : new ≡ record old { inventory = new.inventory; next_handle = new.next_handle }
+
+-- whether it was asked; where no object stands there nothing is to be asked, and else nothing changed
+abbrev pub AsksFrom : Option (Ono × Option Class) → Question → Bool → View → PanelState → View → PanelState → Type 0
+AsksFrom None question done old before new after = (done ≡ true) × (new ≡ old) × (after ≡ before)
+AsksFrom (Some o) question true old before new after = AsksThis question o.0 o.1 old before new after
+AsksFrom (Some o) question false old before new after = (new ≡ old) × (after ≡ before)
+
+-- the number and the class of an object, by which it is asked
+abbrev pub target_of : Object → Ono × Option Class
+target_of o = (o.ono, o.class)
+
+abbrev pub AsksAtPlace : Question → Bool → View → PanelState → View → PanelState → Type 0
+AsksAtPlace question done old before new after =
+    AsksFrom (option_map target_of (slice_get old.inventory.objects.list question.place)) question done old before new after
 
 -- Where the link is lost or late, all orders are noted as lost, and the panel goes on with another link to the same
 -- device, whose first handle is the next one; else nothing changes.

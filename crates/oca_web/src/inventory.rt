@@ -2,7 +2,9 @@
 ghost use Rattle.std.specs.Prelude.{◌≡◌, []};
 ghost use Rattle.std.specs.Bool.{Decides};
 ghost use Rattle.oca_web.specs.Listing.{IsListOf, WasListed};
-ghost use Rattle.oca_web.specs.Shows.{ShowsOrder, lock_behind, shown_listed, shown_read, tells_of_another_device};
+ghost use Rattle.oca_web.specs.Learning.{shown_troubled, shows_trouble_of};
+ghost use Rattle.oca_web.specs.Shows.{lock_after, lock_behind, lock_refused, says_locked, shown_done, shown_listed, shown_ordered, shown_read};
+ghost use Rattle.oca_web.specs.Shows.{shown_set, tells_of_another_device};
 
 use crate::ask::{Ask, Asked, Question, class_for};
 use crate::object::{Lock, Object, Shown, reading_with};
@@ -11,14 +13,11 @@ use crate::order::{Action, ORDER_MS, Order};
 use crate::orders::lower;
 use crate::poll::Poll;
 use arrayvec::ArrayVec;
-use oca_model::{Answer, Member, Members, Reading};
+use oca_model::{Answer, Member, Members, Reading, Value};
 use oca_panel::{Place, Trouble, Walk};
 use oca_types::{Class, Handle, NoMemory, Ono};
 use std::alloc::Global;
 use std::collections::VecDeque;
-
-/// The number of the status Locked (AES70-2, OcaStatus).
-const LOCKED: u8 = 3;
 
 /// What a block listed in a walk.
 #[derive(Drop)]
@@ -48,7 +47,11 @@ pub struct Inventory {
 }
 
 impl Inventory {
-    ghost use Rattle.std.specs.Prelude.{◌≡◌, ◌≢◌, true, length, IfOk};
+    ghost use Rattle.std.specs.Prelude.{◌≡◌, ◌≢◌, ◌==◌, ◌≤◌, true, length, IfOk, OnSome, remove};
+    ghost use Rattle.std.specs.Option.{option_map};
+    ghost use Rattle.oca_web.specs.Views.{target_of};
+    ghost use Rattle.oca_web.specs.Learning.{LearnsOrder, LearnsTrouble, BecomesShown};
+    ghost use Rattle.oca_web.specs.Shows.{shown_listed, shown_read};
     ghost use Rattle.oca_web.specs.Listing.{Compares, ComparesAt, KeepsList};
     ghost use Rattle.oca_web.specs.Readings.{AsksAgain, ConfirmsBy, IsOfMoment, KeepsAsked, KeepsMoment};
     ghost use Rattle.oca_web.specs.declared.ask.Ask.TheVariants as asks;
@@ -165,7 +168,10 @@ impl Inventory {
     }
 
     /// Whether no more questions can be in flight.
-    pub(crate) fn asks_most(&self) -> bool {
+    pub(crate) fn asks_most(&self) -> bool
+        ensures value { result ≡ (length self.now.asked.items == 32) }
+        ensures fits { length self.now.asked.items ≤ 32 }
+    {
         self.asked.is_full()
     }
 
@@ -186,7 +192,9 @@ impl Inventory {
     }
 
     /// The number and the class of the object at this place.
-    pub(crate) fn target_of(&self, place: usize) -> Option<(Ono, Option<Class>)> {
+    pub(crate) fn target_of(&self, place: usize) -> Option<(Ono, Option<Class>)>
+        ensures { result ≡ option_map target_of (slice_get self.now.objects.list place) }
+    {
         match self.objects.as_slice().get(place) {
             Some(object) => Some((object.ono, object.class)),
             None => None,
@@ -218,15 +226,16 @@ impl Inventory {
 
     /// The question in flight at this place was answered.
     pub(crate) fn settle(&mut self, at: usize)
-        ensures { self.new ≡ record self.old { asked = self.new.asked } }
+        ensures asked { OnSome (slice_get self.old.asked.items at) (self.new.asked.items ≡ remove self.old.asked.items at) }
+        ensures rest { self.new ≡ record self.old { asked = self.new.asked } }
     {
         let _ = self.asked.pop_at(at);
     }
 
     /// A question is in flight under this handle, which was submitted at this moment or later.
     pub(crate) fn note_asked(&mut self, handle: Handle, question: Question, moment: u64)
-        ensures walk { KeepsWalk self.old self.new }
         ensures kept { KeepsAsked handle question moment self.old.asked.items self.new.asked.items }
+        ensures rest { self.new ≡ record self.old { asked = self.new.asked } }
     {
         let _ = self.asked.try_push(Asked {
             handle,
@@ -290,7 +299,7 @@ impl Inventory {
 
     /// A question that could not be submitted is asked before all others.
     pub(crate) fn ask_again(&mut self, question: Question) -> Result<(), NoMemory>
-        ensures { KeepsWalk self.old self.new }
+        ensures { self.new ≡ record self.old { waiting = self.new.waiting } }
     {
         match self.waiting.push_front(question) {
             Ok(()) => Ok(()),
@@ -350,7 +359,8 @@ impl Inventory {
 
     /// An object is enabled, or not.
     fn show_enabled(&mut self, place: usize, enabled: bool)
-        ensures { KeepsWalk self.old self.new }
+        ensures shows { BecomesShown place (λ s. record s { enabled = enabled }) self.old.objects self.new.objects }
+        ensures rest { self.new ≡ record self.old { objects = self.new.objects } }
     {
         if let Some(shown) = self.objects.shown(place) {
             self.objects.show(place, Shown { enabled, ..shown });
@@ -359,8 +369,9 @@ impl Inventory {
 
     /// An object was read by a question that was submitted at this moment or later: no different controller locks it.
     fn show_reading(&mut self, place: usize, reading: Reading, moment: u64)
-        ensures walk { KeepsWalk self.old self.new }
+        ensures shows { BecomesShown place (λ s. shown_read s reading moment) self.old.objects self.new.objects }
         ensures moment { IsOfMoment place moment self.new }
+        ensures rest { self.new ≡ record self.old { objects = self.new.objects } }
     {
         if let Some(shown) = self.objects.shown(place) {
             self.objects.show(place, shown_read(shown, reading, moment));
@@ -371,21 +382,16 @@ impl Inventory {
     /// be listed, or a device whose objects are others by now.
     fn learn_trouble(&mut self, place: usize, ask: Ask, trouble: Trouble)
         ensures walk { KeepsWalk self.old self.new }
+        ensures learns { LearnsTrouble place ask trouble self.old self.new }
         ensures moment { KeepsMoment place self.old self.new }
     {
         if self.walked && is_of_another_device(trouble) {
             self.is_stale = true;
             return;
         }
-        let Some(shown) = self.objects.shown(place) else {
-            return;
-        };
-        if trouble == Trouble::Refused(LOCKED) {
-            let lock = Lock::Other;
-            self.objects.show(place, Shown { lock, ..shown });
-        } else if ask == Ask::Members || ask == Ask::Value {
-            let trouble = Some(trouble);
-            self.objects.show(place, Shown { trouble, ..shown });
+        if let Some(shown) = self.objects.shown(place) {
+            self.objects
+                .show(place, shown_troubled(shown, ask, trouble));
         }
     }
 
@@ -453,6 +459,7 @@ impl Inventory {
     fn compare_members(&mut self, place: usize, members: &Members)
         ensures walk { KeepsWalk self.old self.new }
         ensures compares { Compares place members.now.items self.old self.new }
+        ensures shows { BecomesShown place shown_listed self.old.objects self.new.objects }
         ensures rest { self.new ≡ record self.old { objects = self.new.objects; is_stale = self.new.is_stale } }
     {
         if !was_listed(self.lists.as_slice(), place, members.as_slice()) {
@@ -463,7 +470,8 @@ impl Inventory {
 
     /// The members of a block were listed: there is no trouble, and no different controller locks it.
     fn show_listed(&mut self, place: usize)
-        ensures { self.new ≡ record self.old { objects = self.new.objects } }
+        ensures shows { BecomesShown place shown_listed self.old.objects self.new.objects }
+        ensures rest { self.new ≡ record self.old { objects = self.new.objects } }
     {
         if let Some(shown) = self.objects.shown(place) {
             self.objects.show(place, shown_listed(shown));
@@ -476,7 +484,8 @@ impl Inventory {
     /// for an object that is not known changes nothing. Refusal: `NoMemory`, if memory was refused; the object may then
     /// not be asked again.
     pub fn learn_order(&mut self, order: Order, done: Result<(), Trouble>) -> Result<(), NoMemory>
-        ensures { KeepsWalk self.old self.new }
+        ensures walk { KeepsWalk self.old self.new }
+        ensures learns { LearnsOrder order done self.old self.new }
     {
         let Some(place) = self.objects.place_of(order.ono) else {
             return Ok(());
@@ -492,7 +501,7 @@ impl Inventory {
 
     /// The label of an object, or its value, where it has one, is asked before all that waits.
     fn ask_first(&mut self, place: usize, ask: Ask) -> Result<(), NoMemory>
-        ensures { KeepsWalk self.old self.new }
+        ensures { self.new ≡ record self.old { waiting = self.new.waiting } }
     {
         let Some(object) = self.objects.as_slice().get(place) else {
             return Ok(());
@@ -615,31 +624,98 @@ fn is_of_another_device(trouble: Trouble) -> bool
     )
 }
 
+/// Whether a command was refused since a different controller's lock is on the object: the status Locked (AES70-2,
+/// OcaStatus).
+fn says_locked(trouble: Trouble) -> bool
+    ensures { result ≡ says_locked trouble }
+{
+    matches!(trouble, Trouble::Refused(3))
+}
+
+/// Whose lock is on an object that refused so.
+fn lock_refused(trouble: Trouble, before: Lock) -> Lock
+    ensures { result ≡ lock_refused trouble before }
+{
+    if says_locked(trouble) {
+        Lock::Other
+    } else {
+        before
+    }
+}
+
 /// Whose lock is on an object behind an order that ended so.
-fn lock_after(action: Action, done: Result<(), Trouble>, before: Lock) -> Lock {
+fn lock_after(action: Action, done: Result<(), Trouble>, before: Lock) -> Lock
+    ensures { result ≡ lock_after action done before }
+{
+    match done {
+        Err(trouble) => lock_refused(trouble, before),
+        Ok(()) => match action {
+            Action::Lock => Lock::Own,
+            Action::Unlock => Lock::Free,
+            Action::Set(_) | Action::Rename(_) => before,
+        },
+    }
+}
+
+/// What an object shows that was set to this, as of this moment: it has a reading only where it had one.
+fn shown_set(shown: Shown, value: Value, behind: u64) -> Shown
+    ensures { result ≡ shown_set value behind shown.reading shown }
+{
+    match shown.reading {
+        Some(reading) => Shown {
+            reading: Some(reading_with(reading, value)),
+            confirmed: behind,
+            ..shown
+        },
+        None => shown,
+    }
+}
+
+/// What an object shows behind an order that ended so, but for whose lock is on it.
+fn shown_done(shown: Shown, action: Action, done: Result<(), Trouble>, moment: u64) -> Shown
+    ensures { result ≡ shown_done action done moment shown }
+{
     match (action, done) {
-        (Action::Lock, Ok(())) => Lock::Own,
-        (Action::Unlock, Ok(())) => Lock::Free,
-        (_, Err(Trouble::Refused(LOCKED))) => Lock::Other,
-        _ => before,
+        (Action::Set(value), Ok(())) => shown_set(shown, value, moment),
+        _ => shown,
     }
 }
 
 /// What an object shows behind an order that ended so: where it was carried out, what was ordered, as of the moment behind
 /// which that was.
 fn shown_ordered(shown: Shown, order: Order, done: Result<(), Trouble>) -> Shown
-    ensures { ShowsOrder order shown result }
+    ensures { result ≡ shown_ordered order done shown }
 {
     let lock = lock_after(order.action, done, shown.lock);
-    match (order.action, done, shown.reading) {
-        (Action::Set(value), Ok(()), Some(reading)) => Shown {
-            reading: Some(reading_with(reading, value)),
-            confirmed: order.last.saturating_sub(ORDER_MS),
-            lock,
-            ..shown
-        },
-        _ => Shown { lock, ..shown },
+    let behind = order.last.saturating_sub(ORDER_MS);
+    Shown {
+        lock,
+        ..shown_done(shown, order.action, done, behind)
     }
+}
+
+/// What an object shows that did not answer: a different controller's lock, or why its value or its members are not
+/// there.
+fn shown_troubled(shown: Shown, ask: Ask, trouble: Trouble) -> Shown
+    ensures shows { result ≡ shown_troubled ask trouble shown }
+    ensures moment { result.confirmed ≡ shown.confirmed }
+{
+    if says_locked(trouble) {
+        let lock = Lock::Other;
+        return Shown { lock, ..shown };
+    }
+    if shows_trouble_of(ask) {
+        let trouble = Some(trouble);
+        return Shown { trouble, ..shown };
+    }
+    shown
+}
+
+/// Whether an object shows why this of it was not answered.
+fn shows_trouble_of(ask: Ask) -> bool
+    ensures { result ≡ shows_trouble_of ask }
+{
+    matches!(ask, Ask::Members | Ask::Value)
 }
 
 /// What is asked again of an object behind an order: what the order changes.

@@ -1,9 +1,9 @@
 //! What is known of an object.
-ghost use Rattle.std.specs.Prelude.{◌≡◌, ◌⊎◌};
-ghost use Rattle.oca_model.specs.Readings.{value_without_limits};
+ghost use Rattle.std.specs.Prelude.{◌≡◌};
+ghost use Rattle.oca_model.specs.Settings.{reading_set_to};
 ghost use Rattle.oca_web.specs.Shows.{name_of_class};
 
-use oca_model::{Flags, Names, Ranged, Reading, Value, word_of};
+use oca_model::{Flags, Names, Reading, Value, word_of};
 use oca_panel::Trouble;
 use oca_types::{Class, Ono, Text};
 
@@ -131,25 +131,14 @@ pub fn limits_of(reading: Reading) -> Option<(Value, Value)> {
     }
 }
 
-/// The reading of an object after it was set to this value: the value, with the same limits. If the value is of another
-/// class, the reading is returned as it is.
+/// The reading of an object after it was set to this value: the value, with the same limits. The limits are not
+/// checked: the value may be outside them. If the value is of another class, the reading is returned as it is.
 pub fn reading_with(reading: Reading, value: Value) -> Reading
-    ensures { (value_without_limits result ≡ value) ⊎ (result ≡ reading) }
+    ensures { result ≡ reading_set_to reading value }
 {
-    match (reading, value) {
-        (Reading::Mute(_), Value::Mute(state)) => Reading::Mute(state),
-        (Reading::Polarity(_), Value::Polarity(state)) => Reading::Polarity(state),
-        (Reading::Boolean(_), Value::Boolean(truth)) => Reading::Boolean(truth),
-        (Reading::Switch(r), Value::Switch(setting)) => Reading::Switch(Ranged { setting, ..r }),
-        (Reading::Int8(r), Value::Int8(setting)) => Reading::Int8(Ranged { setting, ..r }),
-        (Reading::Int16(r), Value::Int16(setting)) => Reading::Int16(Ranged { setting, ..r }),
-        (Reading::Int32(r), Value::Int32(setting)) => Reading::Int32(Ranged { setting, ..r }),
-        (Reading::Int64(r), Value::Int64(setting)) => Reading::Int64(Ranged { setting, ..r }),
-        (Reading::Uint8(r), Value::Uint8(setting)) => Reading::Uint8(Ranged { setting, ..r }),
-        (Reading::Uint16(r), Value::Uint16(setting)) => Reading::Uint16(Ranged { setting, ..r }),
-        (Reading::Uint32(r), Value::Uint32(setting)) => Reading::Uint32(Ranged { setting, ..r }),
-        (Reading::Uint64(r), Value::Uint64(setting)) => Reading::Uint64(Ranged { setting, ..r }),
-        _ => reading,
+    match reading.with_value(value) {
+        Some(set) => set,
+        None => reading,
     }
 }
 

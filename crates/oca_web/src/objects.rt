@@ -27,7 +27,8 @@ impl Model for Objects {
 }
 
 impl Objects {
-    ghost use Rattle.std.specs.Prelude.{◌≡◌, [], IfOk};
+    ghost use Rattle.std.specs.Prelude.{◌≡◌, ◌==◌, [], IfOk};
+    ghost use Rattle.std.specs.List.{position};
     ghost use Rattle.oca_net.specs.Ends.{one_more};
     ghost use Rattle.oca_web.specs.Objects.{AddsObject, AsksAt, Changes, ShowsAt};
     ghost use Rattle.std.specs.Prelude.{slice_get};
@@ -182,7 +183,9 @@ impl Objects {
     }
 
     /// The place of the first object with this number, counted from 0. `None` if no object has it.
-    pub fn place_of(&self, ono: Ono) -> Option<usize> {
+    pub fn place_of(&self, ono: Ono) -> Option<usize>
+        ensures { result ≡ position (λ o. o.ono.0 == ono.0) self.now.list }
+    {
         self.list
             .as_slice()
             .iter()

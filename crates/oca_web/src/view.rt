@@ -68,13 +68,14 @@ pub struct View {
 }
 
 impl View {
-    ghost use Rattle.std.specs.Prelude.{◌≡◌, ◌-◌, ◌==◌, ◌&&◌, false, IfOk, IfSome, None, length, slice_get};
+    ghost use Rattle.std.specs.Prelude.{◌≡◌, ◌<◌, ◌-◌, ◌==◌, ◌&&◌, false, IfOk, IfSome, None, length, slice_get};
     ghost use Rattle.oca_net.specs.Ends.{one_more};
     ghost use Rattle.oca_web.specs.Orders.{AddsAll, AddsTicket, SettlesOrders, SubmitsOrders, has_orders, has_room_for, no_orders};
     ghost use Rattle.oca_web.specs.Bodies.{IsForWord};
-    ghost use Rattle.oca_web.specs.Readings.{ConfirmsAsked, KeepsQuestion};
+    ghost use Rattle.oca_web.specs.Readings.{ConfirmsAsked};
     ghost use Rattle.oca_web.specs.Views.{AsksQuestions, Continues, RenewsLost, RestsBehind, SubmitsAndAsks, TakesAnswers, TurnsAndSettles};
-    ghost use Rattle.oca_web.specs.Views.{TurnsHearing};
+    ghost use Rattle.oca_web.specs.Views.{AsksAtPlace, TakesAnswer, TurnsHearing};
+    ghost use Rattle.std.specs.Bool.{OnTrue};
     ghost use Rattle.oca_web.specs.Views.{half_spent, moment_noted, next_with, orders_after, stood_still};
     ghost use Rattle.oca_web.specs.Walking.{BeginsAnew, KeepsWalk, StaysOver};
 
@@ -438,11 +439,12 @@ impl View {
     }
 
     /// Takes the answer to the question in flight at this place. Returns whether it is there.
-    #[tactic(auto, using(crate::proofs::StepLemmas::answer_rules))]
+    #[tactic(auto, using(crate::proofs::StepLemmas::answer_rules, crate::proofs::StepLemmas::take_rules))]
     fn take_answer<E: End>(&mut self, panel: &mut Panel<E>, at: usize) -> Result<bool, NoMemory>
         ensures orders { self.new.orders ≡ self.old.orders }
         ensures walk { KeepsWalk self.old.inventory self.new.inventory }
         ensures panel { TakesAnswers panel.old panel.new }
+        ensures takes { TakesAnswer at self.old.inventory panel.old self.new.inventory panel.new }
         ensures news { self.new.news ≡ self.old.news }
         ensures moment { IfSome (slice_get self.old.inventory.asked.items at)
             (λ asked. ConfirmsAsked asked self.old.inventory self.new.inventory) }
@@ -503,12 +505,12 @@ impl View {
     }
 
     /// Asks one question. Returns whether it was submitted, or is about no object.
-    #[tactic(auto, using(crate::proofs::StepLemmas::question_rules))]
+    #[tactic(auto, using(crate::proofs::StepLemmas::question_rules, crate::proofs::StepLemmas::ask_rules))]
     fn ask<E: End>(&mut self, panel: &mut Panel<E>, question: Question) -> bool
         ensures orders { self.new.orders ≡ self.old.orders }
         ensures walk { KeepsWalk self.old.inventory self.new.inventory }
         ensures panel { AsksQuestions self.old.next_handle panel.old self.new.next_handle panel.new }
-        ensures kept { KeepsQuestion question self.old.news.now self.old.inventory self.new.inventory }
+        ensures asks { AsksAtPlace question result self.old panel.old self.new panel.new }
     {
         let Some((ono, class)) = self.inventory.target_of(question.place) else {
             return true;
@@ -525,14 +527,18 @@ impl View {
     }
 
     /// Whether a question may be asked now.
-    fn may_ask(&self) -> bool {
+    #[tactic(auto, using(crate::proofs::StepLemmas::has_room))]
+    fn may_ask(&self) -> bool
+        ensures { OnTrue result (length self.now.inventory.asked.items < 32) }
+    {
+        if self.inventory.asks_most() || self.is_spent() {
+            return false;
+        }
         let lowest = match (self.orders.lowest_handle(), self.inventory.lowest_handle()) {
             (Some(one), other) => lower(other, one),
             (None, other) => other,
         };
-        !self.is_spent()
-            && !self.inventory.asks_most()
-            && leaves_half(lowest, self.next_handle, self.reach.span.get())
+        leaves_half(lowest, self.next_handle, self.reach.span.get())
     }
 
     /// The moment, in milliseconds of the program's clock, from which something must be read again; it may already be

@@ -21,12 +21,14 @@ use std::alloc::Global;
 /// How many bytes of the input are read at a time.
 const PIECE: usize = 4096;
 
-/// Locks the objects `onos` one after another, keeps those locks until the input ends, and then releases them. Prints
-/// the outcome of each lock, and later of each release. Returns the exit status, the more severe of both. If no object
-/// was locked, the input is not read.
+/// Locks the objects `onos` one after another, and keeps those locks until the input ends or can't be read, the end is
+/// closed, or the link is lost or late. Then releases the locks. Prints the outcome of each lock, and later of each
+/// release. Returns the most severe exit status of all these outcomes: 3 is the most severe, then 2, then 4, then 0. If
+/// no object was locked, the input is not read.
 ///
-/// Failures: `Write` if a write failed, `NoMemory` if there was no memory to list the objects. Locks that are held then
-/// are not released: the device releases them once it does not hear this program for long enough.
+/// Failures: `Write` if a write failed, `NoMemory` if there was no memory to list the objects. After a failure the
+/// locks that are still held are not released: the device releases them once it has not heard this program for long
+/// enough.
 pub fn hold<E: End, R: Source, W: Sink>(
     alloc: Global,
     panel: &mut Panel<E>,

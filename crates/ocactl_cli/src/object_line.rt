@@ -36,8 +36,8 @@ pub enum ObjectLine {
 }
 
 /// Prints the line of an object, and writes all that the printer holds. Returns the exit status for what the line
-/// shows: 0 for a value or `ok`, otherwise that of [`status_of`]. Refusal: `WriteFailed` if a write failed; then only
-/// the beginning of the text may have been written.
+/// shows: 0 for a value, a position, `locked` or `unlocked`, otherwise that of [`status_of`]. Refusal: `WriteFailed` if
+/// a write failed; then only the beginning of the text may have been written.
 pub fn report_object<W: Sink>(
     ono: Ono,
     line: &ObjectLine,

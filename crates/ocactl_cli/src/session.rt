@@ -80,9 +80,9 @@ impl<E: End> Session<E> {
     ghost use Rattle.std.specs.Prelude.{◌≡◌, ◌-◌, ◌<◌, [], true, false, length};
     ghost use Rattle.oca_types.specs.Sizes.{span_size};
 
-    /// A session over a link and an end, with no command in flight; at most `ahead` may be. `socket` is the end's
-    /// descriptor: a wait for input ends when a datagram comes there. If it is `None`, the session does not wait for
-    /// input at all.
+    /// A session over a link and an end, with no command in flight. At most `ahead` commands (1 to 32) may be in flight
+    /// at once. `socket` is the end's descriptor: a wait for input also ends when a datagram comes there. If `socket`
+    /// is `None`, the session does not wait for input at all.
     pub fn new(link: Link, end: E, ahead: Span, socket: Option<RawFd>) -> Session<E>
         ensures { result ≡ record {
           link = link;

@@ -40,9 +40,11 @@ pub trait Disk {
         ensures { Tries SyncsFolder (is_ok result) (state self.old).tree (state self.old) (state self.new) };
 }
 
-/// Stores the objects in four steps. It writes them to a new file, and waits until this is on the disk. Then it puts
-/// the new file in the place of the old one, and waits until the folder is on the disk. Err with the system's error at
-/// the first step that fails; the steps after it are not tried.
+/// Stores the objects of `tree` in four steps. It writes them to a new file, and waits until this is on the disk. Then
+/// it puts the new file in the place of the old one, and waits until the folder is on the disk. Err with the system's
+/// error at the first step that fails; the steps after it are not tried. If one of the first three steps fails, the old
+/// file is still in its place, and a new file, perhaps not whole, may remain beside it. If the last step fails, the new
+/// file is in its place, but a power cut may undo this.
 #[tactic(auto, using(crate::proofs::StoringLemmas::all_tried))]
 pub fn write_over<D: Disk>(disk: &mut D, tree: &Tree) -> io::Result<()>
     ensures { StoresBy (is_ok result) tree.now (D.state disk.old) (D.state disk.new) }

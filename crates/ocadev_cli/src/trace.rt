@@ -172,7 +172,8 @@ pub fn print_heard<F: Sink>(
     }
 }
 
-/// The statuses of the responses among the answers to a datagram, in order, at most 1,472.
+/// The statuses of the responses among the answers to a datagram, in order, one byte each; only the first 1,472 of
+/// them. A packet that is not well-formed is left out.
 pub fn statuses_of(answers: &Outbox) -> Packet
     ensures { KeepsStatuses (messages_of_packets answers.now) [] result.items }
 {

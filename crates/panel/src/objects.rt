@@ -8,8 +8,8 @@ use std::fmt::Display;
 use std::io;
 use std::rt::Runtime;
 
-/// Prints the objects of the device, a line for each: its value, or why it could not be read. Err if memory was refused
-/// or a write failed; the lines before were printed.
+/// Prints the objects of the device, a line for each, with its value or why it could not be read. Err if memory was
+/// refused or a write failed; the lines before were printed.
 pub fn print_objects<R: Runtime + AllocGlobal, E: End>(
     rt: &R,
     panel: &mut Panel<E>,

@@ -4,7 +4,8 @@ use std::env;
 use std::rt::Runtime;
 
 /// The port that the command line names (9 if it names none), and whether the objects are to be listed. Err if the
-/// words are none, `PORT` or `PORT objects`, if the port is not a number up to 65,535, or if memory was refused.
+/// words after the program's name are not `[PORT [objects]]`, if the port is not a number up to 65,535, or if memory
+/// was refused.
 pub fn asked<R: Runtime + AllocGlobal>(rt: &R) -> Result<(u16, bool), Error> {
     let words = env::args(rt)?.collect::<Vec<String>>(rt.alloc())?;
     asked_by(words.as_slice())
