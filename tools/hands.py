@@ -331,7 +331,7 @@ def unnamed(checks):
     for more, printed, asks in ((), "", []), ((4097,), "4097 muted\n", [(4097, CLASS, b""), (4097, (4, 1), b"")]):
         with Deaf(stagebox(), [NAME]) as device:
             what = f"get: the name of a position is not answered, and {len(more)} objects behind it"
-            checks.prints(what, device, ["get", "--turns", 2, 4099, *more], f"4099 0\n{printed}", 0)
+            checks.prints(what, device, ["get", "--turns", 40, 4099, *more], f"4099 0\n{printed}", 0)
             checks.same(f"{what}: what it asks", asked(device), [*read, *asks])
             checks.same(f"{what}: whether all that it sends is commands", are_commands(device), True)
 
