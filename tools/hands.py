@@ -27,7 +27,7 @@ from served import Other, Served, commands_in
 from tables import data, table
 
 DATA = data("hands")
-CLASS, ROLE, MEMBERS = (1, 1), (1, 5), (3, 5)
+CLASS, ROLE, MEMBERS, NAME = (1, 1), (1, 5), (3, 5), (4, 3)
 SETS = ((4, 2), (5, 2))
 OTHER = (127, 0, 0, 1, 9)  # a peer that never speaks
 
@@ -324,6 +324,32 @@ def silence(checks):
                           "4097 no answer\n", 3, is_deaf(device.port, checks.port))
 
 
+def unnamed(checks):
+    """`get` of a switch whose device does not give the name of its position: that is no silence. Nothing is noted, and nothing more is
+    asked, also where another object behind it is read."""
+    read = [(4099, CLASS, b""), (4099, (4, 1), b""), (4099, NAME, b"\0\0")]
+    for more, printed, asks in ((), "", []), ((4097,), "4097 muted\n", [(4097, CLASS, b""), (4097, (4, 1), b"")]):
+        with Deaf(stagebox(), [NAME]) as device:
+            what = f"get: the name of a position is not answered, and {len(more)} objects behind it"
+            checks.prints(what, device, ["get", "--turns", 40, 4099, *more], f"4099 0\n{printed}", 0)
+            checks.same(f"{what}: what it asks", asked(device), [*read, *asks])
+            checks.same(f"{what}: whether all that it sends is commands", are_commands(device), True)
+
+
+def are_commands(device):
+    """Whether all datagrams that were heard have commands alone."""
+    return all(message[0] == "command" for data, _ in device.heard for message in oca.check(data))
+
+
+def answered(checks):
+    """`run` whose commands are all answered: it notes nothing, and sends nothing but them."""
+    with Served(stagebox()) as device:
+        got = checks.run(device, "run", "--first-handle", 1, given="4097 4 1 0 -\n77 4 1 0 -\n")
+        checks.same("run: all is answered", got, ("answer 0 1 01\nanswer 5 0 -\n", "", 0))
+        checks.same("run: all is answered: what it asks", asked(device), [(4097, (4, 1), b""), (77, (4, 1), b"")])
+        checks.same("run: all is answered: whether all that it sends is commands", are_commands(device), True)
+
+
 def is_deaf(device, own):
     """The note on a device that is heard and answers no command."""
     return f"note: 127.0.0.1:{device} is heard, but answers no command from port {own}: wait two minutes, or give " "another --port\n"
@@ -561,9 +587,9 @@ ALONE = (old_sessions, no_other_port, own_port_in_use, missed_first)
 
 def main():
     counts = Checks(sys.argv[1])
-    counts.parts(of_rows, sets_at_once, tells_at_once, helps, ends_as_told, strange_answers, silence,
-                 silence_of_a_run, failed_sends, old_sessions, no_other_port, own_port_in_use, missed_first, at_a_terminal, at_a_terminal_alone,
-                 behind_a_terminal, held, alone=ALONE)
+    counts.parts(of_rows, sets_at_once, tells_at_once, helps, ends_as_told, strange_answers, silence, unnamed, answered,
+                 silence_of_a_run, failed_sends, old_sessions, no_other_port, own_port_in_use, missed_first, at_a_terminal,
+                 at_a_terminal_alone, behind_a_terminal, held, alone=ALONE)
     return counts.verdict()
 
 

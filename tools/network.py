@@ -308,6 +308,19 @@ def is_a_program_there(checks):
     checks.expect("a host is asked for 200 ms at most", took[-1][1] < 6, told, is_time=True)
 
 
+def a_lost_address(checks):
+    """Where the machine has lost the address from which a command left, that is noted, and nothing is asked to find out more: neither
+    the device, by keep-alives, nor its host. Where it still has it, both are."""
+    words = ("--port", free_port(), "--first-handle", 1, "--turns", 2, 4097)
+    alive, is_program_there, wanted = oca.pdu(4, [b"\0\5"]), b"", oca.command(1, 4097, 1, 1)
+    for settings, asks, note in (({"GONE": 1}, set(), "the address 127.0.0.1 is gone"),
+                                 ({}, {alive, is_program_there}, "nothing was heard from {}")):
+        with bound() as silent:
+            got = ended(checks.start("ocactl", "get", "--device", at(silent), *words, **settings))
+            checks.same(f"{settings}: `get`", got, ("4097 no answer\n", f"note: {note.format(at(silent))}\n", 3))
+            checks.same(f"{settings}: what is sent besides the command", {*heard(silent)} - {wanted}, asks)
+
+
 def line_of(run):
     """The next line that a run prints; nothing where none comes in ten seconds."""
     return run.stdout.readline() if select.select([run.stdout], [], [], 10)[0] else None
@@ -578,8 +591,8 @@ def small_stacks(checks):
 
 
 PARTS = (closed_descriptors, broken_pipes, null_at_closed, quiet_turns, signals, runs_under_signals, refused_sends, refused_sockets, send_buffers,
-         is_a_program_there, lines_at_once, a_line_behind_a_pause, a_stalled_neighbour, asleep, a_failed_receive, reports_behind_a_sleep, kept_safely,
-         calls_in_a_row, other_addresses, small_stacks)
+         is_a_program_there, a_lost_address, lines_at_once, a_line_behind_a_pause, a_stalled_neighbour, asleep, a_failed_receive,
+         reports_behind_a_sleep, kept_safely, calls_in_a_row, other_addresses, small_stacks)
 
 
 def main():

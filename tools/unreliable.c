@@ -15,6 +15,7 @@
  *   SLOW=N           each fsync takes N milliseconds more              FAIL_SYNC=N    the fsync number N fails
  *   ASKED=FILE       a line goes to this file for each time that a send buffer is asked for, with the number of bytes
  *   GRANTED=N        the system says that it grants a send buffer of N bytes, where it was asked for one; below 0 it does not tell
+ *   GONE=1           behind the first send that is taken no socket can be bound: the system says that the address is not there
  *   FULL=N           the write number N to what is no standard stream finds no room: the one before it takes half */
 #define _GNU_SOURCE
 #include <dlfcn.h>
@@ -32,9 +33,9 @@
 
 /* The calls that this layer stands before, and what is set by a number. */
 #define CALLS(OF) OF(malloc) OF(realloc) OF(read) OF(write) OF(recvfrom) OF(sendto) OF(clock_gettime) OF(fsync) OF(rename) OF(renameat) \
-    OF(setsockopt) OF(getsockopt)
+    OF(setsockopt) OF(getsockopt) OF(bind)
 #define SETTINGS(OF) OF(REFUSE) OF(REFUSE_FROM) OF(FAIL_READ) OF(FAIL_WRITE) OF(PIECE) OF(INTERRUPT) OF(FAIL_RECEIVE) OF(FAIL_SEND) OF(ERRNO) OF(STALL) \
-    OF(SLEPT) OF(UNBOOTED) OF(FAIL_SYNC) OF(FULL)
+    OF(SLEPT) OF(UNBOOTED) OF(FAIL_SYNC) OF(FULL) OF(GONE)
 #define DECLARE_CALL(name) static __typeof__(name) *real_##name;
 #define FIND_CALL(name) real_##name = dlsym(RTLD_NEXT, #name);
 #define DECLARE_SETTING(name) static long name;
@@ -140,6 +141,11 @@ ssize_t sendto(int file, const void *bytes, size_t size, int flags, const struct
     ssize_t taken = real_sendto(file, bytes, size, flags, to, length);
     has_sent = has_sent || taken >= 0;
     return taken;
+}
+
+int bind(int file, const struct sockaddr *to, socklen_t length) {
+    if (GONE && has_sent) { errno = EADDRNOTAVAIL; return -1; }
+    return real_bind(file, to, length);
 }
 
 int clock_gettime(clockid_t clock, struct timespec *time) {

@@ -343,39 +343,85 @@ def serves_until_stopped(checks):
         checks.same(f"serve --verbose --turns {turns}", (out.split()[:2], out.split()[16:18], len(told)), (["turns", str(turns)], ["quiet", str(turns)], 1))
 
 
+def kept_or_not(part, checks):
+    """Runs a part for a device whose state is not kept, and for one whose state is kept in a file: both tell the same."""
+    with tempfile.TemporaryDirectory() as folder:
+        for keep in ((), ("--keep", f"{folder}/state")):
+            part(checks, *keep)
+
+
 def tells_locks(checks):
     """`serve --verbose`: what was locked, unlocked and refused, by the statuses that answered; nothing of commands that were not
-    executed, nor of those that ask for no response; a lock that lapsed."""
-    run, device = serving(checks, "--verbose")
+    executed, nor of those that ask for no response; a lock that lapsed. All that is so with `--keep`, too."""
+    kept_or_not(tells_locks_of, checks)
+
+
+def tells_locks_of(checks, *keep):
+    run, device = serving(checks, *keep, "--verbose")
+    serve = " ".join(["serve", *keep[:1], "--verbose"])
     lock = lambda handle, target, index=3: oca.Command(handle, target, 1, index).body()
     put = lambda handle, target: oca.Command(handle, target, 4, 2, 1, b"\1").body()
 
     def told(peer, data):
         peer.sendto(data, device)
-        return run.stderr.readline().split(" ", 1)[-1].rstrip("\n")
+        sender, _, said = run.stderr.readline().rstrip("\n").partition(" ")
+        return said if sender == at(peer) else f"{sender} in place of {at(peer)}: {said}"
 
     with bound() as first, bound() as second:
         for what, peer, kind, commands, said in DATA.of_locks:
             bodies = [{"lock": lock, "set": put}[name](*given) for name, *given in commands]
-            checks.same(f"serve --verbose: {what}", told({"first": first, "second": second}[peer], oca.pdu(kind, bodies)), said)
-        checks.same("serve --verbose: a heartbeat of a second", told(first, oca.pdu(4, [b"\0\1"])), "served 0 0 0")
+            checks.same(f"{serve}: {what}", told({"first": first, "second": second}[peer], oca.pdu(kind, bodies)), said)
+        checks.same(f"{serve}: a heartbeat of a second", told(first, oca.pdu(4, [b"\0\1"])), "served 0 0 0")
         time.sleep(3.5)
-        checks.same("serve --verbose: a set after the locks lapsed", told(second, oca.pdu(1, [put(6, 4097)])), "served 1 0 0 wrote 4097")
+        lapsed = told(second, oca.pdu(1, [put(6, 4097)]))
+        checks.same(f"{serve}: a set after the locks lapsed", lapsed, "served 1 0 0 wrote 4097")
     run.kill()
 
 
 def tells_stats(checks):
-    """`serve --stats 1`: the report so far, with sessions and locks."""
-    run, device = serving(checks, "--stats", 1)
+    """`serve --stats 1`: the report so far is of all datagrams, with sessions and locks, and comes once a second at most. All that is so
+    with `--keep`, too."""
+    kept_or_not(tells_stats_of, checks)
+
+
+def counts_in(line):
+    """The counts of a report so far by their names; none where the line is no such report."""
+    is_report = line.startswith("note: turns ")
+    words = line.split()[1:]
+    return dict(zip(words[::2], map(int, words[1::2]))) if is_report else {}
+
+
+def tells_stats_of(checks, *keep):
+    serve, begun, told = " ".join(["serve", *keep[:1], "--stats"]), time.monotonic(), []
+    run, device = serving(checks, *keep, "--stats", 1)
+
+    def tells(what, **datagrams):
+        """Whether one of the next ten reports counts the datagrams so: some may have been told before the last datagram came."""
+        wanted = {**datagrams, "sessions": 2, "locks": 3}
+        for _ in range(10):
+            told.append(counts_in(run.stderr.readline()))
+            found = {name: told[-1].get(name) for name in wanted}
+            if found == wanted:
+                break
+        checks.same(f"{serve}: {what}", found, wanted)
+        checks.same(f"{serve}: {what}: turns", told[-1].get("turns", 0) - told[-1].get("quiet", 0), sum(datagrams.values()))
+
     with bound() as first, bound() as second:
-        for peer, handle, target in ((first, 1, 4097), (first, 2, 4098), (second, 1, 4099)):
-            peer.sendto(oca.command(handle, target, 1, 3), device)
+        lock, put = (1, 3), (4, 2, 1, b"\1")
+        for peer, handle, target, *how in ((first, 1, 4097, *lock), (first, 2, 4098, *lock), (second, 1, 4099, *lock),
+                                           (first, 2, 4098, *lock), (first, 3, 4097, *put)):
+            peer.sendto(oca.command(handle, target, *how), device)
             peer.recv(2000)
-        told = run.stderr.readline().split()
-    said = dict(zip(told[1::2], told[2::2]))
-    checks.same("serve --stats: what it tells", (told[:2], *map(said.get, ("executed", "kept", "sessions", "locks"))), (["note:", "turns"], "3", "0", "2", "3"))
-    checks.same("serve --stats: it tells again", run.stderr.readline().startswith("note: turns "), True)
+        tells("four commands and a duplicate", executed=4, kept=1, malformed=0, oversize=0)
+        second.sendto(b"\x3b", device)
+        tells("a datagram that is malformed", executed=4, kept=1, malformed=1, oversize=0)
+        second.sendto(b"\0" * 1473, device)
+        tells("a datagram that is too long", executed=4, kept=1, malformed=1, oversize=1)
     run.kill()
+    count, took = len(told) + run.stderr.read().count("note: turns "), time.monotonic() - begun
+    # the first comes a second behind the start at least, and each other one a second behind the one before, whenever this script reads it
+    checks.expect(f"{serve}: {count} reports in {took:.2f} seconds", 3 <= count <= took)
+    checks.expect(f"{serve}: {count} reports, not in {took:.2f} seconds", took < count + 2, is_time=True)
 
 
 def listed_line(r, onos):
