@@ -31,7 +31,7 @@ from pathlib import Path
 sys.path.insert(0, str(Path(__file__).resolve().parent.parent / "gate"))
 import reference
 import c_rows
-from checks import Checks, layered
+from checks import Checks, layer
 from embedded import bound_at
 from own_ports import free_port
 from peers import Lossy
@@ -384,7 +384,7 @@ def calls_of_a_mixer(made, kept, turns, **settings):
     calls in all are waited for."""
     calls = made / f"calls for {kept.name}"
     run = subprocess.Popen([made / "mixer-plain", kept, "0", "600"], stdin=subprocess.PIPE, stdout=subprocess.PIPE, stderr=subprocess.PIPE, text=True,
-                           env=dict(os.environ, LD_PRELOAD=str(made / "unreliable.so"), CALLS=str(calls), **settings))
+                           env=dict(os.environ, LD_PRELOAD=layer("unreliable"), CALLS=str(calls), **settings))
     listening(run)
     made_so_far = lambda: calls.read_text().splitlines() if calls.exists() else []
     for line, count in turns:
@@ -510,7 +510,6 @@ def mixers(checks, made, prefix):
     """The mixer as it is, over addresses and undefined behaviour, over threads, and under valgrind; and as C++."""
     subprocess.run(["c++", "-x", "c++", "-std=c++17", *STRICT, f"-I{prefix}/include", "-c", "-o", made / "mixer.o", TOP / "examples/c/mixer.c"], check=True)
     (made / "held.c").write_text(HELD)
-    layered(made, "unreliable")
     mixer, whole = [TOP / "examples/c/mixer.c"], [TOP / "examples/c/mixer.c", *(TOP / f"c/{name}.c" for name in PARTS)]
     for name, more, of in (("plain", ["-O2"], mixer), ("sanitized", SANITIZED, whole), ("threads", ["-O1", "-g", "-fsanitize=thread"], whole),
                            ("held", ["-O2", f"-I{TOP}"], [made / "held.c"])):
@@ -527,10 +526,9 @@ def mixers(checks, made, prefix):
 
 def refused_memory(checks, made):
     """Each request for memory refused in turn: the program says so and ends, or does without."""
-    layer = layered(made, "unreliable")
     for words, refused in (([made / "device-c11", 0, 0], "not started: 8\n"), ([made / "panel-c11", 9], "not opened: 8\n")):
         counts = made / "counts"
-        settings = dict(LD_PRELOAD=layer, COUNTS=str(counts))
+        settings = dict(LD_PRELOAD=layer("unreliable"), COUNTS=str(counts))
         quick = dict(settings, FAIL_SEND="1000", ERRNO="101")
         subprocess.run([str(w) for w in words], env=dict(os.environ, **quick), capture_output=True, timeout=120)
         requests = int(counts.read_text().split()[0])

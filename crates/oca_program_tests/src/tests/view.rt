@@ -221,15 +221,11 @@ fn other_ends(rt: HostRuntime) {
     none_wrong(&rt, "other ends", &[first_wrong(alloc, CHANGES)]);
 }
 
-/// What comes to an end that took a turn before the view's link was made over it, at 10 ms, and when the view tells behind
-/// the next turn that the device was heard.
+/// What comes in the first turn of a view's link, and when the view then tells that the device was heard.
 pub struct Hearing {
     coming: &'static [Coming],
     heard: Option<u64>,
 }
-
-/// What the end gives before the link is made, and a datagram of the device.
-const BEFORE: Coming = Quiet(10);
 
 const HEARD: Coming = Datagram(
     DEVICE,
@@ -239,11 +235,11 @@ const HEARD: Coming = Datagram(
 
 pub const HEARINGS: &[Hearing] = &[
     Hearing {
-        coming: &[BEFORE, Quiet(20)],
+        coming: &[Quiet(20)],
         heard: None,
     },
     Hearing {
-        coming: &[BEFORE, HEARD],
+        coming: &[HEARD],
         heard: Some(20),
     },
 ];
@@ -251,12 +247,8 @@ pub const HEARINGS: &[Hearing] = &[
 impl Hearing {
     /// Whether a view that was made at 0 ms tells so behind a turn.
     fn is_told(&self, view: &mut View, end: MemoryEnd) -> bool {
-        let mut before = Panel::open(DEVICE, end, Handle(FIRST), Span::default(), 0);
-        let _ = before.turn();
-        let end = before.into_end();
         let mut panel = Panel::open(DEVICE, end, Handle(FIRST), Span::default(), 0);
-        panel.last_heard() == 10
-            && view.news().heard.is_none()
+        view.news().heard.is_none()
             && view.take_turn(&mut panel).is_ok()
             && view.news().heard == self.heard
     }
