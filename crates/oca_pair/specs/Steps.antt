@@ -162,10 +162,13 @@ abbrev pub set_outcome : Option SetFault → Outcome
 set_outcome None = outcomes.Set
 set_outcome (Some fault) = outcomes.NotSet fault
 
+-- what is answered to a change at the front that is no setting: that it was made, or why not
 abbrev pub front_outcome : Option FrontFault → Outcome
 front_outcome None = outcomes.Changed
 front_outcome (Some fault) = outcomes.NotChanged fault
 
+-- What is answered to a change at the front. Whether its hardware refuses can be said of each object that can be enabled
+-- and disabled there: of each that is there.
 abbrev pub local_outcome : List Object → ℕ → LocalChange → Outcome
 local_outcome tree ono (ToValue value) = set_outcome (set_fault tree ono value)
 local_outcome tree ono (ToLabel label) = front_outcome (front_fault tree ono (asked.SetLabel label))
