@@ -14,8 +14,9 @@ use crate::field::Field;
 use crate::text::{Text, chars_at};
 use std::alloc::AllocError;
 
-/// What is left of a slice. Each take returns the value whose encoding is at the front (AES70-3) and
-/// goes past exactly that encoding; after a refusal the cursor is as it was.
+/// The bytes of a slice that are not read yet. Each `take` call returns the value whose encoding comes first (AES70-3),
+/// and removes exactly the bytes of this encoding. A call that refuses removes no byte. Values of several bytes have
+/// their highest byte first. No call here takes memory.
 ///
 /// ```
 /// let mut cursor = Cursor::new(&[0x00, 0x02, 0x4f, 0x6e, 0x01]);
@@ -35,7 +36,7 @@ impl Clone for Cursor<'_> {
 
     ghost is_clone = { λ c d. bytes_left d ≡ bytes_left c };
 
-    /// A cursor with the same bytes left.
+    /// Returns a cursor with the same bytes left. It refuses nothing and takes no memory.
     fn clone(&self) -> Result<Self, AllocError> {
         Ok(*self)
     }
@@ -52,7 +53,9 @@ fn split(bytes: &[u8], n: usize) -> Result<(&[u8], &[u8]), ReadFault>
 }
 
 impl<'a> Cursor<'a> {
-    /// A cursor that stands before the first of these bytes.
+    /// Returns a cursor at the first byte of `bytes`, with all these bytes left to read. An empty slice is allowed:
+    /// each `take` call is then refused with `Short`, and `finish` returns `Ok`. The call copies no byte and takes no
+    /// memory.
     pub fn new(bytes: &'a [u8]) -> Cursor<'a>
         ensures { bytes_left result ≡ bytes.now }
     {
@@ -71,9 +74,10 @@ impl<'a> Cursor<'a> {
         Ok(front)
     }
 
-    /// Takes a value of one length, an integer of 8 to 64 bits or a Boolean (AES70-3): the cursor then stands after it.
-    /// A Boolean is false if its byte is 0, and true of any other byte. Refusal: `Short` if fewer bytes are left than
-    /// the value has; the cursor is then unchanged.
+    /// Reads the next value from the cursor, an integer of 8 to 64 bits or a Boolean, and moves the cursor past the
+    /// value (AES70-3). The type `F` says which value: an integer has its highest byte first. A Boolean is false if its
+    /// byte is 0, and true for any other byte (*profile*). The only refusal is `Short`, if fewer bytes are left than
+    /// the value has (`F::SIZE`); the cursor is then unchanged.
     pub fn take<F: Field>(&mut self) -> Result<F, ReadFault>
         ensures found { IfOk result (λ v. Takes F.codec.IsEncoding v (bytes_left self.old) (bytes_left self.new)) }
         ensures only { TakesEach F.codec.IsEncoding (bytes_left self.old) result (bytes_left self.new) }
@@ -85,8 +89,8 @@ impl<'a> Cursor<'a> {
         Ok(F::from_front(front))
     }
 
-    /// Takes a Uint8 (AES70-3): the cursor then stands after it. Refusal: `Short` if no byte is left; the cursor is
-    /// then unchanged.
+    /// Reads a Uint8 (one byte, AES70-3) from the cursor, and moves the cursor past this byte. The only refusal is
+    /// `Short`, if no byte is left; the cursor is then unchanged.
     pub fn take_u8(&mut self) -> Result<u8, ReadFault>
         ensures found { IfOk result (λ v. Takes (IsUnsignedEncoding w8) v (bytes_left self.old) (bytes_left self.new)) }
         ensures only { TakesEach (IsUnsignedEncoding w8) (bytes_left self.old) result (bytes_left self.new) }
@@ -97,8 +101,8 @@ impl<'a> Cursor<'a> {
         self.take::<u8>()
     }
 
-    /// Takes a Uint16 (AES70-3): the cursor then stands after it. Refusal: `Short` if fewer than 2 bytes are left; the
-    /// cursor is then unchanged.
+    /// Reads a Uint16 (2 bytes, the highest first, AES70-3) from the cursor, and moves the cursor past these bytes. The
+    /// only refusal is `Short`, if fewer than 2 bytes are left; the cursor is then unchanged.
     pub fn take_u16(&mut self) -> Result<u16, ReadFault>
         ensures found { IfOk result
             (λ v. Takes (IsUnsignedEncoding w16) v (bytes_left self.old) (bytes_left self.new)) }
@@ -110,8 +114,8 @@ impl<'a> Cursor<'a> {
         self.take::<u16>()
     }
 
-    /// Takes a Uint32 (AES70-3): the cursor then stands after it. Refusal: `Short` if fewer than 4 bytes are left; the
-    /// cursor is then unchanged.
+    /// Reads a Uint32 (4 bytes, the highest first, AES70-3) from the cursor, and moves the cursor past these bytes. The
+    /// only refusal is `Short`, if fewer than 4 bytes are left; the cursor is then unchanged.
     pub fn take_u32(&mut self) -> Result<u32, ReadFault>
         ensures found { IfOk result
             (λ v. Takes (IsUnsignedEncoding w32) v (bytes_left self.old) (bytes_left self.new)) }
@@ -123,8 +127,8 @@ impl<'a> Cursor<'a> {
         self.take::<u32>()
     }
 
-    /// Takes a Uint64 (AES70-3): the cursor then stands after it. Refusal: `Short` if fewer than 8 bytes are left; the
-    /// cursor is then unchanged.
+    /// Reads a Uint64 (8 bytes, the highest first, AES70-3) from the cursor, and moves the cursor past these bytes. The
+    /// only refusal is `Short`, if fewer than 8 bytes are left; the cursor is then unchanged.
     pub fn take_u64(&mut self) -> Result<u64, ReadFault>
         ensures found { IfOk result
             (λ v. Takes (IsUnsignedEncoding w64) v (bytes_left self.old) (bytes_left self.new)) }
@@ -136,8 +140,8 @@ impl<'a> Cursor<'a> {
         self.take::<u64>()
     }
 
-    /// Takes an Int8 (AES70-3): the cursor then stands after it. Refusal: `Short` if no byte is left; the cursor is
-    /// then unchanged.
+    /// Reads an Int8 (one byte in two's complement, AES70-3) from the cursor, and moves the cursor past this byte. The
+    /// only refusal is `Short`, if no byte is left; the cursor is then unchanged.
     pub fn take_i8(&mut self) -> Result<i8, ReadFault>
         ensures found { IfOk result (λ v. Takes (IsSignedEncoding w8) v (bytes_left self.old) (bytes_left self.new)) }
         ensures only { TakesEach (IsSignedEncoding w8) (bytes_left self.old) result (bytes_left self.new) }
@@ -148,8 +152,8 @@ impl<'a> Cursor<'a> {
         self.take::<i8>()
     }
 
-    /// Takes an Int16 (AES70-3): the cursor then stands after it. Refusal: `Short` if fewer than 2 bytes are left; the
-    /// cursor is then unchanged.
+    /// Reads an Int16 (2 bytes in two's complement, the highest first, AES70-3) from the cursor, and moves the cursor
+    /// past these bytes. The only refusal is `Short`, if fewer than 2 bytes are left; the cursor is then unchanged.
     pub fn take_i16(&mut self) -> Result<i16, ReadFault>
         ensures found { IfOk result (λ v. Takes (IsSignedEncoding w16) v (bytes_left self.old) (bytes_left self.new)) }
         ensures only { TakesEach (IsSignedEncoding w16) (bytes_left self.old) result (bytes_left self.new) }
@@ -160,8 +164,8 @@ impl<'a> Cursor<'a> {
         self.take::<i16>()
     }
 
-    /// Takes an Int32 (AES70-3): the cursor then stands after it. Refusal: `Short` if fewer than 4 bytes are left; the
-    /// cursor is then unchanged.
+    /// Reads an Int32 (4 bytes in two's complement, the highest first, AES70-3) from the cursor, and moves the cursor
+    /// past these bytes. The only refusal is `Short`, if fewer than 4 bytes are left; the cursor is then unchanged.
     pub fn take_i32(&mut self) -> Result<i32, ReadFault>
         ensures found { IfOk result (λ v. Takes (IsSignedEncoding w32) v (bytes_left self.old) (bytes_left self.new)) }
         ensures only { TakesEach (IsSignedEncoding w32) (bytes_left self.old) result (bytes_left self.new) }
@@ -172,8 +176,8 @@ impl<'a> Cursor<'a> {
         self.take::<i32>()
     }
 
-    /// Takes an Int64 (AES70-3): the cursor then stands after it. Refusal: `Short` if fewer than 8 bytes are left; the
-    /// cursor is then unchanged.
+    /// Reads an Int64 (8 bytes in two's complement, the highest first, AES70-3) from the cursor, and moves the cursor
+    /// past these bytes. The only refusal is `Short`, if fewer than 8 bytes are left; the cursor is then unchanged.
     pub fn take_i64(&mut self) -> Result<i64, ReadFault>
         ensures found { IfOk result (λ v. Takes (IsSignedEncoding w64) v (bytes_left self.old) (bytes_left self.new)) }
         ensures only { TakesEach (IsSignedEncoding w64) (bytes_left self.old) result (bytes_left self.new) }
@@ -184,8 +188,9 @@ impl<'a> Cursor<'a> {
         self.take::<i64>()
     }
 
-    /// Takes an OcaBoolean (AES70-3), false if its byte is 0 and true of any other byte (*profile*): the cursor then
-    /// stands after it. Refusal: `Short` if no byte is left; the cursor is then unchanged.
+    /// Reads an OcaBoolean (one byte, AES70-3) from the cursor, and moves the cursor past this byte. The result is
+    /// false if the byte is 0, and true for any other byte (*profile*). The only refusal is `Short`, if no byte is
+    /// left; the cursor is then unchanged.
     pub fn take_bool(&mut self) -> Result<bool, ReadFault>
         ensures found { IfOk result (λ v. Takes IsBoolEncoding v (bytes_left self.old) (bytes_left self.new)) }
         ensures only { TakesEach IsBoolEncoding (bytes_left self.old) result (bytes_left self.new) }
@@ -196,10 +201,13 @@ impl<'a> Cursor<'a> {
         self.take::<bool>()
     }
 
-    /// Takes an OcaString of at most 64 bytes (AES70-3): a Uint16 with the number of its Unicode scalar values, then
-    /// its UTF-8. (That each scalar value outside ASCII counts as one is the profile's.) The cursor then stands after
-    /// it. Refusals, which leave the cursor unchanged: `Short` if the bytes end before the text does. `NotUtf8` if the
-    /// bytes are not that number of characters in UTF-8. `TooLong` if the text has more than 64 bytes.
+    /// Reads an OcaString of at most 64 bytes from the cursor, and moves the cursor past it (AES70-3). Its encoding is
+    /// a Uint16 with the number of Unicode scalar values, and then these as UTF-8. Each scalar value counts as 1, also
+    /// outside of ASCII (*profile*). An empty text is allowed. Refusals, the first that applies; the cursor is then
+    /// unchanged:
+    /// - `Short` if the bytes end before the text does.
+    /// - `NotUtf8` if bytes that are not UTF-8 come before the end of the text.
+    /// - `TooLong` if the text has more than 64 bytes.
     pub fn take_text(&mut self) -> Result<Text, ReadFault>
         ensures found { IfOk result (λ text. Takes IsTextEncoding text (bytes_left self.old) (bytes_left self.new)) }
         ensures only { (text front rest : List ℕ) → IsTextEncoding text front → bytes_left self.old ≡ front ++ rest →
@@ -220,7 +228,8 @@ impl<'a> Cursor<'a> {
         Ok(text)
     }
 
-    /// Ok if no byte is left. Refusal: `Trailing` if bytes are left (*profile*). The cursor is unchanged.
+    /// Returns `Ok` if no byte is left in the cursor. The only refusal is `Trailing`, if at least one byte is left
+    /// (*profile*). The cursor is unchanged in both cases.
     pub fn finish(&self) -> Result<(), ReadFault>
         ensures variant { IsOk result ↔ (bytes_left self.now ≡ []) }
         ensures err { IfErr result (λ e. e ≡ Trailing) }

@@ -11,24 +11,26 @@ use crate::fault::PutFault;
 use crate::put::put_bytes;
 use crate::words::Params;
 
-/// A value whose encodings all have one length (AES70-3): an integer of 8 to 64 bits, the highest byte first, or a
-/// Boolean. [`Cursor::take`](crate::Cursor::take) reads it and `put` writes it.
+/// A type whose values all have encodings of the same length (AES70-3): an integer of 8 to 64 bits or a Boolean.
+/// Integers have their highest byte first. [`Cursor::take`](crate::Cursor::take) reads such a value, and `put` writes
+/// it.
 pub trait Field: Copy {
     // How values of the type are encoded.
     ghost codec: { Codec Self };
 
     ghost SIZE: { ℕ };
 
-    /// How many bytes an encoding has.
+    /// The number of bytes of each encoding: 1, 2, 4 or 8.
     const SIZE: usize;
 
-    /// The value that these bytes encode (AES70-3). There must be exactly `SIZE` bytes (a premise).
+    /// Returns the value that the bytes `front` encode (AES70-3). The caller must pass exactly `SIZE` bytes (a
+    /// premise). Every `SIZE` bytes encode a value, so the call refuses nothing. It takes no memory.
     fn from_front(front: &[u8]) -> Self
         requires { length front.now ≡ SIZE }
         ensures { result ≡ codec.value_in front.now };
 
-    /// Appends the value to the parameters (AES70-3). Refusal: `Full` if the parameters would have more than 1,452
-    /// bytes in all; then the parameters are unchanged.
+    /// Appends the encoding of the value to `params` (AES70-3): `SIZE` bytes. The only refusal is `Full`, if the
+    /// parameters would have more than 1,452 bytes; then they are unchanged. The call takes no memory.
     fn put(self, params: &mut Params) -> Result<(), PutFault>
         ensures full { IsErr result ↔ (most_parameter_bytes < length params.old.items + SIZE) }
         ensures puts { Puts result params.old.items params.new.items (codec.encoding self) }
@@ -48,12 +50,13 @@ impl Field for u8 {
 
     const SIZE: usize = 1;
 
-    /// The unsigned number of 8 bits that a byte encodes.
+    /// Returns the Uint8 that the byte of `front` encodes (AES70-3).
     fn from_front(front: &[u8]) -> u8 {
         front[0]
     }
 
-    /// Appends the unsigned number of 8 bits. Refusal: `Full`.
+    /// Appends the Uint8 to the parameters: 1 byte (AES70-3). Refusal: `Full` if the parameters would have more than
+    /// 1,452 bytes; then they are unchanged.
     fn put(self, params: &mut Params) -> Result<(), PutFault> {
         put_bytes(params, &u8::to_be_bytes(self))
     }
@@ -68,12 +71,13 @@ impl Field for u16 {
 
     const SIZE: usize = 2;
 
-    /// The unsigned number of 16 bits that these bytes encode, the highest first.
+    /// Returns the Uint16 that the 2 bytes of `front` encode, the highest first (AES70-3).
     fn from_front(front: &[u8]) -> u16 {
         u16::from_be_bytes([front[0], front[1]])
     }
 
-    /// Appends the unsigned number of 16 bits. Refusal: `Full`.
+    /// Appends the Uint16 to the parameters: 2 bytes, the highest first (AES70-3). Refusal: `Full` if the parameters
+    /// would have more than 1,452 bytes; then they are unchanged.
     fn put(self, params: &mut Params) -> Result<(), PutFault> {
         put_bytes(params, &u16::to_be_bytes(self))
     }
@@ -88,12 +92,13 @@ impl Field for u32 {
 
     const SIZE: usize = 4;
 
-    /// The unsigned number of 32 bits that these bytes encode, the highest first.
+    /// Returns the Uint32 that the 4 bytes of `front` encode, the highest first (AES70-3).
     fn from_front(front: &[u8]) -> u32 {
         u32::from_be_bytes([front[0], front[1], front[2], front[3]])
     }
 
-    /// Appends the unsigned number of 32 bits. Refusal: `Full`.
+    /// Appends the Uint32 to the parameters: 4 bytes, the highest first (AES70-3). Refusal: `Full` if the parameters
+    /// would have more than 1,452 bytes; then they are unchanged.
     fn put(self, params: &mut Params) -> Result<(), PutFault> {
         put_bytes(params, &u32::to_be_bytes(self))
     }
@@ -108,14 +113,15 @@ impl Field for u64 {
 
     const SIZE: usize = 8;
 
-    /// The unsigned number of 64 bits that these bytes encode, the highest first.
+    /// Returns the Uint64 that the 8 bytes of `front` encode, the highest first (AES70-3).
     fn from_front(front: &[u8]) -> u64 {
         u64::from_be_bytes([
             front[0], front[1], front[2], front[3], front[4], front[5], front[6], front[7],
         ])
     }
 
-    /// Appends the unsigned number of 64 bits. Refusal: `Full`.
+    /// Appends the Uint64 to the parameters: 8 bytes, the highest first (AES70-3). Refusal: `Full` if the parameters
+    /// would have more than 1,452 bytes; then they are unchanged.
     fn put(self, params: &mut Params) -> Result<(), PutFault> {
         put_bytes(params, &u64::to_be_bytes(self))
     }
@@ -130,12 +136,13 @@ impl Field for i8 {
 
     const SIZE: usize = 1;
 
-    /// The signed number of 8 bits that a byte encodes.
+    /// Returns the Int8 that the byte of `front` encodes in two's complement (AES70-3).
     fn from_front(front: &[u8]) -> i8 {
         i8::from_be_bytes([front[0]])
     }
 
-    /// Appends the signed number of 8 bits. Refusal: `Full`.
+    /// Appends the Int8 to the parameters: 1 byte in two's complement (AES70-3). Refusal: `Full` if the parameters
+    /// would have more than 1,452 bytes; then they are unchanged.
     fn put(self, params: &mut Params) -> Result<(), PutFault> {
         put_bytes(params, &i8::to_be_bytes(self))
     }
@@ -150,12 +157,13 @@ impl Field for i16 {
 
     const SIZE: usize = 2;
 
-    /// The signed number of 16 bits that these bytes encode, the highest first.
+    /// Returns the Int16 that the 2 bytes of `front` encode in two's complement, the highest first (AES70-3).
     fn from_front(front: &[u8]) -> i16 {
         i16::from_be_bytes([front[0], front[1]])
     }
 
-    /// Appends the signed number of 16 bits. Refusal: `Full`.
+    /// Appends the Int16 to the parameters: 2 bytes in two's complement, the highest first (AES70-3). Refusal: `Full`
+    /// if the parameters would have more than 1,452 bytes; then they are unchanged.
     fn put(self, params: &mut Params) -> Result<(), PutFault> {
         put_bytes(params, &i16::to_be_bytes(self))
     }
@@ -170,12 +178,13 @@ impl Field for i32 {
 
     const SIZE: usize = 4;
 
-    /// The signed number of 32 bits that these bytes encode, the highest first.
+    /// Returns the Int32 that the 4 bytes of `front` encode in two's complement, the highest first (AES70-3).
     fn from_front(front: &[u8]) -> i32 {
         i32::from_be_bytes([front[0], front[1], front[2], front[3]])
     }
 
-    /// Appends the signed number of 32 bits. Refusal: `Full`.
+    /// Appends the Int32 to the parameters: 4 bytes in two's complement, the highest first (AES70-3). Refusal: `Full`
+    /// if the parameters would have more than 1,452 bytes; then they are unchanged.
     fn put(self, params: &mut Params) -> Result<(), PutFault> {
         put_bytes(params, &i32::to_be_bytes(self))
     }
@@ -190,14 +199,15 @@ impl Field for i64 {
 
     const SIZE: usize = 8;
 
-    /// The signed number of 64 bits that these bytes encode, the highest first.
+    /// Returns the Int64 that the 8 bytes of `front` encode in two's complement, the highest first (AES70-3).
     fn from_front(front: &[u8]) -> i64 {
         i64::from_be_bytes([
             front[0], front[1], front[2], front[3], front[4], front[5], front[6], front[7],
         ])
     }
 
-    /// Appends the signed number of 64 bits. Refusal: `Full`.
+    /// Appends the Int64 to the parameters: 8 bytes in two's complement, the highest first (AES70-3). Refusal: `Full`
+    /// if the parameters would have more than 1,452 bytes; then they are unchanged.
     fn put(self, params: &mut Params) -> Result<(), PutFault> {
         put_bytes(params, &i64::to_be_bytes(self))
     }
@@ -212,12 +222,13 @@ impl Field for bool {
 
     const SIZE: usize = 1;
 
-    /// The Boolean that a byte encodes: 0 is false, any other is true (*profile*).
+    /// Returns the Boolean that the byte of `front` encodes (AES70-3): 0 is false, any other byte is true (*profile*).
     fn from_front(front: &[u8]) -> bool {
         front[0] != 0
     }
 
-    /// Appends the Boolean, as 0 or 1. Refusal: `Full`.
+    /// Appends the Boolean to the parameters as one byte, 0 or 1 (AES70-3). Refusal: `Full` if the parameters would
+    /// have more than 1,452 bytes; then they are unchanged.
     fn put(self, params: &mut Params) -> Result<(), PutFault> {
         put_bytes(params, &[u8::from(self)])
     }

@@ -25,8 +25,8 @@ pub(crate) fn put_bytes(params: &mut Params, bytes: &[u8]) -> Result<(), PutFaul
         .map_err(|_| PutFault::Full)
 }
 
-/// Appends a Uint8 to the parameters (AES70-3). Refusal: `Full` if the parameters would have more than 1,452 bytes in
-/// all; then the parameters are unchanged.
+/// Appends a Uint8 to the parameters (one byte, AES70-3). The only refusal is `Full`, if the parameters would have more
+/// than 1,452 bytes in all; then they are unchanged. The call takes no memory.
 pub fn put_u8(params: &mut Params, value: u8) -> Result<(), PutFault>
     ensures full { IsErr result ↔ (most_parameter_bytes < length params.old.items + 1) }
     ensures puts { Puts result params.old.items params.new.items (unsigned_encoding w8 value) }
@@ -35,8 +35,8 @@ pub fn put_u8(params: &mut Params, value: u8) -> Result<(), PutFault>
     u8::put(value, params)
 }
 
-/// Appends a Uint16 to the parameters (AES70-3). Refusal: `Full` if the parameters would have more than 1,452 bytes in
-/// all; then the parameters are unchanged.
+/// Appends a Uint16 to the parameters (2 bytes, the highest first, AES70-3). The only refusal is `Full`, if the
+/// parameters would have more than 1,452 bytes in all; then they are unchanged. The call takes no memory.
 pub fn put_u16(params: &mut Params, value: u16) -> Result<(), PutFault>
     ensures full { IsErr result ↔ (most_parameter_bytes < length params.old.items + 2) }
     ensures puts { Puts result params.old.items params.new.items (unsigned_encoding w16 value) }
@@ -45,8 +45,8 @@ pub fn put_u16(params: &mut Params, value: u16) -> Result<(), PutFault>
     u16::put(value, params)
 }
 
-/// Appends a Uint32 to the parameters (AES70-3). Refusal: `Full` if the parameters would have more than 1,452 bytes in
-/// all; then the parameters are unchanged.
+/// Appends a Uint32 to the parameters (4 bytes, the highest first, AES70-3). The only refusal is `Full`, if the
+/// parameters would have more than 1,452 bytes in all; then they are unchanged. The call takes no memory.
 pub fn put_u32(params: &mut Params, value: u32) -> Result<(), PutFault>
     ensures full { IsErr result ↔ (most_parameter_bytes < length params.old.items + 4) }
     ensures puts { Puts result params.old.items params.new.items (unsigned_encoding w32 value) }
@@ -55,8 +55,8 @@ pub fn put_u32(params: &mut Params, value: u32) -> Result<(), PutFault>
     u32::put(value, params)
 }
 
-/// Appends a Uint64 to the parameters (AES70-3). Refusal: `Full` if the parameters would have more than 1,452 bytes in
-/// all; then the parameters are unchanged.
+/// Appends a Uint64 to the parameters (8 bytes, the highest first, AES70-3). The only refusal is `Full`, if the
+/// parameters would have more than 1,452 bytes in all; then they are unchanged. The call takes no memory.
 pub fn put_u64(params: &mut Params, value: u64) -> Result<(), PutFault>
     ensures full { IsErr result ↔ (most_parameter_bytes < length params.old.items + 8) }
     ensures puts { Puts result params.old.items params.new.items (unsigned_encoding w64 value) }
@@ -65,8 +65,8 @@ pub fn put_u64(params: &mut Params, value: u64) -> Result<(), PutFault>
     u64::put(value, params)
 }
 
-/// Appends an Int8 to the parameters (AES70-3). Refusal: `Full` if the parameters would have more than 1,452 bytes in
-/// all; then the parameters are unchanged.
+/// Appends an Int8 to the parameters (one byte in two's complement, AES70-3). The only refusal is `Full`, if the
+/// parameters would have more than 1,452 bytes in all; then they are unchanged. The call takes no memory.
 pub fn put_i8(params: &mut Params, value: i8) -> Result<(), PutFault>
     ensures full { IsErr result ↔ (most_parameter_bytes < length params.old.items + 1) }
     ensures puts { Puts result params.old.items params.new.items (signed_encoding w8 value) }
@@ -75,8 +75,9 @@ pub fn put_i8(params: &mut Params, value: i8) -> Result<(), PutFault>
     i8::put(value, params)
 }
 
-/// Appends an Int16 to the parameters (AES70-3). Refusal: `Full` if the parameters would have more than 1,452 bytes in
-/// all; then the parameters are unchanged.
+/// Appends an Int16 to the parameters (2 bytes in two's complement, the highest first, AES70-3). The only refusal is
+/// `Full`, if the parameters would have more than 1,452 bytes in all; then they are unchanged. The call takes no
+/// memory.
 pub fn put_i16(params: &mut Params, value: i16) -> Result<(), PutFault>
     ensures full { IsErr result ↔ (most_parameter_bytes < length params.old.items + 2) }
     ensures puts { Puts result params.old.items params.new.items (signed_encoding w16 value) }
@@ -85,8 +86,9 @@ pub fn put_i16(params: &mut Params, value: i16) -> Result<(), PutFault>
     i16::put(value, params)
 }
 
-/// Appends an Int32 to the parameters (AES70-3). Refusal: `Full` if the parameters would have more than 1,452 bytes in
-/// all; then the parameters are unchanged.
+/// Appends an Int32 to the parameters (4 bytes in two's complement, the highest first, AES70-3). The only refusal is
+/// `Full`, if the parameters would have more than 1,452 bytes in all; then they are unchanged. The call takes no
+/// memory.
 pub fn put_i32(params: &mut Params, value: i32) -> Result<(), PutFault>
     ensures full { IsErr result ↔ (most_parameter_bytes < length params.old.items + 4) }
     ensures puts { Puts result params.old.items params.new.items (signed_encoding w32 value) }
@@ -95,8 +97,9 @@ pub fn put_i32(params: &mut Params, value: i32) -> Result<(), PutFault>
     i32::put(value, params)
 }
 
-/// Appends an Int64 to the parameters (AES70-3). Refusal: `Full` if the parameters would have more than 1,452 bytes in
-/// all; then the parameters are unchanged.
+/// Appends an Int64 to the parameters (8 bytes in two's complement, the highest first, AES70-3). The only refusal is
+/// `Full`, if the parameters would have more than 1,452 bytes in all; then they are unchanged. The call takes no
+/// memory.
 pub fn put_i64(params: &mut Params, value: i64) -> Result<(), PutFault>
     ensures full { IsErr result ↔ (most_parameter_bytes < length params.old.items + 8) }
     ensures puts { Puts result params.old.items params.new.items (signed_encoding w64 value) }
@@ -105,8 +108,8 @@ pub fn put_i64(params: &mut Params, value: i64) -> Result<(), PutFault>
     i64::put(value, params)
 }
 
-/// Appends an OcaBoolean to the parameters (AES70-3), as a byte 0 or 1. Refusal: `Full` if the parameters would have
-/// more than 1,452 bytes in all; then the parameters are unchanged.
+/// Appends an OcaBoolean to the parameters (one byte, AES70-3): 0 for false and 1 for true. The only refusal is `Full`,
+/// if the parameters would have more than 1,452 bytes in all; then they are unchanged. The call takes no memory.
 pub fn put_bool(params: &mut Params, value: bool) -> Result<(), PutFault>
     ensures full { IsErr result ↔ (most_parameter_bytes < length params.old.items + 1) }
     ensures puts { Puts result params.old.items params.new.items (bool_encoding value) }
@@ -123,8 +126,9 @@ fn scalar_count(text: &str) -> u16
     text.chars().count() as u16
 }
 
-/// Appends an OcaString to the parameters (AES70-3): a Uint16 with the number of Unicode scalar values, then the UTF-8.
-/// Refusal: `Full` if the parameters would have more than 1,452 bytes in all; then the parameters are unchanged.
+/// Appends an OcaString to the parameters (AES70-3): a Uint16 with the number of Unicode scalar values of the text, and
+/// then the UTF-8 of the text. These are from 2 to 66 bytes. The only refusal is `Full`, if the parameters would have
+/// more than 1,452 bytes in all; then they are unchanged. The call takes no memory.
 pub fn put_text(params: &mut Params, value: &Text) -> Result<(), PutFault>
     ensures full { IsErr result ↔ (most_parameter_bytes < length params.old.items + length (text_encoding value.now)) }
     ensures puts { Puts result params.old.items params.new.items (text_encoding value.now) }
@@ -138,9 +142,10 @@ pub fn put_text(params: &mut Params, value: &Text) -> Result<(), PutFault>
     put_bytes(params, text.as_bytes())
 }
 
-/// Appends an OcaClassIdentification to the parameters (AES70-2): the class's identifier, and its version, which is 2
-/// (*profile*). Refusal: `Full` if the parameters would have more than 1,452 bytes in all; then the parameters are
-/// unchanged.
+/// Appends the OcaClassIdentification of a class to the parameters (AES70-2): the number of fields of its class
+/// identifier, these fields, and the class version. Each is a Uint16, so these are from 10 to 14 bytes. The version is
+/// 2 for each class (*profile*). The only refusal is `Full`, if the parameters would have more than 1,452 bytes in all;
+/// then they are unchanged. The call takes no memory.
 pub fn put_class_identification(params: &mut Params, class: Class) -> Result<(), PutFault>
     ensures full { IsErr result
         ↔ (most_parameter_bytes < length params.old.items + length (class_identification_encoding class)) }
