@@ -19,38 +19,38 @@ use crate::request::{Flags, Names};
 use arrayvec::ArrayVec;
 use oca_types::{Class, Method, Ono, Params, PutFault, Text, put_class_identification, put_text};
 
-/// The members of a block: a response has room for no more.
+/// The members of a block, in the block's order: from 0 to 181. A response has no room for more.
 pub type Members = ArrayVec<Member, 181>;
 
-/// The members of a block and all that lie in them: a response has room for no more.
+/// The members of a block, their members, and so on: from 0 to 120 objects. A response has no room for more.
 pub type Descendants = ArrayVec<Descendant, 120>;
 
-/// What is answered to a request that was carried out.
+/// The answer to a request that a device carried out: the parameters of the response, by kind (AES70-2).
 #[derive(Debug, Drop)]
 pub enum Answer {
-    /// It was done: what sets or locks tells no more.
+    /// No parameters: the answer of each method that sets, locks or unlocks.
     Done,
-    /// Whether it is so.
+    /// A Boolean: whether the object can be locked, or whether the object or a position is enabled.
     Truth(bool),
-    /// A role, a label or a position's name.
+    /// A text of at most 64 bytes: a role, a label or a position's name.
     Text(Text),
-    /// The number of the container.
+    /// The number of the block that contains the object, 0 for the root.
     Owner(Ono),
-    /// What the object is set to, with its limits.
+    /// The setting of the object. A switch or an integer has its limits too.
     Reading(Reading),
-    /// The names of positions.
+    /// The names of all positions of a switch, in order.
     Names(Names),
-    /// Which positions are enabled.
+    /// For each position of a switch, in order, whether the position is enabled.
     Flags(Flags),
-    /// Its class.
+    /// The class of the object.
     Class(Class),
-    /// The members of a block.
+    /// The members of a block, in order.
     Members(Members),
-    /// The members of a block and all that lie in them.
+    /// The members of a block, their members, and so on, in order.
     Descendants(Descendants),
 }
 
-/// What kind of answer a method has.
+/// The kind of answer that a method has: one variant for each variant of [`Answer`].
 #[derive(Clone, Copy, Debug, PartialEq, Eq)]
 pub enum Shape {
     /// [`Answer::Done`].
@@ -75,8 +75,9 @@ pub enum Shape {
     Descendants,
 }
 
-/// The kind of answer that a method has, by which [`Answer::read`] reads it. It is `Done` if the answer has no
-/// parameters, as that of each set method.
+/// Returns the kind of answer that the method has (AES70-2). By this kind, [`Answer::read`] reads an answer. The result
+/// is `Done` for each method that sets, locks or unlocks: its answer has no parameters. The call refuses nothing and
+/// takes no memory.
 pub fn shape_of(method: Method) -> Shape
     ensures { result ≡ shape_of method }
 {
@@ -94,33 +95,39 @@ pub fn shape_of(method: Method) -> Shape
     }
 }
 
-/// Reads `params`, the parameters of an answer to GetRole, GetLabel or GetPositionName (AES70-2), and returns the text
-/// that they are. `None` if `params` is not exactly one text of at most 64 bytes of UTF-8.
+/// Reads the text in `params`, the parameters of an answer to GetRole, GetLabel or GetPositionName (AES70-2). The text
+/// has from 0 to 64 bytes. The result is `None` if `params` is not exactly one OcaString of at most 64 bytes of UTF-8.
+/// The call takes no memory.
 pub fn read_text(params: &[u8]) -> Option<Text>
     ensures { result ≡ whole (text_at params.now) }
 {
     whole(params)
 }
 
-/// Reads `params`, the parameters of an answer to GetPositionNames (AES70-2), and returns the names in the order of the
-/// positions. `None` if `params` is not exactly such an answer, or has more than 16 names or a name of more than 64
-/// bytes.
+/// Reads the position names in `params`, the parameters of an answer to GetPositionNames (OcaSwitch, AES70-2). The
+/// names are in the order of the positions: from 0 to 16 names, each of at most 64 bytes. The result is `None` if
+/// `params` is not exactly such an answer, or has more than 16 names, or has a name of more than 64 bytes. The call
+/// takes no memory.
 pub fn read_names(params: &[u8]) -> Option<Names>
     ensures { option_map (λ v. v.items) result ≡ switch_names_in params.now }
 {
     read_list(params)
 }
 
-/// Appends the names of positions to the parameters, as an OcaList of texts (AES70-3). Refusal: `Full` if the
-/// parameters would have more than 1,452 bytes in all. A part may then have been appended, so discard the parameters.
+/// Appends the names of a switch's positions to the parameters, as an OcaList of OcaStrings (AES70-3): the number of
+/// names as a Uint16, then each name. There are from 0 to 16 names, each of at most 64 bytes. The only refusal is
+/// `Full`, if the parameters would have more than 1,452 bytes in all. Then a part of the names may have been appended,
+/// so discard the parameters. The call takes no memory.
 pub fn put_names(params: &mut Params, names: &Names) -> Result<(), PutFault>
     ensures { Puts result params.old.items params.new.items (list_encoding text_encoding names.now.items) }
 {
     put_list(params, names.as_slice())
 }
 
-/// Appends to the parameters which positions are enabled, as an OcaList of Booleans (AES70-3). Refusal: `Full` if the
-/// parameters would have more than 1,452 bytes in all. A part may then have been appended, so discard the parameters.
+/// Appends the enabled flags of a switch's positions to the parameters, as an OcaList of OcaBooleans (AES70-3): the
+/// number of flags as a Uint16, then each flag as a byte 0 or 1. There are from 0 to 16 flags, in the order of the
+/// positions. The only refusal is `Full`, if the parameters would have more than 1,452 bytes in all. Then a part of the
+/// flags may have been appended, so discard the parameters. The call takes no memory.
 pub fn put_flags(params: &mut Params, flags: &Flags) -> Result<(), PutFault>
     ensures { Puts result params.old.items params.new.items (list_encoding bool_encoding flags.now.items) }
 {
@@ -147,7 +154,8 @@ fn shaped(shape: Shape, class: Class, params: &[u8]) -> Option<Answer>
 }
 
 impl Answer {
-    /// How many parameters the answer has (ParamCount): 0, 1 or 3.
+    /// Returns the number of parameters of the answer, which is ParamCount of the response (AES70-3). The result is 0
+    /// for `Done`, 3 for the reading of a switch or of an integer, and 1 for any other answer.
     pub fn count(&self) -> u8
         ensures { result ≡ answer_count self.now }
     {
@@ -165,8 +173,9 @@ impl Answer {
         }
     }
 
-    /// Appends the answer's parameters (AES70-3) to `params`. Refusal: `Full` if the parameters would have more than
-    /// 1,452 bytes in all. A part may then have been appended, so discard the parameters.
+    /// Appends the parameters of the answer to `params` (AES70-3). [`Answer::count`] returns how many they are; `Done`
+    /// appends nothing. The only refusal is `Full`, if the parameters would have more than 1,452 bytes in all. Then a
+    /// part of the answer may have been appended, so discard the parameters. The call takes no memory.
     #[tactic(auto, unfolding(crate::specs::Answers::answer_encoding))]
     pub fn put(&self, params: &mut Params) -> Result<(), PutFault>
         ensures { Puts result params.old.items params.new.items (answer_encoding self.now) }
@@ -185,9 +194,14 @@ impl Answer {
         }
     }
 
-    /// Reads the parameters of an answer to this method of an object of this class; `count` is ParamCount. Only the
-    /// answer to a get method of the value depends on the class. `None` if `count` is not the number of parameters that
-    /// this answer has, or `params` is not exactly such an answer.
+    /// Reads an answer from the parameters of a response to a method (AES70-2). `count` is ParamCount and `params` the
+    /// bytes of the parameters. `class` is the class of the object; only the answer to the get method of a value
+    /// depends on it. The call does not check that the class has the method, and takes no memory. The result is `None`
+    /// in each of these cases:
+    /// - `count` is not the number of parameters that this answer has.
+    /// - `params` is not exactly such an answer.
+    /// - A text has more than 64 bytes, or there are more than 16 positions, 181 members or 120 descendants.
+    /// - The answer to GetClassIdentification names a class that this profile does not have.
     #[tactic(auto, unfolding(crate::specs::Answers::answer_in))]
     pub fn read(class: Class, method: Method, count: u8, params: &[u8]) -> Option<Answer>
         ensures { result ≡ answer_in class method count params.now }

@@ -18,54 +18,55 @@ use crate::request::{Flags, Request};
 use crate::value::{Value, ValueFault};
 use oca_types::{Class, Cursor, Method};
 
-/// What is asked of an object, as a device holds it: a [`Request`] whose texts lie still in the bytes of the command.
+/// A command as a device reads it: which request it makes of an object (AES70-2). It is a [`Request`] whose texts are
+/// not copied out of the bytes of the command.
 #[derive(Drop)]
 pub enum Asked<'a> {
-    /// Its class.
+    /// Asks for the class identifier and the class version.
     GetClassIdentification,
-    /// Whether it can be locked.
+    /// Asks whether the object can be locked.
     GetLockable,
-    /// A lock against all access of others.
+    /// Locks the object: other peers can then neither read nor write.
     LockTotal,
-    /// A lock against all but reading.
+    /// Locks the object: other peers can then only read.
     LockReadonly,
-    /// That its lock is taken off.
+    /// Releases the lock of the object.
     Unlock,
-    /// Its role.
+    /// Asks for the role.
     GetRole,
-    /// Whether it is enabled.
+    /// Asks whether the object is enabled.
     GetEnabled,
-    /// That it is enabled or not.
+    /// Enables the object (true) or disables it (false).
     SetEnabled(bool),
-    /// Its label.
+    /// Asks for the label.
     GetLabel,
-    /// That its label is this.
+    /// Sets the label.
     SetLabel(HeldText<'a>),
-    /// The number of its container.
+    /// Asks for the number of the block that contains the object.
     GetOwner,
-    /// The members of a block.
+    /// Asks for the members of a block.
     GetMembers,
-    /// The members of a block and all that lie in them.
+    /// Asks for the members of a block, their members, and so on.
     GetMembersRecursive,
-    /// What it is set to, by the get method of its class.
+    /// Asks for the setting, by the get method of the object's class.
     Get,
-    /// That it is set to this, by the set method of its class.
+    /// Sets the object to this value, by the set method of the object's class.
     Set(Value),
-    /// The name of a switch's position.
+    /// Asks for the name of this position of a switch, counted from 0.
     GetPositionName(u16),
-    /// That a position's name is this.
+    /// Sets the name of this position of a switch, counted from 0.
     SetPositionName(u16, HeldText<'a>),
-    /// The names of all positions.
+    /// Asks for the names of all positions of a switch.
     GetPositionNames,
-    /// That the positions' names are these.
+    /// Sets the names of all positions of a switch.
     SetPositionNames(HeldTexts<'a>),
-    /// Whether a position is enabled.
+    /// Asks whether this position of a switch is enabled, counted from 0.
     GetPositionEnabled(u16),
-    /// That a position is enabled or not.
+    /// Enables (true) or disables (false) this position of a switch, counted from 0.
     SetPositionEnabled(u16, bool),
-    /// Which positions are enabled.
+    /// Asks for each position of a switch whether the position is enabled.
     GetPositionEnableds,
-    /// That these positions are enabled.
+    /// Enables or disables each position of a switch.
     SetPositionEnableds(Flags),
 }
 
@@ -121,13 +122,16 @@ fn set_in<'a>(class: Class, count: u8, params: &[u8]) -> Result<Asked<'a>, Value
 }
 
 impl<'a> Asked<'a> {
-    /// Reads a command by its method and its parameters, as a device understands it; `count` is ParamCount. The call
-    /// does not check that the class has the method. The class determines only the type of the value of a set method. A
-    /// list of names or flags has at most 16 entries, and a text at most 64 bytes. Texts are not copied.
-    ///
-    /// Refusals: `Malformed` (the status ParameterError) if `count` is not the number of parameters that the method
-    /// has, or `params` is not exactly such parameters. `Malformed` also for the value of a block. `Unlisted`
-    /// (ParameterOutOfRange) if a set method gives a mute or a polarity a number that is no state.
+    /// Reads the request of a command from its method and its parameters, as a device does (AES70-2). `count` is
+    /// ParamCount and `params` the bytes of the parameters. `class` is the class of the object; only the value of a set
+    /// method depends on it. Texts are not copied, and no memory is taken. The call checks neither that the class has
+    /// the method, nor that a switch has the position. Refusals, the first that applies:
+    /// - `Malformed` (the status ParameterError) if `count` is not the number of parameters of the method, or the class
+    ///   of a set method is OcaBlock.
+    /// - `Malformed` also if `params` is not exactly these parameters: a text has at most 64 bytes, and a list of names
+    ///   or flags at most 16 items.
+    /// - `Unlisted` (the status ParameterOutOfRange) if a set method of a mute or a polarity has a number that is not 1
+    ///   or 2.
     #[tactic(auto, unfolding(crate::specs::Requests::request_in, crate::specs::HeldRequests::asked_by))]
     pub fn read(
         class: Class,
@@ -188,7 +192,8 @@ impl<'a> Asked<'a> {
         }
     }
 
-    /// The same request, with its texts copied.
+    /// Returns the same request as a [`Request`], which contains copies of the texts (AES70-2). A text has at most 64
+    /// bytes. `self` is consumed. The call refuses nothing and takes no memory.
     #[tactic(auto, unfolding(crate::specs::HeldRequests::asked_by))]
     pub fn request(self) -> Request
         ensures { result ≡ asked_by self.entry }

@@ -11,7 +11,8 @@ use crate::request::Names;
 use oca_types::{Cursor, Text};
 use std::marker::Model;
 
-/// A text in its encoding (AES70-3). Contracts see the text.
+/// A text of at most 64 bytes that is not copied: it refers to its encoding in the bytes of a command (OcaString,
+/// AES70-3). Contracts see the text.
 #[derive(Drop)]
 pub struct HeldText<'a> {
     bytes: &'a [u8],
@@ -41,7 +42,8 @@ impl<'a> HeldText<'a> {
         Some(HeldText { bytes })
     }
 
-    /// A copy of the text: at most 64 bytes.
+    /// Returns a copy of the text, which has from 0 to 64 bytes of UTF-8 (the limit is the profile's). The call refuses
+    /// nothing and takes no memory.
     pub fn text(&self) -> Text
         ensures { result ≡ self.now }
     {
@@ -53,7 +55,8 @@ impl<'a> HeldText<'a> {
     }
 }
 
-/// A list of at most 16 texts in its encoding (AES70-3). Contracts see the list.
+/// A list of at most 16 texts that are not copied: it refers to their encoding in the bytes of a command (OcaList of
+/// OcaString, AES70-3). Contracts see the list of the texts.
 #[derive(Drop)]
 pub struct HeldTexts<'a> {
     number: usize,
@@ -88,14 +91,15 @@ impl<'a> HeldTexts<'a> {
         })
     }
 
-    /// How many texts there are: 0 to 16.
+    /// Returns the number of texts in the list: from 0 to 16 (the limit is the profile's). The call refuses nothing.
     pub fn len(&self) -> usize
         ensures { result ≡ length self.now }
     {
         self.number
     }
 
-    /// Copies of the texts, in order: at most 16, of at most 64 bytes each.
+    /// Returns copies of the texts, in the order of the list: from 0 to 16 texts, each of at most 64 bytes (the limits
+    /// are the profile's). The call refuses nothing and takes no memory.
     pub fn texts(&self) -> Names
         ensures { result.items ≡ self.now }
     {

@@ -12,33 +12,33 @@ use crate::list::{read_list, take_items};
 use arrayvec::ArrayVec;
 use oca_types::{Class, Cursor, Ono, ReadFault, class_fields};
 
-/// The most fields of a class's identifier that are read.
+/// The greatest number of fields of a class identifier that is read: 16 (*profile*).
 pub const MOST_FIELDS: usize = 16;
 
-/// The most members of a block that are read: more than a response has room for.
+/// The greatest number of members of a block that is read: 181. A response has no room for more.
 pub const MOST_MEMBERS: usize = 181;
 
-/// The fields of a class's identifier (OcaClassID), as 1, 1, 1 and 2 of a mute.
+/// The fields of a class identifier (OcaClassID, AES70-2), from 0 to 16: those of a mute are 1, 1, 1, 2.
 pub type ClassFields = ArrayVec<u16, MOST_FIELDS>;
 
-/// The numbers of a block's members.
+/// The object numbers of the members of a block, from 0 to 181, in the block's order.
 pub type MemberNumbers = ArrayVec<u32, MOST_MEMBERS>;
 
-/// A member of a block.
+/// A member of a block: its number and its class.
 #[derive(Clone, Copy, Debug, Default, PartialEq, Eq)]
 pub struct Member {
-    /// Its number.
+    /// The number of the object.
     pub ono: Ono,
-    /// Its class, where that is one of this profile.
+    /// The class of the object, and `None` if this profile does not have the class.
     pub class: Option<Class>,
 }
 
-/// An object that lies in a block.
+/// An object in a block, directly or in a block within it.
 #[derive(Clone, Copy, Debug, Default, PartialEq, Eq)]
 pub struct Descendant {
-    /// Its number and its class.
+    /// The number and the class of the object.
     pub member: Member,
-    /// The number of the block that contains it.
+    /// The number of the block that directly contains the object.
     pub container: Ono,
 }
 
@@ -49,7 +49,9 @@ fn has_fields(class: Class, fields: &[u16]) -> bool
     class_fields(class).as_slice() == fields
 }
 
-/// The class whose identifier has these fields. `None` if no class of this profile has them.
+/// Returns the class whose identifier has these fields (OcaClassID, AES70-2), such as `Mute` for 1, 1, 1, 2. All fields
+/// must match, and their number. The result is `None` if none of the 13 classes of this profile has these fields. The
+/// call takes no memory.
 #[tactic(auto, unfolding(crate::specs::Members::class_with))]
 pub fn class_with(fields: &[u16]) -> Option<Class>
     ensures { result ≡ class_with fields.now }
@@ -121,9 +123,10 @@ pub(crate) fn take_class(cursor: &mut Cursor<'_>) -> Result<Option<Class>, ReadF
     Ok(class_with(fields.as_slice()))
 }
 
-/// Reads `params`, the parameters of an answer to GetClassIdentification (AES70-2), and returns the fields of the
-/// class's identifier. The class may be any, and its version is ignored. `None` if `params` is not exactly such an
-/// answer, or has more than 16 fields.
+/// Reads the fields of a class identifier in `params`, the parameters of an answer to GetClassIdentification (OcaRoot,
+/// AES70-2). The class can be any class, also one that this profile does not have. The class version is ignored. The
+/// result has from 0 to 16 fields. It is `None` if `params` is not exactly such an answer, or has more than 16 fields.
+/// The call takes no memory.
 pub fn read_class_fields(params: &[u8]) -> Option<ClassFields>
     ensures { option_map (λ v. v.items) result ≡ class_id_in params.now }
 {
@@ -155,8 +158,10 @@ fn numbers_of(members: &[Member]) -> MemberNumbers
     numbers
 }
 
-/// Reads `params`, the parameters of an answer to GetMembers (AES70-2), and returns the numbers of the members, in
-/// order: 181 at most, since an answer has room for no more. `None` if `params` is not exactly such an answer.
+/// Reads the object numbers of the members in `params`, the parameters of an answer to GetMembers (OcaBlock, AES70-2).
+/// The result has from 0 to 181 numbers, in the order of the answer; a response has no room for more. Members can be of
+/// any class. The result is `None` if `params` is not exactly such an answer, or a class identifier has more than 16
+/// fields. The call takes no memory.
 pub fn read_members(params: &[u8]) -> Option<MemberNumbers>
     ensures { option_map (λ v. v.items) result ≡ members_in params.now }
 {

@@ -10,25 +10,26 @@ use crate::parameters::whole;
 use crate::value::{MuteState, PolarityState, Value, mute_of, polarity_of};
 use oca_types::{Class, Cursor, Params, PutFault};
 
-/// A setting, and the least and the greatest that it can be.
+/// A setting with its limits, as a device answers them: the least and the greatest setting.
 #[derive(Clone, Copy, Debug, PartialEq, Eq)]
 pub struct Ranged<N> {
     /// The setting.
     pub setting: N,
-    /// The least that it can be set to.
+    /// The least setting that the object can have.
     pub least: N,
-    /// The greatest that it can be set to.
+    /// The greatest setting that the object can have.
     pub greatest: N,
 }
 
-/// What reading an object gives: one variant a class (AES70-2).
+/// The setting of an object as a device answers it, with its limits: one variant for each class (AES70-2). OcaBlock has
+/// no setting.
 #[derive(Clone, Copy, Debug, PartialEq, Eq)]
 pub enum Reading {
     /// The state of an OcaMute.
     Mute(MuteState),
     /// The state of an OcaPolarity.
     Polarity(PolarityState),
-    /// The position of an OcaSwitch, counted from 0, the first and the last.
+    /// The position of an OcaSwitch, counted from 0, with the first and the last position.
     Switch(Ranged<u16>),
     /// The setting of an OcaBooleanActuator.
     Boolean(bool),
@@ -76,7 +77,8 @@ fn put_ranged<F: Item>(params: &mut Params, ranged: &Ranged<F>) -> Result<(), Pu
 }
 
 impl Reading {
-    /// The reading's value, without its limits.
+    /// Returns the value of the reading without its limits. The value is of the same class; it can be outside the
+    /// limits if they are so. The call refuses nothing and takes no memory.
     pub fn value(self) -> Value
         ensures { result ≡ value_without_limits self }
     {
@@ -96,7 +98,9 @@ impl Reading {
         }
     }
 
-    /// How many parameters the reading has (ParamCount): 3 for a switch and an integer, otherwise 1.
+    /// Returns the number of parameters of the reading, which is ParamCount of the response (AES70-3). The result is 3
+    /// for a switch and an integer: the setting, the least and the greatest. It is 1 for a mute, a polarity and a
+    /// Boolean.
     pub fn count(self) -> u8
         ensures { result ≡ reading_count self }
     {
@@ -106,9 +110,10 @@ impl Reading {
         }
     }
 
-    /// Appends the reading to the parameters, as the class's get method answers it (AES70-2): the value, and for a
-    /// switch or an integer the least and the greatest after it. Refusal: `Full` if the parameters would have more than
-    /// 1,452 bytes in all. A part may then have been appended, so discard the parameters.
+    /// Appends the parameters of an answer to the get method of the class to `params` (AES70-2): the setting, and for a
+    /// switch or an integer the least and the greatest after it. A mute or a polarity has the number of its state, 1 or
+    /// 2. The only refusal is `Full`, if the parameters would have more than 1,452 bytes in all. Then a part of the
+    /// reading may have been appended, so discard the parameters. The call takes no memory.
     #[tactic(auto, unfolding(crate::specs::Readings::reading_encoding))]
     pub fn put(self, params: &mut Params) -> Result<(), PutFault>
         ensures { Puts result params.old.items params.new.items (reading_encoding self) }
@@ -129,8 +134,10 @@ impl Reading {
         }
     }
 
-    /// Reads the answer to the get method of the class (AES70-2): the value, and after it the least and the greatest
-    /// for a switch or an integer. `None` for a block, and if the parameters are not exactly such an answer.
+    /// Reads the answer to the get method of an object of this class from `params` (AES70-2): the setting, and for a
+    /// switch or an integer the least and the greatest after it. The result is `None` if the class is OcaBlock, or
+    /// `params` is not exactly such an answer, or the number of a state is not 1 or 2. The call does not check that the
+    /// setting is within its limits ([`Reading::is_within`]). It takes no memory.
     #[tactic(auto, unfolding(crate::specs::Readings::reading_in))]
     pub fn read(class: Class, params: &[u8]) -> Option<Reading>
         ensures { result ≡ reading_in class params.now }
@@ -153,9 +160,10 @@ impl Reading {
     }
 }
 
-/// Reads the value in the answer to [`get_request`](crate::get_request) of an object of this class, without its limits;
-/// [`Reading::read`] gives the limits too. `None` for a block, and if the parameters are not exactly such an answer
-/// (AES70-2: after the value of a switch or an integer come the least and the greatest).
+/// Reads the setting in the answer to [`get_request`](crate::get_request) of an object of this class (AES70-2), without
+/// its limits. [`Reading::read`] returns the limits too. `params` are the parameters of the answer: the setting, and
+/// for a switch or an integer the least and the greatest after it. The result is `None` if the class is OcaBlock, or
+/// `params` is not exactly such an answer, or the number of a state is not 1 or 2. The call takes no memory.
 pub fn read_value(class: Class, params: &[u8]) -> Option<Value>
     ensures { result ≡ value_read class params.now }
 {

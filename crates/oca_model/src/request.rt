@@ -15,78 +15,79 @@ use crate::value_request::{get_method, set_method};
 use arrayvec::ArrayVec;
 use oca_types::{Class, Method, MethodId, Params, PutFault, Text, method_id, put_text};
 
-/// The names of a switch's positions, in their order.
+/// The names of the positions of a switch, in order: from 0 to 16 texts, each of at most 64 bytes.
 pub type Names = ArrayVec<Text, 16>;
 
-/// Which positions of a switch are enabled.
+/// For each position of a switch, in order, whether the position is enabled: from 0 to 16 flags.
 pub type Flags = ArrayVec<bool, 16>;
 
-/// What is asked of an object: a method of its class, by what it does, with its parameters.
+/// What a command asks of an object (AES70-2): a method of its class, by what the method does, with its parameters.
 #[derive(Debug, Drop)]
 pub enum Request {
-    /// Its class.
+    /// Asks for the class identifier and the class version.
     GetClassIdentification,
-    /// Whether it can be locked.
+    /// Asks whether the object can be locked.
     GetLockable,
-    /// A lock against all access of others.
+    /// Locks the object: other peers can then neither read nor write.
     LockTotal,
-    /// A lock against all but reading.
+    /// Locks the object: other peers can then only read.
     LockReadonly,
-    /// That its lock is taken off.
+    /// Releases the lock of the object.
     Unlock,
-    /// Its role.
+    /// Asks for the role.
     GetRole,
-    /// Whether it is enabled.
+    /// Asks whether the object is enabled.
     GetEnabled,
-    /// That it is enabled or not.
+    /// Enables the object (true) or disables it (false).
     SetEnabled(bool),
-    /// Its label.
+    /// Asks for the label.
     GetLabel,
-    /// That its label is this.
+    /// Sets the label.
     SetLabel(Text),
-    /// The number of its container.
+    /// Asks for the number of the block that contains the object.
     GetOwner,
-    /// The members of a block.
+    /// Asks for the members of a block.
     GetMembers,
-    /// The members of a block and all that lie in them.
+    /// Asks for the members of a block, their members, and so on.
     GetMembersRecursive,
-    /// What it is set to, by the get method of its class.
+    /// Asks for the setting, by the get method of the object's class.
     Get,
-    /// That it is set to this, by the set method of its class.
+    /// Sets the object to this value, by the set method of the object's class.
     Set(Value),
-    /// The name of a switch's position.
+    /// Asks for the name of this position of a switch, counted from 0.
     GetPositionName(u16),
-    /// That a position's name is this.
+    /// Sets the name of this position of a switch, counted from 0.
     SetPositionName(u16, Text),
-    /// The names of all positions.
+    /// Asks for the names of all positions of a switch.
     GetPositionNames,
-    /// That the positions' names are these.
+    /// Sets the names of all positions of a switch, in order.
     SetPositionNames(Names),
-    /// Whether a position is enabled.
+    /// Asks whether this position of a switch is enabled, counted from 0.
     GetPositionEnabled(u16),
-    /// That a position is enabled or not.
+    /// Enables (true) or disables (false) this position of a switch, counted from 0.
     SetPositionEnabled(u16, bool),
-    /// Which positions are enabled.
+    /// Asks for each position of a switch whether the position is enabled.
     GetPositionEnableds,
-    /// That these positions are enabled.
+    /// Enables or disables each position of a switch, in order.
     SetPositionEnableds(Flags),
 }
 
-/// A request as it is sent: the method's numbers and ParamCount. The parameters were put beside it.
+/// How a request is sent: the numbers of its method, and its ParamCount. [`Request::call`] returns it, and writes the
+/// parameters beside it.
 #[derive(Clone, Copy, Debug, PartialEq, Eq)]
 pub struct Call {
-    /// The method.
+    /// The DefLevel and MethodIndex of the method.
     pub method: MethodId,
-    /// ParamCount.
+    /// ParamCount: the number of parameters, 0 to 2.
     pub count: u8,
 }
 
-/// Why a request cannot be sent to an object of a class.
+/// Why a request cannot be sent to an object of a class. Nothing is sent.
 #[derive(Clone, Copy, Debug, PartialEq, Eq)]
 pub enum RequestFault {
-    /// The class has no such method, or is set by other values.
+    /// The class does not have such a method, or the value is of another class.
     OtherClass,
-    /// The parameters are too long.
+    /// The parameters would have more than 1,452 bytes.
     Full,
 }
 
@@ -167,9 +168,12 @@ impl Request {
         }
     }
 
-    /// Encodes the request for an object of this class (AES70-3). Returns the method and ParamCount, and replaces what
-    /// `params` held by the parameters. Refusals: `OtherClass` if the class has no such method, or the value is one of
-    /// another class. `Full` if the parameters would have more than 1,452 bytes. After a refusal discard `params`.
+    /// Encodes the request for an object of this class (AES70-2, AES70-3): returns the DefLevel, MethodIndex and
+    /// ParamCount, and writes the bytes of the parameters into `params`. The old bytes of `params` are lost. The call
+    /// sends nothing and takes no memory. It checks no limits of the object. Refusals, the first that applies:
+    /// - `OtherClass` if the class has no method for the request, or the value to set is of another class; `params` is
+    ///   then unchanged.
+    /// - `Full` if the parameters would have more than 1,452 bytes; discard `params` then.
     pub fn call(&self, class: Class, params: &mut Params) -> Result<Call, RequestFault>
         ensures call { IfOk result (λ call. IsCallFor class self.now call params.new.items) }
         ensures refused { IfErr result (λ fault. IsRefusedCall class self.now fault) }
@@ -188,13 +192,16 @@ impl Request {
         })
     }
 
-    /// Reads a command by its method and its parameters, as a device understands it, and copies its texts; `count` is
-    /// ParamCount. The call does not check that the class has the method. The class determines only the type of the
-    /// value of a set method. A list of names or flags has at most 16 entries, and a text at most 64 bytes.
-    ///
-    /// Refusals: `Malformed` (the status ParameterError) if `count` is not the number of parameters that the method
-    /// has, or `params` is not exactly such parameters. `Malformed` also for the value of a block. `Unlisted`
-    /// (ParameterOutOfRange) if a set method gives a mute or a polarity a number that is no state.
+    /// Reads the request of a command from its method and its parameters, as a device does, and copies its texts
+    /// (AES70-2). `count` is ParamCount and `params` the bytes of the parameters. `class` is the class of the object;
+    /// only the value of a set method depends on it. The call takes no memory. It checks neither that the class has the
+    /// method, nor that a switch has the position. Refusals, the first that applies:
+    /// - `Malformed` (the status ParameterError) if `count` is not the number of parameters of the method, or the class
+    ///   of a set method is OcaBlock.
+    /// - `Malformed` also if `params` is not exactly these parameters: a text has at most 64 bytes, and a list of names
+    ///   or flags at most 16 items.
+    /// - `Unlisted` (the status ParameterOutOfRange) if a set method of a mute or a polarity has a number that is not 1
+    ///   or 2.
     pub fn read(
         class: Class,
         method: Method,

@@ -6,7 +6,7 @@ use crate::reading::{Ranged, Reading};
 use crate::value::Value;
 use oca_types::Class;
 
-/// Why a reading cannot be set to a value.
+/// Why a reading cannot be set to a value: the first fault in this order that applies.
 #[derive(Clone, Copy, Debug, PartialEq, Eq)]
 pub enum SettingFault {
     /// The value is of another class.
@@ -16,7 +16,8 @@ pub enum SettingFault {
 }
 
 impl Reading {
-    /// The class of the objects that answer such a reading.
+    /// Returns the class of the objects that answer such a reading (AES70-2). It is never OcaBlock, which has no
+    /// setting. The call refuses nothing.
     #[inline(always)]
     pub fn class(self) -> Class
         ensures { result ≡ class_of_reading self }
@@ -24,8 +25,9 @@ impl Reading {
         self.value().class()
     }
 
-    /// Whether the value is at least the least and at most the greatest of the reading. Always `true` of a mute, a
-    /// polarity and a Boolean, which have no limits.
+    /// Returns whether the setting is at least the least and at most the greatest of the reading. The result is always
+    /// `true` for a mute, a polarity and a Boolean, which have no limits. It is `false` for each setting if the least
+    /// is above the greatest. The call refuses nothing.
     #[tactic(auto, unfolding(crate::specs::Settings::is_within))]
     pub fn is_within(self) -> bool
         ensures { result ≡ is_within self }
@@ -44,8 +46,9 @@ impl Reading {
         }
     }
 
-    /// The reading with this value in place of its own, and with the same limits. The value may lie outside the limits.
-    /// `None` if the value is of another class.
+    /// Returns the reading with another value and the same limits. The value can be outside the limits;
+    /// [`Reading::set_to`] refuses such a value. The result is `None` if the value is not of the reading's class. The
+    /// call takes no memory.
     #[tactic(auto, unfolding(crate::specs::Settings::with_value))]
     pub fn with_value(self, value: Value) -> Option<Reading>
         ensures { result ≡ with_value self value }
@@ -67,8 +70,10 @@ impl Reading {
         }
     }
 
-    /// The reading after its object is set to this value: the value with the same limits. Refusals: `OtherClass` if the
-    /// value is of another class. `OutOfRange` if the value is below the least or above the greatest.
+    /// Returns the reading that an object has after it is set to this value: the value, with the same limits. The call
+    /// sends nothing and changes no object. Refusals, the first that applies: `OtherClass` if the value is not of the
+    /// reading's class. `OutOfRange` if the value is below the least or above the greatest. A mute, a polarity and a
+    /// Boolean have no limits.
     pub fn set_to(self, value: Value) -> Result<Reading, SettingFault>
         ensures { result ≡ set_to self value }
     {

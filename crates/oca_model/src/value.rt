@@ -29,7 +29,8 @@ pub enum PolarityState {
     Inverted = 2,
 }
 
-/// What an object is set to: one variant a class (AES70-2).
+/// The value of an object, which a set method sets: one variant for each class that has a set method (AES70-2).
+/// OcaBlock has no value. An integer is a number without a unit; what it stands for, the device's maker chooses.
 #[derive(Clone, Copy, Debug, PartialEq, Eq)]
 pub enum Value {
     /// The state of an OcaMute.
@@ -58,12 +59,13 @@ pub enum Value {
     Uint64(u64),
 }
 
-/// Why bytes give no value of a class.
+/// Why bytes are not a value of a class, or not the parameters of a method.
 #[derive(Clone, Copy, Debug, PartialEq, Eq)]
 pub enum ValueFault {
-    /// They are not one value of the class's type; or the class, a block's, has none.
+    /// The bytes are not exactly the parameters, or their number is wrong, or the class is OcaBlock, which has no
+    /// value.
     Malformed,
-    /// They are the number of a state that is not listed.
+    /// The bytes are the number of a state, but the class has no state with this number.
     Unlisted,
 }
 
@@ -113,7 +115,8 @@ fn polarity_in(params: &[u8]) -> Result<PolarityState, ValueFault>
 }
 
 impl Value {
-    /// The class of the objects that can be set to such a value. It is never OcaBlock.
+    /// Returns the class of the objects that can be set to this value (AES70-2). It is never OcaBlock. The call refuses
+    /// nothing.
     pub fn class(self) -> Class
         ensures { result ≡ class_of_value self }
     {
@@ -133,9 +136,9 @@ impl Value {
         }
     }
 
-    /// Appends the value to the parameters (AES70-3): of a mute or a polarity the number of its state, 1 or 2. Refusal:
-    /// `Full` if the parameters would have more than 1,452 bytes in all. A part may then have been appended, so discard
-    /// the parameters.
+    /// Appends the encoding of the value to the parameters (AES70-3): from 1 to 8 bytes. A mute or a polarity has the
+    /// number of its state as one byte, 1 or 2. The only refusal is `Full`, if the parameters would have more than
+    /// 1,452 bytes in all; then discard the parameters. The call takes no memory.
     #[tactic(auto, unfolding(crate::specs::Values::value_encoding))]
     pub fn put(self, params: &mut Params) -> Result<(), PutFault>
         ensures { Puts result params.old.items params.new.items (value_encoding self) }
@@ -156,9 +159,10 @@ impl Value {
         }
     }
 
-    /// Reads the value of an object of this class, which must be all of the bytes: the one parameter of a set method.
-    /// Refusals: `Malformed` for a block, and if the bytes are not exactly one value of the class. `Unlisted` if the
-    /// number is no state of a mute or a polarity.
+    /// Reads the value of an object of this class from `params`, the one parameter of a set method (AES70-2). It does
+    /// not check the limits of an object. The call takes no memory. Refusals, the first that applies: `Malformed` if
+    /// the class is OcaBlock, or `params` is not exactly one value of the class. `Unlisted` if the number of a mute's
+    /// or a polarity's state is not 1 or 2.
     #[tactic(auto, unfolding(crate::specs::Values::value_in))]
     pub fn read(class: Class, params: &[u8]) -> Result<Value, ValueFault>
         ensures { result ≡ value_in class params.now }

@@ -7,15 +7,15 @@ use crate::value::Value;
 use arrayvec::ArrayVec;
 use oca_types::{Class, Method, MethodId, Ono, method_id};
 
-/// What sets or reads the value of an object: a command without its handle and its target. [`ValueRequest::of`] puts
-/// the target to it, which gives a request as `oca_types` has it.
+/// A request that sets or reads the value of an object: a command without its handle and its target (AES70-2).
+/// [`ValueRequest::of`] adds the target.
 #[derive(Debug, Drop)]
 pub struct ValueRequest {
-    /// The method.
+    /// The DefLevel and MethodIndex of the get or set method.
     pub method: MethodId,
-    /// ParamCount.
+    /// ParamCount: 1 to set, 0 to read.
     pub count: u8,
-    /// The bytes of the parameters.
+    /// The bytes of the parameters: 0 to 8.
     pub params: ArrayVec<u8, 8>,
 }
 
@@ -24,7 +24,9 @@ impl ValueRequest {
     ghost use Rattle.oca_types.specs.Peers.{request_of};
     ghost use Rattle.oca_model.specs.ValueRequests.{request_to};
 
-    /// The same request, addressed to the object with the number `target`. A link or a panel takes it in this form.
+    /// Returns the same request for the object with the number `target`, as `oca_types::Request` (AES70-3). A
+    /// controller can then give it a handle and send it. The call does not check that a device has the object, borrows
+    /// the parameters from `self`, and takes no memory.
     pub fn of(&self, target: Ono) -> oca_types::Request<'_>
         ensures { request_of result ≡ request_to target.0 self.now }
     {
@@ -91,8 +93,9 @@ fn encoding(value: Value) -> ArrayVec<u8, 8>
     }
 }
 
-/// The request that sets an object of the value's class to the value: the class's own set method, with the value as its
-/// one parameter (AES70-2).
+/// Returns the request that sets an object of the value's class to the value (AES70-2): SetState of a mute or a
+/// polarity, SetPosition of a switch, or SetSetting of an actuator, with the value as its one parameter. The call sends
+/// nothing, checks no limits of an object, refuses nothing and takes no memory.
 pub fn set_request(value: Value) -> ValueRequest
     ensures { CallsMethod (class_of_value value) (set_method value) result 1 (value_encoding value) }
 {
@@ -106,8 +109,9 @@ pub fn set_request(value: Value) -> ValueRequest
     }
 }
 
-/// The request that reads how an object of the class is set: the class's own get method, without parameters (AES70-2).
-/// `None` for a block, which has no setting.
+/// Returns the request that reads the setting of an object of the class (AES70-2): GetState of a mute or a polarity,
+/// GetPosition of a switch, or GetSetting of an actuator, without parameters. The result is `None` for OcaBlock, which
+/// has no setting. The call sends nothing and takes no memory.
 pub fn get_request(class: Class) -> Option<ValueRequest>
     ensures { CallsMethodIfAny (get_method class) class result }
 {

@@ -119,10 +119,11 @@ fn desk(alloc: Global, room: Room) -> Result<TreeBuilder, AddFault>
     Ok(builder)
 }
 
-/// The bench device: under the root the block 4096, `desk`, and in it six objects. These are the mute 4097, the
-/// polarity 4098, and the switch 4099 with the positions Line, Mic and Off. Then the Int16 4100 (0, from -600 to 600),
-/// the Boolean 4101 and the Uint8 4102 (10, from 0 to 100). All but 4102 can be locked. Refusal: `NoMemory`, if memory
-/// was refused.
+/// Returns a small tree of objects for tests, called the bench device (*profile*). Under the root is the block 4096,
+/// `desk`, with six objects. The mute is 4097, the polarity 4098, and the switch 4099 with the positions Line, Mic and
+/// Off. The Int16 actuator is 4100 (0, from -600 to 600), the Boolean actuator 4101, and the Uint8 actuator 4102 (10,
+/// from 0 to 100). All of them except 4102 can be locked. The tree has memory for 128 objects, which the call takes
+/// from `alloc`. The only refusal is `NoMemory`, if the allocator refused memory.
 pub fn bench(alloc: Global) -> Result<Tree, AddFault>
     ensures ok { IfOk result (λ tree. tree ≡ bench_objects) }
     ensures err { IfErr result (λ e. e ≡ NoMemory) }
@@ -168,10 +169,12 @@ fn add_strip(builder: &mut TreeBuilder, first: u32) -> Result<(), AddFault>
     Ok(())
 }
 
-/// The bench device, and after its own objects `channels` channel strips under the root, numbered from 4103 on. A strip
-/// is a block `strip` with a mute, a polarity and an Int16 `trim` (0, from -600 to 600). All objects of a strip can be
-/// locked. It has room for these objects alone. With 0 channels the objects are those of [`bench`]. Refusals: `Full`
-/// for more than 1,022 channels, since that would be more than 4,096 objects. `NoMemory` if memory was refused.
+/// Returns the tree of [`bench`] with `channels` more blocks under its root, the channel strips (*profile*). A strip is
+/// a block with the role `strip` that contains a mute, a polarity and an Int16 actuator `trim` (0, from -600 to 600).
+/// All four can be locked. Their numbers follow each other from 4103 on. With 0 channels the objects are those of
+/// [`bench`]. The call takes memory from `alloc` for exactly these objects. Refusals, the first that applies: `Full` if
+/// `channels` is above 1,022, since a tree has at most 4,096 objects; no memory is then taken. `NoMemory` if the
+/// allocator refused memory.
 pub fn bench_with_channels(alloc: Global, channels: u16) -> Result<Tree, AddFault>
     ensures ok { IfOk result (λ tree. tree ≡ bench_with channels) }
     ensures most { 1022 < channels → IsErrOf result Full }

@@ -27,25 +27,26 @@ use std::error::Error;
 use std::fmt;
 use std::marker::Model;
 
-/// Why an object was not added, the first in this order that applies. The numbers are promised (*profile*).
+/// Why an object was not added to a tree: the first fault in this order that applies. The builder is then unchanged.
+/// The numbers are promised (*profile*).
 #[derive(Clone, Copy, Debug, PartialEq, Eq)]
 pub enum AddFault {
-    /// As many objects are there as the tree has room for, the root counted.
+    /// The tree already has as many objects as it has room for, the root counted.
     Full = 1,
-    /// The number is below 4096.
+    /// The object number is below 4096 (*profile*).
     Reserved = 2,
-    /// The number is there.
+    /// Another object of the tree has the number.
     Taken = 3,
-    /// The container is no block of the tree.
+    /// No block of the tree has the container's number.
     NoSuchBlock = 4,
-    /// The object would stand at depth 9; the root is at depth 1.
+    /// The object would be at depth 9; the root is at depth 1, and the greatest depth is 8.
     TooDeep = 5,
-    /// The role is empty, or the role or a position name has more than 64 bytes.
+    /// The role is empty, or the role or the name of a position has more than 64 bytes.
     BadText = 6,
-    /// The least setting is above the greatest, the setting is outside them, the number of positions is
-    /// not 1 to 16, or the position is not below it.
+    /// The setting is not between its limits (the least can be above the greatest). Or a switch does not have 1 to 16
+    /// positions, or its position is not one of them.
     BadRange = 7,
-    /// Memory was refused.
+    /// The allocator refused memory.
     NoMemory = 8,
 }
 
@@ -66,7 +67,7 @@ impl AddFault {
 }
 
 impl fmt::Display for AddFault {
-    /// What it says.
+    /// Writes the fault in words.
     fn fmt<W: fmt::Write>(&self, f: &mut fmt::Formatter<W>) -> fmt::Result {
         f.write_str(self.words())
     }
@@ -90,25 +91,25 @@ const _: () = prove!(AddFault::BadRange as u8 == 7);
 
 const _: () = prove!(AddFault::NoMemory as u8 == 8);
 
-/// What an object is to be at first.
+/// What an object is when it is added to a tree: its role, whether it can be locked, its class and its setting.
 #[derive(Clone, Copy, Debug)]
 pub struct Spec<'a> {
-    /// Its role, 1 to 64 bytes.
+    /// The role (OcaRoot, AES70-2): 1 to 64 bytes.
     pub role: &'a str,
-    /// Whether it can be locked.
+    /// Whether peers can lock the object (OcaRoot, AES70-2).
     pub lockable: bool,
-    /// Its class and its settings.
+    /// The class and the setting.
     pub kind: Kind<'a>,
 }
 
-/// The class of an object with its settings at first.
+/// The class of an object, and the setting that the object has when it is added (AES70-2).
 #[derive(Clone, Copy, Debug)]
 pub enum Kind<'a> {
-    /// OcaBlock.
+    /// OcaBlock. It has no setting.
     Block,
-    /// OcaMute.
+    /// OcaMute, with its state.
     Mute(MuteState),
-    /// OcaPolarity.
+    /// OcaPolarity, with its state.
     Polarity(PolarityState),
     /// OcaSwitch, with all its positions enabled.
     Switch {
@@ -117,7 +118,7 @@ pub enum Kind<'a> {
         /// The current position, counted from 0.
         position: u16,
     },
-    /// OcaBooleanActuator.
+    /// OcaBooleanActuator, with its setting.
     Boolean(bool),
     /// OcaInt8Actuator.
     Int8 {
@@ -417,8 +418,8 @@ fn root_object() -> Object
     }
 }
 
-/// A tree to which objects are added. Contracts see the list of them in order of adding, and for how many there is
-/// room.
+/// A tree to which objects are still added, with the memory for a fixed number of objects. Contracts see the list of
+/// the objects in order of adding, and for how many objects there is room.
 ///
 /// ```
 /// let mut builder = TreeBuilder::new(alloc)?;
@@ -458,8 +459,10 @@ impl fmt::Debug for TreeBuilder {
 }
 
 impl TreeBuilder {
-    /// A builder that holds the root alone, a lockable block of the number 100 with the role `root`, and has room for
-    /// 128 objects. The call takes the memory for them. Refusal: `NoMemory`, if memory was refused.
+    /// Returns a builder that contains only the root block, and has room for 128 objects with the root counted
+    /// (*profile*). The root is a lockable OcaBlock (AES70-2) with the number 100 and the role `root`. The call takes
+    /// the memory for all 128 objects from `alloc`. The only refusal is `NoMemory`, if the allocator refused that
+    /// memory.
     pub fn new(alloc: Global) -> Result<TreeBuilder, AddFault>
         ensures ok { IfOk result (λ builder. builder ≡ record { room = 128; list = root ∷ [] }) }
         ensures err { IfErr result (λ e. e ≡ NoMemory) }
@@ -467,9 +470,10 @@ impl TreeBuilder {
         TreeBuilder::with_room(alloc, Room::default())
     }
 
-    /// A builder that holds the root alone, a lockable block of the number 100 with the role `root`, and has room for
-    /// `room` objects, the root counted. The call takes the memory for them. Refusal: `NoMemory`, if memory was
-    /// refused.
+    /// Returns a builder that contains only the root block, and has room for `room` objects with the root counted: 1 to
+    /// 4,096 (*profile*). The root is a lockable OcaBlock (AES70-2) with the number 100 and the role `root`. The call
+    /// takes the memory for all `room` objects from `alloc`. The only refusal is `NoMemory`, if the allocator refused
+    /// that memory.
     pub fn with_room(alloc: Global, room: Room) -> Result<TreeBuilder, AddFault>
         ensures ok { IfOk result (λ builder. builder ≡ record { room = room_size room; list = root ∷ [] }) }
         ensures err { IfErr result (λ e. e ≡ NoMemory) }
@@ -477,10 +481,13 @@ impl TreeBuilder {
         TreeBuilder::holding(alloc, room, root_object())
     }
 
-    /// A builder as [`with_room`](TreeBuilder::with_room) makes it, with what was stored of the root (`start`): its
-    /// label, and whether it is enabled. Refusals, the first that applies: `BadLabel` if the label has more than 64
-    /// bytes. `BadFlags` if there are any flags of positions, since a block has none. `Add(NoMemory)` if memory was
-    /// refused.
+    /// Returns a builder as [`with_room`](TreeBuilder::with_room) does, whose root has the stored label and enabled
+    /// flag in `start` (*profile*). The root is a lockable OcaBlock (AES70-2) with the number 100 and the role `root`.
+    /// The call takes the memory for all `room` objects (1 to 4,096) from `alloc`. Refusals, the first that applies:
+    /// - `BadLabel` if the label has more than 64 bytes; no memory is then taken.
+    /// - `BadFlags` if `start` has flags of positions and at least one, since a block has no positions; no memory is
+    ///   then taken.
+    /// - `Add(NoMemory)` if the allocator refused memory.
     pub fn with_root(
         alloc: Global,
         room: Room,
@@ -507,15 +514,16 @@ impl TreeBuilder {
         Ok(TreeBuilder { objects })
     }
 
-    /// Adds the object that `spec` describes, with the number `ono`, to the block `container`, after all others. It is
-    /// enabled and unlocked, and has an empty label. The call takes no memory.
-    ///
-    /// Refusals, the first of [`AddFault`] that applies; the builder is then unchanged. `Full` if there is no room for
-    /// another object, `Reserved` if the number is below 4096, `Taken` if another object has the number. `NoSuchBlock`
-    /// if the container is no block of the tree, `TooDeep` if the object would stand at depth 9 (the root is at depth
-    /// 1). `BadText` if the role is empty, or the role or a position's name has more than 64 bytes. `BadRange` if the
-    /// setting is outside its limits. `BadRange` also if a switch has no or more than 16 positions, or its position is
-    /// not one of them. `NoMemory` never comes.
+    /// Adds an object with the number `ono` and the properties `spec` to the block `container`, after all objects of
+    /// the tree (AES70-2; limits are the profile's). The new object is enabled and not locked, and has an empty label.
+    /// The call takes no memory. Refusals, the first that applies; the builder is then unchanged:
+    /// - `Full` if there is no room for another object.
+    /// - `Reserved` if `ono` is below 4096, and `Taken` if another object has this number.
+    /// - `NoSuchBlock` if the container is no block of the tree.
+    /// - `TooDeep` if the object would be at depth 9; the root is at depth 1.
+    /// - `BadText` if the role is empty, or the role or the name of a position has more than 64 bytes.
+    /// - `BadRange` if the setting is outside its limits. Also if a switch does not have 1 to 16 positions, or its
+    ///   position is not one of them.
     pub fn add(&mut self, container: Ono, ono: Ono, spec: &Spec<'_>) -> Result<(), AddFault>
         ensures { Adds result self.old self.new container.0 ono.0 spec.now }
     {
@@ -524,13 +532,14 @@ impl TreeBuilder {
         Ok(())
     }
 
-    /// Adds the object that `spec` describes, with the number `ono`, to the block `container`, after all others.
-    /// `start` is what was stored of it: its label, whether it is enabled, and of a switch which positions are enabled.
-    /// The object is unlocked. The call takes no memory.
-    ///
-    /// Refusals, the first that applies; the builder is then unchanged: `Add` with the reason for which
-    /// [`add`](TreeBuilder::add) refuses the object. `BadLabel` if the label has more than 64 bytes. `BadFlags` if
-    /// there are flags, and not one for each position; only a switch has positions.
+    /// Adds an object as [`add`](TreeBuilder::add) does, with its stored label and flags in `start` (*profile*): the
+    /// number is `ono`, the container is the block `container`, and the object comes after all objects of the tree.
+    /// `start` says whether the object is enabled, and which positions of a switch are enabled. The object is not
+    /// locked. The call takes no memory. Refusals, the first that applies; the builder is then unchanged:
+    /// - `Add` with the fault with which [`add`](TreeBuilder::add) refuses this object.
+    /// - `BadLabel` if the label has more than 64 bytes.
+    /// - `BadFlags` if `start` has flags of positions, and their number is not the number of the object's positions. An
+    ///   object that is no switch has 0 positions.
     pub fn add_with(
         &mut self,
         container: Ono,
@@ -546,7 +555,9 @@ impl TreeBuilder {
         Ok(())
     }
 
-    /// The tree of the objects that were added, in order of adding and with the root first. All are unlocked.
+    /// Returns the tree of all objects that were added, in order of adding, with the root first. No object is locked.
+    /// The builder is consumed, and its memory becomes the memory of the tree. The call refuses nothing and takes no
+    /// memory. A tree of the root alone is allowed.
     pub fn finish(self) -> Tree
         ensures { result ≡ self.list }
     {

@@ -16,10 +16,11 @@ use oca_types::{Ono, Text};
 use std::error::Error;
 use std::fmt;
 
-/// Why nothing was changed at the front, the first in this order that applies. The numbers are promised (*profile*).
+/// Why a change at the device's local front panel was refused: the first fault in this order that applies. No object is
+/// then changed. The numbers are promised (*profile*).
 #[derive(Clone, Copy, Debug, PartialEq, Eq)]
 pub enum FrontFault {
-    /// There is no object with the number.
+    /// No object has the number.
     NoObject = 1,
     /// The label has more than 64 bytes.
     BadLabel = 2,
@@ -39,7 +40,7 @@ impl FrontFault {
 }
 
 impl fmt::Display for FrontFault {
-    /// What it says.
+    /// Writes the fault in words.
     fn fmt<W: fmt::Write>(&self, f: &mut fmt::Formatter<W>) -> fmt::Result {
         f.write_str(self.words())
     }

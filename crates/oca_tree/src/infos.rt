@@ -5,7 +5,8 @@ ghost use Rattle.oca_tree.specs.Readers.{info_of, infos_left};
 use crate::object::Object;
 use crate::tree::{ObjectInfo, info_of};
 
-/// What the objects are that are still to come, in order of adding.
+/// An iterator over the objects of a tree, in order of adding, with the root first. Each item is an
+/// [`ObjectInfo`](crate::ObjectInfo).
 #[derive(Drop)]
 pub struct ObjectInfos<'a> {
     rest: &'a [Object],
@@ -30,7 +31,7 @@ impl<'a> Iterator for ObjectInfos<'a> {
 
     ghost remaining = { item_count infos_left };
 
-    /// What the next object is, or nothing after the last.
+    /// Returns what the next object is, and `None` after the last object.
     fn next(&mut self) -> Option<ObjectInfo> {
         match self.rest.split_first() {
             Some((object, rest)) => {

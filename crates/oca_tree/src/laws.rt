@@ -9,29 +9,34 @@ ghost use Rattle.oca_tree.specs.TypedLaws.{RefusedKeepsTree, SettingsAreRead};
 
 use crate::tree::Tree;
 
-/// Law: the descendants of a block, which GetMembersRecursive lists (AES70-2), are exactly the objects whose chain of
-/// containers leads to that block. The law holds for every tree. The function does nothing at run time.
+/// Law: the descendants of a block, which GetMembersRecursive lists (OcaBlock, AES70-2), are exactly the objects from
+/// which a chain of containers leads to this block. The law holds for the tree `tree`, which can be any tree. A chain
+/// goes from an object to its container, from there to the next container, and so on. The function states this as its
+/// contract. It changes nothing and returns nothing at run time.
 pub fn law_of_descendants(tree: &Tree)
     ensures { DescendantsFollowChains tree.now }
 {
     let _sound = tree.len();
 }
 
-/// Laws of what is set at the local front panel, for all objects and commands. First: a value changes an object alike,
-/// whichever peer sets it. Second: take a peer's command that asks to set an object to a value, and that neither a lock
-/// nor the object's hardware refuses. It changes the tree as the local front panel does with this value. The local
-/// front panel is refused exactly if the command's status is not OK. Third: the value of each such command is of the
-/// object's class. The function does nothing at run time.
+/// Laws of what is set at the device's local front panel with [`Tree::set`](Tree::set), for all objects and commands
+/// (*profile*). Its contract states them; the function does nothing at run time.
+/// - A value changes an object in the same way, whichever peer sets the value.
+/// - Take a peer's command that sets an object to a value of its class, and that neither a lock nor the object's
+///   hardware refuses. It changes the tree as the front panel does with this value. The front panel is refused exactly
+///   if the status of the command is not OK.
+/// - The value in each command that sets an object is a value of the object's class.
 pub fn law_of_settings()
     ensures any_peer { AnyPeerSetsTheSame }
     ensures as_peers { FrontSetsAsPeersDo }
     ensures each { EachSettingIsAValue }
 {}
 
-/// Laws: take the request of [`set_request`](oca_model::set_request) for a value, sent to an object of the value's
-/// class. First: a device of this profile understands it as setting that very value. Second: it sets the object as the
-/// local front panel would, if neither a lock nor the object's hardware refuses it. The function does nothing at run
-/// time.
+/// Laws of the request of [`set_request`](oca_model::set_request) for a value, if the request is sent to an object of
+/// the value's class (AES70-2). Its contract states them; the function does nothing at run time.
+/// - The device understands the request as setting the object to exactly this value.
+/// - The device sets the object as its local front panel would, if neither a lock nor the object's hardware refuses the
+///   command. If the value is out of range, the object is unchanged.
 pub fn law_of_set_requests()
     ensures understood { IsUnderstood }
     ensures carried_out { IsCarriedOut }
@@ -39,29 +44,32 @@ pub fn law_of_set_requests()
     law_of_settings();
 }
 
-/// Law: take a [`Start`](crate::Start) with an empty label, enabled and without flags, as its default is. An object
-/// that is added with it is the same as one added without it, and the refusals are the same. The function does nothing
-/// at run time.
+/// Law: adding an object with an empty label, enabled and without flags in [`Start`](crate::Start) is the same as
+/// adding the object without a `Start` (*profile*). The added objects are the same, and so are the refusals. The
+/// default of `Start` has these values. The function states this as its contract. It does nothing at run time.
 pub fn law_of_starts()
     ensures { PlainAddsTheSame }
 {}
 
-/// Law: an object that is added with what is read of it is the same object, except that it is not locked and that its
-/// hardware does not refuse. What must be read is its role, class, setting, position names and whether it can be locked
-/// ([`Tree::object_at`](Tree::object_at), [`is_lockable`](Tree::is_lockable), [`setting_of`](Tree::setting_of),
-/// [`position_names_of`](Tree::position_names_of)). What was stored of it must be read too
-/// ([`start_of`](Tree::start_of)). The function does nothing at run time.
+/// Law: an object that is added with all that is read of another object is the same object, except for two things
+/// (*profile*). It is not locked, and its hardware does not refuse changes. What must be read is its number, container,
+/// role and class ([`Tree::object_at`](Tree::object_at)), [`is_lockable`](Tree::is_lockable),
+/// [`setting_of`](Tree::setting_of), [`position_names_of`](Tree::position_names_of) and [`start_of`](Tree::start_of).
+/// The function states this as its contract. It does nothing at run time.
 pub fn law_of_copies()
     ensures { DescriptionMakesAgain }
 {}
 
-/// Laws of the commands that a tree executes (AES70-2). First: a command with the status OK asked one request of one
-/// object. The object was changed as the request says, and the answer is what the object answered. Second: any other
-/// status changed nothing. Third: a command that writes to an object whose hardware refuses
-/// ([`Tree::set_failing`](Tree::set_failing)) is not answered OK, and changed nothing. Fourth: a value that was set is
-/// read again, with the limits that it had. Fifth: an answer that fits into a response is an answer of the object's
-/// class, of its method's kind. The fifth holds if the texts and numbers of the objects are within their types. The
+/// Laws of the commands that a tree executes (AES70-2), for each tree, peer and command. Its contract states them; the
 /// function does nothing at run time.
+/// - A command with the status OK asked one request of one object. The request changed the object, and the parameters
+///   are the object's answer.
+/// - A command with any other status changed nothing.
+/// - A command that writes to an object whose hardware refuses ([`Tree::set_failing`](Tree::set_failing)) does not get
+///   the status OK, and changed nothing.
+/// - A value that was set is read again, with the limits that the object had.
+/// - An answer that fits into a response is an answer of the object's class and of the kind of its method. This law is
+///   for objects whose texts and numbers fit their types.
 pub fn law_of_typed_requests()
     ensures did { CommandsAreTyped }
     ensures refused { RefusedKeepsTree }

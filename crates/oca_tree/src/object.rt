@@ -26,19 +26,19 @@ pub enum Value {
     Reads(Reading),
 }
 
-/// What a lock keeps other peers from: all access, or all but reading (AES70-2, OcaRoot).
+/// What a lock forbids other peers (OcaRoot, AES70-2).
 #[derive(Clone, Copy, Debug, PartialEq, Eq)]
 pub enum LockKind {
-    /// From all access.
+    /// Reading, writing and locking.
     Total,
-    /// From all but reading.
+    /// Writing and locking.
     Readonly,
 }
 
-/// A lock and the peer that holds it.
+/// A lock of an object, and the peer that has the lock.
 #[derive(Clone, Copy, Debug, PartialEq, Eq)]
 pub struct Lock {
-    /// What it keeps other peers from.
+    /// What the lock forbids other peers.
     pub kind: LockKind,
     /// The peer that locked the object.
     pub holder: Peer,

@@ -1,7 +1,7 @@
 //! How many objects a tree has room for.
 ghost use Rattle.std.specs.Prelude.{◌≤◌};
 
-/// How many objects a tree has room for, the root counted: from 1 to 4,096 (*profile*). The default is 128.
+/// For how many objects a tree has memory, the root counted: from 1 to 4,096 (*profile*). The default is 128.
 #[derive(Clone, Copy, Debug, PartialEq, Eq)]
 pub struct Room {
     size: u16,
@@ -13,7 +13,9 @@ impl Room {
     ghost use Rattle.std.specs.Prelude.{◌≡◌, ◌≤◌, ◌↔◌, IsSome, IfSome};
     ghost use Rattle.oca_tree.specs.Room.{room_size};
 
-    /// Room for `size` objects, the root counted. `None` unless `size` is 1 to 4,096.
+    /// Returns the size of a tree of at most `size` objects, the root counted (*profile*). The result is `None` if
+    /// `size` is 0, or above 4,096. The call takes no memory: [`TreeBuilder::with_room`](crate::TreeBuilder::with_room)
+    /// takes the memory.
     pub fn new(size: u16) -> Option<Room>
         ensures variant { IsSome result ↔ ((1 ≤ size) × (size ≤ 4096)) }
         ensures value { IfSome result (λ room. room_size room ≡ size) }
@@ -24,7 +26,8 @@ impl Room {
         }
     }
 
-    /// How many objects there is room for, the root counted: 1 to 4,096.
+    /// Returns how many objects the tree has room for, the root counted: from 1 to 4,096, and 128 for the default
+    /// (*profile*).
     pub fn get(self) -> u16
         ensures value { result ≡ room_size self }
         ensures least { 1 ≤ result }
@@ -40,7 +43,7 @@ impl Default for Room {
 
     ghost is_default = { λ room. room_size room ≡ 128 };
 
-    /// Room for 128 objects.
+    /// Returns the room for 128 objects.
     fn default() -> Self {
         Room { size: 128 }
     }

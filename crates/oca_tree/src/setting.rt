@@ -15,16 +15,17 @@ use oca_types::{Ono, Peer};
 use std::error::Error;
 use std::fmt;
 
-/// Why an object was not set, the first in this order that applies. The numbers are promised (*profile*).
+/// Why an object was not set at the device's local front panel: the first fault in this order that applies. No object
+/// is then changed. The numbers are promised (*profile*).
 #[derive(Clone, Copy, Debug, PartialEq, Eq)]
 pub enum SetFault {
-    /// There is no object with the number.
+    /// No object has the number.
     NoObject = 1,
     /// The object is a block, which has no setting.
     NoSetting = 2,
-    /// The object is of another class than the value.
+    /// The value is not of the object's class.
     OtherKind = 3,
-    /// The position is not there or disabled, or the number is outside its limits.
+    /// The switch does not have the position, or the position is disabled. Or the number is outside its limits.
     OutOfRange = 4,
 }
 
@@ -41,7 +42,7 @@ impl SetFault {
 }
 
 impl fmt::Display for SetFault {
-    /// What it says.
+    /// Writes the fault in words.
     fn fmt<W: fmt::Write>(&self, f: &mut fmt::Formatter<W>) -> fmt::Result {
         f.write_str(self.words())
     }

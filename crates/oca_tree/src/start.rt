@@ -11,17 +11,17 @@ use oca_types::Text;
 use std::error::Error;
 use std::fmt;
 
-/// What was stored of an object: what peers may set of it and [`Spec`](crate::Spec) does not say. The setting and the
-/// names of positions are part of `Spec`, and locks end with the sessions of their holders. The default is what an
-/// object is without it: an empty label, enabled, and all positions enabled.
+/// What was stored of an object besides its [`Spec`](crate::Spec): its label, and what is enabled (*profile*). Peers
+/// can change these by commands. The setting and the names of positions are part of `Spec`. Locks are not stored, since
+/// they end with the sessions of their holders. The default is an empty label, enabled, and all positions enabled.
 #[derive(Clone, Copy, Debug)]
 pub struct Start<'a> {
-    /// Its label (AES70-2, OcaWorker), at most 64 bytes.
+    /// The label (OcaWorker, AES70-2): at most 64 bytes, possibly none.
     pub label: &'a str,
-    /// Whether it is enabled (AES70-2, OcaWorker).
+    /// Whether the object is enabled (OcaWorker, AES70-2).
     pub enabled: bool,
-    /// Of a switch, whether each of its positions is enabled, as many as it has; `None` where all are. The current
-    /// position may be disabled, as a peer may disable it.
+    /// For a switch, whether each of its positions is enabled, in order. There must be as many flags as positions.
+    /// `None` if all are enabled. The current position can be disabled, since a peer can disable it.
     pub position_enableds: Option<&'a [bool]>,
 }
 
@@ -30,7 +30,7 @@ impl Default for Start<'_> {
 
     ghost is_default = { λ start. IsPlain start };
 
-    /// Nothing stored.
+    /// Returns an empty label, enabled, and no flags.
     fn default() -> Self {
         Start {
             label: "",
@@ -40,14 +40,15 @@ impl Default for Start<'_> {
     }
 }
 
-/// Why an object was not added with what was stored of it, the first in this order that applies.
+/// Why an object was not added with its stored label and flags: the first fault in this order that applies. The builder
+/// is then unchanged.
 #[derive(Clone, Copy, Debug, PartialEq, Eq)]
 pub enum StartFault {
-    /// It would be refused without it too.
+    /// The object would be refused without its stored label and flags too.
     Add(AddFault),
-    /// The label has more than 64 bytes.
+    /// The stored label has more than 64 bytes.
     BadLabel,
-    /// The flags are not as many as the positions, of which only a switch has any.
+    /// The number of stored flags is not the number of positions. An object that is no switch has no positions.
     BadFlags,
 }
 
@@ -63,7 +64,7 @@ impl StartFault {
 }
 
 impl fmt::Display for StartFault {
-    /// What it says.
+    /// Writes the fault in words.
     fn fmt<W: fmt::Write>(&self, f: &mut fmt::Formatter<W>) -> fmt::Result {
         f.write_str(self.words())
     }
@@ -77,7 +78,7 @@ impl From<AddFault> for StartFault {
 
     ghost from_gives = { λ fault r. r ≡ Add fault };
 
-    /// The fault of the addition.
+    /// Returns `Add` with this fault.
     fn from(fault: AddFault) -> StartFault {
         StartFault::Add(fault)
     }

@@ -30,35 +30,37 @@ use oca_types::{Class, Command, Ono, Params, Peer, Status, Text};
 use std::fmt;
 use std::marker::Model;
 
-/// What executing a command gave: the status and the ParamCount of the answer, and whether it wrote.
+/// What [`Tree::execute`] did with a command: the status and the ParamCount of the response, and whether the command
+/// wrote to its object.
 #[derive(Clone, Copy, Debug, PartialEq, Eq)]
 pub struct Done {
-    /// How it went.
+    /// How the command went (OcaStatus, AES70-2).
     pub status: Status,
-    /// ParamCount: how many parameters the answer has, 0 where the status is not OK.
+    /// ParamCount: the number of parameters of the response, 0 if the status is not OK.
     pub count: u8,
-    /// Whether the command wrote to its object: the status is OK, and its method is one that writes. One that takes the
-    /// lock or gives it back does not.
+    /// Whether the command wrote to its object: the status is OK, and the method writes. Taking or releasing a lock is
+    /// no writing.
     pub wrote: bool,
 }
 
-/// What an object is.
+/// What an object is: its number, its class, its container and its role.
 #[derive(Debug, Drop)]
 pub struct ObjectInfo {
-    /// Its number.
+    /// The number of the object.
     pub ono: Ono,
-    /// Its class.
+    /// The class of the object.
     pub class: Class,
     /// The number of the block that contains it, 0 for the root.
     pub container: Ono,
-    /// Its role, 1 to 64 bytes.
+    /// The role of the object, 1 to 64 bytes.
     pub role: Text,
 }
 
-/// How an object is set: by the number of a state, a position, a truth or a number with its limits.
+/// How an object is set, without the names of its class: the number of a state, a position, a Boolean, or a number with
+/// its limits.
 #[derive(Clone, Copy, Debug, PartialEq, Eq)]
 pub enum Setting {
-    /// The number of the state of a mute or a polarity.
+    /// The number of the state of a mute (1 Muted, 2 Unmuted) or a polarity (1 NonInverted, 2 Inverted).
     State(u8),
     /// The current position of a switch, counted from 0.
     Position(u16),
@@ -75,7 +77,8 @@ pub enum Setting {
     },
 }
 
-/// The objects of a device. Contracts see the list of them in order of adding.
+/// The objects of a device (AES70-2), with their settings and their locks. Contracts see the list of the objects in
+/// order of adding.
 #[derive(Drop)]
 pub struct Tree {
     objects: Objects,
@@ -119,10 +122,19 @@ impl Tree {
         }
     }
 
-    /// Executes a command of the peer (AES70-2). Returns the status, ParamCount, and whether the command wrote to its
-    /// object. If several statuses apply, the profile says which of them is returned. What `out` held before is lost;
-    /// it then holds the answer's parameters, and nothing else. With another status than OK no object is changed, `out`
-    /// is empty, and the count is 0.
+    /// Executes a command of a peer: calls the method on the object and writes the answer's parameters into `out`
+    /// (AES70-2). Returns the status and ParamCount, and whether the command wrote to its object. What `out` contained
+    /// before is lost. The status is the first of this list that applies (*profile*), and OK if none does. With each
+    /// status except OK no object is changed, `out` is empty, and ParamCount is 0. The call takes no memory.
+    /// - `BadOno` if no object has the number; `BadMethod` if its class has no such method; `NotImplemented` if the
+    ///   method is left out.
+    /// - `Locked` if another peer's lock forbids the access.
+    /// - `ParameterError` if ParamCount or the bytes are not the method's parameters.
+    /// - `ParameterOutOfRange` if a parameter is out of range.
+    /// - `InvalidRequest` if a lock is asked of an object that cannot be locked, or a release of one without a lock.
+    /// - `BufferOverflow` if the answer has more than 1,452 bytes.
+    /// - `ProcessingFailed` if the command writes and the object's hardware refuses
+    ///   ([`set_failing`](Tree::set_failing)).
     #[inline(always)]
     pub fn execute(&mut self, peer: Peer, command: &Command<'_>, out: &mut Params) -> Done
         ensures tree { self.new ≡ (execution self.old peer (fields_of command.now)).tree }
@@ -157,12 +169,14 @@ impl Tree {
         }
     }
 
-    /// Sets the object with this number at the local front panel. The call acts as the set method of the object's
-    /// class, except that neither a lock nor the object's hardware refuses it.
-    ///
-    /// Refusals, the first of [`SetFault`] that applies: `NoObject` if no object has the number. `NoSetting` if the
-    /// object is a block. `OtherKind` if the value is of another class. `OutOfRange` if a switch has no such position
-    /// or the position is disabled, or a number is outside its limits. A refusal changes no object.
+    /// Sets the object with the number `ono` to a value, as a user does at the device's local front panel (*profile*).
+    /// The call acts as the set method of the object's class (AES70-2). Neither a lock nor the object's hardware
+    /// refuses it. Refusals, the first that applies; no object is then changed:
+    /// - `NoObject` if no object has the number.
+    /// - `NoSetting` if the object is a block.
+    /// - `OtherKind` if the value is not of the object's class.
+    /// - `OutOfRange` if a switch does not have the position or the position is disabled, or if a number is outside its
+    ///   limits.
     pub fn set(&mut self, ono: Ono, value: Value) -> Result<(), SetFault>
         ensures tree { self.new ≡ after_set self.old ono.0 value }
         ensures refused { OnErr result (self.new ≡ self.old) }
@@ -171,11 +185,10 @@ impl Tree {
         set(&mut self.objects, &mut self.marks, ono, value)
     }
 
-    /// Gives the object with this number a label of at most 64 bytes at the local front panel. The call acts as
-    /// SetLabel of OcaWorker (AES70-2), except that neither a lock nor the object's hardware refuses it.
-    ///
-    /// Refusals, the first that applies: `NoObject` if no object has the number, `BadLabel` if the label is longer. A
-    /// refusal changes no object.
+    /// Sets the label of the object with the number `ono`, as a user does at the device's local front panel
+    /// (*profile*). The label has from 0 to 64 bytes. The call acts as SetLabel of OcaWorker (AES70-2). Neither a lock
+    /// nor the object's hardware refuses it. Refusals, the first that applies; no object is then changed: `NoObject` if
+    /// no object has the number. `BadLabel` if the label has more than 64 bytes.
     pub fn set_label(&mut self, ono: Ono, label: &str) -> Result<(), FrontFault>
         ensures tree { self.new ≡ after_change self.old ono.0 (ToLabel label.now) }
         ensures refused { OnErr result (self.new ≡ self.old) }
@@ -184,9 +197,9 @@ impl Tree {
         set_label(&mut self.objects, &mut self.marks, ono, label)
     }
 
-    /// Enables or disables the object with this number at the local front panel. The call acts as SetEnabled of
-    /// OcaWorker (AES70-2), except that neither a lock nor the object's hardware refuses it. Refusal: `NoObject` if no
-    /// object has the number; then no object is changed.
+    /// Enables or disables the object with the number `ono`, as a user does at the device's local front panel
+    /// (*profile*). The call acts as SetEnabled of OcaWorker (AES70-2). Neither a lock nor the object's hardware
+    /// refuses it. The only refusal is `NoObject`, if no object has the number; no object is then changed.
     pub fn set_enabled(&mut self, ono: Ono, enabled: bool) -> Result<(), FrontFault>
         ensures tree { self.new ≡ after_change self.old ono.0 (ToEnabled enabled) }
         ensures refused { OnErr result (self.new ≡ self.old) }
@@ -195,8 +208,9 @@ impl Tree {
         set_enabled(&mut self.objects, &mut self.marks, ono, enabled)
     }
 
-    /// Releases the lock of the object with this number at the local front panel, whichever peer holds it. Refusals:
-    /// `NoObject` if no object has the number, `NotLocked` if the object is not locked. A refusal changes no object.
+    /// Releases the lock of the object with the number `ono`, as a user does at the device's local front panel
+    /// (*profile*). Any peer can have the lock. Refusals, the first that applies; no object is then changed: `NoObject`
+    /// if no object has the number. `NotLocked` if the object is not locked.
     pub fn unlock(&mut self, ono: Ono) -> Result<(), FrontFault>
         ensures tree { self.new ≡ after_change self.old ono.0 ToUnlocked }
         ensures refused { OnErr result (self.new ≡ self.old) }
@@ -205,10 +219,11 @@ impl Tree {
         unlock(&mut self.objects, &mut self.marks, ono)
     }
 
-    /// Sets, at the local front panel, whether the hardware of the object with this number refuses changes (`failing`;
-    /// *profile*). At first it does not. While it does, a command that writes to the object is answered
-    /// `ProcessingFailed` and changes nothing; if the command is refused for another reason too, the answer names that
-    /// reason. Refusal: `NoObject` if no object has the number; then nothing is changed.
+    /// Sets whether the hardware of the object with the number `ono` refuses changes (*profile*). At first it does not.
+    /// If `failing` is true, a command that writes to the object gets the status `ProcessingFailed` and changes
+    /// nothing. If the command is refused for another reason too, it gets the status of that reason instead. Changes at
+    /// the local front panel are not refused. The only refusal of this call is `NoObject`, if no object has the number;
+    /// nothing is then changed.
     pub fn set_failing(&mut self, ono: Ono, failing: bool) -> Result<(), FrontFault>
         ensures tree { self.new ≡ after_change self.old ono.0 (ToFailing failing) }
         ensures refused { OnErr result (self.new ≡ self.old) }
@@ -217,8 +232,8 @@ impl Tree {
         set_failing(&mut self.objects, &mut self.marks, ono, failing)
     }
 
-    /// Releases every lock of the peer. If it holds none, nothing is changed. If no object of the tree is locked, no
-    /// object is looked at.
+    /// Releases all locks of the peer `peer` in the tree. If the peer has no lock, nothing is changed. Locks of other
+    /// peers remain. The call returns nothing, refuses nothing and takes no memory.
     pub fn release(&mut self, peer: Peer)
         ensures { self.new ≡ released self.old peer }
     {
@@ -227,9 +242,9 @@ impl Tree {
         }
     }
 
-    /// How many objects there are, the root counted: 1 to 4,096. Its contract also says what holds of every tree. The
-    /// numbers are distinct, blocks stand before what they contain, settings are within their limits, and only lockable
-    /// objects are locked.
+    /// Returns the number of objects of the tree, the root counted: from 1 to 4,096 (*profile*). The contract also
+    /// states what holds for every tree. The object numbers are distinct, blocks come before the objects in them,
+    /// settings are within their limits, and only lockable objects are locked.
     pub fn len(&self) -> usize
         ensures len { result ≡ length self.now }
         ensures sound { IsTree self.now }
@@ -237,8 +252,9 @@ impl Tree {
         self.objects.len()
     }
 
-    /// What the object at this index is; indices count from 0 at the root, in order of adding. `None` if there are no
-    /// more objects.
+    /// Returns what the object at an index is: its number, class, container and role. The index counts from 0, the
+    /// root, in order of adding. The result is `None` if `index` is the number of objects or above. The role is copied;
+    /// the call takes no memory.
     pub fn object_at(&self, index: usize) -> Option<ObjectInfo>
         ensures { result ≡ info_at self.now index }
     {
@@ -248,7 +264,8 @@ impl Tree {
         }
     }
 
-    /// What the object with this number is: its number, class, container and role. `None` if no object has the number.
+    /// Returns what the object with the number `ono` is: its number, class, container and role. The result is `None` if
+    /// no object has the number. The role is copied; the call takes no memory.
     pub fn object_of(&self, ono: Ono) -> Option<ObjectInfo>
         ensures { result ≡ info_of_ono self.now ono.0 }
     {
@@ -258,24 +275,26 @@ impl Tree {
         }
     }
 
-    /// An iterator over the objects in order of adding: the results of [`object_at`](Tree::object_at) for 0, 1 and so
-    /// on.
+    /// Returns an iterator over the objects of the tree, in order of adding, with the root first. Its items are the
+    /// results of [`object_at`](Tree::object_at) for 0, 1 and so on. There is at least the root. The call takes no
+    /// memory.
     pub fn objects(&self) -> ObjectInfos<'_>
         ensures { infos_left result ≡ map info_of self.now }
     {
         ObjectInfos::new(self.objects.as_slice())
     }
 
-    /// The lock of the object with this number: its kind and its holder. `None` if the object is not locked, or no
-    /// object has the number.
+    /// Returns the lock of the object with the number `ono`: its kind and the peer that has the lock. The result is
+    /// `None` if no object has the number, or the object is not locked.
     pub fn lock_of(&self, ono: Ono) -> Option<Lock>
         ensures { result ≡ lock_at self.now ono.0 }
     {
         lock_in(&self.objects, ono)
     }
 
-    /// The lock of the object at this index: its kind and its holder. Indices count from 0 at the root, in order of
-    /// adding. `None` if the object is not locked, or there are no more objects.
+    /// Returns the lock of the object at an index: its kind and the peer that has the lock. The index counts from 0,
+    /// the root, in order of adding. The result is `None` if `index` is the number of objects or above, or the object
+    /// is not locked.
     pub fn lock_at(&self, index: usize) -> Option<Lock>
         ensures { result ≡ option_and_then (λ o. o.lock) (slice_get self.now index) }
     {
@@ -285,64 +304,69 @@ impl Tree {
         object.lock
     }
 
-    /// Whether the hardware of the object with this number refuses changes, as [`set_failing`](Tree::set_failing) last
-    /// set it; `false` before the first such call. `None` if no object has the number.
+    /// Returns whether the hardware of the object with the number `ono` refuses changes (*profile*). The result is what
+    /// [`set_failing`](Tree::set_failing) last set, and `Some(false)` before its first call. It is `None` if no object
+    /// has the number.
     pub fn is_failing(&self, ono: Ono) -> Option<bool>
         ensures { result ≡ failing_at self.now ono.0 }
     {
         failing_in(&self.objects, ono)
     }
 
-    /// How many objects are locked: 0 to 4,096. The tree keeps this count, so no object is looked at.
+    /// Returns how many objects are locked: from 0 to the number of objects, at most 4,096. The tree stores this count,
+    /// so the call looks at no object. It refuses nothing.
     pub fn lock_count(&self) -> usize
         ensures { result ≡ lock_count self.now }
     {
         self.marks.locks
     }
 
-    /// The class of the object with this number: [`set`](Tree::set) takes values of this class. `None` if no object has
-    /// the number.
+    /// Returns the class of the object with the number `ono` (AES70-2). [`set`](Tree::set) needs a value of this class,
+    /// and refuses each value if the class is OcaBlock. The result is `None` if no object has the number.
     pub fn class_of(&self, ono: Ono) -> Option<Class>
         ensures { result ≡ class_of_ono self.now ono.0 }
     {
         class_in(&self.objects, ono)
     }
 
-    /// How the object with this number is set; with the least and the greatest value if it is an integer. `None` for a
-    /// block, and if no object has the number.
+    /// Returns the setting of the object with the number `ono`: a state, a position, a Boolean, or an integer with its
+    /// least and greatest. The result is `None` if no object has the number, or the object is a block.
     pub fn setting_of(&self, ono: Ono) -> Option<Setting>
         ensures { result ≡ setting_at self.now ono.0 }
     {
         setting_in(&self.objects, ono)
     }
 
-    /// What [`TreeBuilder::add_with`](crate::TreeBuilder::add_with) and [`with_root`](crate::TreeBuilder::with_root)
-    /// restore of the object with this number: its label, whether it is enabled, and of a switch which of its positions
-    /// are enabled. `None` if no object has the number.
+    /// Returns the label and the flags of the object with the number `ono`, for storing them (*profile*): its label,
+    /// whether it is enabled, and for a switch which of its positions are enabled.
+    /// [`TreeBuilder::add_with`](crate::TreeBuilder::add_with) and [`with_root`](crate::TreeBuilder::with_root) take
+    /// the result. It is `None` if no object has the number. It borrows from the tree, and no memory is taken.
     pub fn start_of(&self, ono: Ono) -> Option<Start<'_>>
         ensures { option_map stored_in result ≡ stored_at self.now ono.0 }
     {
         start_in(&self.objects, ono)
     }
 
-    /// The names of the positions of the switch with this number, in order: 1 to 16, each of at most 64 bytes. Empty if
-    /// no object has the number, or the object is no switch.
+    /// Returns the names of the positions of the switch with the number `ono`, in order: 1 to 16 names, each of at most
+    /// 64 bytes. The result is empty if no object has the number, or the object is no switch. It borrows from the tree,
+    /// and no memory is taken.
     pub fn position_names_of(&self, ono: Ono) -> &[Text]
         ensures { result.now ≡ names_of_ono self.now ono.0 }
     {
         position_names_in(&self.objects, ono)
     }
 
-    /// Whether the object with this number can be locked. `None` if no object has the number.
+    /// Returns whether the object with the number `ono` can be locked (OcaRoot, AES70-2). The result is `None` if no
+    /// object has the number.
     pub fn is_lockable(&self, ono: Ono) -> Option<bool>
         ensures { result ≡ lockable_at self.now ono.0 }
     {
         lockable_in(&self.objects, ono)
     }
 
-    /// Whether the other tree has the same objects, in the same order and with the same values, labels, flags and
-    /// roles. Their locks, and whose hardware refuses, may differ. `true` is proved to mean this; of `false` nothing is
-    /// proved.
+    /// Returns `true` only if both trees have the same objects in the same order, with the same values, labels, flags
+    /// and roles (*profile*). Locks may differ, and so may whether the hardware of an object refuses changes. Of
+    /// `false` nothing is proved. Neither tree is changed, and no memory is taken.
     pub fn is_but_for_locks(&self, other: &Tree) -> bool
         ensures { IsTrue result → (all_unlocked self.now ≡ all_unlocked other.now) }
     {
