@@ -151,12 +151,14 @@ fn check_all(bytes: &[u8]) -> Result<(), PduFault>
     check_pdus(bytes)
 }
 
-/// Checks that the bytes are a well-formed datagram: one or more PDUs (AES70-3), of at most 1,472 bytes together
-/// (*profile*). Nothing is copied: the result borrows the bytes.
-///
-/// Refusal: a [`PduFault`] that names the first check that fails, and its offset in bytes. The checks are in this
-/// order: the number of bytes; in each PDU sync, ProtocolVersion, PduSize, PduType and MessageCount; then the sizes of
-/// its messages.
+/// Checks that the bytes are a well-formed datagram of OCP.1, and returns them as its messages. A datagram is one or
+/// more PDUs (AES70-3), together at most 1,472 bytes (*profile*). Nothing is copied: the result borrows `bytes`, and no
+/// memory is taken. A refusal is a [`PduFault`]: the first check that fails, and the offset in bytes where it fails.
+/// The checks come in this order (*profile*):
+/// - The number of bytes: `Empty` for 0, `TooLong` above 1,472.
+/// - For each PDU the fields of its header in the order sync, ProtocolVersion, PduSize, PduType and MessageCount. The
+///   fault is `Truncated` if the bytes end within a field of the header or before the end of the PDU.
+/// - For each message of the PDU its size: `MessageSize`. `Count` if the messages are not as many as MessageCount says.
 pub fn check(bytes: &[u8]) -> Result<Datagram<'_>, PduFault>
     ensures found { IfOk result
         (λ d. (ps : List Pdu) × IsDatagram ps bytes.now × (datagram_messages d ≡ flat_map messages_of ps)) }

@@ -5,31 +5,33 @@ ghost use Rattle.oca_pdu.specs.Faults.{fault_number};
 use std::fmt::{self, Display, Formatter};
 use thiserror::Error;
 
-/// Which check of a datagram failed first (profile).
+/// The check at which a datagram failed (*profile*).
 #[derive(Clone, Copy, Debug, PartialEq, Eq)]
 pub enum PduFaultKind {
-    /// There are no bytes.
+    /// The datagram has no bytes.
     Empty = 1,
-    /// There are more than 1,472 bytes.
+    /// The datagram has more than 1,472 bytes.
     TooLong = 2,
-    /// A PDU does not begin with 3B.
+    /// A PDU does not begin with the byte 3B (hexadecimal).
     Sync = 3,
-    /// ProtocolVersion is not 1.
+    /// ProtocolVersion of a PDU is not 1.
     Version = 4,
-    /// PduSize is below 11.
+    /// PduSize of a PDU is below 11.
     PduSize = 5,
-    /// PduType is not 0, 1, 3 or 4.
+    /// PduType of a PDU is not 0, 1, 3 or 4.
     PduType = 6,
-    /// MessageCount is 0, is not 1 in a keep-alive PDU, or is not the number of the messages.
+    /// MessageCount is 0, or is not 1 in a PDU of a keep-alive, or is not the number of messages of its PDU.
     Count = 7,
-    /// A size of a message is below the least or reaches past the PDU's end, or a keep-alive has not 2 or 4 bytes.
+    /// The size of a message is below 17 (command) or 10 (response), or the message ends after its PDU. Or a keep-alive
+    /// has not 2 or 4 bytes.
     MessageSize = 8,
-    /// A field or a PDU reaches past the datagram's end.
+    /// The datagram ends within a field of a PDU's header, or before the end of a PDU.
     Truncated = 9,
 }
 
 impl PduFaultKind {
-    /// The number of the fault (*profile*): 1 to 9.
+    /// Returns the number of the fault (*profile*): from 1 for `Empty` to 9 for `Truncated`. Each kind has a number of
+    /// its own. The call refuses nothing.
     pub fn number(self) -> u8
         ensures { result ≡ fault_number self }
     {
@@ -45,7 +47,7 @@ impl PduFaultKind {
 }
 
 impl Display for PduFaultKind {
-    /// Writes it.
+    /// Writes the fault in words.
     fn fmt<W: fmt::Write>(&self, f: &mut Formatter<W>) -> fmt::Result {
         f.write_str(match self {
             PduFaultKind::Empty => "no bytes",
@@ -63,20 +65,20 @@ impl Display for PduFaultKind {
 
 impl std::error::Error for PduFaultKind {}
 
-/// The first check of a datagram that fails, and the offset in bytes at which it does.
+/// Why a datagram is refused: the first check that fails, and the offset in bytes where it fails (*profile*).
 #[derive(Clone, Copy, Debug, PartialEq, Eq, Error)]
 #[error("{kind}, at offset {at}")]
 pub struct PduFault {
-    /// Which check it was.
+    /// The check that failed.
     pub kind: PduFaultKind,
-    /// The offset in bytes, from 0.
+    /// The offset in bytes from the start of the datagram: 0 to 1,472.
     pub at: u16,
 }
 
-/// Why a PDU could not be appended to a packet. The number is promised (profile).
+/// Why a PDU was not appended to a packet, which is then unchanged. The number is promised (*profile*).
 #[derive(Clone, Copy, Debug, PartialEq, Eq, Error)]
 pub enum WriteFault {
-    /// The packet would pass 1,472 bytes.
+    /// The packet would have more than 1,472 bytes.
     #[error("the packet would pass 1,472 bytes")]
     TooLong = 1,
 }

@@ -7,7 +7,7 @@ ghost use Rattle.oca_pdu.specs.Reading.{least_size, message_in, content_of, keep
 use crate::message::{COMMAND_BYTES, Content, Form, Kind, Message, RESPONSE_BYTES};
 use oca_types::{Command, Handle, MethodId, Ono};
 
-/// Reads a number of two bytes, the highest byte first. There must be exactly two bytes (a premise).
+/// Reads a Uint16 from two bytes, the highest byte first. There must be exactly two bytes (a premise).
 pub fn u16_in(bytes: &[u8]) -> u16
     requires { length bytes.now ≡ 2 }
     ensures { result ≡ from_be_bytes w16 bytes.now }
@@ -15,7 +15,7 @@ pub fn u16_in(bytes: &[u8]) -> u16
     u16::from_be_bytes([bytes[0], bytes[1]])
 }
 
-/// Reads a number of four bytes, the highest byte first. There must be exactly four bytes (a premise).
+/// Reads a Uint32 from four bytes, the highest byte first. There must be exactly four bytes (a premise).
 pub fn u32_in(bytes: &[u8]) -> u32
     requires { length bytes.now ≡ 4 }
     ensures { result ≡ from_be_bytes w32 bytes.now }

@@ -2,36 +2,39 @@
 ghost use Rattle.oca_pdu.specs.Laws.{OneListOfMessages, OneFirstFault, NoFaultOfADatagram, DatagramOrFault};
 ghost use Rattle.oca_pdu.specs.Laws.{ReadingIsExact, WrittenIsReadBack};
 
-/// Law: take any bytes that are a datagram. However they are divided into PDUs, their messages are the same list. The
-/// function does nothing at run time.
+/// Law: bytes that are a datagram have only one list of messages, in whatever way they are divided into PDUs (AES70-3).
+/// It holds for all bytes. The function states this as its contract. It does nothing at run time.
 pub fn law_one_list_of_messages()
     ensures { OneListOfMessages }
 {}
 
-/// Law: no bytes have two different first faults. The function does nothing at run time.
+/// Law: no bytes have two different first faults, which [`check`](crate::check) returns (*profile*). It holds for all
+/// bytes. The function states this as its contract. It does nothing at run time.
 pub fn law_one_first_fault()
     ensures { OneFirstFault }
 {}
 
-/// Law: bytes that are a well-formed datagram have no first fault. The function does nothing at run time.
+/// Law: bytes that are a well-formed datagram (AES70-3) have no first fault, which [`check`](crate::check) returns for
+/// other bytes. It holds for all bytes. The function states this as its contract. It does nothing at run time.
 pub fn law_no_fault_of_a_datagram()
     ensures { NoFaultOfADatagram }
 {}
 
-/// Law: any list of bytes, each below 256, is a well-formed datagram or has a first fault. The function does nothing at
-/// run time.
+/// Law: all bytes are a well-formed datagram (AES70-3), or have a first fault, which [`check`](crate::check) returns.
+/// The function states this as its contract. It does nothing at run time.
 pub fn law_datagram_or_fault()
     ensures { DatagramOrFault }
 {}
 
-/// Law: for any list of bytes, each below 256, reading returns exactly the messages of a well-formed datagram. For all
-/// other bytes it returns exactly the first fault. The function does nothing at run time.
+/// Law: reading bytes gives exactly the messages if the bytes are a well-formed datagram (AES70-3), and exactly the
+/// first fault if they are not. The law is about the definition by which [`check`](crate::check) reads, and it holds
+/// for all bytes. The function states this as its contract. It does nothing at run time.
 pub fn law_reading()
     ensures { ReadingIsExact }
 {}
 
-/// Law: take a datagram that is some PDUs and one more PDU after them. Reading it returns the messages of the first
-/// PDUs, and then those of the added PDU. The function does nothing at run time.
+/// Law: reading a datagram of some PDUs and one appended PDU gives the messages of the first PDUs, and then those of
+/// the appended PDU (AES70-3). The function states this as its contract. It does nothing at run time.
 pub fn law_written_is_read_back()
     ensures { WrittenIsReadBack }
 {}

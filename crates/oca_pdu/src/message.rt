@@ -1,39 +1,41 @@
 //! Messages of a datagram.
 use oca_types::{Command, Handle};
 
-/// The time of a keep-alive (AES70-3): Uint16 seconds or Uint32 milliseconds.
+/// The heartbeat in a keep-alive (AES70-3): in seconds as a Uint16, or in milliseconds as a Uint32. The heartbeat is
+/// the interval at which the sender says that it sends. The number can be 0.
 #[derive(Clone, Copy, Debug, PartialEq, Eq)]
 pub enum Form {
-    /// Seconds, in 2 bytes.
+    /// Seconds, from 0 to 65,535, in 2 bytes.
     Seconds(u16),
-    /// Milliseconds, in 4 bytes.
+    /// Milliseconds, from 0 to 4,294,967,295, in 4 bytes.
     Millis(u32),
 }
 
-/// A message of a datagram (AES70-3). The parameters are a slice of the datagram.
+/// A message of a datagram: a command, a response or a keep-alive (AES70-3). Its parameters are a slice of the
+/// datagram.
 #[derive(Clone, Copy, Debug)]
 pub enum Message<'a> {
     /// A command, and whether it asks for a response.
     Command {
-        /// Whether it asks for a response.
+        /// Whether the command asks for a response (PduType 1), or not (PduType 0).
         respond: bool,
         /// The command.
         command: Command<'a>,
     },
     /// A response: the handle of its command, the number of its status, its ParamCount and its parameters.
     Response {
-        /// The handle of its command.
+        /// The handle of the command that is answered.
         handle: Handle,
-        /// The number of its status.
+        /// The number of the status; any number is well-formed, also one that OcaStatus does not have.
         status: u8,
-        /// ParamCount: how many parameters it has.
+        /// ParamCount: the number of parameters; any number is well-formed.
         count: u8,
         /// The bytes of the parameters.
         params: &'a [u8],
     },
     /// A keep-alive.
     KeepAlive {
-        /// Its time.
+        /// The heartbeat.
         form: Form,
     },
 }

@@ -5,8 +5,8 @@ ghost use Rattle.oca_pdu.specs.Reading.{messages_at, pdus_at};
 use crate::fields;
 use crate::message::{Content, Form, Kind, Message};
 
-/// The messages of a datagram that are still to come: those of the PDU that was begun, and the PDUs after it. No check
-/// is made again.
+/// An iterator over the messages of a datagram that are not returned yet, in their order (AES70-3). It makes no check
+/// again.
 #[derive(Debug, Drop)]
 pub struct Messages<'a> {
     kind: Kind,
@@ -89,7 +89,7 @@ impl<'a> Iterator for Messages<'a> {
 
     ghost remaining = { item_count messages_left };
 
-    /// The next message, or nothing after the last.
+    /// Returns the next message, and `None` after the last message.
     #[inline(always)]
     fn next(&mut self) -> Option<Message<'a>> {
         if self.left == 0 {

@@ -35,9 +35,10 @@ fn put(packet: &mut Packet, bytes: &[u8])
     }
 }
 
-/// Appends a PDU of one command (AES70-3) to the packet. The PDU is of type 1 if `respond` is true, which asks for a
-/// response, otherwise of type 0. Refusal: `TooLong` if the packet would have more than 1,472 bytes; then the packet is
-/// unchanged.
+/// Appends a PDU with one command to the packet (AES70-3). `respond` says whether the command asks for a response:
+/// PduType is 1 if it is true, and 0 if it is false. The PDU has 27 bytes and the bytes of the parameters. The only
+/// refusal is `TooLong`, if the packet would have more than 1,472 bytes; then it is unchanged. The call sends nothing
+/// and takes no memory.
 pub fn write_command(
     packet: &mut Packet,
     respond: bool,
@@ -81,8 +82,10 @@ fn command_front(respond: bool, command: &Command) -> [u8; 27]
     ]
 }
 
-/// Appends a PDU of one response (AES70-3) to the packet. Refusal: `TooLong` if the packet would have more than 1,472
-/// bytes; then the packet is unchanged.
+/// Appends a PDU with one response to the packet (AES70-3). `handle` is the handle of the command, and `reply` its
+/// status, ParamCount and parameters. The PDU has 20 bytes and the bytes of the parameters. The only refusal is
+/// `TooLong`, if the packet would have more than 1,472 bytes; then it is unchanged. The call sends nothing and takes no
+/// memory.
 pub fn write_response(packet: &mut Packet, handle: Handle, reply: &Reply) -> Result<(), WriteFault>
     ensures room { let pdu = Responses (response_with handle reply.now ∷ []) in
         IsOk result ↔ (length packet.old.items + length (pdu_encoding pdu) ≤ largest_datagram) }
@@ -103,8 +106,10 @@ pub fn write_response(packet: &mut Packet, handle: Handle, reply: &Reply) -> Res
     Ok(())
 }
 
-/// Replaces all that the packet held by a PDU of one response (AES70-3). The response always fits, since a reply has at
-/// most 1,452 bytes of parameters.
+/// Replaces all bytes of the packet by a PDU with one response (AES70-3). `handle` is the handle of the command, and
+/// `reply` its status, ParamCount and parameters. The packet then has 20 bytes and the bytes of the parameters, and is
+/// a well-formed datagram. There is always room, since a reply has at most 1,452 bytes of parameters. The call refuses
+/// nothing, sends nothing and takes no memory.
 #[inline(always)]
 pub fn replace_response(packet: &mut Packet, handle: Handle, reply: &Reply)
     ensures bytes { packet.new.items ≡ pdu_encoding (Responses (response_with handle reply.now ∷ [])) }
@@ -181,8 +186,9 @@ fn raise_header(pdu: &mut [u8], size: u32)
     pdu[8..10].copy_from_slice(&count.to_be_bytes());
 }
 
-/// Whether the first PDU of the packet is one of responses (AES70-3), so that [`extend_response`] may add one. `false`
-/// for an empty packet. The PDUs after the first are not looked at.
+/// Returns whether the first PDU of the packet is one of responses (PduType 3, AES70-3). [`extend_response`] can then
+/// add a response, if the packet is this PDU alone. The result is `false` for an empty packet. Its contract is for
+/// packets that are exactly one PDU; the call does not check that they are. It changes nothing.
 #[inline(always)]
 pub fn holds_responses(packet: &Packet) -> bool
     ensures { (p : Pdu) → packet.now.items ≡ pdu_encoding p → result ≡ is_of_responses p }
@@ -190,9 +196,11 @@ pub fn holds_responses(packet: &Packet) -> bool
     packet.as_slice().get(PDU_TYPE_AT) == Some(&RESPONSES)
 }
 
-/// Adds a response to the PDU of responses that the packet holds (AES70-3): then it is one PDU with all of them, the
-/// new one last. The packet must hold a PDU of responses before (a premise; [`holds_responses`]). Refusal: `TooLong` if
-/// the packet would have more than 1,472 bytes; then the packet is unchanged.
+/// Adds a response to the packet, which must be exactly one PDU of responses (AES70-3, a premise; [`holds_responses`]).
+/// Afterwards the packet is one PDU with all these responses, the new one last. `handle` is the handle of the command,
+/// and `reply` its status, ParamCount and parameters. The packet grows by 10 bytes and the bytes of the parameters. The
+/// only refusal is `TooLong`, if the packet would have more than 1,472 bytes; then it is unchanged. The call sends
+/// nothing and takes no memory.
 #[inline(always)]
 pub fn extend_response(packet: &mut Packet, handle: Handle, reply: &Reply) -> Result<(), WriteFault>
     requires { HoldsResponses packet.old.items }
@@ -218,8 +226,9 @@ pub fn extend_response(packet: &mut Packet, handle: Handle, reply: &Reply) -> Re
     Ok(())
 }
 
-/// Appends a PDU of one keep-alive (AES70-3) to the packet. `form` is its heartbeat, in seconds or in milliseconds.
-/// Refusal: `TooLong` if the packet would have more than 1,472 bytes; then the packet is unchanged.
+/// Appends a PDU with one keep-alive to the packet (AES70-3). `form` is the heartbeat in seconds (a PDU of 12 bytes) or
+/// in milliseconds (14 bytes); 0 is allowed. The only refusal is `TooLong`, if the packet would have more than 1,472
+/// bytes; then it is unchanged. The call sends nothing and takes no memory.
 pub fn write_keepalive(packet: &mut Packet, form: Form) -> Result<(), WriteFault>
     ensures room { IsOk result
         ↔ (length packet.old.items + length (pdu_encoding (OneKeepAlive form)) ≤ largest_datagram) }
