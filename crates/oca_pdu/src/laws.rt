@@ -20,8 +20,9 @@ pub fn law_no_fault_of_a_datagram()
     ensures { NoFaultOfADatagram }
 {}
 
-/// Law: all bytes are a well-formed datagram (AES70-3), or have a first fault, which [`check`](crate::check) returns.
-/// The function states this as its contract. It does nothing at run time.
+/// Law: each list of bytes is a well-formed datagram (AES70-3), or has a first fault, which [`check`](crate::check)
+/// returns. The empty list has the fault `Empty`. The function states this as its contract. It does nothing at run
+/// time.
 pub fn law_datagram_or_fault()
     ensures { DatagramOrFault }
 {}

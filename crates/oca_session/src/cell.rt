@@ -9,7 +9,7 @@ ghost use Rattle.oca_session.specs.PrivateCells.{entry_in};
 use arrayvec::ArrayVec;
 use oca_types::{Command, MOST_COMMAND_PARAMETER_BYTES, MethodId, Ono, Params, Reply, write_over};
 
-/// An accepted command but for its handle, and the reply that it got.
+/// A command in a reply window, without its handle, and the reply that the command got.
 #[derive(Drop)]
 pub struct Cell {
     target: Ono,
@@ -20,8 +20,8 @@ pub struct Cell {
 }
 
 impl Cell {
-    /// A cell that holds this command without its handle, and its reply. The command must have at most 1,445 bytes of
-    /// parameters (a premise).
+    /// Returns a cell with copies of this command, without its handle, and of its reply. The command must have at most
+    /// 1,445 bytes of parameters (a premise). The call refuses nothing and takes no memory.
     pub fn new(command: &Command<'_>, reply: &Reply) -> Cell
         requires { length command.now.params.now ≤ most_command_parameter_bytes }
         ensures { entry_in command.now.handle result ≡ record { command = fields_of command.now; reply = reply.now } }
@@ -42,8 +42,8 @@ impl Cell {
         cell
     }
 
-    /// Replaces the command and the reply that the cell holds; the handle is not kept. The command must have at most
-    /// 1,445 bytes of parameters (a premise).
+    /// Replaces the command and the reply in the cell by copies of these. The handle is not stored. The command must
+    /// have at most 1,445 bytes of parameters (a premise). The call refuses nothing and takes no memory.
     pub fn set(&mut self, command: &Command<'_>, reply: &Reply)
         requires { length command.now.params.now ≤ most_command_parameter_bytes }
         ensures { entry_in command.now.handle self.new ≡ record { command = fields_of command.now; reply = reply.now } }
@@ -80,8 +80,8 @@ impl Cell {
         copy_bytes(&mut self.reply.params, reply.params.as_slice());
     }
 
-    /// Whether the command in the cell and this one ask the same: the same target, DefLevel, MethodIndex, ParamCount
-    /// and parameter bytes. The handle is not compared.
+    /// Returns whether this command and the command in the cell ask the same: the same target, DefLevel, MethodIndex,
+    /// ParamCount and parameter bytes (*profile*). The handle is not compared.
     pub fn asks_the_same(&self, command: &Command<'_>) -> bool
         ensures { result ≡ asks_the_same (entry_in command.now.handle self.now).command (fields_of command.now) }
     {
@@ -92,7 +92,7 @@ impl Cell {
             && are_same(self.params.as_slice(), command.params)
     }
 
-    /// The reply in the cell.
+    /// Returns the reply in the cell, without copying it.
     pub fn reply(&self) -> &Reply
         ensures { result.now ≡ self.now.reply }
     {

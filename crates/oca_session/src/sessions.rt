@@ -20,22 +20,26 @@ use std::alloc::{AllocError, Global};
 use std::fmt;
 use std::marker::Model;
 
-/// What hearing a peer did.
+/// What [`Sessions::hear`] did with a peer that was heard.
 #[derive(Clone, Copy, Debug, PartialEq, Eq)]
 pub enum Admission {
-    /// The peer had a session, whose silence ended.
+    /// The peer already had a session, and its silence ended.
     Known,
     /// A session was opened for the peer.
     Opened,
-    /// The peer has no session, and as many others as were chosen have one: no session was changed.
+    /// The peer has no session, and the table has no room for another: no session was changed.
     NoRoom,
 }
 
-/// The sessions of peers, at most as many as were chosen, in order of opening (profile).
+/// A table of the sessions that a device has with peers, in order of opening; its size is chosen when it is made
+/// (*profile*). A session is what the device stores about one peer: when the peer was last heard, its heartbeat, and
+/// its reply window.
 ///
-/// A peer is *known* while it has a session. The present moment is the latest that `advance`, `advance_into` and
-/// `hear` were given, in milliseconds, and 0 at first. The *silence* of a session is the present moment less the
-/// moment when its peer was last heard.
+/// A peer is *known* while it has a session. Moments are in milliseconds of one clock, which the caller reads. The
+/// present moment is the latest that [`advance`](Sessions::advance), [`advance_into`](Sessions::advance_into) and
+/// [`hear`](Sessions::hear) were given, and 0 at first. The *silence* of a session is the time from the moment when its
+/// peer was last heard to the present moment. The *heartbeat* of a peer is the interval, in milliseconds, at which it
+/// said that it would send.
 #[derive(Drop)]
 pub struct Sessions {
     sizes: Sizes,
@@ -70,8 +74,9 @@ impl Sessions {
     ghost use Rattle.oca_session.specs.Table.{with_heartbeat, with_entry, with_accepted, Hears, IsKnownAfter, AgreesAt};
     ghost use Rattle.oca_session.specs.Sound.{IsTable};
 
-    /// A table without sessions, at the moment 0, with room for 16 sessions, each with a reply window of `window`
-    /// commands. The call takes all the memory that the sessions will need. Refusal: `NoMemory`, if memory was refused.
+    /// Returns a table without sessions, at the moment 0, with room for 16 sessions, each with a reply window of
+    /// `window` commands (*profile*). The call takes from `alloc` all the memory that the sessions will need; no later
+    /// call takes any. The only refusal is `NoMemory`, if the allocator refused memory; no table is then returned.
     pub fn new(alloc: Global, window: Window) -> Result<Sessions, NoMemory>
         ensures { IfOk result (λ t. t ≡ record {
           sizes = record { window = window_size window; peers = 16 };
@@ -88,9 +93,10 @@ impl Sessions {
         )
     }
 
-    /// A table without sessions, at the moment 0, with room for 1 to 64 sessions, each with a reply window of 1 to 64
-    /// commands, as `sizes` says. The call takes all the memory that the sessions will need. Refusal: `NoMemory`, if
-    /// memory was refused.
+    /// Returns a table without sessions, at the moment 0, with room for 1 to 64 sessions, each with a reply window of 1
+    /// to 64 commands (*profile*). `sizes` says both numbers. The call takes from `alloc` all the memory that the
+    /// sessions will need; no later call takes any. The only refusal is `NoMemory`, if the allocator refused memory; no
+    /// table is then returned.
     pub fn with_sizes(alloc: Global, sizes: Sizes) -> Result<Sessions, NoMemory>
         ensures { IfOk result (λ t. t ≡ record { sizes = sizes_of sizes; moment = 0; sessions = [] }) }
     {
@@ -111,7 +117,9 @@ impl Sessions {
         }
     }
 
-    /// How many sessions there are: 0 to the number of peers that the table was made for, at most 64.
+    /// Returns the number of sessions: from 0, as at first, to the number of peers for which the table was made, at
+    /// most 64 (*profile*). A session that is due to be forgotten counts until the next [`advance`](Sessions::advance).
+    /// The call refuses nothing.
     pub fn len(&self) -> usize
         ensures len { result ≡ length self.now.sessions }
         ensures sound { IsTable self.now }
@@ -119,14 +127,15 @@ impl Sessions {
         self.count
     }
 
-    /// Whether there is no session.
+    /// Returns `true` if there is no session, as at first, and `false` otherwise. The call refuses nothing.
     pub fn is_empty(&self) -> bool
         ensures { result ≡ (length self.now.sessions == 0) }
     {
         self.count == 0
     }
 
-    /// The peer of the session at this index, counted from 0 in order of opening. `None` if there are no more sessions.
+    /// Returns the peer of the session at an index, counted from 0 in order of opening. The result is `None` if `index`
+    /// is the number of sessions or above.
     pub fn peer_at(&self, index: usize) -> Option<Peer>
         ensures { result ≡ slice_get (peers_of self.now.sessions) index }
     {
@@ -136,7 +145,9 @@ impl Sessions {
         }
     }
 
-    /// Whether the peer has a session. It has one from when it was heard first until it is forgotten.
+    /// Returns whether the peer (the same address and port) has a session. It has one from when
+    /// [`hear`](Sessions::hear) opened it until [`advance`](Sessions::advance) or
+    /// [`advance_into`](Sessions::advance_into) forgets it (*profile*). The table is unchanged.
     #[tactic(auto, using(crate::proofs::Tables::known_by_place))]
     pub fn is_known(&self, peer: Peer) -> bool
         ensures { result ≡ is_some (session_of peer self.now.sessions) }
@@ -144,13 +155,13 @@ impl Sessions {
         index_of(&self.slots[..self.count], self.recent, peer).is_some()
     }
 
-    /// Moves the table's clock on to `now`, in milliseconds of the caller's clock; an earlier moment counts as the
-    /// present one. Each session whose peer was not heard for more than 120,000 ms is then forgotten.
-    ///
-    /// Returns the peers that were not heard for more than three of their heartbeats, in order of opening, the
-    /// forgotten ones among them. Only the first 16 are returned, which are all if the table has room for at most 16
-    /// sessions; [`advance_into`](Sessions::advance_into) returns all. A peer is returned again at each later call
-    /// while it is silent.
+    /// Moves the table's clock to `now`, and returns the peers that were silent for too long (*profile*). `now` is in
+    /// milliseconds of the caller's clock; a moment before the present one is taken as the present one. The result is
+    /// the peers whose silence is more than three of their heartbeats, in order of opening. Sessions with a silence of
+    /// more than 120,000 ms are then forgotten; their peers are in the result too. The result has at most the first 16
+    /// peers: these are all if the table has room for at most 16 sessions. [`advance_into`](Sessions::advance_into)
+    /// returns all. A peer is returned again at each later call while it is silent. The call refuses nothing and takes
+    /// no memory.
     pub fn advance(&mut self, now: u64) -> ArrayVec<Peer, 16>
         ensures lapsed { result.items ≡ take 16 (lapsed (present self.old now) self.old.sessions) }
         ensures all { self.old.sizes.peers ≤ 16 → result.items ≡ lapsed (present self.old now) self.old.sessions }
@@ -168,10 +179,12 @@ impl Sessions {
         peers
     }
 
-    /// Moves the table's clock on to `now`, in milliseconds of the caller's clock; an earlier moment counts as the
-    /// present one. Each session whose peer was not heard for more than 120,000 ms is then forgotten. `peers` becomes
-    /// all peers that were not heard for more than three of their heartbeats, in order of opening, the forgotten ones
-    /// among them.
+    /// Moves the table's clock to `now`, and writes into `peers` all peers that were silent for too long (*profile*).
+    /// `now` is in milliseconds of the caller's clock; a moment before the present one is taken as the present one.
+    /// `peers` becomes the peers whose silence is more than three of their heartbeats, in order of opening; its old
+    /// items are lost. Sessions with a silence of more than 120,000 ms are then forgotten; their peers are in `peers`
+    /// too. A peer is written again at each later call while it is silent. The call refuses nothing and takes no
+    /// memory.
     pub fn advance_into(&mut self, now: u64, peers: &mut ArrayVec<Peer, MOST_PEERS>)
         ensures lapsed { peers.new.items ≡ lapsed (present self.old now) self.old.sessions }
         ensures staying { self.new ≡ with_moment_and_sessions self.old (present self.old now)
@@ -201,10 +214,13 @@ impl Sessions {
         self.recent = self.recent.min(self.count.saturating_sub(1));
     }
 
-    /// Notes that a peer was heard at the moment `now`, in milliseconds of the caller's clock; an earlier moment counts
-    /// as the present one. `Known` if the peer has a session: it then counts as heard now. `Opened` if a session was
-    /// opened for it, the last in order, with an empty window and a heartbeat of 5,000 ms. `NoRoom` if the table has no
-    /// room for another session: then only the present moment is changed.
+    /// Notes that a peer was heard at the moment `now`, and opens a session if the peer has none (*profile*). `now` is
+    /// in milliseconds of the caller's clock; a moment before the present one is taken as the present one. The call
+    /// takes no memory. The result is:
+    /// - `Known` if the peer has a session: its silence ends.
+    /// - `Opened` if a session was opened for it, as the last in order. Its reply window is empty, and its heartbeat is
+    ///   5,000 ms.
+    /// - `NoRoom` if the table has no room for another session: then only the present moment is changed.
     pub fn hear(&mut self, peer: Peer, now: u64) -> Admission
         ensures hears { Hears peer (present self.old now) self.old result self.new }
         ensures known { IsKnownAfter result peer self.new.sessions }
@@ -229,8 +245,10 @@ impl Sessions {
         Admission::Opened
     }
 
-    /// Sets the heartbeat of a known peer, in milliseconds: to 250 if `ms` is below that, and to 30,000 if `ms` is
-    /// above that. The peer must be known (a premise; [`is_known`](Sessions::is_known)).
+    /// Sets the heartbeat of a known peer to `ms` milliseconds (*profile*). A number below 250 sets it to 250, and a
+    /// number above 30,000 to 30,000. The peer must be known (a premise; [`is_known`](Sessions::is_known)). Nothing
+    /// else is changed: in particular the silence of the peer does not end. The call refuses nothing and takes no
+    /// memory.
     pub fn beat(&mut self, peer: Peer, ms: u64)
         requires { IsSome (session_of peer self.old.sessions) }
         ensures heartbeat { self.new ≡ with_sessions self.old
@@ -245,24 +263,27 @@ impl Sessions {
         self.quiet_until = self.quiet_until.min(slot.quiet_until());
     }
 
-    /// The present moment, in milliseconds: the latest that the table was given.
+    /// Returns the present moment of the table, in milliseconds of the caller's clock: the latest moment that a call
+    /// was given, and 0 at first. The call refuses nothing.
     pub fn moment(&self) -> u64
         ensures { result ≡ self.now.moment }
     {
         self.moment
     }
 
-    /// The first moment, in milliseconds of the caller's clock, at which a session is forgotten if no peer is heard
-    /// before. `None` if there is no session, or that moment lies beyond 64 bits.
+    /// Returns the first moment at which a session is forgotten, if no peer is heard before (*profile*). The moment is
+    /// in milliseconds of the caller's clock: the peer was then silent for more than 120,000 ms. It can be past, if no
+    /// call moved the clock on since. The result is `None` if there is no session, or the moment does not fit 64 bits.
+    /// The table is unchanged.
     pub fn forgotten_from(&self) -> Option<u64>
         ensures { HoldsFrom (forgets self.now.sessions) result }
     {
         forgotten_from(&self.slots[..self.count])
     }
 
-    /// The first moment, in milliseconds of the caller's clock, at which the peer was silent for more than three of its
-    /// heartbeats, if it is not heard before. It may be past. `None` if the peer has no session, or that moment lies
-    /// beyond 64 bits.
+    /// Returns the first moment at which the peer was silent for more than three of its heartbeats, if it is not heard
+    /// before (*profile*). The moment is in milliseconds of the caller's clock, and can be past. The result is `None`
+    /// if the peer has no session, or the moment does not fit 64 bits. The table is unchanged.
     pub fn lapsed_from(&self, peer: Peer) -> Option<u64>
         ensures { HoldsFrom (lapses peer self.now.sessions) result }
     {
@@ -272,12 +293,15 @@ impl Sessions {
         }
     }
 
-    /// Judges a command of a known peer by the reply window, which retains the last accepted commands of the session,
-    /// as many as its size. `Kept` with its reply if the command is a duplicate: a retained command has its handle and
-    /// asks the same (target, DefLevel, MethodIndex, ParamCount and parameter bytes). `Reused` if a retained command
-    /// has its handle and asks something else. `Old` if no retained command has its handle, and the handle is not above
-    /// one that the window pushed out. `Fresh` otherwise. Nothing is changed. The peer must be known (a premise;
-    /// [`is_known`](Sessions::is_known)).
+    /// Judges a command of a known peer by the reply window of its session (*profile*). The window contains the last
+    /// accepted commands of the session with their replies. The call changes nothing and takes no memory. The peer must
+    /// be known (a premise; [`is_known`](Sessions::is_known)). The result is:
+    /// - `Kept` with the reply, if the window has a command with this handle that asks the same: the same target,
+    ///   DefLevel, MethodIndex, ParamCount and parameter bytes. The command is a duplicate.
+    /// - `Reused` if the window has a command with this handle that asks something else.
+    /// - `Old` if no command in the window has this handle, and the handle is not above a handle that the window pushed
+    ///   out.
+    /// - `Fresh` otherwise.
     pub fn judge(&self, peer: Peer, command: &Command<'_>) -> Judged<'_>
         requires { IsSome (session_of peer self.now.sessions) }
         ensures retained { IfSome (session_of peer self.now.sessions)
@@ -288,9 +312,10 @@ impl Sessions {
         self.slots[self.index_of_known(peer)].judge(command)
     }
 
-    /// Retains a fresh command of a known peer, with its reply, in the session's window. A full window pushes its
-    /// oldest command out. The command must be fresh and have at most 1,445 bytes of parameters, and the peer must be
-    /// known (premises).
+    /// Stores a fresh command of a known peer, with its reply, in the reply window of its session (*profile*). A full
+    /// window pushes its oldest command out. The command and the reply are copied. Premises: the peer is known
+    /// ([`is_known`](Sessions::is_known)), [`judge`](Sessions::judge) says `Fresh` for the command, and the command has
+    /// at most 1,445 bytes of parameters. The call refuses nothing and takes no memory.
     pub fn keep(&mut self, peer: Peer, command: &Command<'_>, reply: &Reply)
         requires known { IsSome (session_of peer self.old.sessions) }
         requires fresh { IfSome (session_of peer self.old.sessions)

@@ -52,8 +52,9 @@ impl Model for Slot {
 }
 
 impl Slot {
-    /// A slot that no session has had yet, with an empty window of `size` commands, 1 to 64 (a premise). The call takes
-    /// the memory for the window. Refusal: `AllocError`, if memory was refused.
+    /// Returns a slot that no session has had yet, with an empty reply window of `size` commands, 1 to 64 (a premise).
+    /// The call takes from `alloc` the memory for the window. The only refusal is `AllocError`, if the allocator
+    /// refused memory.
     pub fn spare(alloc: Global, size: usize) -> Result<Slot, AllocError>
         requires { (0 < size) × (size ≤ 64) }
         ensures { IfOk result (λ s. s ≡ opened_session size (record { ip = 0; port = 0 }) 0) }
@@ -68,7 +69,8 @@ impl Slot {
         })
     }
 
-    /// Begins a session of the peer at a moment, in milliseconds: with an empty window, and a heartbeat of 5,000 ms.
+    /// Begins a session of the peer at a moment, in milliseconds: with an empty reply window, and a heartbeat of 5,000
+    /// ms. The earlier session of the slot is lost. The call refuses nothing and takes no memory.
     pub fn open(&mut self, peer: Peer, moment: u64)
         ensures { self.new ≡ opened_session self.old.retained.size peer moment }
     {
@@ -79,76 +81,82 @@ impl Slot {
         self.window.clear();
     }
 
-    /// The peer whose session the slot has.
+    /// Returns the peer whose session the slot has.
     pub fn peer(&self) -> Peer
         ensures { result ≡ self.now.peer }
     {
         self.peer
     }
 
-    /// Whether the slot has the session of this peer: the same address and port.
+    /// Returns whether the slot has the session of this peer: the same address and port.
     pub fn is_of(&self, peer: Peer) -> bool
         ensures { result ≡ is_of peer self.now }
     {
         self.key == key_of(peer)
     }
 
-    /// Whether, at this moment in milliseconds, the peer was not heard for more than three of its heartbeats.
+    /// Returns whether the peer was not heard for more than three of its heartbeats at this moment, in milliseconds
+    /// (*profile*).
     pub fn is_lapsed(&self, moment: u64) -> bool
         ensures { result ≡ is_lapsed moment self.now }
     {
         3 * u64::from(self.heartbeat) < moment.saturating_sub(self.heard)
     }
 
-    /// The latest moment, in milliseconds, at which the peer is not yet silent for more than three of its heartbeats,
-    /// if it is not heard before. It may be past.
+    /// Returns the latest moment, in milliseconds, at which the peer is not yet silent for more than three of its
+    /// heartbeats, if it is not heard before. The moment can be past.
     pub fn quiet_until(&self) -> u64
         ensures { result ≡ latest_of self.now }
     {
         self.heard.saturating_add(3 * u64::from(self.heartbeat))
     }
 
-    /// Whether, at this moment in milliseconds, the session is still kept: its peer was heard at most 120,000 ms ago.
+    /// Returns whether the session still stays at this moment, in milliseconds: its peer was heard at most 120,000 ms
+    /// before (*profile*).
     pub fn stays(&self, moment: u64) -> bool
         ensures { result ≡ stays moment self.now }
     {
         moment.saturating_sub(self.heard) <= LONGEST_SILENCE
     }
 
-    /// The first moment, in milliseconds, at which the peer was silent for more than three of its heartbeats, if it is
-    /// not heard before. It may be past. `None` if that moment lies beyond 64 bits.
+    /// Returns the first moment, in milliseconds, at which the peer was silent for more than three of its heartbeats,
+    /// if it is not heard before. The moment can be past. The result is `None` if the moment does not fit 64 bits.
     pub fn lapsed_from(&self) -> Option<u64>
         ensures { HoldsFrom (λ t. is_lapsed t self.now) result }
     {
         passes_from(self.heard, 3 * u64::from(self.heartbeat))
     }
 
-    /// The first moment, in milliseconds, at which the peer was silent for more than 120,000 ms, if it is not heard
-    /// before. It may be past. `None` if that moment lies beyond 64 bits.
+    /// Returns the first moment, in milliseconds, at which the peer was silent for more than 120,000 ms, if it is not
+    /// heard before. The moment can be past. The result is `None` if the moment does not fit 64 bits.
     pub fn forgotten_from(&self) -> Option<u64>
         ensures { HoldsFrom (λ t. not (stays t self.now)) result }
     {
         passes_from(self.heard, LONGEST_SILENCE)
     }
 
-    /// Notes that the peer was heard at a moment, in milliseconds: its silence ends.
+    /// Notes that the peer was heard at a moment, in milliseconds: its silence ends. Nothing else is changed.
     pub fn note(&mut self, moment: u64)
         ensures { self.new ≡ heard_at moment self.old }
     {
         self.heard = moment;
     }
 
-    /// Sets the heartbeat to `ms` milliseconds: to 250 if `ms` is below that, and to 30,000 if `ms` is above that.
+    /// Sets the heartbeat to `ms` milliseconds (*profile*): to 250 if `ms` is below 250, and to 30,000 if `ms` is above
+    /// 30,000.
     pub fn set_heartbeat(&mut self, ms: u64)
         ensures { self.new ≡ with_heartbeat ms self.old }
     {
         self.heartbeat = ms.min(GREATEST_HEARTBEAT).max(LEAST_HEARTBEAT) as u32;
     }
 
-    /// Judges a command by the session's window. `Kept` with its reply if the command is a duplicate: a retained
-    /// command has its handle and asks the same (target, DefLevel, MethodIndex, ParamCount and parameter bytes).
-    /// `Reused` if a retained command has its handle and asks something else. `Old` if no retained command has its
-    /// handle, and the handle is not above one that the window pushed out. `Fresh` otherwise. Nothing is changed.
+    /// Judges a command by the session's reply window (*profile*). Nothing is changed. The result is:
+    /// - `Kept` with the reply, if the window has a command with this handle that asks the same: the same target,
+    ///   DefLevel, MethodIndex, ParamCount and parameter bytes.
+    /// - `Reused` if the window has a command with this handle that asks something else.
+    /// - `Old` if no command in the window has this handle, and the handle is not above a handle that the window pushed
+    ///   out.
+    /// - `Fresh` otherwise.
     pub fn judge(&self, command: &Command<'_>) -> Judged<'_>
         ensures exact { as_judgement result ≡ judgement_by_window self.now.retained (fields_of command.now) }
         ensures accepted { (w : ℕ) (A : List Entry) → AgreesWithAccepted w A self.now.retained →
@@ -157,8 +165,9 @@ impl Slot {
         self.window.judge(command)
     }
 
-    /// Retains a fresh command, with its reply, in the session's window. A full window pushes its oldest command out.
-    /// The command must be fresh and have at most 1,445 bytes of parameters (premises).
+    /// Stores a fresh command, with its reply, in the session's reply window (*profile*). A full window pushes its
+    /// oldest command out. The command must be fresh ([`judge`](Slot::judge)) and have at most 1,445 bytes of
+    /// parameters (premises). The call refuses nothing and takes no memory.
     pub fn keep(&mut self, command: &Command<'_>, reply: &Reply)
         requires fresh { judgement_by_window self.old.retained (fields_of command.now) ≡ Fresh }
         requires room { length command.now.params.now ≤ most_command_parameter_bytes }

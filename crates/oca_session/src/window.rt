@@ -15,16 +15,18 @@ use oca_types::{Command, Handle, Reply};
 use std::alloc::{AllocError, Global};
 use std::marker::Model;
 
-/// What the reply window of a session says of a command.
+/// What the reply window of a session says of a command (*profile*). The window contains the last accepted commands of
+/// the session, each with its reply.
 #[derive(Clone, Copy, Debug)]
 pub enum Judged<'a> {
-    /// No accepted command has its handle, which is above all that the window pushed out: execute it.
+    /// No command in the window has this handle, and the handle is above all handles that the window pushed out:
+    /// execute the command.
     Fresh,
-    /// It is a duplicate of a command in the window, which got this reply. What counts these calls them `kept`.
+    /// The command is a duplicate of a command in the window, which got this reply: send the reply again.
     Kept(&'a Reply),
-    /// A command in the window has its handle, and asks something else.
+    /// A command in the window has this handle, but asks something else.
     Reused,
-    /// Its handle is not in the window, and at or below one that the window pushed out.
+    /// No command in the window has this handle, and the handle is not above a handle that the window pushed out.
     Old,
 }
 
@@ -44,8 +46,8 @@ impl Held {
     }
 }
 
-/// The last accepted commands of a session with their replies, and the floor, the greatest handle that was
-/// pushed out of the window.
+/// The last accepted commands of a session with their replies, and the *floor*: the greatest handle that was pushed out
+/// of the window.
 #[derive(Drop)]
 pub struct ReplyWindow {
     /// The commands, oldest first. A command that is pushed to it when it is full pushes the oldest out.
@@ -77,8 +79,8 @@ impl Model for ReplyWindow {
 }
 
 impl ReplyWindow {
-    /// An empty window of `size` commands, 1 to 64 (a premise). The call takes the memory for all that it will retain.
-    /// Refusal: `AllocError`, if memory was refused.
+    /// Returns an empty reply window of `size` commands, 1 to 64 (a premise). The call takes from `alloc` the memory
+    /// for all that the window will contain. The only refusal is `AllocError`, if the allocator refused memory.
     pub fn new(alloc: Global, size: usize) -> Result<ReplyWindow, AllocError>
         requires { (0 < size) × (size ≤ 64) }
         ensures { IfOk result (λ k. k ≡ retained_of size []) }
@@ -93,7 +95,8 @@ impl ReplyWindow {
         })
     }
 
-    /// Empties the window for another session: no command is retained or old. The size of the window stays.
+    /// Empties the window for another session: it then contains no command, and no handle is old. Its size stays. The
+    /// call refuses nothing.
     pub fn clear(&mut self)
         ensures { self.new ≡ retained_of self.old.size [] }
     {
@@ -103,10 +106,13 @@ impl ReplyWindow {
         self.above = 0;
     }
 
-    /// Judges a command by the window. `Kept` with its reply if the command is a duplicate: a retained command has its
-    /// handle and asks the same (target, DefLevel, MethodIndex, ParamCount and parameter bytes). `Reused` if a retained
-    /// command has its handle and asks something else. `Old` if no retained command has its handle, and the handle is
-    /// not above one that the window pushed out. `Fresh` otherwise. Nothing is changed.
+    /// Judges a command by the window (*profile*). Nothing is changed. The result is:
+    /// - `Kept` with the reply, if the window has a command with this handle that asks the same: the same target,
+    ///   DefLevel, MethodIndex, ParamCount and parameter bytes.
+    /// - `Reused` if the window has a command with this handle that asks something else.
+    /// - `Old` if no command in the window has this handle, and the handle is not above a handle that the window pushed
+    ///   out.
+    /// - `Fresh` otherwise.
     pub fn judge(&self, command: &Command<'_>) -> Judged<'_>
         ensures exact { as_judgement result ≡ judgement_by_window self.now (fields_of command.now) }
         ensures accepted { (w : ℕ) (A : List Entry) → AgreesWithAccepted w A self.now →
@@ -150,8 +156,9 @@ impl ReplyWindow {
         Judged::Fresh
     }
 
-    /// Retains a fresh command, with its reply. A full window pushes its oldest command out. The command must be fresh
-    /// and have at most 1,445 bytes of parameters (premises).
+    /// Stores a fresh command, with its reply, in the window (*profile*). A full window pushes its oldest command out.
+    /// The command must be fresh ([`judge`](ReplyWindow::judge)) and have at most 1,445 bytes of parameters (premises).
+    /// The call refuses nothing and takes no memory.
     pub fn keep(&mut self, command: &Command<'_>, reply: &Reply)
         requires fresh { judgement_by_window self.old (fields_of command.now) ≡ Fresh }
         requires room { length command.now.params.now ≤ most_command_parameter_bytes }

@@ -6,8 +6,9 @@ use oca_script::ObjectFault;
 use oca_tree::{AddFault, StartFault};
 use thiserror::Error;
 
-/// The fault of a line whose object the tree refuses. `NoSuchBlock` becomes `Container`, `TooDeep` becomes `Depth`,
-/// `BadText` becomes `Text`, and `BadRange` becomes `Range`. The others keep their names.
+/// Returns the fault of a line whose object the tree refuses (*profile*). `NoSuchBlock` becomes `Container`, `TooDeep`
+/// becomes `Depth`, `BadText` becomes `Text`, and `BadRange` becomes `Range`. The other faults keep their names. The
+/// call refuses nothing.
 pub fn fault_of(fault: AddFault) -> ObjectFault
     ensures { result ≡ object_fault_of fault }
 {
@@ -23,8 +24,9 @@ pub fn fault_of(fault: AddFault) -> ObjectFault
     }
 }
 
-/// The fault of a line whose object the tree refuses together with what was stored of it. `BadLabel` becomes `Text`,
-/// `BadFlags` becomes `Value`, and a fault in `Add` becomes what [`fault_of`] returns for it.
+/// Returns the fault of a line whose object the tree refuses together with its stored label and flags (*profile*).
+/// `BadLabel` becomes `Text`, `BadFlags` becomes `Value`, and a fault in `Add` becomes what [`fault_of`] returns for
+/// it. The call refuses nothing.
 pub fn fault_of_stored(fault: StartFault) -> ObjectFault
     ensures { result ≡ stored_fault_of fault }
 {
@@ -35,13 +37,13 @@ pub fn fault_of_stored(fault: StartFault) -> ObjectFault
     }
 }
 
-/// Why a text gives no tree.
+/// Why a text is not a tree of objects (*profile*). No tree is returned.
 #[derive(Clone, Copy, PartialEq, Eq, Debug, Error)]
 pub enum TreeFault {
-    /// The line of this number, counted from 1 with the skipped ones, is the first with a fault.
+    /// The first line with a fault: its number, counted from 1 with the skipped lines, and the fault.
     #[error("line {0}: {1}")]
     Line(u64, ObjectFault),
-    /// Memory was refused.
+    /// The allocator refused the memory for 4,096 objects.
     #[error("no memory")]
     NoMemory,
 }

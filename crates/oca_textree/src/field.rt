@@ -13,10 +13,10 @@ use oca_script::field::{number, split_at_byte};
 use oca_types::Class;
 use std::str::from_utf8;
 
-/// Reads the next field of a line, and returns it and the rest of the line after it. `rest` is what is left of the line
-/// before; it is `None` if no field is left. A field that begins with a quote ends at the next quote, and is returned
-/// without its quotes. Any other field ends at the next space. An empty rest is one empty field. Refusal: `Form` if
-/// `rest` is `None`, or a quote is not closed, or not followed by a space or the line's end.
+/// Reads the next field of a line; returns the field and the rest of the line after it (*profile*). `rest` is the rest
+/// of the line before; `None` means that no field is left. A field that begins with a quote ends at the next quote, and
+/// is returned without its quotes. Any other field ends at the next space. An empty rest is one empty field. The only
+/// refusal is `Form`, if `rest` is `None`, or a quote is not closed, or is not followed by a space or the line's end.
 #[tactic(auto, unfolding(crate::specs::Lines::field_at))]
 pub fn field<'a>(rest: Option<&'a [u8]>) -> Result<(&'a [u8], Option<&'a [u8]>), ObjectFault>
     ensures { field_view result ≡ field_at (option_copied rest.entry) }
@@ -65,8 +65,8 @@ fn quoted(inside: &[u8]) -> Result<(&[u8], Option<&[u8]>), ObjectFault>
     }
 }
 
-/// The bytes as a text. `None` if they are not UTF-8, or if they contain a character that the programs print as an
-/// escape, such as a control character. A backslash is allowed.
+/// Returns the bytes as a text. The result is `None` if they are not UTF-8, or have a character that the programs print
+/// as an escape, such as a control character (*profile*). A backslash is allowed. The text can be of any length.
 pub fn text_of(bytes: &[u8]) -> Option<&str>
     ensures { MatchOption result (is_text bytes.now ≡ false) (λ t. (t.now ≡ bytes.now) × (is_text bytes.now ≡ true)) }
 {
@@ -98,10 +98,12 @@ fn next_ono(rest: Option<&[u8]>) -> Result<(u32, Option<&[u8]>), ObjectFault>
     }
 }
 
-/// Reads the next three fields: the number of an object, the number of its container and its class. Returns them and
-/// the rest of the line. `rest` is what is left of the line before; it is `None` if no field is left. Refusals, the
-/// first from the left: `Form` if no field is left, or a quote is not closed, or not followed by a space or the line's
-/// end. `Number` if a number is not 1 to 10 digits within 32 bits. `Class` if the word is no name of a class.
+/// Reads the next three fields of a line: the number of an object, the number of its container and its class
+/// (*profile*). Returns them and the rest of the line. `rest` is the rest of the line before; `None` means that no
+/// field is left. Refusals, the first from the left:
+/// - `Form` if no field is left, or a quote is not closed, or is not followed by a space or the line's end.
+/// - `Number` if a number does not have 1 to 10 digits, or is above 4,294,967,295.
+/// - `Class` if the word is not the name of a class.
 #[tactic(auto, unfolding(crate::specs::PrivateLines::placed_at))]
 pub fn placed(rest: Option<&[u8]>) -> Result<(u32, u32, Class, Option<&[u8]>), ObjectFault>
     ensures { placed_view result ≡ placed_at (option_copied rest.entry) }
@@ -178,7 +180,7 @@ fn unsigned_class(word: &[u8]) -> Option<Class>
     None
 }
 
-/// Whether a line has a control character: a byte below 32.
+/// Returns whether the line has a control character: a byte below 32. `false` for an empty line.
 pub fn has_control(line: &[u8]) -> bool
     ensures { result ≡ has_control_byte line.now }
 {

@@ -4,14 +4,15 @@ ghost use Rattle.oca_textree.specs.Made.{MadeIsReadBack, ListedIsReadBack};
 
 use oca_tree::Tree;
 
-/// Laws: the text that [`print_tree`](crate::print_tree) prints of some objects is read back by
-/// [`tree_from_text`](crate::tree_from_text). It gives the same objects in three cases.
-///
-/// First, objects that a builder's calls added or a text listed, and that later commands, the local front panel and the
-/// release of locks changed. They are read back without their locks, and as if no hardware refused. Second, objects
-/// that a text listed: they are read back exactly as they are. Third, any other objects, if the first is a lockable
-/// block with the role `root`, each has a role, and texts and numbers are within their types. They are read back as in
-/// the first case. The function does nothing at run time.
+/// Laws: the text that [`print_tree`](crate::print_tree) prints of the objects of `tree` is read back by
+/// [`tree_from_text`](crate::tree_from_text) (*profile*). Its contract states them; the function does nothing at run
+/// time.
+/// - Objects that the calls of a builder or a text added, and that commands, the local front panel and the release of
+///   locks then changed: the same objects are read back. They are not locked, and their hardware does not refuse
+///   changes.
+/// - Objects as a text listed them: exactly these objects are read back.
+/// - Any other objects, if the first is a lockable block with the role `root`, each has a role, and texts and numbers
+///   fit their types: as in the first law.
 pub fn law_of_texts(tree: &Tree)
     ensures made { MadeIsReadBack tree.now }
     ensures listed { ListedIsReadBack tree.now }

@@ -27,7 +27,7 @@ type Flags = ArrayVec<bool, 16>;
 /// The names of a switch's positions.
 type Names = ArrayVec<Text, 16>;
 
-/// The end of a line.
+/// The last fields of a line: whether the object can be locked, its role, whether it is enabled, and its label.
 #[derive(Drop)]
 pub struct Ending {
     lockable: bool,
@@ -126,11 +126,12 @@ fn positions<'a>(
     }
 }
 
-/// Reads the two last fields of a line: whether the object is enabled (`on` or `off`), and its label. `rest` is what is
-/// left of the line; it is `None` if no field is left. Refusals, the first from the left: `Form` if no field is left,
-/// or a quote is not closed, or not followed by a space or the line's end. `Value` if the word is neither `on` nor
-/// `off`. `Text` if the label is no text of at most 64 bytes ([`text_at`](crate::quoted::text_at)). `Form` also if
-/// anything is left after the label.
+/// Reads the last two fields of a line: whether the object is enabled (`on` or `off`), and its label (*profile*).
+/// `rest` is the rest of the line; `None` means that no field is left. Refusals, the first from the left:
+/// - `Form` if no field is left, or a quote is not closed, or is not followed by a space or the line's end.
+/// - `Value` if the word is neither `on` nor `off`.
+/// - `Text` if the label is not a text of at most 64 bytes ([`text_at`](crate::quoted::text_at)).
+/// - `Form` if anything is left after the label.
 #[tactic(auto, unfolding(crate::specs::Stored::start_at))]
 pub fn start_of(rest: Option<&[u8]>) -> Result<(bool, Text), ObjectFault>
     ensures { result ≡ start_at (option_copied rest.entry) }
@@ -292,10 +293,11 @@ fn add_of_class(
     add(builder, container, ono, kind, None, rest)
 }
 
-/// Adds the object that the fields of a line list, with all that was stored of it, after all others ([`crate`]
-/// describes these fields). The builder must have room for 4,096 objects (a premise). Refusal, which leaves the builder
-/// unchanged: the fault of the first field, from the left, that can't be read. If all can be read, the reason for which
-/// the tree refuses the object. [`ObjectFault`] says when each comes.
+/// Adds the object that the fields of a line list to the builder, with its stored label and flags, after all others
+/// ([`crate`] describes the fields; *profile*). The builder must have room for 4,096 objects (a premise). A refusal
+/// leaves the builder unchanged. It is the fault of the first field, from the left, that cannot be read. If all fields
+/// can be read, it is the reason for which the tree refuses the object. [`ObjectFault`] says when each fault comes. The
+/// call takes no memory.
 #[tactic(auto, using(crate::proofs::OrderLemmas::placed_rules))]
 pub fn add_stored(builder: &mut TreeBuilder, line: &[u8]) -> Result<(), ObjectFault>
     requires { builder.old.room ≡ 4096 }

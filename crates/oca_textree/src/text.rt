@@ -23,10 +23,13 @@ use std::alloc::Global;
 /// For how many objects there is room, the root counted.
 const MOST_OBJECTS: u16 = 4096;
 
-/// Reads the objects of a device from a text. The root comes first, and the first line may have what was stored of it.
-/// Then come the objects of the lines, in order. (The text's form is the profile's; [`crate`] describes it.) Refusals:
-/// `Line` if a line has a fault, with the number of the first such line, counted from 1, and its first fault.
-/// `NoMemory` if the memory for 4,096 objects was refused.
+/// Reads the objects of a device from a text, and returns them as a tree (the form of the text is the profile's;
+/// [`crate`] describes it). The root comes first, then the objects of the lines, in the order of the lines. The first
+/// line may begin with `root`, and then has the root's stored label and enabled flag. An empty text gives a tree of the
+/// root alone. The call takes from `alloc` the memory for 4,096 objects. Refusals:
+/// - `Line` with the number of the first line with a fault, counted from 1, and the first fault in the line.
+/// - `NoMemory` if the allocator refused memory. If the first line begins with `root` and has a fault, `Line` comes
+///   before, and no memory is taken.
 #[tactic(auto, unfolding(crate::specs::Texts::objects_of_text))]
 pub fn tree_from_text(alloc: Global, text: &[u8]) -> Result<Tree, TreeFault>
     ensures ok { IfOk result (λ tree. objects_of_text text.now ≡ ok tree) }

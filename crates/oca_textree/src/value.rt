@@ -58,7 +58,7 @@ fn polarity(word: &[u8]) -> Option<PolarityState>
     }
 }
 
-/// The Boolean that a word means: `on` is true, `off` is false. `None` for any other word.
+/// Returns the Boolean that a word means: true for `on`, false for `off`, and `None` for any other word (*profile*).
 #[tactic(auto, unfolding(crate::specs::Lines::one_of))]
 pub fn truth(word: &[u8]) -> Option<bool>
     ensures { result ≡ one_of (codes "on") true (codes "off") false word.now }
@@ -72,7 +72,8 @@ pub fn truth(word: &[u8]) -> Option<bool>
     }
 }
 
-/// Whether an object can be locked, by its word: `lockable` is true, `no-lock` is false. `None` for any other word.
+/// Returns whether an object can be locked, by a word: true for `lockable`, false for `no-lock`, and `None` for any
+/// other word (*profile*).
 #[tactic(auto, unfolding(crate::specs::Lines::one_of))]
 pub fn lockable(word: &[u8]) -> Option<bool>
     ensures { result ≡ one_of (codes "lockable") true (codes "no-lock") false word.now }
