@@ -4,7 +4,8 @@ ghost use Rattle.hex.specs.Hex.{encode_lower};
 
 use std::marker::Model;
 
-/// At most so many bytes.
+/// Bytes that are appended one after another, in room for `CAP` bytes. It takes no memory from the heap. Contracts see
+/// it as its bytes.
 #[derive(Drop)]
 pub struct Buffer<const CAP: usize> {
     bytes: [u8; CAP],
@@ -22,7 +23,7 @@ impl<const CAP: usize> Model for Buffer<CAP> {
 }
 
 impl<const CAP: usize> Buffer<CAP> {
-    /// A buffer without bytes; it takes no memory from the heap.
+    /// Returns a buffer without bytes, with room for `CAP` bytes. The call takes no memory from the heap.
     pub fn new() -> Self
         ensures { result ≡ [] }
     {
@@ -32,7 +33,7 @@ impl<const CAP: usize> Buffer<CAP> {
         }
     }
 
-    /// The number of bytes in the buffer: 0 to `CAP`.
+    /// Returns the number of bytes in the buffer: from 0, as at first, to `CAP`.
     pub fn len(&self) -> usize
         ensures len { result ≡ length self.now }
         ensures most { result ≤ CAP }
@@ -40,14 +41,14 @@ impl<const CAP: usize> Buffer<CAP> {
         self.len
     }
 
-    /// Whether there are no bytes in the buffer.
+    /// Returns whether there are no bytes in the buffer, as at first.
     pub fn is_empty(&self) -> bool
         ensures { result ≡ (length self.now == 0) }
     {
         self.len == 0
     }
 
-    /// The bytes in the buffer.
+    /// Returns the bytes in the buffer, in the order in which they were appended: from 0 to `CAP` bytes.
     pub fn as_slice(&self) -> &[u8]
         ensures value { result.now ≡ self.now }
         ensures most { length self.now ≤ CAP }
@@ -55,14 +56,14 @@ impl<const CAP: usize> Buffer<CAP> {
         &self.bytes[..self.len]
     }
 
-    /// Removes all bytes.
+    /// Removes all bytes from the buffer; then there is room for `CAP` bytes again.
     pub fn clear(&mut self)
         ensures { self.new ≡ [] }
     {
         self.len = 0;
     }
 
-    /// Appends the bytes. There must be room for them (a premise): with those before they are at most `CAP`.
+    /// Appends the bytes to the buffer. There must be room for them (a premise): all bytes together are at most `CAP`.
     #[inline]
     pub fn put(&mut self, bytes: &[u8])
         requires { length self.old + length bytes.now ≤ CAP }
@@ -74,7 +75,7 @@ impl<const CAP: usize> Buffer<CAP> {
         self.len = start + bytes.len();
     }
 
-    /// Appends a byte. There must be room for it (a premise): the buffer has fewer than `CAP` bytes.
+    /// Appends one byte to the buffer. There must be room for it (a premise): the buffer has fewer than `CAP` bytes.
     #[inline]
     pub fn push(&mut self, byte: u8)
         requires { length self.old + 1 ≤ CAP }
@@ -86,7 +87,8 @@ impl<const CAP: usize> Buffer<CAP> {
         self.len = start + 1;
     }
 
-    /// Appends the bytes in lower case hexadecimal digits, two a byte. There must be room for the digits (a premise).
+    /// Appends the bytes as lower-case hexadecimal digits, two for each byte. There must be room for the digits (a
+    /// premise): all bytes together are at most `CAP`.
     #[inline]
     pub fn put_digits(&mut self, bytes: &[u8])
         requires { length self.old + 2 * length bytes.now ≤ CAP }

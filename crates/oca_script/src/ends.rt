@@ -10,7 +10,7 @@ use std::io;
 use std::io::{Read, Write};
 use std::os::fd::{AsRawFd, RawFd};
 
-/// What a script is read from.
+/// Something from which a script is read, such as a file or the standard input (*profile*).
 pub trait Source {
     // The bytes that reads will give from here on, where they are known.
     ghost remaining: { Self → Option (List ℕ) };
@@ -21,23 +21,23 @@ pub trait Source {
     // Whether it is known that a read does not wait: since there are bytes, or the end is reached, or it never waits.
     ghost ready: { Self → Bool } = { λ _. true };
 
-    /// Waits for at most `milliseconds` until a read would not wait, or until the descriptor `beside` can be read
-    /// (`None`: no descriptor). It reads nothing. `true` if a read would not wait: there are bytes, or the end is
-    /// reached. `false` otherwise.
+    /// Waits for at most `milliseconds` until a read would not wait, or until the descriptor `beside` can be read. If
+    /// `beside` is `None`, there is no such descriptor. The call reads nothing. Returns `true` if a read would not
+    /// wait: there are bytes, or the end is reached. Returns `false` otherwise.
     fn await_input(&mut self, beside: Option<RawFd>, milliseconds: u64) -> bool
         ensures ready { ready self.new ≡ result }
         ensures source { input (remaining self.new) (failed self.new) ≡ input (remaining self.old) (failed self.old) };
 
-    /// Puts the next bytes at the front of the buffer, and returns how many there are. 0 means that the end is reached,
-    /// or that the buffer has no room. Refusal: `ReadFailed` if reading failed; what the buffer then holds is not
-    /// known.
+    /// Reads the next bytes into the front of `buf`, and returns how many they are: at most the length of `buf`. 0
+    /// means that the end is reached, or that `buf` has no room. The only refusal is `ReadFailed`, if reading failed;
+    /// what `buf` then contains is not known.
     fn read(&mut self, buf: &mut [u8]) -> Result<usize, ReadFailed>
         ensures within { ReadsAtMost result buf.new }
         ensures bytes { ReadConsumes (remaining self.old) (remaining self.new) result buf.new }
         ensures failed { Remembers result (failed self.old) (failed self.new) };
 }
 
-/// What the text that a script prints goes to.
+/// Something to which the text that a script prints is written, such as a file or the standard output (*profile*).
 pub trait Sink {
     // The bytes that it has taken, where they are known.
     ghost contents: { Self → Option (List ℕ) };
@@ -45,8 +45,9 @@ pub trait Sink {
     // Whether a write has failed.
     ghost failed: { Self → Bool };
 
-    /// Writes some bytes from the beginning of `bytes`, and returns how many: at least one, unless `bytes` is empty.
-    /// Refusal: `WriteFailed` if writing failed; then no byte was written.
+    /// Writes some bytes from the beginning of `bytes`, and returns how many: at least one, and 0 only if `bytes` is
+    /// empty. The caller writes the rest. The only refusal is `WriteFailed`, if writing failed; then no byte was
+    /// written.
     fn write(&mut self, bytes: &[u8]) -> Result<usize, WriteFailed>
         ensures within { WritesAtMost result bytes.now }
         ensures some { IfOk result (λ n. 0 < length bytes.now → 0 < n) }
@@ -54,8 +55,8 @@ pub trait Sink {
         ensures failed { Remembers result (failed self.old) (failed self.new) };
 }
 
-/// Any reader, with whether a read of it has failed, and its descriptor where it is to be awaited. That the flag is
-/// raised only where the reader failed is shown by tests: the standard library's readers have no word for a failure.
+/// A [`Source`] over any reader of the standard library (*profile*). It stores whether a read has failed. That this
+/// flag is set only if the reader failed is shown by tests, not proved.
 pub struct FromReader<R> {
     reader: R,
     failed: bool,
@@ -65,8 +66,8 @@ pub struct FromReader<R> {
 }
 
 impl<R: Read> FromReader<R> {
-    /// A source over this reader; no read of it has failed yet. It assumes that no read waits, as is true of files and
-    /// memory.
+    /// Returns a source over this reader, of which no read has failed yet (*profile*). The source assumes that no read
+    /// waits, as is true for files and memory. The call reads nothing and takes no memory.
     pub fn new(reader: R) -> FromReader<R>
         ensures reader { result.reader ≡ reader }
         ensures unfailed { result.failed ≡ false }
@@ -81,8 +82,9 @@ impl<R: Read> FromReader<R> {
         }
     }
 
-    /// A source over this reader; no read of it has failed yet. A read may wait, so the source asks the system whether
-    /// the reader's descriptor is ready.
+    /// Returns a source over this reader, of which no read has failed yet (*profile*). A read of it may wait, so the
+    /// source asks the operating system whether the reader's descriptor is ready. The call reads nothing and takes no
+    /// memory.
     pub fn awaited(reader: R) -> FromReader<R>
     where
         R: AsRawFd,
@@ -102,7 +104,7 @@ impl<R: Read> FromReader<R> {
 }
 
 impl<R: Drop> Drop for FromReader<R> {
-    /// Lets the reader go.
+    /// Drops the reader.
     fn drop(self) {
         let FromReader {
             reader: _,
@@ -121,8 +123,9 @@ impl<R: Read> Source for FromReader<R> {
 
     ghost ready = { λ s. s.ready };
 
-    /// Asks the system, where the descriptor is known. Where the system can't tell, a read is taken not to wait. A
-    /// terminal in whose background the program is has nothing to read.
+    /// Waits as [`Source::await_input`] says, by asking the operating system, if the descriptor is known. If the system
+    /// cannot answer, the call assumes that a read would not wait. If the reader is a terminal and the program is in
+    /// its background, the reader has nothing to read.
     fn await_input(&mut self, beside: Option<RawFd>, milliseconds: u64) -> bool {
         if let Some(descriptor) = self.descriptor {
             let asked = readable(descriptor, self.is_terminal);
@@ -131,7 +134,7 @@ impl<R: Read> Source for FromReader<R> {
         self.ready
     }
 
-    /// Reads once, and raises the flag where that fails.
+    /// Reads once from the reader, and stores whether this failed.
     fn read(&mut self, buf: &mut [u8]) -> Result<usize, ReadFailed> {
         self.ready = self.descriptor.is_none();
         match self.reader.read(buf) {
@@ -165,15 +168,16 @@ fn readable(descriptor: RawFd, is_terminal: bool) -> Option<RawFd>
     Some(descriptor)
 }
 
-/// Any writer, with whether a write to it has failed. A write that takes nothing has. That the flag is raised only
-/// there is shown by tests: the standard library's writers have no word for a failure.
+/// A [`Sink`] over any writer of the standard library (*profile*). It stores whether a write has failed; a write that
+/// takes no byte of some has failed. That the flag is set only then is shown by tests, not proved.
 pub struct ToWriter<W> {
     writer: W,
     failed: bool,
 }
 
 impl<W: Write> ToWriter<W> {
-    /// A sink over this writer; no write to it has failed yet.
+    /// Returns a sink over this writer, to which no write has failed yet (*profile*). The call writes nothing and takes
+    /// no memory.
     pub fn new(writer: W) -> ToWriter<W>
         ensures writer { result.writer ≡ writer }
         ensures unfailed { result.failed ≡ false }
@@ -186,7 +190,7 @@ impl<W: Write> ToWriter<W> {
 }
 
 impl<W: Drop> Drop for ToWriter<W> {
-    /// Lets the writer go.
+    /// Drops the writer.
     fn drop(self) {
         let ToWriter {
             writer: _,
@@ -200,7 +204,7 @@ impl<W: Write> Sink for ToWriter<W> {
 
     ghost failed = { λ s. s.failed };
 
-    /// Writes once, and raises the flag where that fails or takes nothing of some bytes.
+    /// Writes once to the writer, and stores whether this failed. A write that takes no byte of some has failed.
     fn write(&mut self, bytes: &[u8]) -> Result<usize, WriteFailed> {
         match self.writer.write(bytes) {
             Ok(count) => {

@@ -5,25 +5,26 @@ ghost use Rattle.oca_script.specs.Faults.{fault_word, script_fault_number};
 use std::fmt::{self, Display, Formatter};
 use thiserror::Error;
 
-/// What is wrong with a line. Each kind is looked for in the whole line before the next.
+/// What is wrong with a line of a script (*profile*). Each fault is looked for in the whole line before the next.
 #[derive(Clone, Copy, PartialEq, Eq, Debug)]
 pub enum LineFault {
-    /// More than 4,096 bytes before its line feed.
+    /// The line has more than 4,096 bytes before its line feed.
     TooLong,
-    /// A wrong number of fields, an unknown keyword, or a byte past ASCII.
+    /// The number of fields is wrong, a keyword is unknown, or a byte is not ASCII.
     Form,
-    /// A moment that is not 1 to 20 digits, or does not fit 64 bits.
+    /// A moment does not have 1 to 20 digits, or does not fit 64 bits.
     Moment,
-    /// Another number that is not of its form, or out of its range.
+    /// Another number does not have its form, or is out of its range.
     Number,
-    /// A peer that is not `a.b.c.d:port`.
+    /// A peer does not have the form `a.b.c.d:port`.
     Peer,
-    /// Bytes that are not an even number, two or more, of hexadecimal digits, nor `-`.
+    /// Bytes are neither `-` nor an even number, at least two, of hexadecimal digits.
     Hex,
 }
 
 impl LineFault {
-    /// The word that is printed for the fault, as PROTOCOL.md lists it.
+    /// Returns the word that is printed for the fault (*profile*): `too long`, `form`, `moment`, `number`, `peer` or
+    /// `hex`. The call refuses nothing.
     pub fn word(self) -> &'static str
         ensures { result.now ≡ fault_word self }
     {
@@ -47,25 +48,26 @@ impl Display for LineFault {
 
 impl std::error::Error for LineFault {}
 
-/// Why a replay ended before its script did.
+/// Why a replay ended before its script did (*profile*).
 #[derive(Clone, Copy, PartialEq, Eq, Debug, Error)]
 pub enum ReplayFault {
-    /// The line of this number, counted from 1 with the skipped ones, has this fault.
+    /// A line has a fault: its number, counted from 1 with the skipped lines, and the fault.
     #[error("line {0}: {1}")]
     Line(u64, LineFault),
-    /// A read failed.
+    /// A read of the source failed.
     #[error("read failed")]
     Read,
-    /// A write failed, or took nothing.
+    /// A write to the sink failed, or took no byte.
     #[error("write failed")]
     Write,
-    /// The script has more than 16,777,216 bytes, and no line among those has a fault.
+    /// The script has more than 16,777,216 bytes, and no line within these bytes has a fault.
     #[error("too much input")]
     TooMuch,
 }
 
 impl ReplayFault {
-    /// The number of the fault (*profile*): 1 a bad line, 2 a failed read, 3 a failed write, 4 too much input.
+    /// Returns the number of the fault (*profile*): 1 for a bad line, 2 for a failed read, 3 for a failed write, and 4
+    /// for too much input. The call refuses nothing.
     pub fn number(self) -> u8
         ensures { result ≡ script_fault_number self }
     {
@@ -78,13 +80,13 @@ impl ReplayFault {
     }
 }
 
-/// Why a line was not served.
+/// Why a line of a script was not served.
 #[derive(Clone, Copy, PartialEq, Eq, Debug, Error)]
 pub enum Stop {
-    /// It has this fault.
+    /// The line has this fault.
     #[error("{0}")]
     Line(LineFault),
-    /// A write failed, or took nothing.
+    /// A write to the sink failed, or took no byte.
     #[error("write failed")]
     Write,
 }
@@ -101,12 +103,12 @@ impl From<WriteFailed> for Stop {
     }
 }
 
-/// A read failed.
+/// A read of a source failed.
 #[derive(Clone, Copy, PartialEq, Eq, Debug, Error)]
 #[error("read failed")]
 pub struct ReadFailed;
 
-/// A write failed, or took nothing.
+/// A write to a sink failed, or took no byte.
 #[derive(Clone, Copy, PartialEq, Eq, Debug, Error)]
 #[error("write failed")]
 pub struct WriteFailed;

@@ -166,19 +166,18 @@ fn serve_piece<L: Language, W: Sink>(
     keep(progress, rest)
 }
 
-/// Serves the lines of a script, by the rules of the language `L`, until the end of the source (`reader`) or a fault.
-/// `state` is what the requests act on. `room` is memory for serving them; what it held before does not matter. What
-/// the printer held is written first, then the text of the requests before the first bad line. Before each read the
-/// language's `before_read` is called, so a read that may wait begins only if nothing is in flight. (The form of a
-/// script is the profile's.)
-///
-/// Faults: `Line` if a line is bad, with the number of the first such line, counted from 1, and its fault. `TooMuch` if
-/// the script has more than 16,777,216 bytes, and no line within them is bad. After these two, all requests before were
-/// served and their text was written.
-///
-/// `Read` if a read failed in this call, of a source that had not failed before. `Write` if a write failed in this
-/// call, of a sink that had not failed before. After these two, the requests up to some line were served, and no later
-/// ones. After `Read` all their text was written, after `Write` perhaps only the beginning of it.
+/// Serves the lines of a script by the rules of the language `L`, until the end of the source `reader` or a fault (the
+/// form of a script is the profile's). `state` is what the requests act on. `room` is memory for serving them, whose
+/// old content does not matter. What waits in `printer` is written first, then the text of the requests. Before each
+/// read [`Language::before_read`] is called, so that a read that can wait begins only if nothing is in flight. The call
+/// takes no memory. Refusals:
+/// - `Line` if a line is bad, with the number of the first such line, counted from 1, and its fault.
+/// - `TooMuch` if the script has more than 16,777,216 bytes, and no line within them is bad. After `Line` and
+///   `TooMuch`, all requests before were served, and their text was written.
+/// - `Read` if a read failed in this call, of a source that had not failed before. Some first requests were served, and
+///   all their text was written.
+/// - `Write` if a write failed in this call, to a sink that had not failed before. Some first requests were served, and
+///   perhaps only the beginning of their text was written.
 pub fn serve_lines<L: Language, R: Source, W: Sink>(
     state: &mut L::State,
     room: &mut L::Room,

@@ -4,41 +4,44 @@ ghost use Rattle.oca_script.specs.ObjectFaults.{object_fault_word};
 
 use std::fmt::{self, Display, Formatter};
 
-/// What is wrong with a line that lists an object: what is found first from its left, and where all its fields can be
-/// read why its object is not added.
+/// What is wrong with a line that lists an object (*profile*). It is the first fault of the line from the left. If all
+/// fields can be read, it is the reason for which the object is not added.
 #[derive(Clone, Copy, PartialEq, Eq, Debug)]
 pub enum ObjectFault {
-    /// A field is missing or too many, a quote is left open, or there is a control character.
+    /// A field is missing, there are too many fields, a quote is left open, or there is a control character.
     Form,
-    /// The object's number, its container's, or an integer is not of its form, or not of its type.
+    /// A number does not have its form, or does not fit its type: the object's, its container's or an integer.
     Number,
-    /// No such class.
+    /// The word is not the name of a class.
     Class,
-    /// No value of the class, no position of the switch, or other than one flag a position.
+    /// The word is not a value of the class, or not a position of the switch. Or there is not exactly one flag for each
+    /// position.
     Value,
-    /// Neither `lockable` nor `no-lock`.
+    /// The word is neither `lockable` nor `no-lock`.
     Lockable,
-    /// The role is empty, or the role or a position's name has more than 64 bytes, is not UTF-8, or has a character
-    /// that is printed as an escape, a backslash left aside.
+    /// The role is empty. Or the role, the label or a position's name has more than 64 bytes, is not UTF-8, or has a
+    /// character that is printed as an escape (a backslash is allowed).
     Text,
-    /// 4,096 objects are there, the root counted.
+    /// There are already 4,096 objects, the root counted.
     Full,
-    /// The number is below 4096.
+    /// The object's number is below 4096.
     Reserved,
-    /// The number is there.
+    /// Another object has the number.
     Taken,
-    /// The container is no block that stands before.
+    /// The container is not a block of an earlier line.
     Container,
-    /// The object would stand at depth 9; the root is at depth 1.
+    /// The object would be at depth 9; the root is at depth 1.
     Depth,
-    /// The least is above the greatest, the setting is outside them, or there are more than 16 positions.
+    /// The setting is not between the least and the greatest, or there are more than 16 positions.
     Range,
-    /// Memory was refused.
+    /// The allocator refused memory.
     NoMemory,
 }
 
 impl ObjectFault {
-    /// The word that is printed for the fault, as PROTOCOL.md lists it.
+    /// Returns the word that is printed for the fault, as PROTOCOL.md lists it (*profile*): `form`, `number`, `class`,
+    /// `value`, `lockable`, `text`, `full`, `reserved`, `taken`, `container`, `depth`, `range` or `no memory`. The call
+    /// refuses nothing.
     pub fn word(self) -> &'static str
         ensures { result.now ≡ object_fault_word self }
     {

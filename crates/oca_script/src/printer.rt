@@ -12,7 +12,7 @@ use std::marker::Model;
 /// The most bytes that are held.
 const CAPACITY: usize = 8192;
 
-/// A sink, and what is printed and not yet handed to it.
+/// A sink, with room for 8,192 bytes that are printed and wait to be written to the sink (*profile*).
 pub struct Printer<W: Sink> {
     sink: W,
     held: Buffer<CAPACITY>,
@@ -27,14 +27,15 @@ impl<W: Sink> Model for Printer<W> {
 }
 
 impl<W: Sink + Drop> Drop for Printer<W> {
-    /// Lets the sink go. What is held is not handed to it.
+    /// Drops the sink. Bytes that wait in the printer are lost; call [`flush`](Printer::flush) before.
     fn drop(self) {
         let Printer { sink: _, held: _ } = self;
     }
 }
 
 impl<W: Sink> Printer<W> {
-    /// A printer over this sink that holds nothing.
+    /// Returns a printer over this sink, in which no bytes wait (*profile*). It has room for 8,192 bytes. The call
+    /// writes nothing and takes no memory from the heap.
     pub fn new(sink: W) -> Printer<W>
         ensures { result ≡ output (W.contents sink) [] (W.failed sink) }
     {
@@ -44,7 +45,8 @@ impl<W: Sink> Printer<W> {
         }
     }
 
-    /// The sink. The bytes that the printer still holds are not yet in it.
+    /// Returns the sink of the printer. Bytes that still wait in the printer are not yet written to it
+    /// ([`flush`](Printer::flush)).
     pub fn sink(&self) -> &W
         ensures contents { W.contents result.now ≡ self.now.contents }
         ensures failed { W.failed result.now ≡ self.now.failed }
@@ -52,8 +54,9 @@ impl<W: Sink> Printer<W> {
         &self.sink
     }
 
-    /// Writes all held bytes to the sink; then nothing is held. Refusal: `WriteFailed` if a write failed. Then only the
-    /// beginning of them may have been written, and what is still held is not known.
+    /// Writes all bytes that wait in the printer to the sink; then no bytes wait (*profile*). If none wait, nothing is
+    /// written. The only refusal is `WriteFailed`, if a write failed. Then perhaps only the beginning of the bytes was
+    /// written, and what still waits is not known.
     pub fn flush(&mut self) -> Result<(), WriteFailed>
         ensures prints { Prints result self.old self.new [] }
         ensures empty { OnOk result (self.new.held ≡ []) }
@@ -61,9 +64,9 @@ impl<W: Sink> Printer<W> {
         write_held(&mut self.sink, &mut self.held)
     }
 
-    /// Makes room for `room` more bytes, at most 8,192 (a premise): if fewer are free, all held bytes are written to
-    /// the sink. Refusal: `WriteFailed` if a write failed. Then only the beginning of the held bytes may have been
-    /// written, and what is still held is not known.
+    /// Makes room for `room` more bytes, from 0 to 8,192 (a premise): if fewer are free, all bytes that wait are
+    /// written to the sink (*profile*). The only refusal is `WriteFailed`, if a write failed. Then perhaps only the
+    /// beginning of the bytes was written, and what still waits is not known.
     pub fn make_room(&mut self, room: usize) -> Result<(), WriteFailed>
         requires { room ≤ 8192 }
         ensures prints { Prints result self.old self.new [] }
@@ -72,17 +75,17 @@ impl<W: Sink> Printer<W> {
         free(&mut self.sink, &mut self.held, room)
     }
 
-    /// Prints the bytes, of any number: they are held, or written to the sink after what was held. Refusal:
-    /// `WriteFailed` if a write failed. Then only the beginning of both may have been written, and what is still held
-    /// is not known.
+    /// Prints the bytes, of any number (*profile*). They wait in the printer, or are written to the sink after the
+    /// bytes that waited before. The only refusal is `WriteFailed`, if a write failed. Then perhaps only the beginning
+    /// of all these bytes was written, and what still waits is not known.
     pub fn print(&mut self, bytes: &[u8]) -> Result<(), WriteFailed>
         ensures { Prints result self.old self.new bytes.now }
     {
         hold_or_write(&mut self.sink, &mut self.held, bytes)
     }
 
-    /// Holds the bytes after those that are held, and writes nothing. There must be room for them (a premise;
-    /// [`make_room`](Printer::make_room)).
+    /// Adds the bytes to those that wait in the printer, and writes nothing to the sink. There must be room for them (a
+    /// premise; [`make_room`](Printer::make_room)): at most 8,192 bytes wait. The call refuses nothing.
     #[inline]
     pub fn put(&mut self, bytes: &[u8])
         requires { length self.old.held + length bytes.now ≤ 8192 }
@@ -91,7 +94,9 @@ impl<W: Sink> Printer<W> {
         self.held.put(bytes);
     }
 
-    /// Holds the number in decimal digits, and writes nothing. There must be room for 20 bytes (a premise).
+    /// Adds the number in decimal digits, from 1 to 20 of them, to the bytes that wait in the printer, and writes
+    /// nothing to the sink. There must be room for 20 bytes (a premise; [`make_room`](Printer::make_room)). The call
+    /// refuses nothing.
     pub fn put_number(&mut self, n: u64)
         requires { length self.old.held ≤ 8172 }
         ensures value { self.new ≡ output self.old.contents (self.old.held ++ decimal n) self.old.failed }
@@ -100,8 +105,9 @@ impl<W: Sink> Printer<W> {
         put_decimal(&mut self.held, n);
     }
 
-    /// Holds the bytes in lower case hexadecimal digits, two a byte, or `-` for no bytes. There must be room for two
-    /// digits a byte, and one byte more (a premise).
+    /// Adds the bytes as lower-case hexadecimal digits, two for each byte, or `-` for no bytes, to the bytes that wait
+    /// in the printer. It writes nothing to the sink. There must be room for the digits and one byte more (a premise;
+    /// [`make_room`](Printer::make_room)). The call refuses nothing.
     pub fn put_hex(&mut self, bytes: &[u8])
         requires { length self.old.held + 2 * length bytes.now + 1 ≤ 8192 }
         ensures value { self.new ≡ output self.old.contents (self.old.held ++ hex_text bytes.now) self.old.failed }
@@ -111,8 +117,9 @@ impl<W: Sink> Printer<W> {
     }
 }
 
-/// Writes all of the bytes to the sink. Refusal: `WriteFailed` if a write failed; then only the beginning of them may
-/// have been written.
+/// Writes all of the bytes to the sink, with as many writes as needed (*profile*). If there are none, nothing is
+/// written. The only refusal is `WriteFailed`, if a write failed; then perhaps only the beginning of the bytes was
+/// written. The call takes no memory.
 pub fn write_bytes<W: Sink>(sink: &mut W, bytes: &[u8]) -> Result<(), WriteFailed>
     ensures { WritesBytes result (output (W.contents sink.old) [] (W.failed sink.old))
         (output (W.contents sink.new) [] (W.failed sink.new)) bytes.now }

@@ -3,10 +3,10 @@ ghost use Rattle.std.specs.Prelude.{◌≡◌, []};
 
 use super::buffer::Buffer;
 
-/// The most bytes of a line, its line feed not counted.
+/// The greatest number of bytes of a line, its line feed not counted: 4,096.
 pub const LONGEST_LINE: usize = 4096;
 
-/// What there is of a line whose line feed is still to come, and its number.
+/// How far a script was read: the bytes of the line that has not ended yet, and its number, counted from 1.
 #[derive(Drop)]
 pub struct Progress {
     pub line: Buffer<LONGEST_LINE>,
