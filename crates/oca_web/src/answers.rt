@@ -222,9 +222,11 @@ fn put_tree(alloc: Global, out: &mut Writer, view: &View, terms: &Terms) -> Resu
     out.end_object()
 }
 
-/// The answer to `/tree`, from what is known (`view`) and the terms of the service (`terms`): a JSON text with the
-/// walk, the device, the units of values, all objects and this run. The objects stand in the order in which they were
-/// found, a block before its members. Refusal: `AllocError`, if memory was refused.
+/// Returns the answer to a request of `/tree`: a JSON text with all objects that are known (*profile*). `view` is what
+/// is known of the device, and `terms` are the rules of the service. The text has the walk, the device, the units, the
+/// objects and the number of this run. The objects are in the order in which they were found, a block before its
+/// members. The call takes memory for the text. The only refusal is `AllocError`, if memory was refused; nothing is
+/// changed.
 #[tactic(auto, using(crate::proofs::ResultLemmas::tree_text))]
 pub fn tree_json(alloc: Global, view: &View, terms: &Terms) -> Result<Vec<u8>, AllocError>
     ensures { IfOk result (λ v. EndsWithRun terms.now.run v.items) }
@@ -363,7 +365,7 @@ fn put_link(out: &mut Writer, view: &View) -> Result<(), AllocError> {
     out.end_object()
 }
 
-/// The most ranges of places that a page shows.
+/// The greatest number of ranges of objects that a page shows at once: 8.
 pub const MOST_RANGES: usize = 8;
 
 /// The most objects of a range whose readings are told as old.
@@ -372,12 +374,12 @@ const MOST_IN_RANGE: usize = 512;
 /// A reading that was confirmed longer ago, in milliseconds, is told as old.
 const OLD_MS: u64 = 1000;
 
-/// A range of places.
+/// A range of objects in the list of objects.
 #[derive(Clone, Copy, Default)]
 pub struct Range {
-    /// The first place.
+    /// The place of the first object, counted from 0.
     pub first: usize,
-    /// How many.
+    /// The number of objects.
     pub count: usize,
 }
 
@@ -446,18 +448,18 @@ fn put_all_ages(
     out.end_array()
 }
 
-/// What an answer to /values is about, beside the view.
+/// What the answer to a request of `/values` contains, besides the view.
 #[derive(Clone, Copy)]
 pub struct Told<'a> {
-    /// What the page shows.
+    /// The ranges of objects that the page shows.
     pub ranges: &'a [Range],
     /// The number of this run of the program.
     pub run: u64,
-    /// Whether no order is taken.
+    /// Whether the panel refuses all orders.
     pub read_only: bool,
-    /// The number of the change behind which objects are told.
+    /// The number of the last change that the page knows: only objects that changed after it are listed.
     pub since: u64,
-    /// The ticket from which on it is told how orders ended.
+    /// The lowest ticket of which the answer lists how its order ended.
     pub ticket: u64,
 }
 
@@ -500,9 +502,10 @@ fn put_values(
     out.end_object()
 }
 
-/// The answer to `/values`, from what is known (`view`): a JSON text with how the link is, and how the last orders
-/// ended. It also has the objects that changed after the change that the page knows already; `told` says which change
-/// that is. Refusal: `AllocError`, if memory was refused.
+/// Returns the answer to a request of `/values`: a JSON text with the objects that changed, the state of the link, and
+/// how the last orders ended (*profile*). `view` is what is known of the device. `told` says after which change an
+/// object counts as changed, and from which ticket on orders are listed. The call takes memory for the text. The only
+/// refusal is `AllocError`, if memory was refused; nothing is changed.
 #[tactic(auto, using(crate::proofs::ResultLemmas::results_text))]
 pub fn values_json(alloc: Global, view: &View, told: &Told<'_>) -> Result<Vec<u8>, AllocError>
     ensures { IfOk result (λ v. EndsWithResults told.now.run told.now.ticket view.now.orders.results v.items) }
@@ -529,9 +532,10 @@ fn put_tickets(out: &mut Writer, ticket: u64, wanted: &[Wanted]) -> Result<(), A
     }
 }
 
-/// The answer to `/orders`: a JSON text with a ticket for each of the orders `wanted`. The first has the ticket
-/// `first`, and each other one the next number. All tickets must be below 2^64 (a premise). Refusal: `AllocError`, if
-/// memory was refused.
+/// Returns the answer to a request of `/orders`: a JSON text with a ticket for each of the orders `wanted` (*profile*).
+/// The first order has the ticket `first`, and each other order the next number. All tickets must be below 2^64 (a
+/// premise). The call adds no order. It takes memory for the text. The only refusal is `AllocError`, if memory was
+/// refused.
 #[tactic(auto, using(crate::proofs::TicketLemmas::tickets_text))]
 pub fn tickets_json(alloc: Global, first: u64, wanted: &[Wanted]) -> Result<Vec<u8>, AllocError>
     requires { first + length wanted.now ≤ 18446744073709551615 }

@@ -5,29 +5,31 @@ ghost use Rattle.oca_web.specs.Asking.{class_for, method_of_ask, request_of_ask}
 use oca_model::Request;
 use oca_types::{Class, Handle, Method};
 
-/// What is asked of an object.
+/// What the panel asks of an object to know it. Each question is a command that only reads.
 #[derive(Clone, Copy, PartialEq, Eq)]
 pub enum Ask {
-    /// The members of a block.
+    /// Which objects a block contains directly.
     Members,
-    /// Its role.
+    /// The role of the object.
     Role,
-    /// Its label.
+    /// The label of the object.
     Label,
-    /// Whether it can be locked.
+    /// Whether the object can be locked.
     Lockable,
-    /// Whether it is enabled.
+    /// Whether the object is enabled.
     Enabled,
     /// The names of a switch's positions.
     Names,
-    /// Which of a switch's positions are enabled.
+    /// For each position of a switch, whether the position is enabled.
     Flags,
-    /// What it is set to.
+    /// The setting of the object.
     Value,
 }
 
 impl Ask {
-    /// The request that asks this question; it only reads.
+    /// Returns the request that asks this question (AES70-2): GetMembers, GetRole, GetLabel, GetLockable, GetEnabled,
+    /// GetPositionNames, GetPositionEnableds, or the get method of the value. The request only reads. The call sends
+    /// nothing and refuses nothing.
     pub fn request(self) -> Request
         ensures { result ≡ request_of_ask self }
     {
@@ -43,8 +45,9 @@ impl Ask {
         }
     }
 
-    /// The method by which this question is asked. For the value it is `GetSetting`, whatever the object's class: the
-    /// answers of all get methods of a value are read alike.
+    /// Returns the method whose answer this question gets (AES70-2). For the value the method is `GetSetting` for each
+    /// class, since the answers of all get methods of a value are read in the same way. The call sends nothing and
+    /// refuses nothing.
     pub fn method(self) -> Method
         ensures { result ≡ method_of_ask self }
     {
@@ -61,8 +64,9 @@ impl Ask {
     }
 }
 
-/// The class by whose methods an object is asked: its own class. If that is not of this profile (`None`), it is
-/// OcaBlock, whose methods of OcaRoot all classes have.
+/// Returns the class whose methods are used to ask an object: the object's own class (*profile*). If this profile does
+/// not have the class (`None`), the result is OcaBlock, whose methods of OcaRoot all classes have (AES70-2). The call
+/// refuses nothing.
 pub fn class_for(class: Option<Class>) -> Class
     ensures { result ≡ class_for class }
 {
@@ -72,25 +76,25 @@ pub fn class_for(class: Option<Class>) -> Class
     }
 }
 
-/// A question about the object that stands at this place of the list, made in this round through the device.
+/// A question about one object of the list of objects.
 #[derive(Clone, Copy, PartialEq, Eq)]
 pub struct Question {
-    /// Where the object stands.
+    /// The place of the object in the list of objects, counted from 0.
     pub place: usize,
     /// What is asked.
     pub ask: Ask,
-    /// The walk in which the object was found.
+    /// The number of the walk in which the object was found ([`Inventory`](crate::Inventory)).
     pub epoch: u64,
 }
 
-/// A question in flight.
+/// A question whose command is in flight: it was submitted, and its answer was not taken yet.
 #[derive(Clone, Copy, PartialEq, Eq)]
 pub struct Asked {
     /// The handle of its command.
     pub handle: Handle,
     /// The question.
     pub question: Question,
-    /// When it was submitted, in milliseconds.
+    /// The moment when the command was submitted, in milliseconds of the program's clock.
     pub moment: u64,
 }
 

@@ -7,9 +7,9 @@ use oca_net::End;
 use oca_panel::Panel;
 use oca_types::{Class, Handle, Ono};
 
-/// Whether a question may be asked under the handle `next`, if `lowest` is the lowest handle in flight. `true` if no
-/// command is in flight (`None`), or `next` lies above `lowest` by less than half of the span. The other half is left
-/// for orders.
+/// Returns whether a question may be asked under the handle `next`, so that half of the span is left for orders
+/// (*profile*). `lowest` is the lowest handle in flight. The result is `true` if no command is in flight (`None`), or
+/// `next` is above `lowest` by less than half of `span`. The call sends nothing.
 pub fn leaves_half(lowest: Option<u32>, next: u32, span: u8) -> bool
     ensures { result ≡ leaves_half lowest next span }
 {
@@ -19,9 +19,10 @@ pub fn leaves_half(lowest: Option<u32>, next: u32, span: u8) -> bool
     }
 }
 
-/// Asks the object `ono` of this class one question, and returns the handle of the command, which only reads. `class`
-/// is `None` if it is not of this profile. `None` if `may` is false, or the panel refuses the command: then nothing is
-/// changed or sent.
+/// Asks the object `ono` one question over the panel, and returns the handle of its command (AES70-2). The command only
+/// reads, and is sent at once. `class` is the class of the object, and `None` if this profile does not have it. The
+/// result is `None` if `may` is false, or the panel refuses the command; then nothing is changed or sent. The call does
+/// not wait for the answer.
 pub fn ask_one<E: End>(
     panel: &mut Panel<E>,
     ono: Ono,

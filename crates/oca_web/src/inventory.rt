@@ -19,19 +19,22 @@ use oca_types::{Class, Handle, NoMemory, Ono};
 use std::alloc::Global;
 use std::collections::VecDeque;
 
-/// What a block listed in a walk.
+/// The members that a block listed in a walk.
 #[derive(Drop)]
 pub struct Listed {
-    /// Where the block stands.
+    /// The place of the block in the list of objects.
     pub place: usize,
     /// Its members.
     pub members: Vec<Member>,
 }
 
-/// What is known of a device, and what is asked of it.
+/// What is known of a device, and which questions are asked of it (*profile*).
 ///
-/// A walk begins at the root: the members of each block are asked, and of each object what does not change. Once
-/// nothing of it is left, the walk is over, and it stays over until another one begins.
+/// A *walk* finds the objects: it begins at the root, asks each block for its members, and asks of each object what
+/// does not change. A walk ends once all its questions were answered, and stays ended until another walk begins. After
+/// a walk, values are read again in *rounds* while a page is open. The *place* of an object is its index in the list of
+/// objects, counted from 0. A page is *open* for 2,500 ms after it asked for values. Moments are in milliseconds of the
+/// *program's clock*, which never goes back.
 #[derive(Drop)]
 pub struct Inventory {
     alloc: Global,
@@ -58,9 +61,9 @@ impl Inventory {
     ghost use Rattle.std.specs.Prelude.{slice_get};
     ghost use Rattle.oca_web.specs.Walking.{BeginsAnew, KeepsWalk};
 
-    /// An inventory of a device of which nothing is known: the walk begins at the root. `now` is the present moment of
-    /// the program's clock, in milliseconds. Nothing is asked of the device. Refusal: `NoMemory`, if memory was
-    /// refused.
+    /// Returns an inventory of a device of which nothing is known, with a walk that begins at the root (*profile*).
+    /// `now` is the present moment of the program's clock, in milliseconds. The call asks nothing of the device. It
+    /// takes memory from `alloc`, and later calls take more. The only refusal is `NoMemory`, if memory was refused.
     pub fn new(alloc: Global, now: u64) -> Result<Inventory, NoMemory> {
         let mut inventory = Inventory {
             alloc,
@@ -78,9 +81,10 @@ impl Inventory {
         Ok(inventory)
     }
 
-    /// Forgets the objects, and begins another walk. Questions in flight stay in flight, but their answers are not
-    /// used. Refusal: `NoMemory` if memory was refused; the objects are then forgotten all the same. `NoMemory` also if
-    /// this is the walk 2^64 - 1: then nothing is changed.
+    /// Forgets all objects, and begins another walk at the root (*profile*). Questions in flight stay in flight, but
+    /// their answers are then not used. The call sends nothing. Refusals, the first that applies: `NoMemory` if the
+    /// present walk has the number 2^64 - 1; nothing is then changed. `NoMemory` if memory was refused; the objects are
+    /// then forgotten all the same.
     pub fn begin_anew(&mut self) -> Result<(), NoMemory>
         ensures { BeginsAnew self.old self.new }
     {
@@ -134,33 +138,37 @@ impl Inventory {
         }
     }
 
-    /// The objects that were found so far, in the order in which they were found.
+    /// Returns the objects that were found so far, in the order in which they were found, a block before its members.
+    /// At first this is the root alone. The call refuses nothing and takes no memory.
     pub fn objects(&self) -> &Objects {
         &self.objects
     }
 
-    /// The number of the present walk, from 1 on.
+    /// Returns the number of the present walk: 1 for the first, and one more for each walk that begins. The call
+    /// refuses nothing.
     pub fn epoch(&self) -> u64 {
         self.epoch
     }
 
-    /// Whether the walk is over: everything that it had to ask was asked and answered.
+    /// Returns whether the walk ended: all its questions were answered. The result is `false` at first, and again after
+    /// [`begin_anew`](Inventory::begin_anew).
     pub fn is_walked(&self) -> bool
         ensures { result ≡ self.now.walked }
     {
         self.walked
     }
 
-    /// Whether an answer showed that the device changed since the walk, so that another walk must begin: a block lists
-    /// something else than it listed in the walk, or the device has other objects by now. `false` again after
-    /// [`begin_anew`](Inventory::begin_anew).
+    /// Returns whether an answer showed that the device changed since the walk, so that another walk must begin
+    /// (*profile*). A block lists other members than it listed in the walk, or another device answers. The result is
+    /// `false` at first, and again after [`begin_anew`](Inventory::begin_anew).
     pub fn is_stale(&self) -> bool
         ensures { result ≡ self.now.is_stale }
     {
         self.is_stale
     }
 
-    /// How many questions are in flight: 0 to 32.
+    /// Returns the number of questions in flight: they were submitted, and their answers were not taken yet. The result
+    /// is from 0, as at first, to 32.
     pub fn in_flight(&self) -> usize
         ensures { result ≡ length self.now.asked.items }
     {
@@ -283,10 +291,10 @@ impl Inventory {
         self.read_again(now)
     }
 
-    /// The question to ask at `now`, in milliseconds of the program's clock, so that what is known of an object stays
-    /// up to date. Its object then counts as read again at `now`. An object is due 5,000 ms after it was read again
-    /// last. If a page shows it, it is due after 100 ms, and a block then after 1,000 ms. `None` if no page is open, or
-    /// nothing is due in this round.
+    /// Returns the question to ask at `now`, in milliseconds of the program's clock, so that the values stay up to date
+    /// (*profile*). Its object then counts as read again at `now`. An object is due 5,000 ms after it was read again
+    /// last. If a page shows it, it is due after 100 ms, and a block then after 1,000 ms. The result is `None` if no
+    /// page is open, or nothing is due in this round. The call sends nothing and takes no memory.
     pub fn read_again(&mut self, now: u64) -> Option<Question>
         ensures reads { AsksAgain now result self.old self.new }
         ensures walk { KeepsWalk self.old self.new }
@@ -307,11 +315,11 @@ impl Inventory {
         }
     }
 
-    /// Notes `answer`: the answer to `question`, or the reason why there is none. `moment`, in milliseconds of the
-    /// program's clock, is not later than the submit of the question; the reading in an answer gets this moment. A
-    /// question of an earlier walk changes nothing. If the reason shows, after a walk, that another device answers by
-    /// now, another walk is asked for. Refusal: `NoMemory`, if memory was refused; what is known may then lack members
-    /// of a block.
+    /// Notes the answer to a question, or the reason why there is none (*profile*). `moment`, in milliseconds of the
+    /// program's clock, is not later than the submission of the question; a reading gets this moment. If the walk of
+    /// the question is not the present one, nothing is changed. If the reason shows, after a walk, that another device
+    /// answers by now, the inventory becomes stale ([`is_stale`](Inventory::is_stale)). The call sends nothing. The
+    /// only refusal is `NoMemory`, if memory was refused; members of a block may then be missing.
     #[tactic(auto, using(crate::proofs::AgeLemmas::moment_rules))]
     pub fn learn(
         &mut self,
@@ -480,11 +488,11 @@ impl Inventory {
         }
     }
 
-    /// Notes how an order ended (`done`): whose lock is on its object, and what the object is set to. Then the device
-    /// is asked again: for the object's label after an order for a label, otherwise for its value, if it has one. An
-    /// answer to the same question that is still in flight is not used, since it may be older than the order. An order
-    /// for an object that is not known changes nothing. Refusal: `NoMemory`, if memory was refused; the object may then
-    /// not be asked again.
+    /// Notes how an order ended (`done`): whose lock is on its object, and what the object is set to (*profile*). Then
+    /// the device is asked again: for the object's label after an order for a label, otherwise for its value, if it has
+    /// one. An answer to the same question that is still in flight is not used, since it can be older than the order.
+    /// If the order's object is not known, nothing is changed. The call sends nothing. The only refusal is `NoMemory`,
+    /// if memory was refused; the object may then not be asked again.
     pub fn learn_order(&mut self, order: Order, done: Result<(), Trouble>) -> Result<(), NoMemory>
         ensures walk { KeepsWalk self.old self.new }
         ensures learns { LearnsOrder order done self.old self.new }

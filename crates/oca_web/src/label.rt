@@ -8,7 +8,8 @@ use std::str;
 /// The most bytes of a label.
 const MOST_BYTES: usize = 64;
 
-/// A label that a page gives an object: at most 64 bytes of UTF-8, no control character of ASCII among them.
+/// A label that a page gives an object (OcaWorker, AES70-2): at most 64 bytes of UTF-8, without control characters of
+/// ASCII (*profile*).
 #[derive(Clone, Copy, PartialEq, Eq)]
 pub struct Label {
     bytes: [u8; MOST_BYTES],
@@ -19,8 +20,9 @@ impl Label {
     ghost use Rattle.std.specs.Prelude.{◌≡◌, ◌↔◌, true, IsSome, IfSome};
     ghost use Rattle.oca_web.specs.Labels.{IsTextOf, is_label, label_bytes};
 
-    /// The label with this text. `None` if the text has more than 64 bytes, or a control character of ASCII (below 32,
-    /// or 127).
+    /// Returns the label with this text, which can be empty (*profile*). The result is `None` if the text has more than
+    /// 64 bytes, or a control character of ASCII (below 32, or 127). The call copies the text, sends nothing and takes
+    /// no memory.
     pub fn new(text: &str) -> Option<Label>
         ensures some { IsSome result ↔ (is_label text.now ≡ true) }
         ensures same { IfSome result (λ label. label_bytes label ≡ text.now) }
@@ -37,7 +39,8 @@ impl Label {
         })
     }
 
-    /// The label's text: at most 64 bytes.
+    /// Returns a copy of the label's text: from 0 to 64 bytes of UTF-8 (*profile*). The call refuses nothing and takes
+    /// no memory.
     pub fn text(&self) -> Text
         ensures { IsTextOf self.now result }
     {

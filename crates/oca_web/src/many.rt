@@ -17,12 +17,12 @@ use std::alloc::Global;
 /// The most orders in one body.
 const MOST_ORDERS: usize = 64;
 
-/// Why many orders are not taken.
+/// Why the orders of a request are refused. None of them is added.
 #[derive(Clone, Copy)]
 pub struct Refusal {
-    /// The status.
+    /// The HTTP status of the answer.
     pub status: StatusCode,
-    /// The index of the order that is the reason, where one is.
+    /// The index of the order that is the reason, counted from 0, and `None` if it is the whole body.
     pub at: Option<usize>,
 }
 
@@ -33,18 +33,16 @@ fn whole(status: StatusCode) -> Refusal
     Refusal { status, at: None }
 }
 
-/// Reads the orders of a body in JSON. The body is an object with `run`, the number of a run of the program as a text,
-/// and `orders`, a list of 1 to 64 orders; it may also have `before`, the last moment. Each order has the number `ono`
-/// of its object, and one of `set` with a word, `label` with a text, `lock` with true and `unlock` with true. `known`
-/// is what is known of the device, and `run` is the number of this run of the program. Returns the orders with the last
-/// moment at which they may be submitted, in milliseconds of the program's clock. The moment is `None` if the body
-/// gives none. Nothing is ordered yet.
-///
-/// A refusal has the status to answer with, for the first fault that is found, and the index of the order that has it,
-/// if one has. The status is 400 if the body or an order does not have this form. The status is 409 if the body names
-/// another run than `run`. The status is 404 if an order's object is not known. The status is 422 if an order's word is
-/// no value of its object, or its label is too long or has a control character. The status is 503 if memory was refused
-/// for the orders.
+/// Reads the orders of a body in JSON (*profile*). The body is an object with `run`, the number of a run of the program
+/// as a text, and `orders`, a list of 1 to 64 orders. It may also have `before`, the last moment in milliseconds of the
+/// program's clock. Each order has the number `ono` of its object, and one of `set` with a word, `label` with a text,
+/// `lock` with true and `unlock` with true. `known` is what is known of the device, and `run` the number of this run.
+/// Returns the orders, and the last moment at which they may be submitted (`None` if the body gives none). Nothing is
+/// ordered yet. A refusal has the status of the first fault that is found:
+/// - 400 if the body or an order does not have this form, and 409 if the body names another run.
+/// - 404 if an order's object is not known.
+/// - 422 if an order's word is no value of its object, or its label is too long or has a control character.
+/// - 503 if memory was refused for the orders.
 pub fn orders_in(
     alloc: Global,
     known: &View,

@@ -7,19 +7,20 @@ use oca_model::{Flags, Names, Reading, Value, word_of};
 use oca_panel::Trouble;
 use oca_types::{Class, Ono, Text};
 
-/// Whose lock is on an object, as far as answers say.
+/// Whose lock is on an object, as far as the device's answers say.
 #[derive(Clone, Copy, PartialEq, Eq)]
 pub enum Lock {
-    /// None that is known.
+    /// No lock is known.
     Free,
-    /// This panel's own.
+    /// The lock of this panel.
     Own,
-    /// That of a different controller.
+    /// The lock of a different controller.
     Other,
 }
 
 impl Lock {
-    /// The lock's name in the answers to the page: `free`, `own` or `other`.
+    /// Returns the name of this state in the answers to the page: `free`, `own` or `other` (*profile*). The call
+    /// refuses nothing.
     pub fn name(self) -> &'static str {
         match self {
             Lock::Free => "free",
@@ -29,23 +30,25 @@ impl Lock {
     }
 }
 
-/// What changes of an object, and is sent again and again.
+/// What a page shows of an object that changes: its setting, its lock and why it could not be read.
 #[derive(Clone, Copy, PartialEq, Eq)]
 pub struct Shown {
-    /// What it is set to, with its limits; none before it was read.
+    /// The setting with its limits, and `None` before it was read.
     pub reading: Option<Reading>,
-    /// A moment behind which the device had this reading, in milliseconds; 0 before it was read.
+    /// A moment, in milliseconds of the program's clock: after this moment the device had this setting. 0 before the
+    /// first reading.
     pub confirmed: u64,
-    /// Why it could not be read, or a block's members be listed.
+    /// Why the object could not be read, or the members of a block could not be listed.
     pub trouble: Option<Trouble>,
-    /// Whose lock is on it.
+    /// Whose lock is on the object.
     pub lock: Lock,
-    /// Whether it is enabled.
+    /// Whether the object is enabled.
     pub enabled: bool,
 }
 
 impl Shown {
-    /// What is shown of an object before anything was read of it: no reading, no trouble, no lock, and enabled.
+    /// Returns what a page shows of an object before anything was read of it: no reading, no trouble, no known lock,
+    /// and enabled. The call refuses nothing and takes no memory.
     pub fn unread() -> Shown {
         Shown {
             reading: None,
@@ -68,35 +71,36 @@ impl Shown {
 /// An object of the device, as far as it is known.
 #[derive(Drop)]
 pub struct Object {
-    /// Its number.
+    /// The object number.
     pub ono: Ono,
-    /// The block that lists it.
+    /// The number of the block that lists the object.
     pub container: Ono,
-    /// Its class, where that is one of this profile.
+    /// The class, and `None` if this profile does not have the class.
     pub class: Option<Class>,
-    /// Its role.
+    /// The role, empty before it was read.
     pub role: Text,
-    /// Its label.
+    /// The label, empty before it was read.
     pub label: Text,
-    /// Whether it can be locked.
+    /// Whether the object can be locked, false before it was read.
     pub lockable: bool,
-    /// The names of a switch's positions.
+    /// The names of a switch's positions, in order.
     pub names: Names,
-    /// Which of a switch's positions are enabled.
+    /// For each position of a switch, whether the position is enabled.
     pub flags: Flags,
-    /// What changes of it.
+    /// What changes of the object.
     pub shown: Shown,
-    /// The number of the change after which it is as it stands here.
+    /// The number of the last change of this object ([`Objects`](crate::Objects)).
     pub changed: u64,
-    /// When it was read again last, in milliseconds.
+    /// The moment when the object was read again last, in milliseconds of the program's clock.
     pub asked: u64,
-    /// How often it was read again.
+    /// How often the object was read again.
     pub readings: u32,
 }
 
 impl Object {
-    /// A new object: only its number, its container and its class are known. The class is `None` if it is not of this
-    /// profile.
+    /// Returns an object of which only the number, the container and the class are known. `class` is `None` if this
+    /// profile does not have the class. Texts are empty, the object counts as not lockable and as enabled, and nothing
+    /// of it was read. The call refuses nothing and takes no memory.
     pub fn new(ono: Ono, container: Ono, class: Option<Class>) -> Object {
         Object {
             ono,
@@ -115,7 +119,8 @@ impl Object {
     }
 }
 
-/// The least and the greatest value of a reading. `None` for a mute, a polarity and a Boolean, which have no limits.
+/// Returns the least and the greatest value of a reading (AES70-2). The result is `None` for a mute, a polarity and a
+/// Boolean, which have no limits. The call takes no memory.
 pub fn limits_of(reading: Reading) -> Option<(Value, Value)> {
     match reading {
         Reading::Mute(_) | Reading::Polarity(_) | Reading::Boolean(_) => None,
@@ -131,8 +136,9 @@ pub fn limits_of(reading: Reading) -> Option<(Value, Value)> {
     }
 }
 
-/// The reading of an object after it was set to this value: the value, with the same limits. The limits are not
-/// checked: the value may be outside them. If the value is of another class, the reading is returned as it is.
+/// Returns the reading of an object after it was set to this value: the value, with the same limits. The value can be
+/// outside the limits, which are not checked. If the value is of another class, the reading is returned unchanged. The
+/// call sends nothing and takes no memory.
 pub fn reading_with(reading: Reading, value: Value) -> Reading
     ensures { result ≡ reading_set_to reading value }
 {
@@ -142,13 +148,14 @@ pub fn reading_with(reading: Reading, value: Value) -> Reading
     }
 }
 
-/// The word for the value of a reading: 1 to 20 bytes, such as `muted`, `on` or `-60`.
+/// Returns the word for the value of a reading, without its limits (*profile*): from 1 to 20 bytes, such as `muted`,
+/// `on` or `-60`. The call refuses nothing and takes no memory.
 pub fn word_in(reading: Reading) -> Text {
     word_of(reading.value())
 }
 
-/// The name of a class in the answers to the page, such as `mute`. `unknown` for `None`, a class that is not of this
-/// profile.
+/// Returns the name of a class in the answers to the page, such as `mute` (*profile*). The result is `unknown` for
+/// `None`, a class that this profile does not have. The call refuses nothing.
 pub fn class_name(class: Option<Class>) -> &'static str
     ensures { result.now ≡ name_of_class class }
 {
@@ -170,7 +177,9 @@ pub fn class_name(class: Option<Class>) -> &'static str
     }
 }
 
-/// Whether this is the name of a class of this profile, as [`class_name`] gives it; `false` for `unknown`.
+/// Returns whether a text is the name of a class of this profile in the answers to the page (*profile*): `block`,
+/// `mute`, `polarity`, `switch`, `boolean`, or an integer such as `int8` or `uint64`. The result is `false` for any
+/// other text, also for `unknown`.
 pub fn is_class_name(name: &str) -> bool {
     matches!(
         name,

@@ -7,33 +7,35 @@ use oca_model::{Request, Value};
 use oca_panel::Trouble;
 use oca_types::{Class, Handle, Ono};
 
-/// The most orders that wait.
+/// The greatest number of orders that wait: 256.
 pub const MOST_WAITING: usize = 256;
 
-/// The most orders that are in flight: as many as a span has handles.
+/// The greatest number of orders in flight: 32, as many as the greatest span has handles.
 pub const MOST_IN_FLIGHT: usize = 32;
 
-/// The most orders of which it is kept how they ended.
+/// The greatest number of ended orders whose results are stored: 512.
 pub const MOST_RESULTS: usize = 512;
 
-/// An order may be submitted for so many milliseconds behind the moment at which its request was read.
+/// For how many milliseconds after its request was read an order may be submitted: 5,000.
 pub const ORDER_MS: u64 = 5000;
 
 /// What a page wants done with an object.
 #[derive(Clone, Copy, PartialEq, Eq)]
 pub enum Action {
-    /// That it is set to this.
+    /// Set the object to this value.
     Set(Value),
-    /// That it is locked against all access of others.
+    /// Lock the object, so that other peers can neither read nor write (LockTotal of OcaRoot, AES70-2).
     Lock,
-    /// That this panel's lock is taken off.
+    /// Release this panel's lock (Unlock of OcaRoot, AES70-2).
     Unlock,
-    /// That it has this label.
+    /// Give the object this label (SetLabel of OcaWorker, AES70-2).
     Rename(Label),
 }
 
 impl Action {
-    /// The class by whose methods this is ordered: that of the value, or OcaBlock for a lock and a label.
+    /// Returns the class whose methods carry out this action (AES70-2): the class of the value to set, and OcaBlock for
+    /// a lock and a label. OcaBlock has the methods of OcaRoot and OcaWorker, as all classes here have. The call
+    /// refuses nothing.
     pub fn class(self) -> Class
         ensures { result ≡ class_asked self }
     {
@@ -43,7 +45,8 @@ impl Action {
         }
     }
 
-    /// The request that carries out this action.
+    /// Returns the request that carries out this action (AES70-2): the set method of the value's class, LockTotal,
+    /// Unlock or SetLabel. The call sends nothing, refuses nothing and takes no memory.
     pub fn request(self) -> Request
         ensures { AsksOrdered self result }
     {
@@ -56,25 +59,25 @@ impl Action {
     }
 }
 
-/// What is to be done with an object.
+/// An object and what a page wants done with it.
 #[derive(Clone, Copy, PartialEq, Eq)]
 pub struct Wanted {
-    /// The object.
+    /// The number of the object.
     pub ono: Ono,
-    /// What is to be done with it.
+    /// What is done with the object.
     pub action: Action,
 }
 
-/// An order of a page.
+/// An order: what a page wants done with an object, with its ticket.
 #[derive(Clone, Copy, PartialEq, Eq)]
 pub struct Order {
-    /// The number by which the page knows it.
+    /// The ticket: the number by which the page knows the order, from 1 on.
     pub ticket: u64,
-    /// The object.
+    /// The number of the object.
     pub ono: Ono,
-    /// What is to be done with it.
+    /// What is done with the object.
     pub action: Action,
-    /// The moment, in milliseconds, after which it must not be submitted.
+    /// The moment, in milliseconds of the program's clock, after which the order must not be submitted.
     pub last: u64,
 }
 
@@ -90,7 +93,7 @@ impl Default for Order {
     }
 }
 
-/// An order in flight.
+/// An order in flight: its command was submitted, and the outcome was not taken yet.
 #[derive(Clone, Copy, PartialEq, Eq)]
 pub struct Sent {
     /// The handle of its command.
@@ -112,20 +115,20 @@ impl Default for Sent {
 /// Why an order was not carried out.
 #[derive(Clone, Copy, PartialEq, Eq)]
 pub enum NotDone {
-    /// What became of its command, or why it had none.
+    /// What became of the order's command, or why it had no command.
     Trouble(Trouble),
-    /// It was never sent: the moment after which it must not be submitted had passed.
+    /// The order was never sent: the moment after which it must not be submitted had passed.
     TooLate,
 }
 
 /// How an order ended.
 #[derive(Clone, Copy, PartialEq, Eq)]
 pub struct OrderResult {
-    /// The number by which the page knows it.
+    /// The ticket: the number by which the page knows the order.
     pub ticket: u64,
-    /// The object.
+    /// The number of the object.
     pub ono: Ono,
-    /// Whether it was carried out, or why not.
+    /// `Ok` if the order was carried out, otherwise why not.
     pub done: Result<(), NotDone>,
 }
 

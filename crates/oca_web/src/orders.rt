@@ -12,7 +12,10 @@ use oca_panel::Trouble;
 use oca_types::{Handle, Ono};
 use std::marker::Model;
 
-/// The orders of the pages: those that wait, those in flight, and how the last ones ended. The call takes no memory.
+/// The orders of the pages (*profile*). An order *waits* until its command is submitted, then it is *in flight* until
+/// the outcome is known, and then its result is stored. At most 256 orders wait, 32 are in flight, and 512 results are
+/// stored. Each order has a *ticket*, the number by which its page knows it; tickets count up from 1. No call here
+/// takes memory.
 #[derive(Drop)]
 pub struct Orders {
     waiting: ArrayVec<Order, MOST_WAITING>,
@@ -41,7 +44,7 @@ impl Orders {
     ghost use Rattle.oca_web.specs.Orders.{result_of, has_waiting, not_done, with_all, with_lost, with_order, with_passed, with_result};
     ghost use Rattle.oca_web.specs.Orders.{with_unsent, without_waiting};
 
-    /// A list without orders, in which no ticket is used.
+    /// Returns a list without orders, in which no ticket is used. The call takes no memory from the heap.
     pub fn new() -> Orders
         ensures { result ≡ no_orders }
     {
@@ -53,16 +56,18 @@ impl Orders {
         }
     }
 
-    /// The ticket that the next order gets, from 1 on.
+    /// Returns the ticket that the next order gets: 1 at first, and one more after each order. The result is 2^64 - 1
+    /// also if that ticket is used; no further order is then added. The call changes nothing.
     pub fn next_ticket(&self) -> u64
         ensures { result ≡ one_more self.now.tickets }
     {
         self.tickets.saturating_add(1)
     }
 
-    /// Adds an order to do `action` with the object `ono`, after all others, and returns its ticket. `last` is the
-    /// moment, in milliseconds of the program's clock, after which it must not be submitted. `None` if 256 orders wait
-    /// already, or no ticket is left below 2^64: then nothing is changed.
+    /// Adds an order to do `action` with the object `ono`, after all others, and returns its ticket (*profile*). `last`
+    /// is the moment, in milliseconds of the program's clock, after which the order must not be submitted. The result
+    /// is `None` if 256 orders wait already, or no ticket is left below 2^64; then nothing is changed. The call submits
+    /// nothing, does not check that the object exists, and takes no memory.
     pub fn add(&mut self, ono: Ono, action: Action, last: u64) -> Option<u64>
         ensures { AddsTicket ono action last self.old result self.new }
     {
@@ -80,8 +85,9 @@ impl Orders {
         Some(ticket)
     }
 
-    /// Whether `count` more orders can be added. Then at most 256 would wait, and each would get a ticket below 2^64 -
-    /// 1.
+    /// Returns whether `count` more orders can be added by [`add_all`](Orders::add_all) (*profile*). Then at most 256
+    /// orders would wait, and each would get a ticket below 2^64 - 1. A `count` above 256 always gives `false`. The
+    /// call changes nothing.
     pub fn has_room(&self, count: usize) -> bool
         ensures { result ≡ has_room_for count self.now }
     {
@@ -89,9 +95,10 @@ impl Orders {
             && (count as u64) < u64::MAX - self.tickets
     }
 
-    /// Adds the orders `wanted` after all others, in their order, and returns the ticket of the first; the others have
-    /// the tickets after it. `last` is the moment, in milliseconds of the program's clock, after which they must not be
-    /// submitted. `None` if there is no room for all of them ([`has_room`](Orders::has_room)): then nothing is changed.
+    /// Adds the orders `wanted` after all others, in their order, and returns the ticket of the first (*profile*). The
+    /// others have the tickets after it. `last` is the moment, in milliseconds of the program's clock, after which they
+    /// must not be submitted. The result is `None` if there is no room for all of them
+    /// ([`has_room`](Orders::has_room)); then nothing is changed. The call submits nothing and takes no memory.
     pub fn add_all(&mut self, wanted: &[Wanted], last: u64) -> Option<u64>
         ensures { AddsAll wanted.now last self.old result self.new }
     {
@@ -142,8 +149,9 @@ impl Orders {
             .any(|sent| sent.order.ono.0 == ono.0)
     }
 
-    /// The order that is submitted next: the first that waits. `None` if no order waits, an order for the same object
-    /// is in flight, or 32 orders are in flight.
+    /// Returns the order that is submitted next: the first that waits (*profile*). The result is `None` if no order
+    /// waits, an order for the same object is in flight, or 32 orders are in flight. The call submits nothing and
+    /// changes nothing.
     pub fn ready(&self) -> Option<Order>
         ensures { result ≡ ready_of self.now.waiting self.now.in_flight }
     {
@@ -177,14 +185,15 @@ impl Orders {
         self.in_flight.as_slice().get(at).copied()
     }
 
-    /// How many orders are in flight: 0 to 32.
+    /// Returns the number of orders in flight: their commands were submitted, and the outcomes are not known yet. The
+    /// result is from 0, as at first, to 32.
     pub fn in_flight(&self) -> usize
         ensures { result ≡ length self.now.in_flight }
     {
         self.in_flight.len()
     }
 
-    /// Whether at least one order waits to be submitted.
+    /// Returns whether at least one order waits: its command was not submitted yet. The result is `false` at first.
     pub fn waits(&self) -> bool
         ensures { result ≡ has_waiting self.now }
     {
@@ -282,8 +291,8 @@ impl Orders {
         self.drop_late(now);
     }
 
-    /// How the last orders ended, in the order of their tickets: at most 512. If there were more, those with the lowest
-    /// tickets are left out.
+    /// Returns how the last orders ended, in the order of their tickets: from 0, as at first, to 512 results. If more
+    /// orders ended, results with low tickets were removed. The call changes nothing.
     pub fn results(&self) -> &[OrderResult]
         ensures { result.now ≡ self.now.results }
     {

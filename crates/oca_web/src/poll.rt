@@ -39,14 +39,14 @@ const MOST_VISIBLE: usize = 512;
 /// How many ranges that pages show are kept.
 const MOST_PAGES: usize = 128;
 
-/// A range that a page showed when it asked for values: a page may show several.
+/// A range of objects that a page showed when it asked for values. A page can show several ranges.
 #[derive(Clone, Copy, PartialEq, Eq)]
 pub struct Page {
-    /// Where the first object stands that it shows.
+    /// The place of the first object that the page shows, counted from 0.
     pub first: usize,
-    /// How many it shows.
+    /// The number of objects that the page shows.
     pub count: usize,
-    /// Until when it counts as open, in milliseconds.
+    /// The moment until which the page counts as open, in milliseconds of the program's clock.
     pub until: u64,
 }
 
@@ -87,8 +87,9 @@ impl Page {
     }
 }
 
-/// Which object is read again next: in rounds, while a page is open. What pages show comes first, and then a part of all
-/// others.
+/// Which object is read again next, while a page is open (*profile*). Objects are read again in *rounds*. In each round
+/// the objects that pages show come first, and then a part of all others. The *place* of an object is its index in the
+/// list of objects, counted from 0.
 #[derive(Drop)]
 pub struct Poll {
     pub(crate) pages: ArrayVec<Page, MOST_PAGES>,
@@ -104,8 +105,9 @@ impl Poll {
     ghost use Rattle.std.specs.Option.{option_map};
     ghost use Rattle.oca_web.specs.Polling.{OpensPage, ReadsAgain, has_open_page, page_asked, pause_of, shows};
 
-    /// A poll of which no round was begun, and for which no page is open. `now` is the present moment, in milliseconds
-    /// of the program's clock. The first round begins 25 ms later at the earliest.
+    /// Returns a poll without a round and without an open page (*profile*). `now` is the present moment, in
+    /// milliseconds of the program's clock. The first round begins 25 ms after it at the earliest. The call takes no
+    /// memory from the heap.
     pub fn new(now: u64) -> Poll {
         Poll {
             pages: ArrayVec::new(),
@@ -117,9 +119,10 @@ impl Poll {
         }
     }
 
-    /// Notes that a page asked for values at the moment `now`, in milliseconds of the program's clock. The page shows
-    /// `visible` objects (at most 512) from the place `first` on, which is counted from 0, and counts as open for 2,500
-    /// ms. At most 128 pages are kept: if there are more, the one that asked longest ago is replaced.
+    /// Notes that a page asked for values at the moment `now`, in milliseconds of the program's clock (*profile*). The
+    /// page shows `visible` objects (a number above 512 counts as 512) from the place `first` on, which is counted from
+    /// 0. The page counts as open for 2,500 ms. At most 128 pages are stored: if there are more, the one that asked
+    /// longest ago is replaced. The call takes no memory.
     pub fn open(&mut self, now: u64, first: usize, visible: usize)
         ensures { OpensPage now (page_asked now first visible) self.old.pages.items self.new.pages.items }
     {
@@ -132,8 +135,8 @@ impl Poll {
         keep_page(&mut self.pages, page, place);
     }
 
-    /// Whether a page is open at the moment `now`, in milliseconds of the program's clock: it asked for values less
-    /// than 2,500 ms before.
+    /// Returns whether a page is open at the moment `now`, in milliseconds of the program's clock: it asked for values
+    /// less than 2,500 ms before (*profile*). The result is `false` at first.
     pub fn is_open(&self, now: u64) -> bool
         ensures { result ≡ has_open_page now self.now.pages.items }
     {
@@ -150,14 +153,15 @@ impl Poll {
             .any(|page| page.shows(now, place))
     }
 
-    /// Ends the present round. The next one begins 25 ms after this one's beginning at the earliest.
+    /// Ends the present round, if there is one. The next round begins 25 ms after the beginning of the ended round at
+    /// the earliest (*profile*). The call sends nothing.
     pub fn end_round(&mut self) {
         self.at = self.end;
     }
 
-    /// The moment from which the next round may begin; it may already be past. This moment is in milliseconds of the
-    /// program's clock, as is `now`, the present moment. `None` if no page is open at `now`. `None` also if a round is
-    /// not over: it goes on when an answer comes.
+    /// Returns the moment from which the next round may begin, in milliseconds of the program's clock (*profile*). The
+    /// moment can already be past. `now` is the present moment of the same clock. The result is `None` if no page is
+    /// open at `now`, or a round has not ended; that round goes on when an answer comes. The call changes nothing.
     pub fn next_moment(&self, now: u64) -> Option<u64> {
         if self.is_open(now) && self.at >= self.end {
             Some(self.begun.saturating_add(ROUND_MS))
@@ -191,9 +195,10 @@ impl Poll {
         self.end = self.front.saturating_add(hidden_in(passed, objects));
     }
 
-    /// What to read next: the place of an object, counted from 0, and the question to ask. `now` is the present moment,
-    /// in milliseconds of the program's clock. If a round is due, it begins. `None` if no page is open, the round is
-    /// over, or the next one is not due yet.
+    /// Returns the object to read next, by its place, counted from 0, and the question to ask of it (*profile*). `now`
+    /// is the present moment, in milliseconds of the program's clock, and `objects` the list of objects. If a round is
+    /// due, it begins. The result is `None` if no page is open, the round ended, or the next round is not due yet. The
+    /// call sends nothing and takes no memory.
     pub fn next(&mut self, now: u64, objects: &[Object]) -> Option<(usize, Ask)>
         ensures reads { ReadsAgain now result objects.now self.old.pages.items }
         ensures pages { self.new.pages ≡ self.old.pages }

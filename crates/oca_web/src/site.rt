@@ -25,7 +25,7 @@ const WHERE_TO_GO: &str = "open the address that ocapanel printed\n";
 /// What an order is told where none is taken.
 const READ_ONLY: &str = "{\"read_only\":true}";
 
-/// The service over a view, on the terms of the panel.
+/// The HTTP service over a view, by the rules of the panel. A connection of `http_server` calls it for each request.
 #[derive(Drop)]
 pub struct Site {
     alloc: Global,
@@ -45,7 +45,9 @@ impl Site {
     ghost use Rattle.oca_web.specs.Sites.{AnswersOrFails, IsActionFor, IsSetting, IsTurnedAway, KeepsOrders, PostsMany, PostsOne};
     ghost use Rattle.oca_web.specs.Sites.{PostsOrder, TakesOrder, TakesOrders};
 
-    /// A service that answers requests from this view, on these terms. No request was answered so far.
+    /// Returns a service that answers HTTP requests from this view, by the rules `terms` (*profile*). No request was
+    /// answered so far. The service takes memory from `alloc` for its answers; this call takes none. It opens no
+    /// socket.
     pub fn new(alloc: Global, view: View, terms: Terms) -> Site
         ensures view { result.view ≡ view }
         ensures terms { result.terms ≡ terms }
@@ -60,13 +62,15 @@ impl Site {
         }
     }
 
-    /// A reference to the view, by which the program changes it.
+    /// Returns the view of the service, so that the program can change it. The call refuses nothing and changes
+    /// nothing.
     pub fn view(&mut self) -> &mut View {
         &mut self.view
     }
 
-    /// Sets whether the next requests may have waited while the program was suspended. If so, orders that give no last
-    /// moment are answered as not sent.
+    /// Sets whether the next requests may have waited while the program was suspended (*profile*). If `doubts` is true,
+    /// orders of requests that give no last moment end as not sent. At first it is false. The call changes nothing
+    /// else.
     pub fn doubt(&mut self, doubts: bool)
         ensures doubts { self.new.doubts ≡ doubts }
         ensures view { self.new.view ≡ self.old.view }
@@ -75,12 +79,16 @@ impl Site {
         self.doubts = doubts;
     }
 
-    /// How many requests were answered since the service was made.
+    /// Returns the number of HTTP requests that were answered since the service was made: 0 at first, at most 2^64 - 1.
+    /// Refused requests count too.
     pub fn calls(&self) -> u64 {
         self.calls
     }
 
-    /// How many requests were let in since the service was made.
+    /// Returns the number of HTTP requests that were let in since the service was made (*profile*). A request is let in
+    /// if its host is one of the panel's names, and it brings the token, if the panel has one. A POST must also have
+    /// the right origin and Content-Type. The result is 0 at first, at most 2^64 - 1. A request that was let in can
+    /// still be answered with an error.
     pub fn admitted(&self) -> u64 {
         self.admitted
     }
@@ -453,7 +461,8 @@ impl Service for Site {
 
     ghost answers = { λ old request response new. Answers old request response new };
 
-    /// Answers a request. Where memory is refused the answer is 503, with no body.
+    /// Answers an HTTP request into `response` (*profile*). If memory is refused, the answer is 503 without a body. The
+    /// call itself refuses nothing.
     fn call(
         &mut self,
         request: &Request<Bytes>,

@@ -7,9 +7,10 @@ use arrayvec::ArrayVec;
 use oca_net::End;
 use oca_panel::{Panel, Trouble, done_in};
 
-/// Submits the next order, and returns whether it did. `ahead` says by how many milliseconds the program's clock, in
-/// which orders have their last moments, is ahead of the end's. `false` if no order is ready, its last moment has
-/// passed, or the link refuses its command: then nothing is changed or sent.
+/// Submits the next order of the pages, and returns whether it did (*profile*). Its command is then sent at once, and
+/// the order is in flight. `ahead` is by how many milliseconds the program's clock, in which orders have their last
+/// moments, is ahead of the clock of the panel's end. The result is `false` if no order is ready ([`Orders::ready`]),
+/// its last moment has passed, or the link refuses the command; then nothing is changed or sent.
 pub fn submit_first<E: End>(orders: &mut Orders, panel: &mut Panel<E>, ahead: u64) -> bool
     ensures { SubmitsFirst ahead result orders.old panel.old orders.new panel.new }
 {
@@ -29,11 +30,13 @@ pub fn submit_first<E: End>(orders: &mut Orders, panel: &mut Panel<E>, ahead: u6
     }
 }
 
-/// Submits the orders that wait, in the order in which they came, each once. The call stops if 32 orders are in flight,
-/// or an order for the same object is in flight. The call stops if the last moment of the next order has passed. The
-/// call also stops if the link takes no command: it is lost or late, its span is full, or its handles are used up. The
-/// orders that still wait then stay, and are tried first at the next call. `ahead` says by how many milliseconds the
-/// program's clock, in which orders have their last moments, is ahead of the end's.
+/// Submits the orders that wait, in the order in which they came, each once (*profile*). `ahead` is by how many
+/// milliseconds the program's clock, in which orders have their last moments, is ahead of the clock of the panel's end.
+/// The call refuses nothing. It stops in each of these cases; the orders that still wait then stay, and the next call
+/// tries them first:
+/// - 32 orders are in flight, or an order for the same object is in flight.
+/// - The last moment of the next order has passed.
+/// - The link refuses the command: it is lost or late, its span is full, or its handles are used up.
 #[tactic(auto, using(crate::proofs::StepLemmas::submit_rules))]
 pub fn submit_orders<E: End>(orders: &mut Orders, panel: &mut Panel<E>, ahead: u64)
     ensures submits { SubmitsOrders ahead orders.old panel.old orders.new panel.new }
@@ -46,10 +49,10 @@ pub fn submit_orders<E: End>(orders: &mut Orders, panel: &mut Panel<E>, ahead: u
     }
 }
 
-/// Takes the outcome of one order in flight, if its command was answered or the link is lost, and notes it under the
-/// order's ticket. `at` is the order's place among those in flight, counted from 0. Returns the order and its outcome;
-/// it is in flight no longer. The call does not wait. `None` if the outcome is not known, or no order stands there:
-/// then nothing is changed.
+/// Takes the outcome of one order in flight, and stores its result under its ticket (*profile*). `at` is the index of
+/// the order among those in flight, counted from 0. Returns the order and its outcome; the order is then no longer in
+/// flight. The result is `None` if the outcome is not known yet, or there is no order at `at`; then nothing is changed.
+/// The call sends nothing and does not wait.
 pub fn settle_at<E: End>(
     orders: &mut Orders,
     panel: &mut Panel<E>,
@@ -64,12 +67,12 @@ pub fn settle_at<E: End>(
     Some((sent, done))
 }
 
-/// An order in flight that came out.
+/// An order in flight whose outcome was taken.
 #[derive(Clone, Copy, PartialEq, Eq)]
 pub struct Settled {
     /// The order, with the handle of its command.
     pub sent: Sent,
-    /// Whether it was carried out, or why not.
+    /// `Ok` if the order was carried out, otherwise why not.
     pub done: Result<(), Trouble>,
 }
 
@@ -83,9 +86,10 @@ impl Default for Settled {
     }
 }
 
-/// Takes the outcome of each order in flight whose command was answered, or of all if the link is lost, and notes it
-/// under the order's ticket. Returns these orders with their outcomes, at most 32; the others stay in flight. The call
-/// does not wait.
+/// Takes the outcome of each order in flight whose outcome is known, and stores its result under its ticket
+/// (*profile*). The outcome is known if the command was answered, and of all orders if the link is lost. Returns these
+/// orders with their outcomes, from 0 to 32; the others stay in flight. The call sends nothing, does not wait and takes
+/// no memory.
 #[tactic(auto, using(crate::proofs::StepLemmas::one_settled))]
 pub fn settle_orders<E: End>(orders: &mut Orders, panel: &mut Panel<E>) -> ArrayVec<Settled, 32>
     ensures { SettlesOrders orders.old panel.old orders.new panel.new }
@@ -103,8 +107,9 @@ pub fn settle_orders<E: End>(orders: &mut Orders, panel: &mut Panel<E>) -> Array
     all
 }
 
-/// Returns whether the link is lost or late. If it is, the orders in flight are noted as lost (they may have been
-/// carried out), and those that wait as not sent. If it is not, nothing is changed.
+/// Returns whether the link is lost or late, and if so, ends all orders (*profile*). The orders in flight are then
+/// stored as lost (they may have been carried out), and those that wait as not sent. If the link is neither lost nor
+/// late, nothing is changed. The call sends nothing.
 pub fn lose_orders<E: End>(orders: &mut Orders, panel: &Panel<E>) -> bool
     ensures { LosesOrders result panel.now orders.old orders.new }
 {

@@ -1,21 +1,21 @@
 //! Units of values, for the page to show.
 
-/// What a unit is for.
+/// For which objects a unit is.
 #[derive(Drop)]
 pub enum UnitOf {
-    /// All objects of the class with this name.
+    /// For all objects of the class with this name, such as `int16` ([`is_class_name`](crate::is_class_name)).
     Class(String),
-    /// The object with this number.
+    /// For the object with this number.
     Ono(u32),
 }
 
-/// A unit of values.
+/// A unit in which a page shows the values of some objects.
 #[derive(Drop)]
 pub struct Unit {
-    /// What it is for.
+    /// For which objects the unit is.
     pub of: UnitOf,
-    /// The factor by which a value is multiplied, in decimal digits.
+    /// The factor by which the page multiplies a value, in decimal digits.
     pub factor: String,
-    /// Its name.
+    /// The name of the unit.
     pub name: String,
 }

@@ -17,23 +17,23 @@ use std::alloc::Global;
 /// The longest time between two looks at the clock in which the program did not stand still, in milliseconds.
 const LONGEST_STANDSTILL_MS: u64 = 2000;
 
-/// Where the device is, and how many of its commands are in flight at most.
+/// Where the device is, and how many of its commands can be in flight.
 #[derive(Clone, Copy)]
 pub struct Reach {
-    /// The device's address.
+    /// The device's address and port.
     pub device: Peer,
-    /// How far above the lowest command in flight the next handle may lie.
+    /// The span of its links: a new handle is lower than the sum of the lowest handle in flight and the span.
     pub span: Span,
 }
 
-/// How the link to the device is. Moments are in milliseconds.
+/// The state of the link to the device. Moments are in milliseconds of the program's clock.
 #[derive(Clone, Copy)]
 pub struct LinkNews {
     /// The present moment.
     pub now: u64,
-    /// When the device was last heard, where it was.
+    /// The moment when the device was last heard, and `None` if it was never heard.
     pub heard: Option<u64>,
-    /// Since when the device is lost, where it is.
+    /// The moment since which the link is lost, and `None` if it is not lost.
     pub lost_since: Option<u64>,
     /// How many links were lost.
     pub lost: u64,
@@ -43,17 +43,19 @@ pub struct LinkNews {
     pub keep_alives: u64,
 }
 
-/// Why an order is not taken.
+/// Why a word gives no order for an object.
 #[derive(Clone, Copy, PartialEq, Eq)]
 pub enum NoOrder {
-    /// There is no such object.
+    /// No object with this number is known.
     NoObject,
-    /// The word is for no value of the object.
+    /// The word is not a value of the object.
     NoValue,
 }
 
-/// A view of a device: what is known of it, the orders of the pages, and how its link is. The link itself lies in a
-/// [`Panel`], which is passed to each call that needs it.
+/// A view of a device (*profile*): what is known of the device, the orders of the pages, and the state of the link. The
+/// link itself is in a [`Panel`], which is passed to each call that needs it. Over an *end*, which is a socket, a view
+/// submits commands with rising handles; later it can go on over another end. The *program's clock* counts milliseconds
+/// over all ends, and never goes back.
 #[derive(Drop)]
 pub struct View {
     reach: Reach,
@@ -79,9 +81,10 @@ impl View {
     ghost use Rattle.oca_web.specs.Views.{half_spent, moment_noted, next_with, orders_after, stood_still};
     ghost use Rattle.oca_web.specs.Walking.{BeginsAnew, KeepsWalk, StaysOver};
 
-    /// A view of the device at this address, of which nothing is known, over a panel with this span and this first
-    /// handle. `now` is the end's present moment, in milliseconds; the program's clock begins there. Nothing is sent.
-    /// Refusal: `NoMemory`, if memory was refused.
+    /// Returns a view of the device at this address, of which nothing is known (*profile*). `span` and `first` are the
+    /// span and the first handle of the panel's link. `now` is the present moment of the panel's end, in milliseconds;
+    /// the program's clock begins there. The call sends nothing. It takes memory from `alloc`, and later calls take
+    /// more. The only refusal is `NoMemory`, if memory was refused.
     pub fn new(
         alloc: Global,
         device: Peer,
@@ -117,54 +120,62 @@ impl View {
         })
     }
 
-    /// The orders of the pages: those that wait, those in flight, and how the last ones ended.
+    /// Returns the orders of the pages: those that wait, those in flight, and how the last ones ended. There are none
+    /// at first. The call changes nothing.
     pub fn orders(&self) -> &Orders
         ensures { result.now ≡ self.now.orders }
     {
         &self.orders
     }
 
-    /// The inventory: what is known of the device, and what is asked of it.
+    /// Returns what is known of the device, and which questions are asked of it. At first only the walk has begun, at
+    /// the root. The call changes nothing.
     pub fn inventory(&self) -> &Inventory {
         &self.inventory
     }
 
-    /// The device's address, and the span of its links: a new handle lies below the lowest one in flight plus the span.
+    /// Returns the device's address and the span of its links, as [`View::new`] was given them. The call refuses
+    /// nothing.
     pub fn reach(&self) -> Reach
         ensures { result ≡ self.now.reach }
     {
         self.reach
     }
 
-    /// How the link to the device is. All moments are in milliseconds of the program's clock.
+    /// Returns the state of the link to the device: when it was heard, whether it is lost, and what was sent. All
+    /// moments are in milliseconds of the program's clock. At first only the present moment is set, and the counts are
+    /// 0.
     pub fn news(&self) -> LinkNews
         ensures { result ≡ self.now.news }
     {
         self.news
     }
 
-    /// The present moment of the program's clock, in milliseconds.
+    /// Returns the present moment of the program's clock, in milliseconds: the latest that [`View::note`] or
+    /// [`View::take_end`] noted, and at first the moment that [`View::new`] was given.
     pub fn moment(&self) -> u64
         ensures { result ≡ self.now.news.now }
     {
         self.news.now
     }
 
-    /// How many commands are in flight, of orders and of questions: 0 to 64.
+    /// Returns the number of commands in flight, of orders and of questions: from 0, as at first, to 64 (*profile*). A
+    /// command is in flight from its submission until its answer is taken.
     pub fn in_flight(&self) -> usize {
         self.orders
             .in_flight()
             .saturating_add(self.inventory.in_flight())
     }
 
-    /// Whether at least one order waits or is in flight.
+    /// Returns whether at least one order waits or is in flight. The result is `false` at first.
     pub fn has_orders(&self) -> bool
         ensures { result ≡ has_orders self.now.orders }
     {
         self.orders.waits() || self.orders.in_flight() > 0
     }
 
-    /// How many commands were submitted since the view was made, over all ends.
+    /// Returns the number of commands that were submitted since the view was made, over all ends: 0 at first. The call
+    /// refuses nothing.
     pub fn submitted(&self) -> u64 {
         self.submitted_before.saturating_add(self.submitted_here())
     }
@@ -174,8 +185,9 @@ impl View {
         u64::from(self.next_handle.saturating_sub(self.first_handle))
     }
 
-    /// Whether half of the handles from the first handle of this end on are used. Then nothing more is submitted over
-    /// this end.
+    /// Returns whether half of the handles are used, counted from the first handle of this end to 2^32 - 1 (*profile*).
+    /// Then nothing more is submitted over this end. At first the result is `false`, except if the first handle is 2^32
+    /// - 1.
     pub fn is_spent(&self) -> bool
         ensures { result ≡ half_spent self.now.first_handle self.now.next_handle }
     {
@@ -183,8 +195,9 @@ impl View {
         2 * u64::from(used) >= u64::from(u32::MAX - self.first_handle)
     }
 
-    /// Whether the panel must go on over another end, at another port: half of the handles are used
-    /// ([`is_spent`](View::is_spent)), and nothing is in flight. Then call [`View::take_end`].
+    /// Returns whether the panel must go on over another end, at another port (*profile*): half of the handles are used
+    /// ([`is_spent`](View::is_spent)), and no command is in flight. The caller then opens the end and calls
+    /// [`View::take_end`]. The call changes nothing.
     pub fn wants_end(&self) -> bool
         ensures { result ≡ (half_spent self.now.first_handle self.now.next_handle
             && (length self.now.orders.in_flight == 0) && (length self.now.inventory.asked.items == 0)) }
@@ -192,12 +205,12 @@ impl View {
         self.is_spent() && self.orders.in_flight() == 0 && self.inventory.in_flight() == 0
     }
 
-    /// Notes that the panel goes on over another end, with a new link whose first handle is `first`. `moment` is the
-    /// present moment of the new end. `last` is the last moment of the end before, and `sent` is how many datagrams
-    /// that end sent. Each moment is in milliseconds of its end's clock.
-    ///
-    /// Returns whether the program was suspended for more than 2,000 ms before `last`, as [`View::note`] does. Then the
-    /// orders that wait are noted as not sent; otherwise they stay. What is known of the device stays.
+    /// Notes that the panel goes on over another end, with a new link whose first handle is `first` (*profile*).
+    /// `moment` is the present moment of the new end, and `last` the last moment of the old end, each in milliseconds
+    /// of the end's clock. `sent` is how many datagrams the old end sent. Returns `true` if the program was suspended
+    /// for more than 2,000 ms before `last`, as [`View::note`] does. Then the orders that wait end as not sent;
+    /// otherwise they stay. What is known of the device stays. The call sends nothing, refuses nothing and takes no
+    /// memory.
     pub fn take_end(&mut self, first: Handle, moment: u64, last: u64, sent: u64) -> bool
         ensures now { self.new.news.now ≡ moment_noted self.old.ahead last self.old.news.now }
         ensures stood { result ≡ stood_still self.old.news.now self.new.news.now }
@@ -217,15 +230,18 @@ impl View {
         stood_still
     }
 
-    /// By how many milliseconds the program's clock is ahead of the clock of the end; 0 over the first end.
+    /// Returns by how many milliseconds the program's clock is ahead of the clock of the present end. The result is 0
+    /// over the first end. The call refuses nothing.
     pub fn ahead(&self) -> u64
         ensures { result ≡ self.now.ahead }
     {
         self.ahead
     }
 
-    /// Notes that a page asked for values at the present moment, and shows `visible` objects (at most 512) from the
-    /// place `first` on, which is counted from 0.
+    /// Notes that a page asked for values at the present moment, and which objects it shows (*profile*). It shows
+    /// `visible` objects (a number above 512 counts as 512) from the place `first` on, which is counted from 0. Their
+    /// values are then read again more often than those of other objects, for 2,500 ms. The call sends nothing, refuses
+    /// nothing and takes no memory.
     pub fn open(&mut self, first: usize, visible: usize)
         ensures { self.new.orders ≡ self.old.orders }
     {
@@ -233,12 +249,12 @@ impl View {
         self.inventory.open(now, first, visible);
     }
 
-    /// Notes the present moment, in milliseconds of the end's clock, and how many datagrams the end sent until then.
-    /// Moves the program's clock on to that moment; this clock never goes back.
-    ///
-    /// Returns `true` if the program's clock moved by more than 2,000 ms since the last note: the program was
-    /// suspended. Then all waiting orders end as not sent. HTTP requests that are read after that may have waited for
-    /// an unknown time ([`Site::doubt`](crate::Site::doubt)). Returns `false` otherwise, and then no order changes.
+    /// Notes the present moment, in milliseconds of the end's clock, and how many datagrams the end sent until then
+    /// (*profile*). The program's clock moves to that moment, and never goes back. Returns `true` if the clock moved by
+    /// more than 2,000 ms since the last note: the program was suspended. Then all waiting orders end as not sent. HTTP
+    /// requests that are read after this call may have waited for an unknown time
+    /// ([`Site::doubt`](crate::Site::doubt)). Returns `false` otherwise, and then no order changes. The call sends
+    /// nothing and takes no memory.
     pub fn note(&mut self, moment: u64, sent: u64) -> bool
         ensures now { self.new.news.now ≡ moment_noted self.old.ahead moment self.old.news.now }
         ensures stood { result ≡ stood_still self.old.news.now self.new.news.now }
@@ -256,13 +272,16 @@ impl View {
         true
     }
 
-    /// Whether an object with this number is known.
+    /// Returns whether an object with this number was found on the device so far. The result is `false` for each number
+    /// at first. The call sends nothing.
     pub fn knows(&self, ono: Ono) -> bool {
         self.inventory.class_of(ono).is_some()
     }
 
-    /// The value that a word means for the object with this number. Refusals: `NoObject` if no object with this number
-    /// is known. `NoValue` if its class is unknown or has no value, or the word means no value of the class.
+    /// Returns the value that a word means for the object with this number (*profile*; [`value_from_word`]). The limits
+    /// of the object are not checked. The call sends nothing and takes no memory. Refusals, the first that applies:
+    /// `NoObject` if no object with this number is known. `NoValue` if this profile does not have its class, or its
+    /// class has no value, or the word means no value of the class.
     pub fn value_named(&self, ono: Ono, word: &str) -> Result<Value, NoOrder>
         ensures { IfOk result (IsForWord word.now) }
     {
@@ -273,16 +292,18 @@ impl View {
         }
     }
 
-    /// The ticket that the next order gets, from 1 on.
+    /// Returns the ticket that the next order gets: 1 at first, and one more after each order. A ticket is the number
+    /// by which a page knows its order. The call changes nothing.
     pub fn next_ticket(&self) -> u64
         ensures { result ≡ one_more self.now.orders.tickets }
     {
         self.orders.next_ticket()
     }
 
-    /// Adds an order to do `action` with the object `ono`, after all others, and returns its ticket. `last` is the
-    /// moment, in milliseconds of the program's clock, after which it must not be submitted. `None` if 256 orders wait
-    /// already, or no ticket is left below 2^64: then nothing is changed.
+    /// Adds an order to do `action` with the object `ono`, after all others, and returns its ticket (*profile*). `last`
+    /// is the moment, in milliseconds of the program's clock, after which the order must not be submitted. The result
+    /// is `None` if 256 orders wait already, or no ticket is left below 2^64; then nothing is changed. The call submits
+    /// nothing: [`View::go_on`] does. It does not check that the object exists, and takes no memory.
     pub fn order(&mut self, ono: Ono, action: Action, last: u64) -> Option<u64>
         ensures orders { AddsTicket ono action last self.old.orders result self.new.orders }
         ensures rest { self.new ≡ record self.old { orders = self.new.orders } }
@@ -290,17 +311,19 @@ impl View {
         self.orders.add(ono, action, last)
     }
 
-    /// Whether `count` more orders can be added. Then at most 256 would wait, and each would get a ticket below 2^64 -
-    /// 1.
+    /// Returns whether `count` more orders can be added by [`order_all`](View::order_all) (*profile*). Then at most 256
+    /// orders would wait, and each would get a ticket below 2^64 - 1. A `count` above 256 always gives `false`. The
+    /// call changes nothing.
     pub fn has_room(&self, count: usize) -> bool
         ensures { result ≡ has_room_for count self.now.orders }
     {
         self.orders.has_room(count)
     }
 
-    /// Adds the orders `wanted` after all others, in their order, and returns the ticket of the first; the others have
-    /// the tickets after it. `last` is the moment, in milliseconds of the program's clock, after which they must not be
-    /// submitted. `None` if there is no room for all of them ([`has_room`](View::has_room)): then nothing is changed.
+    /// Adds the orders `wanted` after all others, in their order, and returns the ticket of the first (*profile*). The
+    /// others have the tickets after it. `last` is the moment, in milliseconds of the program's clock, after which they
+    /// must not be submitted. The result is `None` if there is no room for all of them ([`has_room`](View::has_room));
+    /// then nothing is changed. The call submits nothing: [`View::go_on`] does. It takes no memory.
     pub fn order_all(&mut self, wanted: &[Wanted], last: u64) -> Option<u64>
         ensures orders { AddsAll wanted.now last self.old.orders result self.new.orders }
         ensures rest { self.new ≡ record self.old { orders = self.new.orders } }
@@ -308,9 +331,10 @@ impl View {
         self.orders.add_all(wanted, last)
     }
 
-    /// Takes one turn of the panel: receives once, at a socket for at most 50 ms, and sends what is due. Then it takes
-    /// the answers that came, and notes what they say. Refusal: `NoMemory`, if memory was refused; what is known may
-    /// then lack something.
+    /// Takes one turn of the panel: receives once, at a socket for at most 50 ms, and sends what is due (*profile*).
+    /// Then it takes the answers that came, and notes what they say: the results of orders, and what is known of the
+    /// device. The only refusal is `NoMemory`, if memory was refused; datagrams were then received and sent all the
+    /// same, and something may be missing in what is known.
     #[tactic(auto, using(crate::proofs::WalkLemmas::keeps_stays, crate::proofs::WalkLemmas::stays_on, crate::proofs::StepLemmas::answer_rules))]
     pub fn take_turn<E: End>(&mut self, panel: &mut Panel<E>) -> Result<(), NoMemory>
         ensures orders { TurnsAndSettles self.old.ahead self.old.news.heard self.old.orders panel.old self.new.news.heard
@@ -337,11 +361,12 @@ impl View {
         }
     }
 
-    /// Does what must be done after a turn. If what was found is no longer right, another walk begins. If the link is
-    /// lost or late, all orders are noted as lost, and a new link and a new walk begin. Then the orders that wait are
-    /// submitted, except those whose last moment has passed. Then questions are submitted, as far as there is room.
-    /// Nothing is submitted once half of the handles are used. Refusal: `NoMemory`, if memory was refused; what comes
-    /// after that is left out, and what is known may lack something.
+    /// Does what must be done after a turn, and sends commands at once (*profile*). If the device changed since the
+    /// walk, another walk begins. If the link is lost or late, all orders end as lost, and a new link and a new walk
+    /// begin. Then the waiting orders are submitted, except those whose last moment has passed: they end as not sent.
+    /// Then questions are submitted, as far as there is room. Nothing is submitted once half of the handles are used.
+    /// The only refusal is `NoMemory`, if memory was refused; what comes after it is left out, and something may be
+    /// missing in what is known.
     #[tactic(auto, using(crate::proofs::WalkLemmas::walk_rules))]
     pub fn go_on<E: End>(&mut self, panel: &mut Panel<E>) -> Result<(), NoMemory>
         ensures orders { Continues self.old.reach self.old.first_handle self.old.next_handle self.old.ahead
@@ -541,9 +566,9 @@ impl View {
         leaves_half(lowest, self.next_handle, self.reach.span.get())
     }
 
-    /// The moment, in milliseconds of the program's clock, from which something must be read again; it may already be
-    /// past. What the link has to send is not counted. `None` if no page is open, or a walk or a round is not over:
-    /// they go on when an answer comes.
+    /// Returns the moment, in milliseconds of the program's clock, from which something must be read again (*profile*).
+    /// The moment can already be past. What the link has to send is not counted. The result is `None` if no page is
+    /// open, or a walk or a round has not ended; it goes on when an answer comes. The call changes nothing.
     pub fn next_moment(&self) -> Option<u64> {
         self.inventory.next_moment(self.news.now)
     }
