@@ -11,8 +11,9 @@ use clap::Error;
 use oca_script::{Printer, ReplayFault, Sink, WriteFailed};
 use std::alloc::Global;
 
-/// Returns the exit status of a run: the one in `ended`. If `ended` is a failure, it is printed to `faults`, and the
-/// status is that of its fault: 2 for `BadWords`, `Line` and `Object`, otherwise 1.
+/// Returns the exit status of a run (*profile*): the status in `ended`, or the status of the failure in it. A failure
+/// is printed to `faults`, and all that waits in the printer is written. Its status is 2 for `BadWords`, `Line` and
+/// `Object`, and 1 for the other faults. A failed write is ignored.
 pub fn status_of<F: Sink>(ended: Result<u8, Failure>, faults: &mut Printer<F>) -> u8
     ensures status { result ≡ run_status (fault_in ended) }
     ensures fault { PrintsFault (fault_in ended) faults.old faults.new }
@@ -23,9 +24,13 @@ pub fn status_of<F: Sink>(ended: Result<u8, Failure>, faults: &mut Printer<F>) -
     }
 }
 
-/// Ends a run whose command line did not match; `error` is what `clap` says of it. If the command line asks for
-/// `--help` or `--version`, the text is printed, and the exit status is 0. Failures: `BadWords` if it asks for neither.
-/// `NoMemory` if memory was refused. `Write` if a write failed.
+/// Ends a run whose command line did not match; `error` is what `clap` found (*profile*). If the command line asks for
+/// `--help` or `--version`, their text is printed, and the result is the exit status 0. The call takes memory for the
+/// text. Failures, the first that applies:
+/// - `NoMemory` if `error` says that `clap` was refused memory, or if memory for the text was refused; nothing is
+///   printed.
+/// - `BadWords` if the command line asks for neither text; nothing is printed.
+/// - `Write` if a write failed; perhaps only the beginning of the text was written.
 pub fn helped<W: Sink>(
     alloc: Global,
     error: &Error,
@@ -39,15 +44,16 @@ pub fn helped<W: Sink>(
     }
 }
 
-/// Prints a text, and writes all that the printer holds. Returns the exit status 0. Failure: `Write` if a write failed;
-/// then only the beginning of the text may have been written.
+/// Prints a text, and writes all that waits in the printer (*profile*). Returns the exit status 0. The only failure is
+/// `Write`, if a write failed; then perhaps only the beginning of the text was written. The call takes no memory.
 pub fn print_text<W: Sink>(text: &[u8], printer: &mut Printer<W>) -> Result<u8, Failure>
     ensures { PrintsText text.now (fault_in result) printer.old printer.new }
 {
     written(print_all(text, printer))
 }
 
-/// The end of a run that only had to write: exit status 0 if the write was done. Failure: `Write` if it failed.
+/// Returns how a run ends that only had to write (*profile*): the exit status 0 if `done` is `Ok`. The only failure is
+/// `Write`, if the write failed. The call prints nothing.
 pub fn written(done: Result<(), WriteFailed>) -> Result<u8, Failure>
     ensures { fault_in result ≡ when_written done }
 {
@@ -57,8 +63,9 @@ pub fn written(done: Result<(), WriteFailed>) -> Result<u8, Failure>
     }
 }
 
-/// The end of a run that only had to replay a script; `done` is how the replay ended: exit status 0 if the script came
-/// to its end. Failures: `Line`, `Read`, `Write` or `TooMuch`, the one of the same name as the fault of the replay.
+/// Returns how a run ends that only had to replay a script (*profile*): the exit status 0 if `done` is `Ok`, which
+/// means that the script was replayed to its end. The failures are `Line`, `Read`, `Write` and `TooMuch`, each for the
+/// fault of the same name in `done`. The call prints nothing.
 pub fn replayed(done: Result<(), ReplayFault>) -> Result<u8, Failure>
     ensures { fault_in result ≡ when_replayed done }
 {

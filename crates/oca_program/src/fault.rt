@@ -12,16 +12,16 @@ use oca_script::{LineFault, ObjectFault, Printer, ReplayFault, Sink, WriteFailed
 use std::alloc::Global;
 use thiserror::Error;
 
-/// Why a run fails. It is printed as one line, and gives the exit status.
+/// Why a run of a program fails (*profile*). It is printed as one line, and gives the exit status.
 #[derive(Clone, Copy, PartialEq, Eq, Debug, Error)]
 pub enum RunFault {
-    /// The words of the command line ask for nothing that there is, or an option's value is not of its form.
+    /// The command line does not match, or the value of an option does not have its form.
     #[error("bad words")]
     BadWords,
-    /// The line of this number has this fault.
+    /// The line of a script with this number, counted from 1, has this fault.
     #[error("line {0}: {1}")]
     Line(u64, LineFault),
-    /// The line of this number of the text that lists the objects has this fault.
+    /// The line with this number, counted from 1, of the text that lists the objects has this fault.
     #[error("line {0}: {1}")]
     Object(u64, ObjectFault),
     /// Memory was refused.
@@ -36,13 +36,14 @@ pub enum RunFault {
     /// The input has more than 16,777,216 bytes.
     #[error("too much input")]
     TooMuch,
-    /// No socket was bound.
+    /// The system refused the socket.
     #[error("socket failed")]
     Socket,
 }
 
 impl RunFault {
-    /// The exit status: 2 for `BadWords`, `Line` and `Object`, and 1 for the others.
+    /// Returns the exit status of the fault (*profile*): 2 for `BadWords`, `Line` and `Object`, and 1 for the others.
+    /// The call prints nothing.
     pub fn status(self) -> u8
         ensures { result ≡ fault_status self }
     {
@@ -57,16 +58,19 @@ impl RunFault {
     }
 }
 
-/// Why a run fails, and what more is known of it, where there is something: its first line is printed before the
-/// fault's.
+/// Why a run of a program fails, with an optional note, a text that says more (*profile*). The first line of the note
+/// is printed before the line of the fault.
 #[derive(Drop)]
 pub struct Failure {
+    /// The fault, which gives the exit status.
     pub fault: RunFault,
+    /// The note, and `None` if nothing more is known.
     pub note: Option<String>,
 }
 
 impl Failure {
-    /// A failure with this fault and this note.
+    /// Returns a failure with this fault and this note. The call prints nothing and takes no memory. [`report`] prints
+    /// only the first line of the note, and only if that has at most 1,000 bytes.
     pub fn noted(fault: RunFault, note: String) -> Failure
         ensures fault { result.fault ≡ fault }
         ensures note { result.note ≡ Some note }
@@ -77,7 +81,8 @@ impl Failure {
         }
     }
 
-    /// A failure with this fault and a copy of this note. If there is no memory for the copy, it has no note.
+    /// Returns a failure with this fault and a copy of this note, for which it takes memory. If memory is refused, the
+    /// failure has no note. The call itself refuses nothing and prints nothing.
     pub fn told(alloc: Global, fault: RunFault, note: &str) -> Failure
         ensures { result.fault ≡ fault }
     {
@@ -88,9 +93,10 @@ impl Failure {
     }
 }
 
-/// Prints why a run failed, and writes all that the printer holds. If the failure has a note of at most 1,000 bytes, a
-/// line `note: ` with it comes first. The last line is the fault's own. Returns the exit status, 1 or 2, even if the
-/// lines can't be written.
+/// Prints why a run failed, and writes all that waits in the printer (*profile*). If the failure has a note whose first
+/// line has at most 1,000 bytes, a line `note: ` with it comes first. The last line is that of the fault. Returns the
+/// exit status: 2 for `BadWords`, `Line` and `Object`, and 1 for the other faults. A failed write is ignored. The call
+/// takes no memory.
 pub fn report<F: Sink>(failure: &Failure, faults: &mut Printer<F>) -> u8
     ensures status { result ≡ fault_status failure.now.fault }
     ensures lines { (end : Result Unit Failed) × WritesOut end faults.old faults.new (failure_text failure.now) }
@@ -99,8 +105,9 @@ pub fn report<F: Sink>(failure: &Failure, faults: &mut Printer<F>) -> u8
     failure.fault.status()
 }
 
-/// Prints to `faults` a line `note: ` with the first line of the text, and writes all that the printer holds. If that
-/// first line has more than 1,000 bytes, nothing is printed. A failed write is ignored.
+/// Prints to `faults` a line `note: ` with the first line of the text, and writes all that waits in the printer
+/// (*profile*). If that first line has more than 1,000 bytes, nothing is printed. A failed write is ignored. The call
+/// takes no memory.
 pub fn print_note<F: Sink>(note: &str, faults: &mut Printer<F>)
     ensures { (written : Result Unit Failed) × WritesOut written faults.old faults.new (note_text note.now) }
 {
@@ -199,7 +206,7 @@ impl From<ReplayFault> for RunFault {
 
     ghost from_gives = { λ fault r. r ≡ run_fault fault };
 
-    /// Why a run fails whose lines were not served to their end.
+    /// Returns the fault of a run whose script was not replayed to its end: the fault of the same name.
     fn from(fault: ReplayFault) -> RunFault {
         match fault {
             ReplayFault::Line(number, fault) => RunFault::Line(number, fault),
@@ -216,7 +223,7 @@ impl From<BindFault> for RunFault {
 
     ghost from_gives = { λ fault r. r ≡ bind_fault fault };
 
-    /// Why a run fails that got no socket.
+    /// Returns the fault of a run that got no socket: `Socket` for `Io`, and `NoMemory` for `NoMemory`.
     fn from(fault: BindFault) -> RunFault {
         match fault {
             BindFault::Io => RunFault::Socket,
@@ -231,7 +238,7 @@ impl From<RunFault> for Failure {
 
     ghost from_gives = { λ fault r. (r.fault ≡ fault) × (r.note ≡ None) };
 
-    /// The fault, of which nothing more is known.
+    /// Returns a failure with this fault and without a note.
     fn from(fault: RunFault) -> Failure {
         Failure { fault, note: None }
     }
@@ -243,7 +250,7 @@ impl From<ReplayFault> for Failure {
 
     ghost from_gives = { λ fault r. (r.fault ≡ run_fault fault) × (r.note ≡ None) };
 
-    /// Why a run fails whose lines were not served to their end.
+    /// Returns a failure, without a note, with the fault of the same name.
     fn from(fault: ReplayFault) -> Failure {
         Failure::from(RunFault::from(fault))
     }
@@ -255,7 +262,7 @@ impl From<WriteFailed> for Failure {
 
     ghost from_gives = { λ _ r. (r.fault ≡ Write) × (r.note ≡ None) };
 
-    /// Why a run fails that could not print.
+    /// Returns a failure with the fault `Write` and without a note.
     fn from(_fault: WriteFailed) -> Failure {
         Failure::from(RunFault::Write)
     }
@@ -267,7 +274,7 @@ impl From<BindFault> for Failure {
 
     ghost from_gives = { λ fault r. (r.fault ≡ bind_fault fault) × (r.note ≡ None) };
 
-    /// Why a run fails that got no socket.
+    /// Returns a failure, without a note, with the fault `Socket` for `Io`, and `NoMemory` for `NoMemory`.
     fn from(fault: BindFault) -> Failure {
         Failure::from(RunFault::from(fault))
     }

@@ -15,29 +15,30 @@ use oca_script::field::{address, hex_bytes, number, peer};
 use oca_types::{MOST_COMMAND_PARAMETER_BYTES, Peer};
 use std::alloc::{AllocError, Global};
 
-/// The form of an option's value.
+/// The form that the value of an option must have (*profile*).
 #[derive(Clone, Copy, PartialEq, Eq, Debug)]
 pub enum Form {
-    /// A number of 1 to so many digits, from the one to the other.
+    /// A number of 1 to `digits` decimal digits, from `least` to `largest`.
     Number {
         digits: usize,
         least: u64,
         largest: u64,
     },
-    /// The address of one host, 1.0.0.0 to 223.255.255.255, and a port that is not 0: `a.b.c.d:port`.
+    /// The address and the port of one host as `a.b.c.d:port`: 1.0.0.0 to 223.255.255.255, and a port from 1 to 65535.
     Host,
-    /// The address of one host, or 0.0.0.0: `a.b.c.d`.
+    /// An address of this machine as `a.b.c.d`: 1.0.0.0 to 223.255.255.255, or 0.0.0.0.
     Own,
-    /// Any address and port: `a.b.c.d:port`.
+    /// Any address and any port as `a.b.c.d:port`.
     AnyPeer,
-    /// At most 1,445 bytes in hexadecimal, `-` for none.
+    /// At most 1,445 bytes, two hexadecimal digits for each, or `-` for none.
     Bytes,
     /// Any text.
     Text,
 }
 
 impl Form {
-    /// Whether a text has this form.
+    /// Returns whether a text has this form (*profile*). Any text has the form `Text`. The call prints nothing and
+    /// takes no memory.
     pub fn takes(self, text: &[u8]) -> bool
         ensures { result ≡ has_form self text.now }
     {
@@ -58,8 +59,9 @@ impl Form {
         }
     }
 
-    /// The number that a text of this form gives. `None` if the text does not have this form, or the form is not one of
-    /// numbers.
+    /// Returns the number that a text of this form gives (*profile*). The result is `None` if the form is not `Number`,
+    /// or the text does not have the form: it has not 1 to `digits` decimal digits, or the number is not from `least`
+    /// to `largest`. The call takes no memory.
     pub fn number(self, text: &[u8]) -> Option<u64>
         ensures value { result ≡ number_by self text.now }
         ensures within { IfSome result (IsInForm self) }
@@ -123,8 +125,9 @@ pub(crate) fn own(text: &[u8]) -> Option<u32>
     }
 }
 
-/// Whether the command line (`words`) has the option `row` with a value that does not have the option's form. `false`
-/// if the command line does not have the option.
+/// Returns whether the command line `words` has the option `row` with a value that does not have the option's form
+/// (*profile*). The result is `false` if the command line does not have the option. The call prints nothing and takes
+/// no memory.
 pub fn breaks(words: &ArgMatches<'_>, row: &OptionRow) -> bool
     ensures { result ≡ breaks_form words.now (row_fields row.now) }
 {
@@ -134,17 +137,19 @@ pub fn breaks(words: &ArgMatches<'_>, row: &OptionRow) -> bool
     }
 }
 
-/// The first of the options `rows` that the command line (`words`) has with a value that does not have the option's
-/// form. `None` if each has its option's form.
+/// Returns the first of the options `rows` whose value in the command line `words` does not have the option's form
+/// (*profile*). The result is `None` if each value has its form, or no option is given. The call prints nothing and
+/// takes no memory.
 pub fn first_broken<'r>(words: &ArgMatches<'_>, rows: &'r [OptionRow]) -> Option<&'r OptionRow>
     ensures { option_copied result ≡ find (λ row. breaks_form words.now (row_fields row)) rows.now }
 {
     rows.iter().find(|row| breaks(words, row))
 }
 
-/// Checks each of the options `rows` that the command line `words` has: the value must have the form of the option.
-/// Failure: `BadWords` if a value does not have this form. If there is memory for it, the note of the failure names the
-/// first such option in the order of `rows`, its value, and the form.
+/// Checks the values of the options `rows` in the command line `words`: each must have the form of its option
+/// (*profile*). Options that are not given are not checked. The only failure is `BadWords`, if a value does not have
+/// its form. The note of the failure names the first such option in the order of `rows`, its value if that has at most
+/// 200 bytes, and the form. There is no note if memory for it was refused. The call prints nothing.
 pub fn check(alloc: Global, words: &ArgMatches<'_>, rows: &[OptionRow]) -> Result<(), Failure>
     ensures ok { is_ok result ≡ fits words.now (map row_fields rows.now) }
     ensures err { IfErr result (λ failure. failure.fault ≡ BadWords) }

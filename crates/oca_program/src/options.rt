@@ -18,8 +18,9 @@ use oca_types::Peer;
 use std::alloc::{AllocError, Global};
 
 impl OptionRow {
-    /// The number that the command line (`words`) gives for this option. `None` if it does not have the option, or the
-    /// text does not have the option's form.
+    /// Returns the number that the command line `words` gives for this option (*profile*). It is within the option's
+    /// form. The result is `None` if the command line does not have the option, or the text does not have the form, or
+    /// the form is not one of numbers. The call takes no memory.
     pub fn number(&self, words: &ArgMatches<'_>) -> Option<u64>
         ensures value { result ≡ number_said words.now (row_fields self.now) }
         ensures within { IfSome result (IsInForm self.now.form) }
@@ -27,23 +28,25 @@ impl OptionRow {
         self.form.number(text_of(words, self.name)?.as_bytes())
     }
 
-    /// The address for a socket of this machine that the command line (`words`) gives for this option, as a number with
-    /// the first byte highest. It is 0.0.0.0, or 1.0.0.0 to 223.255.255.255. `None` if the command line does not have
-    /// the option, or the text does not have this form.
+    /// Returns the address of this machine that the command line `words` gives for this option, as a number with the
+    /// first byte highest (*profile*). It is 0.0.0.0, or from 1.0.0.0 to 223.255.255.255. The result is `None` if the
+    /// command line does not have the option, or the text is not such an address. The call takes no memory.
     pub fn own(&self, words: &ArgMatches<'_>) -> Option<u32>
         ensures { result ≡ own_said words.now (row_fields self.now) }
     {
         own(text_of(words, self.name)?.as_bytes())
     }
 
-    /// The text that the command line (`words`) gives for this option. `None` if it does not have the option.
+    /// Returns the text that the command line `words` gives for this option, of any length (*profile*). The result is
+    /// `None` if the command line does not have the option. Nothing is copied, and the form is not checked.
     pub fn text<'a>(&self, words: &ArgMatches<'a>) -> Option<&'a str>
         ensures { option_map (λ t. t.now) result ≡ text_said words.now (row_fields self.now) }
     {
         text_of(words, self.name)
     }
 
-    /// Whether the command line (`words`) has this flag, an option without a value.
+    /// Returns whether the command line `words` has this flag, an option without a value (*profile*). The call takes no
+    /// memory.
     pub fn is_set(&self, words: &ArgMatches<'_>) -> bool
         ensures { result ≡ has_flag words.now (row_fields self.now) }
     {
@@ -54,7 +57,8 @@ impl OptionRow {
     }
 }
 
-/// The text that the command line (`words`) gives for the option `name`. `None` if it does not have the option.
+/// Returns the text that the command line `words` gives for the option `name`, of any length (*profile*). The result is
+/// `None` if the command line does not have the option. Nothing is copied.
 #[tactic(auto, unfolding(crate::specs::Options::given))]
 pub fn text_of<'a>(words: &ArgMatches<'a>, name: &str) -> Option<&'a str>
     ensures { option_map (λ t. t.now) result ≡ given words.now name.now }
@@ -62,8 +66,9 @@ pub fn text_of<'a>(words: &ArgMatches<'a>, name: &str) -> Option<&'a str>
     words.get_str(name)
 }
 
-/// The number that the command line (`words`) gives for the option `name`, of 1 to `most` decimal digits and at most
-/// `largest`. `None` if the command line does not have the option, or the text does not have this form.
+/// Returns the number that the command line `words` gives for the option `name` (*profile*). It has 1 to `most` decimal
+/// digits, and is at most `largest`. The result is `None` if the command line does not have the option, or the text is
+/// not such a number. The call takes no memory.
 pub fn number_in(words: &ArgMatches<'_>, name: &str, most: usize, largest: u64) -> Option<u64>
     ensures value { result ≡ read_as (number_of most largest) (given words.now name.now) }
     ensures bound { IfSome result (λ n. n ≤ largest) }
@@ -71,9 +76,10 @@ pub fn number_in(words: &ArgMatches<'_>, name: &str, most: usize, largest: u64) 
     number(text_of(words, name)?.as_bytes(), most, largest)
 }
 
-/// The number that the command line (`words`) gives for the option `name`, of 1 to `most` decimal digits and at most
-/// `largest`. It is `other` if the command line does not have the option; `other` must be at most `largest` (a
-/// premise). `None` if the text of the option does not have this form.
+/// Returns the number that the command line `words` gives for the option `name`, and `other` if the command line does
+/// not have the option (*profile*). The number has 1 to `most` decimal digits, and is at most `largest`; `other` must
+/// be at most `largest` (a premise). The result is `None` if the text of the option is not such a number. The call
+/// takes no memory.
 pub fn number_or(
     words: &ArgMatches<'_>,
     name: &str,
@@ -91,9 +97,9 @@ pub fn number_or(
     }
 }
 
-/// The number that the command line (`words`) gives for the option `name`, of 1 to `most` decimal digits and at most
-/// `largest`. `Some(None)` if the command line does not have the option. `None` if the text of the option does not have
-/// this form.
+/// Returns the number that the command line `words` gives for the option `name`, and `Some(None)` if the command line
+/// does not have the option (*profile*). The number has 1 to `most` decimal digits, and is at most `largest`. The
+/// result is `None` if the text of the option is not such a number. The call takes no memory.
 pub fn number_if(
     words: &ArgMatches<'_>,
     name: &str,
@@ -112,26 +118,28 @@ pub fn number_if(
     }
 }
 
-/// The peer that the command line (`words`) gives for the option `name` as `a.b.c.d:port`. `None` if the command line
-/// does not have the option, or the text does not have this form.
+/// Returns the peer that the command line `words` gives for the option `name` as `a.b.c.d:port` (*profile*). The four
+/// numbers are from 0 to 255, and the port is from 0 to 65535. The result is `None` if the command line does not have
+/// the option, or the text does not have this form. The call takes no memory.
 pub fn peer_in(words: &ArgMatches<'_>, name: &str) -> Option<Peer>
     ensures { result ≡ read_as peer_of (given words.now name.now) }
 {
     peer(text_of(words, name)?.as_bytes())
 }
 
-/// The device that the command line (`words`) gives for the option `name` as `a.b.c.d:port`. The address is 1.0.0.0 to
-/// 223.255.255.255, and the port is not 0. `None` if the command line does not have the option, or the text does not
-/// have this form.
+/// Returns the device that the command line `words` gives for the option `name` as `a.b.c.d:port` (*profile*). The
+/// address is from 1.0.0.0 to 223.255.255.255, and the port is from 1 to 65535. The result is `None` if the command
+/// line does not have the option, or the text does not have this form. The call takes no memory.
 pub fn host_in(words: &ArgMatches<'_>, name: &str) -> Option<Peer>
     ensures { result ≡ read_as host_of (given words.now name.now) }
 {
     host(text_of(words, name)?.as_bytes())
 }
 
-/// The address for a socket of this machine that the command line (`words`) gives for the option `name`, as a number
-/// with the first byte highest. It is 0.0.0.0, or 1.0.0.0 to 223.255.255.255; `other` if the command line does not have
-/// the option. `None` if the text of the option does not have this form.
+/// Returns the address of this machine that the command line `words` gives for the option `name`, as a number with the
+/// first byte highest (*profile*). It is 0.0.0.0, or from 1.0.0.0 to 223.255.255.255. If the command line does not have
+/// the option, the result is `other`. The result is `None` if the text of the option is not such an address. The call
+/// takes no memory.
 pub fn own_or(words: &ArgMatches<'_>, name: &str, other: u32) -> Option<u32>
     ensures { result ≡ read_or other own_of (given words.now name.now) }
 {
@@ -141,9 +149,11 @@ pub fn own_or(words: &ArgMatches<'_>, name: &str, other: u32) -> Option<u32>
     }
 }
 
-/// The text of `--help` or `--version`, if a command line that did not match asks for one; `error` is what `clap` says
-/// of it. Failures: `BadWords` if it asks for neither; the failure has a note if there is memory for it. `NoMemory` if
-/// memory was refused.
+/// Returns the text of `--help` or `--version`, if a command line that did not match asks for one; `error` is what
+/// `clap` found (*profile*). The call takes memory for the text and prints nothing. Failures, the first that applies:
+/// - `NoMemory` if `error` says that `clap` was refused memory, or if memory for the text was refused.
+/// - `BadWords` if the command line asks for neither text. The failure has a note with the reason, if there is memory
+///   for it.
 pub fn help_or_failure(alloc: Global, error: &Error) -> Result<String, Failure>
     ensures text { IfOk result (λ _. asks_for_text (kind_of error.now) ≡ true) }
     ensures failure { IfErr result (λ failure. failure.fault ≡ words_fault (kind_of error.now)) }

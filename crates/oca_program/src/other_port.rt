@@ -6,9 +6,9 @@ use oca_script::{Printer, Sink};
 use oca_types::Peer;
 use std::alloc::Global;
 
-/// Prints to `faults` the note that this device answers no command from `port`, and that the port `other` is used
-/// instead. Writes all that the printer holds. If there is no memory for the note, nothing is printed. A failed write
-/// is ignored.
+/// Prints to `faults` the note that this device answers no command from the port `port`, and that the port `other` is
+/// used instead (*profile*). Then all that waits in the printer is written. The call takes memory for the note. If
+/// memory is refused, nothing is printed. A failed write is ignored.
 pub fn note_other_port<F: Sink>(
     alloc: Global,
     device: Peer,

@@ -13,9 +13,12 @@ use std::io;
 use std::net::Net;
 use std::rt::Clock;
 
-/// An end bound at the address `ip` (an IPv4 address as a number, the first byte highest) and a port; at port 0 the
-/// system chooses one. Failures: `NoMemory` if memory was refused, to the program or to the system. Otherwise `Socket`
-/// if the system refused the socket. The system's reason is the failure's note, if there is a reason and memory for it.
+/// Binds a UDP socket at the address `ip` and the port `port`, and returns it as an end (*profile*). `ip` is an IPv4
+/// address as a number, the first byte highest; 0 is 0.0.0.0. At port 0 the system chooses a port. The call takes
+/// memory from `alloc` for the end. The failure has the system's reason as its note, if there is a reason and memory
+/// for it. Failures:
+/// - `NoMemory` if memory was refused, to the program or by the system.
+/// - `Socket` if the system refused the socket for another reason, such as a port in use.
 pub fn bind<N: Net + Clock>(
     alloc: Global,
     system: &N,
@@ -32,13 +35,13 @@ pub fn bind<N: Net + Clock>(
     }
 }
 
-/// An end for a controller of this device, at a port; at port 0 the system chooses one. It is bound at the address
-/// `ip`, an IPv4 address as a number, the first byte highest. If `ip` is 0, it is bound at the address from which the
-/// system reaches the device. So all transmissions of a command leave from one address or not at all.
-///
-/// Failures: `NoMemory` if memory was refused, to the program or to the system. Otherwise `Socket` if the system
-/// refused the socket or has no route to the device. The system's reason is the failure's note, if there is a reason
-/// and memory for it.
+/// Binds a UDP socket for a controller of the device `device`, and returns it as an end (*profile*). It is bound at the
+/// port `port`; at 0 the system chooses one. `ip` is its IPv4 address as a number, the first byte highest. If `ip` is
+/// 0, it is bound at the address from which the system reaches the device. So all transmissions of a command leave from
+/// one address or not at all. The call takes memory from `alloc` for the end. The failure has the system's reason as
+/// its note, if there is a reason and memory for it. Failures:
+/// - `NoMemory` if memory was refused, to the program or by the system.
+/// - `Socket` if the system refused the socket for another reason, or has no route to the device.
 pub fn bind_towards<N: Net + Clock>(
     alloc: Global,
     system: &N,
@@ -85,9 +88,9 @@ fn fault_for(kind: io::ErrorKind) -> RunFault
     }
 }
 
-/// Prints to `faults` the note of how many sends failed (`failed`), and why the last of them did. Writes all that the
-/// printer holds. Nothing is printed if `last` is `None`, or if there is no memory for the note. A failed write is
-/// ignored.
+/// Prints to `faults` the note of how many sends failed (`failed`), and why the last of them did (*profile*). Then all
+/// that waits in the printer is written. Nothing is printed if `last` is `None`, or memory for the note was refused. A
+/// failed write is ignored.
 pub fn note_failed_sends<F: Sink>(
     alloc: Global,
     failed: u64,

@@ -4,8 +4,9 @@ use std::alloc::Global;
 use std::env::{self, Env};
 use std::io;
 
-/// The arguments of the command line, the program's name first. Failures: `NoMemory` if memory was refused, `BadWords`
-/// if an argument is not UTF-8.
+/// Returns the arguments of the command line, the program's name first (*profile*). The call takes memory for them.
+/// Failures: `NoMemory` if memory was refused. `BadWords` if an argument is not UTF-8; a note says so, if there is
+/// memory for it.
 pub fn words_of<R: Env + AllocGlobal>(rt: &R) -> Result<Vec<String>, Failure> {
     let args = match env::args(rt) {
         Ok(args) => args,

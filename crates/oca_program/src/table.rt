@@ -11,37 +11,44 @@ use super::version::VERSION;
 use clap::{Arg, ArgAction, Command};
 use std::alloc::{AllocError, Global};
 
-/// What an option is.
+/// What an option is, and whether it must be given.
 #[derive(Clone, Copy, PartialEq, Eq, Debug)]
 pub enum Kind {
-    /// An option with a value that must be given.
+    /// An option with a value, which must be given.
     Required,
-    /// An option with a value.
+    /// An option with a value, which need not be given.
     Optional,
-    /// A flag.
+    /// An option without a value.
     Flag,
-    /// The words behind the options, one or more.
+    /// The words after the options, one or more, which must be given.
     Words,
 }
 
-/// An option, in one row: its name, the word for its value (none for a flag), what `--help` says of it, with its
-/// default, what it is, and the form of its value. The note on a value that is not of its form is made of its name and
-/// its form.
+/// An option of a command line. The note on a value that does not have its form is made of the option's name and form.
 #[derive(Clone, Copy, PartialEq, Eq, Debug)]
 pub struct OptionRow {
+    /// The name, without the two dashes.
     pub name: &'static str,
+    /// The word for the value in `--help`, empty for a flag.
     pub value: &'static str,
+    /// What `--help` says of the option, with its default.
     pub help: &'static str,
+    /// What the option is.
     pub kind: Kind,
+    /// The form of the value.
     pub form: Form,
 }
 
-/// A command: its name, what `--help` says of it at first and at last, and its options in the order of `--help`.
+/// A command of a program, with its options.
 #[derive(Clone, Copy, PartialEq, Eq, Debug)]
 pub struct CommandRow {
+    /// The name of the command or the program.
     pub name: &'static str,
+    /// What `--help` says of the command first.
     pub about: &'static str,
+    /// What `--help` says of the command last.
     pub example: &'static str,
+    /// The options, in the order of `--help`.
     pub options: &'static [OptionRow],
 }
 
@@ -55,7 +62,8 @@ fn command<'a>(alloc: Global, row: &CommandRow) -> Result<Command<'a>, AllocErro
     with_options(alloc, begun, row.options)
 }
 
-/// The `clap` program of this row, with a version and without commands. Refusal: `AllocError`, if memory was refused.
+/// Returns the command line of a program as `clap` has it, with this row's options, a version and no commands
+/// (*profile*). The call takes memory from `alloc`. The only refusal is `AllocError`, if memory was refused.
 pub fn program<'a>(alloc: Global, row: &CommandRow) -> Result<Command<'a>, AllocError>
     ensures { IfOk result (TakesApp (bare_program (command_fields row.now))) }
 {
@@ -65,8 +73,9 @@ pub fn program<'a>(alloc: Global, row: &CommandRow) -> Result<Command<'a>, Alloc
     }
 }
 
-/// The `clap` program of this row, with a version and with the commands of these rows. The command line must name one
-/// of the commands. Refusal: `AllocError`, if memory was refused.
+/// Returns the command line of a program as `clap` has it, with this row's options, a version and the commands of the
+/// rows `commands` (*profile*). A command line must name one of these commands. The call takes memory from `alloc`. The
+/// only refusal is `AllocError`, if memory was refused.
 pub fn program_with_commands<'a>(
     alloc: Global,
     row: &CommandRow,

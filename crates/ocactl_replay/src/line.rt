@@ -14,23 +14,24 @@ use oca_types::Handle;
 /// Room for a line.
 const LINE_ROOM: usize = 3000;
 
-/// A line that is printed: what a call of the link answered.
+/// A line that is printed for a call of a link.
 #[derive(Clone, Copy)]
 pub enum Line<'a> {
-    /// What became of a command that was to be submitted.
+    /// The result of the submission of a command.
     Submission(Result<Handle, ControlFault>),
-    /// What was sent, with its bytes.
+    /// What was due, with the bytes of the packet.
     Due(Due, &'a [u8]),
-    /// What became of a datagram.
+    /// What the link did with a datagram.
     Reception(Reception),
-    /// An answer that was taken.
+    /// The answer that was taken.
     Answer(&'a Answer),
-    /// No answer was there to be taken.
+    /// There was no answer to take.
     NoAnswer,
 }
 
-/// Prints a line, as PROTOCOL.md lists it. A packet that is due must have at most 1,472 bytes (a premise). Refusal:
-/// `WriteFailed` if a write failed; then only the beginning of the text may have been written.
+/// Prints one line that says what a call of a link returned, as PROTOCOL.md lists it (*profile*). A packet that is due
+/// must have at most 1,472 bytes (a premise). The line can wait in the printer. The only refusal is `WriteFailed`, if a
+/// write failed; then perhaps only the beginning of the text was written. The call takes no memory.
 pub fn print_line<W: Sink>(printer: &mut Printer<W>, line: Line<'_>) -> Result<(), WriteFailed>
     requires { LineWithin line }
     ensures { Prints result printer.old printer.new (reply_line_text line.entry) }

@@ -15,10 +15,10 @@ use oca_script::lines::serve_lines;
 use oca_script::{Language, Printer, ReplayFault, Sink, Source, Stop, WriteFailed};
 use oca_types::{Handle, Packet, Peer, Request};
 
-/// The language of the controller's scripts: a line is a call of the link.
+/// The rules of a controller's scripts, in which a line is a call of a link.
 pub struct LinkScript;
 
-/// Room for what the link sends, and for the bytes of a field.
+/// The memory for serving a line: for one packet, and for the bytes of one field.
 #[derive(Drop)]
 pub struct LinkRoom {
     packet: Packet,
@@ -26,7 +26,8 @@ pub struct LinkRoom {
 }
 
 impl LinkRoom {
-    /// Memory for one packet and for the parameters of one command, which are empty.
+    /// Returns memory for one packet (1,472 bytes) and for the bytes of one field (2,048 bytes), in which there are no
+    /// bytes of a script yet. The call takes no memory from the heap.
     pub fn new() -> LinkRoom {
         LinkRoom {
             packet: Packet::new(),
@@ -150,22 +151,22 @@ fn take<W: Sink>(
     }
 }
 
-/// Replays a script on the link, and reads the source to its end. It makes the call of the link that each line asks
-/// for, and prints its result after what the printer held. The script's form is the profile's.
-///
-/// Moments N are in milliseconds, and bytes are in hexadecimal digits. These are the lines:
-///
+/// Replays a script on the link: reads the source to its end, makes the call of the link that each line asks for, and
+/// prints its result after what waits in the printer (the form of a script is the profile's). Moments N are in
+/// milliseconds, and bytes HEX in hexadecimal. The call takes no memory. The lines are:
 /// - `N submit ONO LEVEL INDEX COUNT HEX` submits a command, and prints its handle or why it is refused.
 /// - `N due` prints what is to be sent.
-/// - `N from P HEX` is a datagram of the peer P, and prints what became of it.
-/// - `take H` takes the answer under the handle H, and prints it.
+/// - `N from P HEX` is a datagram of the peer P, and prints what the link did with it.
+/// - `take H` takes the answer to the command with the handle H, and prints it.
 ///
-/// Faults: `Line` if a line is bad, with the number of the first such line, counted from 1, and its fault. `TooMuch` if
-/// the script has more than 16,777,216 bytes, and no line within them is bad. `Read` if a read failed in this call, of
-/// a source that had not failed before. `Write` if a write failed in this call, of a sink that had not failed before.
-///
-/// After `Line` and `TooMuch` all lines before were replayed and their text was written. After `Read` and `Write` some
-/// first lines were; at `Write` only a first part of their text was written.
+/// The faults are:
+/// - `Line` if a line is bad, with the number of the first such line, counted from 1, and its fault.
+/// - `TooMuch` if the script has more than 16,777,216 bytes, and no line within them is bad. After `Line` and
+///   `TooMuch`, all lines before were replayed, and their text was written.
+/// - `Read` if a read failed in this call, of a source that had not failed before. Some first lines were replayed, and
+///   all their text was written.
+/// - `Write` if a write failed in this call, to a sink that had not failed before. Some first lines were replayed, and
+///   perhaps only the beginning of their text was written.
 pub fn replay<R: Source, W: Sink>(
     link: &mut Link,
     reader: &mut R,

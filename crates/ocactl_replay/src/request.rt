@@ -12,36 +12,46 @@ use oca_script::field::{first_field, hex_bytes, peer};
 use oca_script::line_field::{moment, u8_in, u16_in, u32_in};
 use oca_types::{Handle, MethodId, Ono, Peer, Request};
 
-/// Room for the bytes of a field.
+/// The greatest number of bytes of the last field of a line: 2,048. A line has no more, since it has at most 4,096
+/// bytes.
 pub const PARAMS_ROOM: usize = 2048;
 
-/// What a line asks for. Moments are in milliseconds.
+/// The call of a link that a line of a script asks for. Moments are in milliseconds.
 #[derive(Clone, Copy)]
 pub enum Call<'a> {
+    /// A command is submitted at this moment.
     Submit {
         now: u64,
         command: Request<'a>,
     },
+    /// What is due at this moment is sent.
     Due {
         now: u64,
     },
+    /// The link receives a datagram of a peer at this moment.
     Datagram {
         now: u64,
         from: Peer,
         bytes: &'a [u8],
     },
+    /// The answer to the command with this handle is taken.
     Take {
         handle: Handle,
     },
 }
 
-/// The fields of a command.
+/// The five fields of a command in a line, as texts.
 #[derive(Clone, Copy)]
 pub struct Texts<'a> {
+    /// The object number.
     pub target: &'a [u8],
+    /// The DefLevel of the method.
     pub level: &'a [u8],
+    /// The MethodIndex of the method.
     pub index: &'a [u8],
+    /// ParamCount.
     pub count: &'a [u8],
+    /// The bytes of the parameters in hexadecimal, or `-` for none.
     pub params: &'a [u8],
 }
 
@@ -213,9 +223,11 @@ fn timed<'a>(
     Err(LineFault::Form)
 }
 
-/// Reads which call of the link a line of a script asks for. The line must have at most 4,096 bytes (a premise). The
-/// bytes of the line's last field are put at the front of `room`. Refusal: the fault of the first field, from the left,
-/// that does not have its form ([`LineFault`]); then discard what `room` holds.
+/// Reads which call of the link a line of a script asks for (*profile*). The line has at most 4,096 bytes (a premise).
+/// The bytes of its last field are written to the front of `room`, and the result refers to them. The call takes no
+/// memory, and makes no call of the link. Refusals, the first that applies; discard what `room` contains then: `Form`
+/// if the keyword is unknown, or the number of fields is wrong. `Moment`, `Number`, `Peer` or `Hex` for the first
+/// field, from the left, that does not have its form.
 pub fn call_by<'a>(line: &[u8], room: &'a mut [u8; PARAMS_ROOM]) -> Result<Call<'a>, LineFault>
     requires { length line.now ≤ 4096 }
     ensures { call_asked result ≡ asked_call (fields line.now) }
@@ -227,9 +239,11 @@ pub fn call_by<'a>(line: &[u8], room: &'a mut [u8; PARAMS_ROOM]) -> Result<Call<
     timed(first, rest, room)
 }
 
-/// Reads the command that a line `ONO LEVEL INDEX COUNT HEX` asks for. The line must have at most 4,096 bytes (a
-/// premise). The bytes of the command's parameters are put at the front of `room`. Refusal: the fault of the first
-/// field, from the left, that does not have its form ([`LineFault`]); then discard what `room` holds.
+/// Reads the command that a line `ONO LEVEL INDEX COUNT HEX` asks for (AES70-3; the form of the line is the profile's).
+/// The line has at most 4,096 bytes (a premise). The bytes of the command's parameters are written to the front of
+/// `room`, and the result refers to them. The call takes no memory and sends nothing. Refusals, the first that applies;
+/// discard what `room` contains then: `Form` if the line does not have exactly these five fields. `Number` or `Hex` for
+/// the first field, from the left, that does not have its form.
 pub fn command_by<'a>(
     line: &[u8],
     room: &'a mut [u8; PARAMS_ROOM],

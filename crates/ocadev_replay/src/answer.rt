@@ -15,8 +15,9 @@ const VERDICT_ROOM: usize = 128;
 /// Room for the line of a packet.
 const PACKET_ROOM: usize = 2960;
 
-/// Prints what became of a datagram, as PROTOCOL.md lists it. Refusal: `WriteFailed` if a write failed; then only the
-/// beginning of the text may have been written.
+/// Prints a line that says what a device did with a datagram, as PROTOCOL.md lists it (*profile*). The line can wait in
+/// the printer. The only refusal is `WriteFailed`, if a write failed; then perhaps only the beginning of the text was
+/// written. The call takes no memory.
 pub fn print_verdict<W: Sink>(verdict: Verdict, printer: &mut Printer<W>) -> Result<(), WriteFailed>
     ensures { Prints result printer.old printer.new (verdict_text verdict) }
 {
@@ -25,8 +26,9 @@ pub fn print_verdict<W: Sink>(verdict: Verdict, printer: &mut Printer<W>) -> Res
     Ok(())
 }
 
-/// Prints a line for each packet of the outbox, in order. Refusal: `WriteFailed` if a write failed; then only the
-/// beginning of the text may have been written.
+/// Prints a line for each packet of the outbox, in order: `> ` and the bytes in hexadecimal (*profile*). An empty
+/// outbox prints nothing. The lines can wait in the printer. The only refusal is `WriteFailed`, if a write failed; then
+/// perhaps only the beginning of the text was written. The call takes no memory, and the outbox is unchanged.
 pub fn print_packets<W: Sink>(outbox: &Outbox, printer: &mut Printer<W>) -> Result<(), WriteFailed>
     ensures { Prints result printer.old printer.new (flat_map line_text outbox.now) }
 {

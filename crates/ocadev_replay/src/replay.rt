@@ -17,8 +17,8 @@ use oca_script::lines::serve_lines;
 use oca_script::{Language, Printer, ReplayFault, Sink, Source, Stop, WriteFailed};
 use oca_types::Peer;
 
-/// The language of the device's scripts, in which a line is a datagram or a clock reading, and the room for serving
-/// one.
+/// The rules of a device's scripts, in which a line is a datagram or a reading of the clock, and the memory for serving
+/// a line.
 pub struct DeviceScript<'a> {
     outbox: &'a mut Outbox,
     bytes: [u8; DATAGRAM_ROOM],
@@ -117,18 +117,16 @@ fn datagram<W: Sink>(
 }
 
 /// Replays a script on the device: reads the source to its end, does what each line asks, and prints the answers after
-/// what the printer held. The script's form is the profile's.
-///
-/// A line `N P HEX` is a datagram of the peer P at the moment N in milliseconds, and a line `N quiet` a clock reading.
-/// The outbox is emptied before each datagram, and what it held at first does not matter. The call takes no memory.
-///
-/// Faults: `Line` if a line is bad, with the number of the first such line, counted from 1, and its fault. `TooMuch` if
-/// the script has more than 16,777,216 bytes, and no line within them is bad. `Read` if a read failed in this call, of
-/// a source that had not failed before. `Write` if a write failed in this call, of a sink that had not failed before.
-///
-/// After `Line` and `TooMuch` all lines before were replayed and their text was written. After `Read` and `Write` the
-/// lines up to some line were replayed, and no later ones. After `Write` only the beginning of their text may have been
-/// written.
+/// what waits in the printer (the form of a script is the profile's). A line `N P HEX` is a datagram of the peer P at
+/// the moment N in milliseconds; a line `N quiet` only moves the clock to N. The outbox is emptied before each
+/// datagram, and its old content does not matter. The call takes no memory. Faults:
+/// - `Line` if a line is bad, with the number of the first such line, counted from 1, and its fault.
+/// - `TooMuch` if the script has more than 16,777,216 bytes, and no line within them is bad. After `Line` and
+///   `TooMuch`, all lines before were replayed, and their text was written.
+/// - `Read` if a read failed in this call, of a source that had not failed before. Some first lines were replayed, and
+///   all their text was written.
+/// - `Write` if a write failed in this call, to a sink that had not failed before. Some first lines were replayed, and
+///   perhaps only the beginning of their text was written.
 pub fn replay<R: Source, W: Sink>(
     device: &mut Device,
     outbox: &mut Outbox,

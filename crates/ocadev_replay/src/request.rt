@@ -12,15 +12,17 @@ use oca_script::field::{first_field, hex_bytes, number_before, peer, peer_before
 use oca_script::line_field::moment;
 use oca_types::Peer;
 
-/// Room for the bytes of a datagram in a script.
+/// The greatest number of bytes of a datagram in a script: 2,048. A line has no more, since it has at most 4,096 bytes.
 pub const DATAGRAM_ROOM: usize = 2048;
 
-/// What a line asks for.
+/// What a line of a device's script asks for. Moments are in milliseconds.
 #[derive(Clone, Copy)]
 pub enum ScriptEvent<'a> {
+    /// The clock moves to this moment.
     Tick {
         now: u64,
     },
+    /// The device receives a datagram of a peer at this moment.
     Datagram {
         now: u64,
         from: Peer,
@@ -28,7 +30,7 @@ pub enum ScriptEvent<'a> {
     },
 }
 
-/// The fields of a line, where there are two or three.
+/// The fields of a line, if there are two or three of them.
 #[derive(Clone, Copy)]
 pub enum Fields<'a> {
     Two(&'a [u8], &'a [u8]),
@@ -132,9 +134,10 @@ fn fault_after_peer(rest: &[u8]) -> LineFault
     }
 }
 
-/// Reads what a line of a script asks for. The line must have at most 4,096 bytes (a premise). The bytes of a datagram
-/// are put at the front of `room`. Refusal: the fault of the first field, from the left, that does not have its form
-/// ([`LineFault`]); then discard what `room` holds.
+/// Reads what a line of a device's script asks for (*profile*). The line has at most 4,096 bytes (a premise). The bytes
+/// of a datagram are written to the front of `room`, and the result refers to them. The call takes no memory. Refusals,
+/// the first that applies; discard what `room` contains then: `Form` if the line does not have the fields of a datagram
+/// or a clock reading. `Moment`, `Peer` or `Hex` for the first field, from the left, that does not have its form.
 pub fn asked_by<'a>(
     line: &[u8],
     room: &'a mut [u8; DATAGRAM_ROOM],
