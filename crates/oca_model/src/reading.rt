@@ -13,7 +13,7 @@ use oca_types::{Class, Cursor, Params, PutFault};
 /// A setting with its limits, as a device answers them: the least and the greatest setting.
 #[derive(Clone, Copy, Debug, PartialEq, Eq)]
 pub struct Ranged<N> {
-    /// The setting.
+    /// The setting, which a device answers as the first parameter.
     pub setting: N,
     /// The least setting that the object can have.
     pub least: N,

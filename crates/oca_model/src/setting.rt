@@ -9,7 +9,7 @@ use oca_types::Class;
 /// Why a reading cannot be set to a value: the first fault in this order that applies.
 #[derive(Clone, Copy, Debug, PartialEq, Eq)]
 pub enum SettingFault {
-    /// The value is of another class.
+    /// The value is not of the reading's class.
     OtherClass,
     /// The value is below the least or above the greatest.
     OutOfRange,

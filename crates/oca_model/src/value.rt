@@ -11,7 +11,7 @@ use crate::item::Item;
 use crate::parameters::whole;
 use oca_types::{Class, Params, PutFault};
 
-/// The states of an OcaMute, by their numbers in AES70-2.
+/// The state of an OcaMute, with its number in AES70-2.
 #[derive(Clone, Copy, Debug, PartialEq, Eq)]
 pub enum MuteState {
     /// Muted, 1.
@@ -20,7 +20,7 @@ pub enum MuteState {
     Unmuted = 2,
 }
 
-/// The states of an OcaPolarity, by their numbers in AES70-2.
+/// The state of an OcaPolarity, with its number in AES70-2.
 #[derive(Clone, Copy, Debug, PartialEq, Eq)]
 pub enum PolarityState {
     /// Not inverted, 1.

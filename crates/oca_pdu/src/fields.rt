@@ -7,7 +7,8 @@ ghost use Rattle.oca_pdu.specs.Reading.{least_size, message_in, content_of, keep
 use crate::message::{COMMAND_BYTES, Content, Form, Kind, Message, RESPONSE_BYTES};
 use oca_types::{Command, Handle, MethodId, Ono};
 
-/// Reads a Uint16 from two bytes, the highest byte first. There must be exactly two bytes (a premise).
+/// Returns the Uint16 that two bytes encode, the highest byte first (AES70-3). There must be exactly two bytes (a
+/// premise). The call refuses nothing.
 pub fn u16_in(bytes: &[u8]) -> u16
     requires { length bytes.now ≡ 2 }
     ensures { result ≡ from_be_bytes w16 bytes.now }
@@ -15,7 +16,8 @@ pub fn u16_in(bytes: &[u8]) -> u16
     u16::from_be_bytes([bytes[0], bytes[1]])
 }
 
-/// Reads a Uint32 from four bytes, the highest byte first. There must be exactly four bytes (a premise).
+/// Returns the Uint32 that four bytes encode, the highest byte first (AES70-3). There must be exactly four bytes (a
+/// premise). The call refuses nothing.
 pub fn u32_in(bytes: &[u8]) -> u32
     requires { length bytes.now ≡ 4 }
     ensures { result ≡ from_be_bytes w32 bytes.now }
@@ -23,7 +25,8 @@ pub fn u32_in(bytes: &[u8]) -> u32
     u32::from_be_bytes([bytes[0], bytes[1], bytes[2], bytes[3]])
 }
 
-/// The least size of a message of this kind, in bytes: 17 for a command, 10 for a response.
+/// Returns the least size of a message of this kind, in bytes (AES70-3): 17 for a command, and 10 for a response. The
+/// call refuses nothing.
 pub fn least(kind: Kind) -> usize
     ensures { result ≡ least_size kind }
 {
@@ -33,8 +36,8 @@ pub fn least(kind: Kind) -> usize
     }
 }
 
-/// What kind of messages a PDU of this PduType holds (AES70-3): 0 and 1 commands, 3 responses, 4 keep-alives. `None`
-/// for every other type.
+/// Returns what kind of messages a PDU of this PduType has (AES70-3): commands for 0 and 1, responses for 3, and a
+/// keep-alive for 4. The result is `None` for any other type, also for notifications (2).
 pub fn content(pdu_type: u8) -> Option<Content>
     ensures { result ≡ content_of pdu_type }
 {
@@ -47,8 +50,9 @@ pub fn content(pdu_type: u8) -> Option<Content>
     }
 }
 
-/// Reads one message, a command or a response as `kind` says, from all of these bytes. There must be at least as many
-/// bytes as [`least`] says (a premise). The parameters of the message are a slice of the bytes.
+/// Returns the message that all of these bytes encode, a command or a response as `kind` says (AES70-3). There must be
+/// at least as many bytes as [`least`] says (a premise). The parameters of the message are a slice of the bytes. The
+/// size in the first four bytes is not read. The call refuses nothing and takes no memory.
 pub fn read_message(kind: Kind, bytes: &[u8]) -> Message<'_>
     requires { least_size kind ≤ length bytes.now }
     ensures { msg_of result ≡ message_in kind bytes.now }
@@ -80,8 +84,8 @@ pub fn read_message(kind: Kind, bytes: &[u8]) -> Message<'_>
     }
 }
 
-/// Reads the heartbeat of a keep-alive from all of its bytes: two bytes are seconds, four bytes are milliseconds. The
-/// bytes must be those of a well-formed keep-alive (a premise).
+/// Returns the heartbeat of a keep-alive from all of its bytes (AES70-3): two bytes are seconds, and four bytes are
+/// milliseconds. The bytes must be those of a well-formed keep-alive (a premise). The call refuses nothing.
 pub fn read_form(bytes: &[u8]) -> Form
     requires { IsTrue (is_ok (keep_alive_at 0 bytes.now)) }
     ensures { keep_alive_at 0 bytes.now ≡ Ok (msg_of (Message.KeepAlive result) ∷ []) }

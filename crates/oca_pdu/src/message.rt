@@ -33,26 +33,27 @@ pub enum Message<'a> {
         /// The bytes of the parameters.
         params: &'a [u8],
     },
-    /// A keep-alive.
+    /// A keep-alive, with its heartbeat.
     KeepAlive {
         /// The heartbeat.
         form: Form,
     },
 }
 
-/// The byte with which a PDU begins (AES70-3).
+/// The byte with which a PDU begins (AES70-3): 3B in hexadecimal.
 pub const SYNC: u8 = 0x3B;
 
-/// The bytes of a PDU before its messages: sync, ProtocolVersion, PduSize, PduType and MessageCount (AES70-3).
+/// The number of bytes of a PDU before its messages: sync, ProtocolVersion, PduSize, PduType and MessageCount
+/// (AES70-3).
 pub const HEADER_BYTES: usize = 10;
 
-/// The bytes of a command before its parameters (AES70-3).
+/// The number of bytes of a command before its parameters (AES70-3).
 pub const COMMAND_BYTES: usize = 17;
 
-/// The bytes of a response before its parameters (AES70-3).
+/// The number of bytes of a response before its parameters (AES70-3).
 pub const RESPONSE_BYTES: usize = 10;
 
-/// What the messages of a PDU are, other than a keep-alive.
+/// The kind of the messages of a PDU, if they are not a keep-alive (AES70-3).
 #[derive(Clone, Copy, Debug)]
 pub enum Kind {
     /// Commands that ask for no response, PduType 0.
@@ -63,7 +64,7 @@ pub enum Kind {
     Response,
 }
 
-/// What a PDU holds, by its PduType.
+/// What a PDU contains, by its PduType (AES70-3).
 #[derive(Clone, Copy)]
 pub enum Content {
     /// Messages of one kind, one or more.

@@ -24,7 +24,7 @@ pub enum RunFault {
     /// The line with this number, counted from 1, of the text that lists the objects has this fault.
     #[error("line {0}: {1}")]
     Object(u64, ObjectFault),
-    /// Memory was refused.
+    /// The allocator or the system refused memory.
     #[error("no memory")]
     NoMemory,
     /// The input could not be read.

@@ -1,5 +1,5 @@
 //! The version of the programs.
 
-/// The version of the programs, and the toolchain that they are checked with, as `--version` prints them behind a
+/// The version of the programs, and the toolchain with which they are checked. `--version` prints both after the
 /// program's name.
 pub const VERSION: &str = "1.8.0\nchecked with rattle-kit-13f logic dac8208d650f15bf";

@@ -14,7 +14,8 @@ pub struct Progress {
 }
 
 impl Progress {
-    /// The progress at the start of a script: nothing was read, and the first line has the number 1.
+    /// Returns the progress at the start of a script: no byte was read, and the first line has the number 1. The call
+    /// takes no memory from the heap.
     pub fn new() -> Progress
         ensures line { result.line ≡ [] }
         ensures number { result.number ≡ 1 }

@@ -28,7 +28,7 @@ const GREATEST_HEARTBEAT: u64 = 30_000;
 /// A session is forgotten once its silence passes so many milliseconds.
 const LONGEST_SILENCE: u64 = 120_000;
 
-/// The slot of a session: of the session that has it, or of the last that had it.
+/// Memory for one session: for a session that a peer has, or for a later one.
 #[derive(Drop)]
 pub struct Slot {
     peer: Peer,

@@ -30,7 +30,7 @@ pub enum Judged<'a> {
     Old,
 }
 
-/// A command in a window: its handle, and which cell has the rest of it and its reply.
+/// A command in a window: its handle, and the index of the cell with the rest of the command and its reply.
 #[derive(Clone, Copy)]
 pub struct Held {
     handle: Handle,

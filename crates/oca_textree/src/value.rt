@@ -18,10 +18,10 @@ use oca_script::field::{number, split_at_byte};
 use oca_tree::{Kind, MuteState, PolarityState};
 use oca_types::Class;
 
-/// The names of a switch's positions.
+/// The names of a switch's positions: from 0 to 16.
 pub type Names<'a> = ArrayVec<&'a str, 16>;
 
-/// The limits and the setting of an integer, and what is left of the line.
+/// The limits and the setting of an integer, and the rest of the line.
 #[derive(Clone, Copy)]
 pub struct Limits<'a> {
     least: i128,
@@ -191,13 +191,14 @@ fn place(name: &[u8], names: &[&str]) -> Option<u16>
     }
 }
 
-/// Reads the two fields of a switch's positions. The first has their names, separated by commas, which are put into
-/// `names`; the second is the name of the current position. Returns the index of the current position, counted from 0,
-/// and the rest of the line. `rest` is `None` if no field is left. `names` must be empty before (a premise).
-///
-/// Refusals, the first from the left: `Form` if a field is missing, or a quote is not closed, or not followed by a
-/// space or the line's end. `Text` if a name is not UTF-8 or has a character that is printed as an escape. `Range` at a
-/// seventeenth name. `Value` if the current position is none of the names. After a refusal discard `names`.
+/// Reads the two fields of a switch's positions from a line; returns the index of the current position, counted from 0,
+/// and the rest of the line (*profile*). The first field has the names of the positions, separated by commas, which are
+/// written into `names`. The second field is the name of the current position. `rest` is `None` if no field is left.
+/// `names` must be empty before (a premise). Refusals, the first from the left; discard `names` then:
+/// - `Form` if a field is missing, or a quote is not closed, or is not followed by a space or the line's end.
+/// - `Text` if a name is not UTF-8 or has a character that is printed as an escape.
+/// - `Range` at a seventeenth name.
+/// - `Value` if the current position is none of the names.
 #[tactic(auto, unfolding(crate::specs::Lines::positions_of))]
 pub fn positions<'a>(
     rest: Option<&'a [u8]>,
@@ -364,13 +365,15 @@ fn uint64_at(rest: Option<&[u8]>) -> Read<'_>
     Ok((kind, read.rest))
 }
 
-/// Reads the value of an object of this class from the next fields of a line; returns it and the rest of the line.
-/// `rest` is `None` if no field is left. The value of a mute, a polarity or a Boolean is one word. An integer is three
-/// fields: the least, the greatest and the setting. Whether these three fit one another is not checked here. A block
-/// has no value: nothing is read. The class must not be that of a switch (a premise). The first fault from the left is
-/// returned. `Form` if a field is missing, or a quote is not closed, or not followed by a space or the line's end.
-/// `Value` if the word is not one of the class's words. `Number` if a field is not a decimal integer of at most 20
-/// digits, with `-` before it if it is negative, or is outside the class's type.
+/// Reads the value of an object of this class from the next fields of a line; returns the value and the rest of the
+/// line (*profile*). `rest` is `None` if no field is left. A mute, a polarity or a Boolean has one word. An integer has
+/// three fields: the least, the greatest and the setting. The call does not check that the setting is between the
+/// limits. A block has no value: nothing is read. The class must not be that of a switch (a premise). Refusals, the
+/// first from the left:
+/// - `Form` if a field is missing, or a quote is not closed, or is not followed by a space or the line's end.
+/// - `Value` if the word is not one of the class's words.
+/// - `Number` if a field is not a decimal integer of at most 20 digits, with `-` before it if it is negative, or does
+///   not fit the class's type.
 #[tactic(auto, unfolding(crate::specs::Lines::value_at, oca_tree::specs::Building::value_of))]
 pub fn kind_at(class: Class, rest: Option<&[u8]>) -> Read<'_>
     requires { class ≡ Class.Switch → ⊥ }

@@ -120,7 +120,7 @@ pub enum Kind<'a> {
     },
     /// OcaBooleanActuator, with its setting.
     Boolean(bool),
-    /// OcaInt8Actuator.
+    /// OcaInt8Actuator, with its setting and its limits.
     Int8 {
         /// The setting, from `least` to `greatest`.
         setting: i8,
@@ -129,7 +129,7 @@ pub enum Kind<'a> {
         /// The greatest that it can be set to.
         greatest: i8,
     },
-    /// OcaInt16Actuator.
+    /// OcaInt16Actuator, with its setting and its limits.
     Int16 {
         /// The setting, from `least` to `greatest`.
         setting: i16,
@@ -138,7 +138,7 @@ pub enum Kind<'a> {
         /// The greatest that it can be set to.
         greatest: i16,
     },
-    /// OcaInt32Actuator.
+    /// OcaInt32Actuator, with its setting and its limits.
     Int32 {
         /// The setting, from `least` to `greatest`.
         setting: i32,
@@ -147,7 +147,7 @@ pub enum Kind<'a> {
         /// The greatest that it can be set to.
         greatest: i32,
     },
-    /// OcaInt64Actuator.
+    /// OcaInt64Actuator, with its setting and its limits.
     Int64 {
         /// The setting, from `least` to `greatest`.
         setting: i64,
@@ -156,7 +156,7 @@ pub enum Kind<'a> {
         /// The greatest that it can be set to.
         greatest: i64,
     },
-    /// OcaUint8Actuator.
+    /// OcaUint8Actuator, with its setting and its limits.
     Uint8 {
         /// The setting, from `least` to `greatest`.
         setting: u8,
@@ -165,7 +165,7 @@ pub enum Kind<'a> {
         /// The greatest that it can be set to.
         greatest: u8,
     },
-    /// OcaUint16Actuator.
+    /// OcaUint16Actuator, with its setting and its limits.
     Uint16 {
         /// The setting, from `least` to `greatest`.
         setting: u16,
@@ -174,7 +174,7 @@ pub enum Kind<'a> {
         /// The greatest that it can be set to.
         greatest: u16,
     },
-    /// OcaUint32Actuator.
+    /// OcaUint32Actuator, with its setting and its limits.
     Uint32 {
         /// The setting, from `least` to `greatest`.
         setting: u32,
@@ -183,7 +183,7 @@ pub enum Kind<'a> {
         /// The greatest that it can be set to.
         greatest: u32,
     },
-    /// OcaUint64Actuator.
+    /// OcaUint64Actuator, with its setting and its limits.
     Uint64 {
         /// The setting, from `least` to `greatest`.
         setting: u64,

@@ -9,7 +9,7 @@ use arrayvec::ArrayVec;
 use oca_model::Reading;
 use oca_types::{Access, Class, Ono, Peer, Text};
 
-/// The positions of an OcaSwitch, 1 to 16, each with a name and enabled or not, and the current one.
+/// The positions of an OcaSwitch, 1 to 16: the name of each, whether each is enabled, and which is the current one.
 #[derive(Drop)]
 pub struct Switch {
     pub names: ArrayVec<Text, 16>,

@@ -50,7 +50,7 @@ pub struct ObjectInfo {
     pub ono: Ono,
     /// The class of the object.
     pub class: Class,
-    /// The number of the block that contains it, 0 for the root.
+    /// The number of the block that directly contains the object, 0 for the root.
     pub container: Ono,
     /// The role of the object, 1 to 64 bytes.
     pub role: Text,

@@ -18,7 +18,7 @@ pub enum Ask {
     Lockable,
     /// Whether the object is enabled.
     Enabled,
-    /// The names of a switch's positions.
+    /// The names of all positions of a switch.
     Names,
     /// For each position of a switch, whether the position is enabled.
     Flags,
@@ -90,7 +90,7 @@ pub struct Question {
 /// A question whose command is in flight: it was submitted, and its answer was not taken yet.
 #[derive(Clone, Copy, PartialEq, Eq)]
 pub struct Asked {
-    /// The handle of its command.
+    /// The handle of the command that asks.
     pub handle: Handle,
     /// The question.
     pub question: Question,

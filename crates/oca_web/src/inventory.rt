@@ -24,7 +24,7 @@ use std::collections::VecDeque;
 pub struct Listed {
     /// The place of the block in the list of objects.
     pub place: usize,
-    /// Its members.
+    /// The members that the block listed, in order.
     pub members: Vec<Member>,
 }
 

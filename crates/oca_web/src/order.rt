@@ -96,7 +96,7 @@ impl Default for Order {
 /// An order in flight: its command was submitted, and the outcome was not taken yet.
 #[derive(Clone, Copy, PartialEq, Eq)]
 pub struct Sent {
-    /// The handle of its command.
+    /// The handle of the order's command.
     pub handle: Handle,
     /// The order.
     pub order: Order,

@@ -35,11 +35,11 @@ pub struct LinkNews {
     pub heard: Option<u64>,
     /// The moment since which the link is lost, and `None` if it is not lost.
     pub lost_since: Option<u64>,
-    /// How many links were lost.
+    /// How many links were lost since the view was made.
     pub lost: u64,
-    /// How many datagrams were sent.
+    /// How many datagrams were sent since the view was made, over all ends.
     pub sent: u64,
-    /// How many keep-alives were sent.
+    /// How many keep-alives were sent since the view was made, over all ends.
     pub keep_alives: u64,
 }
 
