@@ -75,9 +75,13 @@ pub enum Shape {
     Descendants,
 }
 
-/// Returns the kind of answer that the method has (AES70-2). By this kind, [`Answer::read`] reads an answer. The result
-/// is `Done` for each method that sets, locks or unlocks: its answer has no parameters. The call refuses nothing and
-/// takes no memory.
+/// Returns the kind of answer that the method has, by which [`Answer::read`] reads an answer (AES70-2). The call
+/// refuses nothing and takes no memory. The result is:
+/// - `Truth` for GetLockable, GetEnabled and GetPositionEnabled, and `Text` for GetRole, GetLabel and GetPositionName.
+/// - `Reading` for GetState, GetPosition and GetSetting, and `Owner` for GetOwner.
+/// - `Names` for GetPositionNames, `Flags` for GetPositionEnableds, and `Class` for GetClassIdentification.
+/// - `Members` for GetMembers, and `Descendants` for GetMembersRecursive.
+/// - `Done` for all other methods, which set, lock or unlock: their answer has no parameters.
 pub fn shape_of(method: Method) -> Shape
     ensures { result ≡ shape_of method }
 {

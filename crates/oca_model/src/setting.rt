@@ -25,9 +25,9 @@ impl Reading {
         self.value().class()
     }
 
-    /// Returns whether the setting is at least the least and at most the greatest of the reading. The result is always
-    /// `true` for a mute, a polarity and a Boolean, which have no limits. It is `false` for each setting if the least
-    /// is above the greatest. The call refuses nothing.
+    /// Returns whether the setting is at least the least and at most the greatest of the reading (AES70-2). The result
+    /// is always `true` for a mute, a polarity and a Boolean, which have no limits. It is `false` for each setting if
+    /// the least is above the greatest. The call refuses nothing.
     #[tactic(auto, unfolding(crate::specs::Settings::is_within))]
     pub fn is_within(self) -> bool
         ensures { result ≡ is_within self }
@@ -46,7 +46,7 @@ impl Reading {
         }
     }
 
-    /// Returns the reading with another value and the same limits. The value can be outside the limits;
+    /// Returns the reading with another value and the same limits (AES70-2). The value can be outside the limits;
     /// [`Reading::set_to`] refuses such a value. The result is `None` if the value is not of the reading's class. The
     /// call takes no memory.
     #[tactic(auto, unfolding(crate::specs::Settings::with_value))]
@@ -70,10 +70,10 @@ impl Reading {
         }
     }
 
-    /// Returns the reading that an object has after it is set to this value: the value, with the same limits. The call
-    /// sends nothing and changes no object. Refusals, the first that applies: `OtherClass` if the value is not of the
-    /// reading's class. `OutOfRange` if the value is below the least or above the greatest. A mute, a polarity and a
-    /// Boolean have no limits.
+    /// Returns the reading that an object has after it is set to this value: the value, with the same limits (AES70-2).
+    /// The call sends nothing and changes no object. Refusals, the first that applies: `OtherClass` if the value is not
+    /// of the reading's class. `OutOfRange` if the value is below the least or above the greatest. A mute, a polarity
+    /// and a Boolean have no limits.
     pub fn set_to(self, value: Value) -> Result<Reading, SettingFault>
         ensures { result ≡ set_to self value }
     {

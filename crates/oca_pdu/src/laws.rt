@@ -27,9 +27,9 @@ pub fn law_datagram_or_fault()
     ensures { DatagramOrFault }
 {}
 
-/// Law: reading bytes gives exactly the messages if the bytes are a well-formed datagram (AES70-3), and exactly the
-/// first fault if they are not. The law is about the definition by which [`check`](crate::check) reads, and it holds
-/// for all bytes. The function states this as its contract. It does nothing at run time.
+/// Law: reading each list of bytes gives exactly its messages if the bytes are a well-formed datagram (AES70-3), and
+/// exactly the first fault if they are not. [`check`](crate::check) returns what this reading gives. The function
+/// states the law as its contract. It does nothing at run time.
 pub fn law_reading()
     ensures { ReadingIsExact }
 {}

@@ -69,8 +69,8 @@ pub struct Failure {
 }
 
 impl Failure {
-    /// Returns a failure with this fault and this note. The call prints nothing and takes no memory. [`report`] prints
-    /// only the first line of the note, and only if that has at most 1,000 bytes.
+    /// Returns a failure with this fault and this note (*profile*). The call prints nothing and takes no memory.
+    /// [`report`] prints only the first line of the note, and only if that has at most 1,000 bytes.
     pub fn noted(fault: RunFault, note: String) -> Failure
         ensures fault { result.fault ≡ fault }
         ensures note { result.note ≡ Some note }
@@ -81,8 +81,8 @@ impl Failure {
         }
     }
 
-    /// Returns a failure with this fault and a copy of this note, for which it takes memory. If memory is refused, the
-    /// failure has no note. The call itself refuses nothing and prints nothing.
+    /// Returns a failure with this fault and a copy of this note, for which it takes memory (*profile*). If memory is
+    /// refused, the failure has no note. The call itself refuses nothing and prints nothing.
     pub fn told(alloc: Global, fault: RunFault, note: &str) -> Failure
         ensures { result.fault ≡ fault }
     {

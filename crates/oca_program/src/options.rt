@@ -78,8 +78,8 @@ pub fn number_in(words: &ArgMatches<'_>, name: &str, most: usize, largest: u64) 
 
 /// Returns the number that the command line `words` gives for the option `name`, and `other` if the command line does
 /// not have the option (*profile*). The number has 1 to `most` decimal digits, and is at most `largest`; `other` must
-/// be at most `largest` (a premise). The result is `None` if the text of the option is not such a number. The call
-/// takes no memory.
+/// be at most `largest` (a premise, which the caller must prove). The result is `None` if the text of the option is not
+/// such a number. The call takes no memory.
 pub fn number_or(
     words: &ArgMatches<'_>,
     name: &str,

@@ -21,16 +21,16 @@ pub trait Source {
     // Whether it is known that a read does not wait: since there are bytes, or the end is reached, or it never waits.
     ghost ready: { Self → Bool } = { λ _. true };
 
-    /// Waits for at most `milliseconds` until a read would not wait, or until the descriptor `beside` can be read. If
-    /// `beside` is `None`, there is no such descriptor. The call reads nothing. Returns `true` if a read would not
-    /// wait: there are bytes, or the end is reached. Returns `false` otherwise.
+    /// Waits for at most `milliseconds` until a read would not wait, or until the descriptor `beside` can be read
+    /// (*profile*). If `beside` is `None`, there is no such descriptor. The call reads nothing. Returns `true` if a
+    /// read would not wait: there are bytes, or the end is reached. Returns `false` otherwise.
     fn await_input(&mut self, beside: Option<RawFd>, milliseconds: u64) -> bool
         ensures ready { ready self.new ≡ result }
         ensures source { input (remaining self.new) (failed self.new) ≡ input (remaining self.old) (failed self.old) };
 
     /// Reads the next bytes into the front of `buf`, and returns how many they are: at most the length of `buf`. 0
-    /// means that the end is reached, or that `buf` has no room. The only refusal is `ReadFailed`, if reading failed;
-    /// what `buf` then contains is not known.
+    /// means that the end is reached, or that `buf` has no room (*profile*). The only refusal is `ReadFailed`, if
+    /// reading failed; what `buf` then contains is not known.
     fn read(&mut self, buf: &mut [u8]) -> Result<usize, ReadFailed>
         ensures within { ReadsAtMost result buf.new }
         ensures bytes { ReadConsumes (remaining self.old) (remaining self.new) result buf.new }
@@ -46,8 +46,8 @@ pub trait Sink {
     ghost failed: { Self → Bool };
 
     /// Writes some bytes from the beginning of `bytes`, and returns how many: at least one, and 0 only if `bytes` is
-    /// empty. The caller writes the rest. The only refusal is `WriteFailed`, if writing failed; then no byte was
-    /// written.
+    /// empty (*profile*). The caller writes the rest. The only refusal is `WriteFailed`, if writing failed; then no
+    /// byte was written.
     fn write(&mut self, bytes: &[u8]) -> Result<usize, WriteFailed>
         ensures within { WritesAtMost result bytes.now }
         ensures some { IfOk result (λ n. 0 < length bytes.now → 0 < n) }

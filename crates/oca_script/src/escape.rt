@@ -30,8 +30,8 @@ impl Model for Escaped {
 
 impl Escaped {
     /// Returns the text as the programs print it: 0 to 512 bytes (*profile*). The bytes have no character that ends a
-    /// line, moves a cursor or changes the direction of a text. `text` must have at most 64 bytes (a premise). The call
-    /// prints nothing, refuses nothing and takes no memory.
+    /// line, moves a cursor or changes the direction of a text. `text` must have at most 64 bytes (a premise, which the
+    /// caller must prove). The call prints nothing, refuses nothing and takes no memory.
     pub fn of(text: &str) -> Escaped
         requires { length text.now ≤ 64 }
         ensures { result ≡ escaped text.now }

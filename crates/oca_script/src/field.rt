@@ -37,8 +37,9 @@ pub fn number(digits: &[u8], most: usize, largest: u64) -> Option<u64>
 }
 
 /// Returns the number before the first byte `end` of a text, and the text after that byte (*profile*). The number has 1
-/// to `most` decimal digits. `end` must not be a digit (a premise). The result is `None` if the text has no byte `end`,
-/// or the text before it is not such a number, or the number is above `largest`. The call takes no memory.
+/// to `most` decimal digits. `end` must not be a digit (a premise, which the caller must prove). The result is `None`
+/// if the text has no byte `end`, or the text before it is not such a number, or the number is above `largest`. The
+/// call takes no memory.
 #[tactic(auto, using(crate::proofs::NumberLemmas::number_before_rules))]
 pub fn number_before(text: &[u8], end: u8, most: usize, largest: u64) -> Option<(u64, &[u8])>
     requires { (end < 48) ⊎ (57 < end) }
@@ -108,8 +109,8 @@ pub fn moment(text: &[u8]) -> Option<u64>
     number(text, 20, u64::MAX)
 }
 
-/// Returns the text before the first byte `separator`, and the text after that byte. Both can be empty. The result is
-/// `None` if the text has no such byte. Nothing is copied, and no memory is taken.
+/// Returns the text before the first byte `separator`, and the text after that byte (*profile*). Both can be empty. The
+/// result is `None` if the text has no such byte. Nothing is copied, and no memory is taken.
 pub fn split_at_byte(text: &[u8], separator: u8) -> Option<(&[u8], &[u8])>
     ensures value { split_view result ≡ split_at separator text.now }
     ensures within { IfSome result (λ p. length p.0.now + length p.1.now + 1 ≡ length text.now) }
@@ -200,8 +201,8 @@ pub fn peer_before(text: &[u8]) -> Option<(Peer, &[u8])>
 
 /// Returns the bytes that a field of a line gives (*profile*): none for `-`, otherwise one byte for each two
 /// hexadecimal digits, of either case. The bytes are written to the front of `room`, which must have at least half as
-/// many bytes as the text (a premise). The result is `None` if the text is anything else, also if it is empty; discard
-/// what `room` contains then. The call takes no memory.
+/// many bytes as the text (a premise, which the caller must prove). The result is `None` if the text is anything else,
+/// also if it is empty; discard what `room` contains then. The call takes no memory.
 #[tactic(auto, unfolding(crate::specs::Fields::hex_of), using(crate::proofs::HexLemmas::hex_field_rules))]
 pub fn hex_bytes<'a>(text: &[u8], room: &'a mut [u8]) -> Option<&'a [u8]>
     requires { length text.now ≤ 2 * length room.old }

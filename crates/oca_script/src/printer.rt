@@ -45,7 +45,7 @@ impl<W: Sink> Printer<W> {
         }
     }
 
-    /// Returns the sink of the printer. Bytes that still wait in the printer are not yet written to it
+    /// Returns the sink of the printer (*profile*). Bytes that still wait in the printer are not yet written to it
     /// ([`flush`](Printer::flush)).
     pub fn sink(&self) -> &W
         ensures contents { W.contents result.now ≡ self.now.contents }
@@ -64,9 +64,9 @@ impl<W: Sink> Printer<W> {
         write_held(&mut self.sink, &mut self.held)
     }
 
-    /// Makes room for `room` more bytes, from 0 to 8,192 (a premise): if fewer are free, all bytes that wait are
-    /// written to the sink (*profile*). The only refusal is `WriteFailed`, if a write failed. Then perhaps only the
-    /// beginning of the bytes was written, and what still waits is not known.
+    /// Makes room for `room` more bytes, from 0 to 8,192 (a premise, which the caller must prove): if fewer are free,
+    /// all bytes that wait are written to the sink (*profile*). The only refusal is `WriteFailed`, if a write failed.
+    /// Then perhaps only the beginning of the bytes was written, and what still waits is not known.
     pub fn make_room(&mut self, room: usize) -> Result<(), WriteFailed>
         requires { room ≤ 8192 }
         ensures prints { Prints result self.old self.new [] }
@@ -84,8 +84,9 @@ impl<W: Sink> Printer<W> {
         hold_or_write(&mut self.sink, &mut self.held, bytes)
     }
 
-    /// Adds the bytes to those that wait in the printer, and writes nothing to the sink. There must be room for them (a
-    /// premise; [`make_room`](Printer::make_room)): at most 8,192 bytes wait. The call refuses nothing.
+    /// Adds the bytes to those that wait in the printer, and writes nothing to the sink (*profile*). There must be room
+    /// for them (a premise, which the caller must prove; [`make_room`](Printer::make_room)): at most 8,192 bytes wait.
+    /// The call refuses nothing.
     #[inline]
     pub fn put(&mut self, bytes: &[u8])
         requires { length self.old.held + length bytes.now ≤ 8192 }
@@ -95,8 +96,8 @@ impl<W: Sink> Printer<W> {
     }
 
     /// Adds the number in decimal digits, from 1 to 20 of them, to the bytes that wait in the printer, and writes
-    /// nothing to the sink. There must be room for 20 bytes (a premise; [`make_room`](Printer::make_room)). The call
-    /// refuses nothing.
+    /// nothing to the sink (*profile*). There must be room for 20 bytes (a premise, which the caller must prove;
+    /// [`make_room`](Printer::make_room)). The call refuses nothing.
     pub fn put_number(&mut self, n: u64)
         requires { length self.old.held ≤ 8172 }
         ensures value { self.new ≡ output self.old.contents (self.old.held ++ decimal n) self.old.failed }
@@ -106,8 +107,8 @@ impl<W: Sink> Printer<W> {
     }
 
     /// Adds the bytes as lower-case hexadecimal digits, two for each byte, or `-` for no bytes, to the bytes that wait
-    /// in the printer. It writes nothing to the sink. There must be room for the digits and one byte more (a premise;
-    /// [`make_room`](Printer::make_room)). The call refuses nothing.
+    /// in the printer (*profile*). It writes nothing to the sink. There must be room for the digits and one byte more
+    /// (a premise, which the caller must prove; [`make_room`](Printer::make_room)). The call refuses nothing.
     pub fn put_hex(&mut self, bytes: &[u8])
         requires { length self.old.held + 2 * length bytes.now + 1 ≤ 8192 }
         ensures value { self.new ≡ output self.old.contents (self.old.held ++ hex_text bytes.now) self.old.failed }

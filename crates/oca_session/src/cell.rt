@@ -20,8 +20,9 @@ pub struct Cell {
 }
 
 impl Cell {
-    /// Returns a cell with copies of this command, without its handle, and of its reply. The command must have at most
-    /// 1,445 bytes of parameters (a premise). The call refuses nothing and takes no memory.
+    /// Returns a cell with copies of this command, without its handle, and of its reply (*profile*). The command must
+    /// have at most 1,445 bytes of parameters (a premise, which the caller must prove). The call refuses nothing and
+    /// takes no memory.
     pub fn new(command: &Command<'_>, reply: &Reply) -> Cell
         requires { length command.now.params.now ≤ most_command_parameter_bytes }
         ensures { entry_in command.now.handle result ≡ record { command = fields_of command.now; reply = reply.now } }
@@ -42,8 +43,9 @@ impl Cell {
         cell
     }
 
-    /// Replaces the command and the reply in the cell by copies of these. The handle is not stored. The command must
-    /// have at most 1,445 bytes of parameters (a premise). The call refuses nothing and takes no memory.
+    /// Replaces the command and the reply in the cell by copies of these (*profile*). The handle is not stored. The
+    /// command must have at most 1,445 bytes of parameters (a premise, which the caller must prove). The call refuses
+    /// nothing and takes no memory.
     pub fn set(&mut self, command: &Command<'_>, reply: &Reply)
         requires { length command.now.params.now ≤ most_command_parameter_bytes }
         ensures { entry_in command.now.handle self.new ≡ record { command = fields_of command.now; reply = reply.now } }
@@ -92,7 +94,7 @@ impl Cell {
             && are_same(self.params.as_slice(), command.params)
     }
 
-    /// Returns the reply in the cell, without copying it.
+    /// Returns the reply in the cell, without copying it (*profile*).
     pub fn reply(&self) -> &Reply
         ensures { result.now ≡ self.now.reply }
     {

@@ -127,15 +127,15 @@ impl Sessions {
         self.count
     }
 
-    /// Returns `true` if there is no session, as at first, and `false` otherwise. The call refuses nothing.
+    /// Returns `true` if there is no session, as at first, and `false` otherwise (*profile*). The call refuses nothing.
     pub fn is_empty(&self) -> bool
         ensures { result ≡ (length self.now.sessions == 0) }
     {
         self.count == 0
     }
 
-    /// Returns the peer of the session at an index, counted from 0 in order of opening. The result is `None` if `index`
-    /// is the number of sessions or above.
+    /// Returns the peer of the session at an index, counted from 0 in order of opening (*profile*). The result is
+    /// `None` if `index` is the number of sessions or above.
     pub fn peer_at(&self, index: usize) -> Option<Peer>
         ensures { result ≡ slice_get (peers_of self.now.sessions) index }
     {
@@ -246,9 +246,9 @@ impl Sessions {
     }
 
     /// Sets the heartbeat of a known peer to `ms` milliseconds (*profile*). A number below 250 sets it to 250, and a
-    /// number above 30,000 to 30,000. The peer must be known (a premise; [`is_known`](Sessions::is_known)). Nothing
-    /// else is changed: in particular the silence of the peer does not end. The call refuses nothing and takes no
-    /// memory.
+    /// number above 30,000 to 30,000. The peer must be known (a premise, which the caller must prove;
+    /// [`is_known`](Sessions::is_known)). Nothing else is changed: in particular the silence of the peer does not end.
+    /// The call refuses nothing and takes no memory.
     pub fn beat(&mut self, peer: Peer, ms: u64)
         requires { IsSome (session_of peer self.old.sessions) }
         ensures heartbeat { self.new ≡ with_sessions self.old
@@ -264,7 +264,7 @@ impl Sessions {
     }
 
     /// Returns the present moment of the table, in milliseconds of the caller's clock: the latest moment that a call
-    /// was given, and 0 at first. The call refuses nothing.
+    /// was given, and 0 at first (*profile*). The call refuses nothing.
     pub fn moment(&self) -> u64
         ensures { result ≡ self.now.moment }
     {
@@ -295,7 +295,7 @@ impl Sessions {
 
     /// Judges a command of a known peer by the reply window of its session (*profile*). The window contains the last
     /// accepted commands of the session with their replies. The call changes nothing and takes no memory. The peer must
-    /// be known (a premise; [`is_known`](Sessions::is_known)). The result is:
+    /// be known (a premise, which the caller must prove; [`is_known`](Sessions::is_known)). The result is:
     /// - `Kept` with the reply, if the window has a command with this handle that asks the same: the same target,
     ///   DefLevel, MethodIndex, ParamCount and parameter bytes. The command is a duplicate.
     /// - `Reused` if the window has a command with this handle that asks something else.
@@ -313,9 +313,9 @@ impl Sessions {
     }
 
     /// Stores a fresh command of a known peer, with its reply, in the reply window of its session (*profile*). A full
-    /// window pushes its oldest command out. The command and the reply are copied. Premises: the peer is known
-    /// ([`is_known`](Sessions::is_known)), [`judge`](Sessions::judge) says `Fresh` for the command, and the command has
-    /// at most 1,445 bytes of parameters. The call refuses nothing and takes no memory.
+    /// window pushes its oldest command out. The command and the reply are copied. Premises, which the caller must
+    /// prove: the peer is known ([`is_known`](Sessions::is_known)), [`judge`](Sessions::judge) says `Fresh` for the
+    /// command, and the command has at most 1,445 bytes of parameters. The call refuses nothing and takes no memory.
     pub fn keep(&mut self, peer: Peer, command: &Command<'_>, reply: &Reply)
         requires known { IsSome (session_of peer self.old.sessions) }
         requires fresh { IfSome (session_of peer self.old.sessions)

@@ -52,9 +52,9 @@ impl Model for Slot {
 }
 
 impl Slot {
-    /// Returns a slot that no session has had yet, with an empty reply window of `size` commands, 1 to 64 (a premise).
-    /// The call takes from `alloc` the memory for the window. The only refusal is `AllocError`, if the allocator
-    /// refused memory.
+    /// Returns a slot that no session has had yet, with an empty reply window of `size` commands, 1 to 64 (a premise,
+    /// which the caller must prove; *profile*). The call takes from `alloc` the memory for the window. The only refusal
+    /// is `AllocError`, if the allocator refused memory.
     pub fn spare(alloc: Global, size: usize) -> Result<Slot, AllocError>
         requires { (0 < size) × (size ≤ 64) }
         ensures { IfOk result (λ s. s ≡ opened_session size (record { ip = 0; port = 0 }) 0) }
@@ -70,7 +70,7 @@ impl Slot {
     }
 
     /// Begins a session of the peer at a moment, in milliseconds: with an empty reply window, and a heartbeat of 5,000
-    /// ms. The earlier session of the slot is lost. The call refuses nothing and takes no memory.
+    /// ms (*profile*). The earlier session of the slot is lost. The call refuses nothing and takes no memory.
     pub fn open(&mut self, peer: Peer, moment: u64)
         ensures { self.new ≡ opened_session self.old.retained.size peer moment }
     {
@@ -81,14 +81,14 @@ impl Slot {
         self.window.clear();
     }
 
-    /// Returns the peer whose session the slot has.
+    /// Returns the peer whose session the slot has (*profile*).
     pub fn peer(&self) -> Peer
         ensures { result ≡ self.now.peer }
     {
         self.peer
     }
 
-    /// Returns whether the slot has the session of this peer: the same address and port.
+    /// Returns whether the slot has the session of this peer: the same address and port (*profile*).
     pub fn is_of(&self, peer: Peer) -> bool
         ensures { result ≡ is_of peer self.now }
     {
@@ -104,7 +104,7 @@ impl Slot {
     }
 
     /// Returns the latest moment, in milliseconds, at which the peer is not yet silent for more than three of its
-    /// heartbeats, if it is not heard before. The moment can be past.
+    /// heartbeats, if it is not heard before (*profile*). The moment can be past.
     pub fn quiet_until(&self) -> u64
         ensures { result ≡ latest_of self.now }
     {
@@ -120,7 +120,8 @@ impl Slot {
     }
 
     /// Returns the first moment, in milliseconds, at which the peer was silent for more than three of its heartbeats,
-    /// if it is not heard before. The moment can be past. The result is `None` if the moment does not fit 64 bits.
+    /// if it is not heard before (*profile*). The moment can be past. The result is `None` if the moment does not fit
+    /// 64 bits.
     pub fn lapsed_from(&self) -> Option<u64>
         ensures { HoldsFrom (λ t. is_lapsed t self.now) result }
     {
@@ -128,14 +129,15 @@ impl Slot {
     }
 
     /// Returns the first moment, in milliseconds, at which the peer was silent for more than 120,000 ms, if it is not
-    /// heard before. The moment can be past. The result is `None` if the moment does not fit 64 bits.
+    /// heard before (*profile*). The moment can be past. The result is `None` if the moment does not fit 64 bits.
     pub fn forgotten_from(&self) -> Option<u64>
         ensures { HoldsFrom (λ t. not (stays t self.now)) result }
     {
         passes_from(self.heard, LONGEST_SILENCE)
     }
 
-    /// Notes that the peer was heard at a moment, in milliseconds: its silence ends. Nothing else is changed.
+    /// Notes that the peer was heard at a moment, in milliseconds: its silence ends (*profile*). Nothing else is
+    /// changed.
     pub fn note(&mut self, moment: u64)
         ensures { self.new ≡ heard_at moment self.old }
     {
@@ -167,7 +169,7 @@ impl Slot {
 
     /// Stores a fresh command, with its reply, in the session's reply window (*profile*). A full window pushes its
     /// oldest command out. The command must be fresh ([`judge`](Slot::judge)) and have at most 1,445 bytes of
-    /// parameters (premises). The call refuses nothing and takes no memory.
+    /// parameters (premises, which the caller must prove). The call refuses nothing and takes no memory.
     pub fn keep(&mut self, command: &Command<'_>, reply: &Reply)
         requires fresh { judgement_by_window self.old.retained (fields_of command.now) ≡ Fresh }
         requires room { length command.now.params.now ≤ most_command_parameter_bytes }

@@ -79,8 +79,9 @@ impl Model for ReplyWindow {
 }
 
 impl ReplyWindow {
-    /// Returns an empty reply window of `size` commands, 1 to 64 (a premise). The call takes from `alloc` the memory
-    /// for all that the window will contain. The only refusal is `AllocError`, if the allocator refused memory.
+    /// Returns an empty reply window of `size` commands, 1 to 64 (a premise, which the caller must prove; *profile*).
+    /// The call takes from `alloc` the memory for all that the window will contain. The only refusal is `AllocError`,
+    /// if the allocator refused memory.
     pub fn new(alloc: Global, size: usize) -> Result<ReplyWindow, AllocError>
         requires { (0 < size) × (size ≤ 64) }
         ensures { IfOk result (λ k. k ≡ retained_of size []) }
@@ -95,8 +96,8 @@ impl ReplyWindow {
         })
     }
 
-    /// Empties the window for another session: it then contains no command, and no handle is old. Its size stays. The
-    /// call refuses nothing.
+    /// Empties the window for another session: it then contains no command, and no handle is old (*profile*). Its size
+    /// stays. The call refuses nothing.
     pub fn clear(&mut self)
         ensures { self.new ≡ retained_of self.old.size [] }
     {
@@ -157,8 +158,8 @@ impl ReplyWindow {
     }
 
     /// Stores a fresh command, with its reply, in the window (*profile*). A full window pushes its oldest command out.
-    /// The command must be fresh ([`judge`](ReplyWindow::judge)) and have at most 1,445 bytes of parameters (premises).
-    /// The call refuses nothing and takes no memory.
+    /// The command must be fresh ([`judge`](ReplyWindow::judge)) and have at most 1,445 bytes of parameters (premises,
+    /// which the caller must prove). The call refuses nothing and takes no memory.
     pub fn keep(&mut self, command: &Command<'_>, reply: &Reply)
         requires fresh { judgement_by_window self.old (fields_of command.now) ≡ Fresh }
         requires room { length command.now.params.now ≤ most_command_parameter_bytes }

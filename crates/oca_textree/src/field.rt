@@ -180,7 +180,7 @@ fn unsigned_class(word: &[u8]) -> Option<Class>
     None
 }
 
-/// Returns whether the line has a control character: a byte below 32. `false` for an empty line.
+/// Returns whether the line has a control character: a byte below 32 (*profile*). `false` for an empty line.
 pub fn has_control(line: &[u8]) -> bool
     ensures { result ≡ has_control_byte line.now }
 {

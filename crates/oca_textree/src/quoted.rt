@@ -14,8 +14,8 @@ use std::str::from_utf8;
 /// The most digits of a text of 64 bytes.
 const MOST_DIGITS: usize = 128;
 
-/// Returns whether the next field of a line begins with a quote. `rest` is the rest of the line. The result is `false`
-/// if `rest` is empty, or is `None`, which means that no field is left.
+/// Returns whether the next field of a line begins with a quote (*profile*). `rest` is the rest of the line. The result
+/// is `false` if `rest` is empty, or is `None`, which means that no field is left.
 pub fn is_quoted(rest: Option<&[u8]>) -> bool
     ensures { result ≡ stands_quoted (option_copied rest.entry) }
 {

@@ -294,10 +294,10 @@ fn add_of_class(
 }
 
 /// Adds the object that the fields of a line list to the builder, with its stored label and flags, after all others
-/// ([`crate`] describes the fields; *profile*). The builder must have room for 4,096 objects (a premise). A refusal
-/// leaves the builder unchanged. It is the fault of the first field, from the left, that cannot be read. If all fields
-/// can be read, it is the reason for which the tree refuses the object. [`ObjectFault`] says when each fault comes. The
-/// call takes no memory.
+/// ([`crate`] describes the fields; *profile*). The builder must have room for 4,096 objects (a premise, which the
+/// caller must prove). A refusal leaves the builder unchanged. It is the fault of the first field, from the left, that
+/// cannot be read. If all fields can be read, it is the reason for which the tree refuses the object. [`ObjectFault`]
+/// says when each fault comes. The call takes no memory.
 #[tactic(auto, using(crate::proofs::OrderLemmas::placed_rules))]
 pub fn add_stored(builder: &mut TreeBuilder, line: &[u8]) -> Result<(), ObjectFault>
     requires { builder.old.room ≡ 4096 }

@@ -194,7 +194,8 @@ fn place(name: &[u8], names: &[&str]) -> Option<u16>
 /// Reads the two fields of a switch's positions from a line; returns the index of the current position, counted from 0,
 /// and the rest of the line (*profile*). The first field has the names of the positions, separated by commas, which are
 /// written into `names`. The second field is the name of the current position. `rest` is `None` if no field is left.
-/// `names` must be empty before (a premise). Refusals, the first from the left; discard `names` then:
+/// `names` must be empty before (a premise, which the caller must prove). Refusals, the first from the left; discard
+/// `names` then:
 /// - `Form` if a field is missing, or a quote is not closed, or is not followed by a space or the line's end.
 /// - `Text` if a name is not UTF-8 or has a character that is printed as an escape.
 /// - `Range` at a seventeenth name.
@@ -368,8 +369,8 @@ fn uint64_at(rest: Option<&[u8]>) -> Read<'_>
 /// Reads the value of an object of this class from the next fields of a line; returns the value and the rest of the
 /// line (*profile*). `rest` is `None` if no field is left. A mute, a polarity or a Boolean has one word. An integer has
 /// three fields: the least, the greatest and the setting. The call does not check that the setting is between the
-/// limits. A block has no value: nothing is read. The class must not be that of a switch (a premise). Refusals, the
-/// first from the left:
+/// limits. A block has no value: nothing is read. The class must not be that of a switch (a premise, which the caller
+/// must prove). Refusals, the first from the left:
 /// - `Form` if a field is missing, or a quote is not closed, or is not followed by a space or the line's end.
 /// - `Value` if the word is not one of the class's words.
 /// - `Number` if a field is not a decimal integer of at most 20 digits, with `-` before it if it is negative, or does

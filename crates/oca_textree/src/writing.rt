@@ -531,10 +531,10 @@ fn print_line<W: Sink>(
 }
 
 /// Prints a tree as a text that [`tree_from_text`](crate::tree_from_text) reads: one line for each object, in order of
-/// adding (*profile*). Locks are not printed, and not whose hardware refuses changes. The tree is unchanged. The
-/// printer can still keep a part of the text when the call returns; [`Printer::flush`] writes it. The only refusal is
-/// `WriteFailed`, if a write failed. Then only the beginning of the printer's old bytes and of the text may have been
-/// written, and the rest is lost. The call takes no memory.
+/// adding (*profile*). The text does not contain the locks of objects, and does not say whose hardware refuses changes.
+/// The tree is unchanged. A part of the text can still wait in the printer when the call returns; [`Printer::flush`]
+/// writes it. The only refusal is `WriteFailed`, if a write failed. Then perhaps only the beginning of the bytes that
+/// waited and of the text was written, and the rest is lost. The call takes no memory.
 #[tactic(auto, unfolding(crate::specs::Written::text_of))]
 pub fn print_tree<W: Sink>(tree: &Tree, printer: &mut Printer<W>) -> Result<(), WriteFailed>
     ensures { Prints result printer.old printer.new (text_of tree.now) }

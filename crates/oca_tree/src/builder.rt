@@ -555,9 +555,9 @@ impl TreeBuilder {
         Ok(())
     }
 
-    /// Returns the tree of all objects that were added, in order of adding, with the root first. No object is locked.
-    /// The builder is consumed, and its memory becomes the memory of the tree. The call refuses nothing and takes no
-    /// memory. A tree of the root alone is allowed.
+    /// Returns the tree of all objects that were added, in order of adding, with the root first (*profile*). No object
+    /// is locked. The builder is consumed, and its memory becomes the memory of the tree. The call refuses nothing and
+    /// takes no memory. A tree of the root alone is allowed.
     pub fn finish(self) -> Tree
         ensures { result ≡ self.list }
     {

@@ -232,8 +232,8 @@ impl Tree {
         set_failing(&mut self.objects, &mut self.marks, ono, failing)
     }
 
-    /// Releases all locks of the peer `peer` in the tree. If the peer has no lock, nothing is changed. Locks of other
-    /// peers remain. The call returns nothing, refuses nothing and takes no memory.
+    /// Releases all locks of the peer `peer` in the tree (OcaRoot, AES70-2). If the peer has no lock, nothing is
+    /// changed. Locks of other peers remain. The call returns nothing, refuses nothing and takes no memory.
     pub fn release(&mut self, peer: Peer)
         ensures { self.new ≡ released self.old peer }
     {
@@ -252,9 +252,9 @@ impl Tree {
         self.objects.len()
     }
 
-    /// Returns what the object at an index is: its number, class, container and role. The index counts from 0, the
-    /// root, in order of adding. The result is `None` if `index` is the number of objects or above. The role is copied;
-    /// the call takes no memory.
+    /// Returns what the object at an index is: its number, class, container and role (AES70-2). The index counts from
+    /// 0, the root, in order of adding. The result is `None` if `index` is the number of objects or above. The role is
+    /// copied; the call takes no memory.
     pub fn object_at(&self, index: usize) -> Option<ObjectInfo>
         ensures { result ≡ info_at self.now index }
     {
@@ -264,8 +264,8 @@ impl Tree {
         }
     }
 
-    /// Returns what the object with the number `ono` is: its number, class, container and role. The result is `None` if
-    /// no object has the number. The role is copied; the call takes no memory.
+    /// Returns what the object with the number `ono` is: its number, class, container and role (AES70-2). The result is
+    /// `None` if no object has the number. The role is copied; the call takes no memory.
     pub fn object_of(&self, ono: Ono) -> Option<ObjectInfo>
         ensures { result ≡ info_of_ono self.now ono.0 }
     {
@@ -275,26 +275,26 @@ impl Tree {
         }
     }
 
-    /// Returns an iterator over the objects of the tree, in order of adding, with the root first. Its items are the
-    /// results of [`object_at`](Tree::object_at) for 0, 1 and so on. There is at least the root. The call takes no
-    /// memory.
+    /// Returns an iterator over the objects of the tree, in order of adding, with the root first (AES70-2). Its items
+    /// are the results of [`object_at`](Tree::object_at) for 0, 1 and so on. There is at least the root. The call takes
+    /// no memory.
     pub fn objects(&self) -> ObjectInfos<'_>
         ensures { infos_left result ≡ map info_of self.now }
     {
         ObjectInfos::new(self.objects.as_slice())
     }
 
-    /// Returns the lock of the object with the number `ono`: its kind and the peer that has the lock. The result is
-    /// `None` if no object has the number, or the object is not locked.
+    /// Returns the lock of the object with the number `ono`: its kind and the peer that has the lock (OcaRoot,
+    /// AES70-2). The result is `None` if no object has the number, or the object is not locked.
     pub fn lock_of(&self, ono: Ono) -> Option<Lock>
         ensures { result ≡ lock_at self.now ono.0 }
     {
         lock_in(&self.objects, ono)
     }
 
-    /// Returns the lock of the object at an index: its kind and the peer that has the lock. The index counts from 0,
-    /// the root, in order of adding. The result is `None` if `index` is the number of objects or above, or the object
-    /// is not locked.
+    /// Returns the lock of the object at an index: its kind and the peer that has the lock (OcaRoot, AES70-2). The
+    /// index counts from 0, the root, in order of adding. The result is `None` if the object is not locked, or if
+    /// `index` is the number of objects or above.
     pub fn lock_at(&self, index: usize) -> Option<Lock>
         ensures { result ≡ option_and_then (λ o. o.lock) (slice_get self.now index) }
     {
@@ -313,8 +313,8 @@ impl Tree {
         failing_in(&self.objects, ono)
     }
 
-    /// Returns how many objects are locked: from 0 to the number of objects, at most 4,096. The tree stores this count,
-    /// so the call looks at no object. It refuses nothing.
+    /// Returns how many objects are locked: from 0 to the number of objects, at most 4,096 (OcaRoot, AES70-2). The tree
+    /// stores this count, so the call looks at no object. It refuses nothing.
     pub fn lock_count(&self) -> usize
         ensures { result ≡ lock_count self.now }
     {
@@ -330,7 +330,7 @@ impl Tree {
     }
 
     /// Returns the setting of the object with the number `ono`: a state, a position, a Boolean, or an integer with its
-    /// least and greatest. The result is `None` if no object has the number, or the object is a block.
+    /// least and greatest (AES70-2). The result is `None` if no object has the number, or the object is a block.
     pub fn setting_of(&self, ono: Ono) -> Option<Setting>
         ensures { result ≡ setting_at self.now ono.0 }
     {
@@ -348,8 +348,8 @@ impl Tree {
     }
 
     /// Returns the names of the positions of the switch with the number `ono`, in order: 1 to 16 names, each of at most
-    /// 64 bytes. The result is empty if no object has the number, or the object is no switch. It borrows from the tree,
-    /// and no memory is taken.
+    /// 64 bytes (OcaSwitch, AES70-2). The result is empty if no object has the number, or the object is no switch. It
+    /// borrows from the tree, and no memory is taken.
     pub fn position_names_of(&self, ono: Ono) -> &[Text]
         ensures { result.now ≡ names_of_ono self.now ono.0 }
     {

@@ -53,9 +53,9 @@ fn split(bytes: &[u8], n: usize) -> Result<(&[u8], &[u8]), ReadFault>
 }
 
 impl<'a> Cursor<'a> {
-    /// Returns a cursor at the first byte of `bytes`, with all these bytes left to read. An empty slice is allowed:
-    /// each `take` call is then refused with `Short`, and `finish` returns `Ok`. The call copies no byte and takes no
-    /// memory.
+    /// Returns a cursor at the first byte of `bytes`, with all these bytes left to read (*profile*). An empty slice is
+    /// allowed: each `take` call is then refused with `Short`, and `finish` returns `Ok`. The call copies no byte and
+    /// takes no memory.
     pub fn new(bytes: &'a [u8]) -> Cursor<'a>
         ensures { bytes_left result ≡ bytes.now }
     {

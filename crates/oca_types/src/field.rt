@@ -23,8 +23,9 @@ pub trait Field: Copy {
     /// The number of bytes of each encoding: 1, 2, 4 or 8.
     const SIZE: usize;
 
-    /// Returns the value that the bytes `front` encode (AES70-3). The caller must pass exactly `SIZE` bytes (a
-    /// premise). Every `SIZE` bytes encode a value, so the call refuses nothing. It takes no memory.
+    /// Returns the value that the bytes `front` encode (AES70-3). The caller must pass exactly `SIZE` bytes (a premise,
+    /// which the caller must prove). Every `SIZE` bytes encode a value, so the call refuses nothing. It takes no
+    /// memory.
     fn from_front(front: &[u8]) -> Self
         requires { length front.now ≡ SIZE }
         ensures { result ≡ codec.value_in front.now };

@@ -50,15 +50,15 @@ pub fn wait_for(input: Option<RawFd>, beside: Option<RawFd>, milliseconds: u64) 
     })
 }
 
-/// Returns whether this descriptor is a terminal, as the operating system says. The result is `false` also if the
-/// descriptor is not open. The call refuses nothing and waits for nothing.
+/// Returns whether this descriptor is a terminal, as the operating system says (*profile*). The result is `false` also
+/// if the descriptor is not open. The call refuses nothing and waits for nothing.
 pub fn is_terminal(descriptor: RawFd) -> bool {
     libc::isatty(descriptor) == 1
 }
 
-/// Returns whether the program is in the foreground of this terminal, as the operating system says. The system stops a
-/// program in the background when it reads from the terminal. The result is `false` also if the descriptor is not a
-/// terminal or not open. The call refuses nothing and waits for nothing.
+/// Returns whether the program is in the foreground of this terminal, as the operating system says (*profile*). The
+/// system stops a program in the background when it reads from the terminal. The result is `false` also if the
+/// descriptor is not a terminal or not open. The call refuses nothing and waits for nothing.
 pub fn is_in_foreground(terminal: RawFd) -> bool {
     libc::tcgetpgrp(terminal) == libc::getpgrp()
 }

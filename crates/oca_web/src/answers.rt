@@ -534,8 +534,8 @@ fn put_tickets(out: &mut Writer, ticket: u64, wanted: &[Wanted]) -> Result<(), A
 
 /// Returns the answer to a request of `/orders`: a JSON text with a ticket for each of the orders `wanted` (*profile*).
 /// The first order has the ticket `first`, and each other order the next number. All tickets must be below 2^64 (a
-/// premise). The call adds no order. It takes memory for the text. The only refusal is `AllocError`, if memory was
-/// refused.
+/// premise, which the caller must prove). The call adds no order. It takes memory for the text. The only refusal is
+/// `AllocError`, if memory was refused.
 #[tactic(auto, using(crate::proofs::TicketLemmas::tickets_text))]
 pub fn tickets_json(alloc: Global, first: u64, wanted: &[Wanted]) -> Result<Vec<u8>, AllocError>
     requires { first + length wanted.now ≤ 18446744073709551615 }

@@ -138,20 +138,20 @@ impl Inventory {
         }
     }
 
-    /// Returns the objects that were found so far, in the order in which they were found, a block before its members.
-    /// At first this is the root alone. The call refuses nothing and takes no memory.
+    /// Returns the objects that were found so far, in the order in which they were found, a block before its members
+    /// (*profile*). At first this is the root alone. The call refuses nothing and takes no memory.
     pub fn objects(&self) -> &Objects {
         &self.objects
     }
 
-    /// Returns the number of the present walk: 1 for the first, and one more for each walk that begins. The call
-    /// refuses nothing.
+    /// Returns the number of the present walk: 1 for the first, and one more for each walk that begins (*profile*). The
+    /// call refuses nothing.
     pub fn epoch(&self) -> u64 {
         self.epoch
     }
 
-    /// Returns whether the walk ended: all its questions were answered. The result is `false` at first, and again after
-    /// [`begin_anew`](Inventory::begin_anew).
+    /// Returns whether the walk ended: all its questions were answered (*profile*). The result is `false` at first, and
+    /// again after [`begin_anew`](Inventory::begin_anew).
     pub fn is_walked(&self) -> bool
         ensures { result ≡ self.now.walked }
     {
@@ -167,8 +167,8 @@ impl Inventory {
         self.is_stale
     }
 
-    /// Returns the number of questions in flight: they were submitted, and their answers were not taken yet. The result
-    /// is from 0, as at first, to 32.
+    /// Returns the number of questions in flight: they were submitted, and their answers were not taken yet
+    /// (*profile*). The result is from 0, as at first, to 32.
     pub fn in_flight(&self) -> usize
         ensures { result ≡ length self.now.asked.items }
     {

@@ -48,7 +48,7 @@ pub struct Shown {
 
 impl Shown {
     /// Returns what a page shows of an object before anything was read of it: no reading, no trouble, no known lock,
-    /// and enabled. The call refuses nothing and takes no memory.
+    /// and enabled (*profile*). The call refuses nothing and takes no memory.
     pub fn unread() -> Shown {
         Shown {
             reading: None,
@@ -136,9 +136,9 @@ pub fn limits_of(reading: Reading) -> Option<(Value, Value)> {
     }
 }
 
-/// Returns the reading of an object after it was set to this value: the value, with the same limits. The value can be
-/// outside the limits, which are not checked. If the value is of another class, the reading is returned unchanged. The
-/// call sends nothing and takes no memory.
+/// Returns the reading of an object after it was set to this value: the value, with the same limits (AES70-2). The
+/// value can be outside the limits, which are not checked. If the value is of another class, the reading is returned
+/// unchanged. The call sends nothing and takes no memory.
 pub fn reading_with(reading: Reading, value: Value) -> Reading
     ensures { result ≡ reading_set_to reading value }
 {

@@ -33,7 +33,7 @@ impl Objects {
     ghost use Rattle.std.specs.Prelude.{slice_get};
     ghost use Rattle.std.specs.Option.{option_map};
 
-    /// Returns a list without objects, whose last change has the number 0. The call takes no memory yet:
+    /// Returns a list without objects, whose last change has the number 0 (*profile*). The call takes no memory yet:
     /// [`add`](Objects::add) takes memory from `alloc`.
     pub fn new(alloc: Global) -> Objects
         ensures { result ≡ record { list = []; changes = 0 } }
@@ -44,8 +44,8 @@ impl Objects {
         }
     }
 
-    /// Removes all objects, which counts as one change, also if there are none. The call refuses nothing and takes no
-    /// memory.
+    /// Removes all objects, which counts as one change, also if there are none (*profile*). The call refuses nothing
+    /// and takes no memory.
     pub fn clear(&mut self)
         ensures { self.new ≡ record { list = []; changes = one_more self.old.changes } }
     {
@@ -53,23 +53,25 @@ impl Objects {
         self.changes = self.changes.saturating_add(1);
     }
 
-    /// Returns the objects, in the order in which they were found. There are none at first. Nothing is copied.
+    /// Returns the objects, in the order in which they were found (*profile*). There are none at first. Nothing is
+    /// copied.
     pub fn as_slice(&self) -> &[Object]
         ensures { result.now ≡ self.now.list }
     {
         self.list.as_slice()
     }
 
-    /// Returns the number of the last change: 0 before the first. Each change counts one up, to 2^64 - 1 at most. The
-    /// call refuses nothing.
+    /// Returns the number of the last change: 0 before the first (*profile*). Each change counts one up, to 2^64 - 1 at
+    /// most. The call refuses nothing.
     pub fn changes(&self) -> u64
         ensures { result ≡ self.now.changes }
     {
         self.changes
     }
 
-    /// Adds an object at the end, which counts as a change. The call can take memory. The only refusal is `NoMemory`,
-    /// if memory was refused: then the object is not added, but the change is counted.
+    /// Adds an object at the end, which counts as a change (*profile*). The call does not check whether another object
+    /// has the same number. It can take memory. The only refusal is `NoMemory`, if memory was refused: then the object
+    /// is not added, but the change is counted.
     pub fn add(&mut self, mut object: Object) -> Result<(), NoMemory>
         ensures ok { IfOk result (λ u. AddsObject self.old self.new) }
     {
@@ -81,8 +83,8 @@ impl Objects {
         }
     }
 
-    /// Sets the role of the object at `place`, which counts as a change. `place` is counted from 0; if there is no
-    /// object at it, nothing is changed. The call sends nothing, refuses nothing and takes no memory.
+    /// Sets the role of the object at `place`, which counts as a change (*profile*). `place` is counted from 0; if
+    /// there is no object at it, nothing is changed. The call sends nothing, refuses nothing and takes no memory.
     pub fn put_role(&mut self, place: usize, role: Text)
         ensures { Changes place self.old self.new }
     {
@@ -94,9 +96,9 @@ impl Objects {
         self.list[place].changed = self.changes;
     }
 
-    /// Sets the label of the object at `place`, which counts as a change if the label differs from the old one. `place`
-    /// is counted from 0; if there is no object at it, nothing is changed. The call sends nothing, refuses nothing and
-    /// takes no memory.
+    /// Sets the label of the object at `place`, which counts as a change if the label differs from the old one
+    /// (*profile*). `place` is counted from 0; if there is no object at it, nothing is changed. The call sends nothing,
+    /// refuses nothing and takes no memory.
     pub fn put_label(&mut self, place: usize, label: Text)
         ensures { Changes place self.old self.new }
     {
@@ -108,8 +110,8 @@ impl Objects {
         self.list[place].changed = self.changes;
     }
 
-    /// Notes whether the object at `place` can be locked, which counts as a change. `place` is counted from 0; if there
-    /// is no object at it, nothing is changed. The call sends nothing, refuses nothing and takes no memory.
+    /// Notes whether the object at `place` can be locked, which counts as a change (*profile*). `place` is counted from
+    /// 0; if there is no object at it, nothing is changed. The call sends nothing, refuses nothing and takes no memory.
     pub fn put_lockable(&mut self, place: usize, lockable: bool)
         ensures { Changes place self.old self.new }
     {
@@ -121,8 +123,9 @@ impl Objects {
         self.list[place].changed = self.changes;
     }
 
-    /// Sets the names of the positions of the switch at `place`, which counts as a change. `place` is counted from 0;
-    /// if there is no object at it, nothing is changed. The call sends nothing, refuses nothing and takes no memory.
+    /// Sets the names of the positions of the switch at `place`, which counts as a change (*profile*). `place` is
+    /// counted from 0; if there is no object at it, nothing is changed. The call sends nothing, refuses nothing and
+    /// takes no memory.
     pub fn put_names(&mut self, place: usize, names: Names)
         ensures { Changes place self.old self.new }
     {
@@ -134,9 +137,9 @@ impl Objects {
         self.list[place].changed = self.changes;
     }
 
-    /// Notes which positions of the switch at `place` are enabled, which counts as a change if a flag differs. `place`
-    /// is counted from 0; if there is no object at it, nothing is changed. The call sends nothing, refuses nothing and
-    /// takes no memory.
+    /// Notes which positions of the switch at `place` are enabled, which counts as a change if a flag differs
+    /// (*profile*). `place` is counted from 0; if there is no object at it, nothing is changed. The call sends nothing,
+    /// refuses nothing and takes no memory.
     pub fn put_flags(&mut self, place: usize, flags: Flags)
         ensures { Changes place self.old self.new }
     {
@@ -148,8 +151,8 @@ impl Objects {
         self.list[place].changed = self.changes;
     }
 
-    /// Returns what pages show of the object at `place`, which is counted from 0. The result is `None` if there is no
-    /// object at it. The call takes no memory.
+    /// Returns what pages show of the object at `place`, which is counted from 0 (*profile*). The result is `None` if
+    /// there is no object at it. The call takes no memory.
     pub fn shown(&self, place: usize) -> Option<Shown>
         ensures { result ≡ option_map (λ o. o.shown) (slice_get self.now.list place) }
     {
@@ -159,9 +162,9 @@ impl Objects {
         }
     }
 
-    /// Replaces what pages show of the object at `place`. This counts as a change if more than the moment of the
-    /// reading differs. `place` is counted from 0; if there is no object at it, nothing is changed. The call sends
-    /// nothing, refuses nothing and takes no memory.
+    /// Replaces what pages show of the object at `place` (*profile*). This counts as a change if more than the moment
+    /// of the reading differs. `place` is counted from 0; if there is no object at it, nothing is changed. The call
+    /// sends nothing, refuses nothing and takes no memory.
     pub fn show(&mut self, place: usize, shown: Shown)
         ensures { ShowsAt place shown self.old self.new }
     {
@@ -188,8 +191,8 @@ impl Objects {
         self.list[place].readings = self.list[place].readings.wrapping_add(1);
     }
 
-    /// Returns the place of the first object with this number, counted from 0. The result is `None` if no object has
-    /// the number.
+    /// Returns the place of the first object with this number, counted from 0 (*profile*). The result is `None` if no
+    /// object has the number.
     pub fn place_of(&self, ono: Ono) -> Option<usize>
         ensures { result ≡ position (λ o. o.ono.0 == ono.0) self.now.list }
     {
@@ -200,9 +203,9 @@ impl Objects {
     }
 }
 
-/// Returns the places of the objects that changed after the change with the number `since`, in order, counted from 0.
-/// With `since` 0 these are all objects that were added to an [`Objects`]. The call takes memory for the result. The
-/// only refusal is `NoMemory`, if memory was refused.
+/// Returns the places of the objects that changed after the change with the number `since`, in order, counted from 0
+/// (*profile*). With `since` 0 these are all objects that were added to an [`Objects`]. The call takes memory for the
+/// result. The only refusal is `NoMemory`, if memory was refused.
 pub fn places_since(alloc: Global, objects: &[Object], since: u64) -> Result<Vec<usize>, NoMemory>
     ensures { IfOk result (λ v. v.items ≡ places_since since 0 objects.now) }
 {

@@ -44,7 +44,7 @@ impl Orders {
     ghost use Rattle.oca_web.specs.Orders.{result_of, has_waiting, not_done, with_all, with_lost, with_order, with_passed, with_result};
     ghost use Rattle.oca_web.specs.Orders.{with_unsent, without_waiting};
 
-    /// Returns a list without orders, in which no ticket is used. The call takes no memory from the heap.
+    /// Returns a list without orders, in which no ticket is used (*profile*). The call takes no memory from the heap.
     pub fn new() -> Orders
         ensures { result ≡ no_orders }
     {
@@ -56,8 +56,8 @@ impl Orders {
         }
     }
 
-    /// Returns the ticket that the next order gets: 1 at first, and one more after each order. The result is 2^64 - 1
-    /// also if that ticket is used; no further order is then added. The call changes nothing.
+    /// Returns the ticket that the next order gets: 1 at first, and one more after each order (*profile*). The result
+    /// is 2^64 - 1 also if that ticket is used; no further order is then added. The call changes nothing.
     pub fn next_ticket(&self) -> u64
         ensures { result ≡ one_more self.now.tickets }
     {
@@ -185,15 +185,16 @@ impl Orders {
         self.in_flight.as_slice().get(at).copied()
     }
 
-    /// Returns the number of orders in flight: their commands were submitted, and the outcomes are not known yet. The
-    /// result is from 0, as at first, to 32.
+    /// Returns the number of orders in flight: their commands were submitted, and the outcomes are not known yet
+    /// (*profile*). The result is from 0, as at first, to 32.
     pub fn in_flight(&self) -> usize
         ensures { result ≡ length self.now.in_flight }
     {
         self.in_flight.len()
     }
 
-    /// Returns whether at least one order waits: its command was not submitted yet. The result is `false` at first.
+    /// Returns whether at least one order waits: its command was not submitted yet (*profile*). The result is `false`
+    /// at first.
     pub fn waits(&self) -> bool
         ensures { result ≡ has_waiting self.now }
     {
@@ -291,8 +292,9 @@ impl Orders {
         self.drop_late(now);
     }
 
-    /// Returns how the last orders ended, in the order of their tickets: from 0, as at first, to 512 results. If more
-    /// orders ended, results with low tickets were removed. The call changes nothing.
+    /// Returns how the last orders ended, in the order of their tickets: from 0, as at first, to 512 results
+    /// (*profile*). If 512 results are stored, the result with the lowest ticket is removed before another is stored.
+    /// The call changes nothing.
     pub fn results(&self) -> &[OrderResult]
         ensures { result.now ≡ self.now.results }
     {

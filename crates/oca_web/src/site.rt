@@ -62,8 +62,8 @@ impl Site {
         }
     }
 
-    /// Returns the view of the service, so that the program can change it. The call refuses nothing and changes
-    /// nothing.
+    /// Returns the view of the service, so that the program can change it (*profile*). The call refuses nothing and
+    /// changes nothing.
     pub fn view(&mut self) -> &mut View {
         &mut self.view
     }
@@ -79,8 +79,8 @@ impl Site {
         self.doubts = doubts;
     }
 
-    /// Returns the number of HTTP requests that were answered since the service was made: 0 at first, at most 2^64 - 1.
-    /// Refused requests count too.
+    /// Returns the number of HTTP requests that were answered since the service was made (*profile*). The result is 0
+    /// at first, and at most 2^64 - 1. Refused requests count too.
     pub fn calls(&self) -> u64 {
         self.calls
     }

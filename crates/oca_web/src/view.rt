@@ -120,39 +120,40 @@ impl View {
         })
     }
 
-    /// Returns the orders of the pages: those that wait, those in flight, and how the last ones ended. There are none
-    /// at first. The call changes nothing.
+    /// Returns the orders of the pages: those that wait, those in flight, and how the last ones ended (*profile*).
+    /// There are none at first. The call changes nothing.
     pub fn orders(&self) -> &Orders
         ensures { result.now ≡ self.now.orders }
     {
         &self.orders
     }
 
-    /// Returns what is known of the device, and which questions are asked of it. At first only the walk has begun, at
-    /// the root. The call changes nothing.
+    /// Returns what is known of the device, and which questions are asked of it (*profile*). At first only the walk has
+    /// begun, at the root. The call changes nothing.
     pub fn inventory(&self) -> &Inventory {
         &self.inventory
     }
 
-    /// Returns the device's address and the span of its links, as [`View::new`] was given them. The call refuses
-    /// nothing.
+    /// Returns the device's address and the span of its links, as [`View::new`] was given them (*profile*). The call
+    /// refuses nothing.
     pub fn reach(&self) -> Reach
         ensures { result ≡ self.now.reach }
     {
         self.reach
     }
 
-    /// Returns the state of the link to the device: when it was heard, whether it is lost, and what was sent. All
-    /// moments are in milliseconds of the program's clock. At first only the present moment is set, and the counts are
-    /// 0.
+    /// Returns the state of the link to the device: when it was heard, whether it is lost, and what was sent
+    /// (*profile*). All moments are in milliseconds of the program's clock. At first only the present moment is set,
+    /// and the counts are 0.
     pub fn news(&self) -> LinkNews
         ensures { result ≡ self.now.news }
     {
         self.news
     }
 
-    /// Returns the present moment of the program's clock, in milliseconds: the latest that [`View::note`] or
-    /// [`View::take_end`] noted, and at first the moment that [`View::new`] was given.
+    /// Returns the present moment of the program's clock, in milliseconds (*profile*). It is the latest moment that
+    /// [`View::note`] or [`View::take_end`] noted, and at first the moment that [`View::new`] was given. It never goes
+    /// back.
     pub fn moment(&self) -> u64
         ensures { result ≡ self.now.news.now }
     {
@@ -167,15 +168,15 @@ impl View {
             .saturating_add(self.inventory.in_flight())
     }
 
-    /// Returns whether at least one order waits or is in flight. The result is `false` at first.
+    /// Returns whether at least one order waits or is in flight (*profile*). The result is `false` at first.
     pub fn has_orders(&self) -> bool
         ensures { result ≡ has_orders self.now.orders }
     {
         self.orders.waits() || self.orders.in_flight() > 0
     }
 
-    /// Returns the number of commands that were submitted since the view was made, over all ends: 0 at first. The call
-    /// refuses nothing.
+    /// Returns the number of commands that were submitted since the view was made, over all ends: 0 at first
+    /// (*profile*). The call refuses nothing.
     pub fn submitted(&self) -> u64 {
         self.submitted_before.saturating_add(self.submitted_here())
     }
@@ -230,8 +231,8 @@ impl View {
         stood_still
     }
 
-    /// Returns by how many milliseconds the program's clock is ahead of the clock of the present end. The result is 0
-    /// over the first end. The call refuses nothing.
+    /// Returns by how many milliseconds the program's clock is ahead of the clock of the present end (*profile*). The
+    /// result is 0 over the first end. The call refuses nothing.
     pub fn ahead(&self) -> u64
         ensures { result ≡ self.now.ahead }
     {
@@ -272,8 +273,8 @@ impl View {
         true
     }
 
-    /// Returns whether an object with this number was found on the device so far. The result is `false` for each number
-    /// at first. The call sends nothing.
+    /// Returns whether an object with this number was found on the device so far (*profile*). The result is `false` for
+    /// each number at first. The call sends nothing.
     pub fn knows(&self, ono: Ono) -> bool {
         self.inventory.class_of(ono).is_some()
     }
@@ -292,8 +293,8 @@ impl View {
         }
     }
 
-    /// Returns the ticket that the next order gets: 1 at first, and one more after each order. A ticket is the number
-    /// by which a page knows its order. The call changes nothing.
+    /// Returns the ticket that the next order gets: 1 at first, and one more after each order (*profile*). A ticket is
+    /// the number by which a page knows its order. The call changes nothing.
     pub fn next_ticket(&self) -> u64
         ensures { result ≡ one_more self.now.orders.tickets }
     {

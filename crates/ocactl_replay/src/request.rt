@@ -223,11 +223,12 @@ fn timed<'a>(
     Err(LineFault::Form)
 }
 
-/// Reads which call of the link a line of a script asks for (*profile*). The line has at most 4,096 bytes (a premise).
+/// Reads which call of the link a line of a script asks for (*profile*): one of the four lines that
+/// [`replay`](crate::replay::replay) lists. The line has at most 4,096 bytes (a premise, which the caller must prove).
 /// The bytes of its last field are written to the front of `room`, and the result refers to them. The call takes no
-/// memory, and makes no call of the link. Refusals, the first that applies; discard what `room` contains then: `Form`
-/// if the keyword is unknown, or the number of fields is wrong. `Moment`, `Number`, `Peer` or `Hex` for the first
-/// field, from the left, that does not have its form.
+/// memory, and makes no call of the link. Refusals, the first that applies; discard what `room` contains then:
+/// - `Form` if the keyword is unknown, or the number of fields is wrong.
+/// - `Moment`, `Number`, `Peer` or `Hex` for the first field, from the left, that does not have its form.
 pub fn call_by<'a>(line: &[u8], room: &'a mut [u8; PARAMS_ROOM]) -> Result<Call<'a>, LineFault>
     requires { length line.now ≤ 4096 }
     ensures { call_asked result ≡ asked_call (fields line.now) }
@@ -240,10 +241,11 @@ pub fn call_by<'a>(line: &[u8], room: &'a mut [u8; PARAMS_ROOM]) -> Result<Call<
 }
 
 /// Reads the command that a line `ONO LEVEL INDEX COUNT HEX` asks for (AES70-3; the form of the line is the profile's).
-/// The line has at most 4,096 bytes (a premise). The bytes of the command's parameters are written to the front of
-/// `room`, and the result refers to them. The call takes no memory and sends nothing. Refusals, the first that applies;
-/// discard what `room` contains then: `Form` if the line does not have exactly these five fields. `Number` or `Hex` for
-/// the first field, from the left, that does not have its form.
+/// The line has at most 4,096 bytes (a premise, which the caller must prove). The bytes of the command's parameters are
+/// written to the front of `room`, and the result refers to them. The call takes no memory and sends nothing. Refusals,
+/// the first that applies; discard what `room` contains then:
+/// - `Form` if the line does not have exactly these five fields.
+/// - `Number` or `Hex` for the first field, from the left, that does not have its form.
 pub fn command_by<'a>(
     line: &[u8],
     room: &'a mut [u8; PARAMS_ROOM],
